@@ -1,7 +1,20 @@
-# make demo    builds the program without its proofs and replays one registration
+# make demo    builds the program without its proofs and replays one registration (about a minute)
 # make build   the proved program, at build/dmr_trunk
-# make test    the whole gate: every proof, every must-fail edit, every test, the program's run
-.PHONY: test
+# make test    the whole gate: every proof, must-fail edit and test, and each program's stored run
+# make bench   words decoded per second, beside a baseline, on this machine
+.PHONY: demo build test bench
+
+demo:
+	cd crates/dmr_trunk && rt try -- --site data/site.toml --script data/registration.txt
+
+build:
+	cd crates/dmr_trunk && rt run -- --help || true
+	mkdir -p build && cp crates/dmr_trunk/out/dmr_trunk build/dmr_trunk
 
 test:
 	rt ci
+
+bench:
+	@date -u +%Y-%m-%d
+	@sed -n 's/^model name[^:]*: *//p' /proc/cpuinfo | sort | uniq -c
+	@cd crates/dmr_bench && rt run -- --time

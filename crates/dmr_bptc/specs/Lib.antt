@@ -1,0 +1,3 @@
+pub mod Bptc
+pub mod Lines
+pub mod Functions

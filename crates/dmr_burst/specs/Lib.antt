@@ -1,0 +1,2 @@
+pub mod Burst
+pub mod Functions

@@ -1,0 +1,76 @@
+-- What the octets of one frame bring, one after another.
+use Rattle.std.proofs.Common.{◌≡◌, ℕ, ◌+◌, ◌-◌, ◌<◌, List, [], ◌∷◌, ◌++◌, length, take, drop, get_or, refl, sym, ap, ◌∙◌, arith, append_assoc, add-one, drop-cons, take-append-drop, length-append, subst}
+use Rattle.std.proofs.Math.Seq.{take-length}
+use Rattle.std.proofs.lemmas.List.{append-nil, take_more, length-take-le, get_or-take}
+use Rattle.dmr_frames.specs.declared.frame.FrameIn.{FrameIn}
+use Rattle.dmr_frames.specs.declared.cutter.Step.{Step}
+use Rattle.dmr_frames.specs.declared.cutter.Step.TheVariants.{Need, Frame, Fault}
+use Rattle.dmr_frames.specs.Frames.{IsFrame, spelling}
+use Rattle.dmr_frames.specs.Stream.{IsOpen, IsStep}
+use Rattle.dmr_frames.specs.Reading.{step_at}
+use Rattle.dmr_frames.proofs.Steps.{step_sound}
+use Rattle.dmr_frames.proofs.Streams.{spelled_once, open_no_spelling}
+
+inside : (q : List ℕ) (x : ℕ) (more : List ℕ) (f : FrameIn) (s : Step) → IsFrame f → q ++ x ∷ more ≡ spelling f → 0 < length more → IsStep q x s → s ≡ Need
+inside q x more f Need hf e l is = refl
+inside q x more f (Frame g) hf e l is =
+    let joined : spelling g ++ more ≡ spelling f ++ [] = ap (λ (p : List ℕ). p ++ more) (sym is.1) ∙ append_assoc q (x ∷ []) more ∙ e ∙ sym (append-nil (spelling f)) in
+    let none : more ≡ [] = (spelled_once g f more [] is.0 hf joined).1 in
+    let n : length more ≡ 0 = ap length none in
+    absurd (omega arith)
+inside q x more f (Fault cause) hf e l is = absurd (is.0 (f, more, hf, append_assoc q (x ∷ []) more ∙ e))
+
+-- inside a frame each octet needs more
+pub step-inside : (q : List ℕ) (x : ℕ) (more : List ℕ) (f : FrameIn) → x < 256 → IsFrame f → q ++ x ∷ more ≡ spelling f → 0 < length more → step_at q x ≡ Need
+step-inside q x more f lt hf e l = inside q x more f (step_at q x) hf e l (step_sound q x (f, x, more, hf, e) lt)
+
+at_last : (q : List ℕ) (x : ℕ) (f : FrameIn) (s : Step) → IsFrame f → q ++ x ∷ [] ≡ spelling f → IsStep q x s → s ≡ Frame f
+at_last q x f Need hf e is = absurd (open_no_spelling (q ++ x ∷ []) f [] hf (e ∙ sym (append-nil (spelling f))) is)
+at_last q x f (Frame g) hf e is = ap Frame (spelled_once g f [] [] is.0 hf (ap (λ (p : List ℕ). p ++ []) (sym is.1 ∙ e))).0
+at_last q x f (Fault cause) hf e is = absurd (is.0 (f, [], hf, append-nil (q ++ x ∷ []) ∙ e))
+
+-- the last octet of a frame brings it
+pub step-at_last : (q : List ℕ) (x : ℕ) (f : FrameIn) → x < 256 → IsFrame f → q ++ x ∷ [] ≡ spelling f → step_at q x ≡ Frame f
+step-at_last q x f lt hf e = at_last q x f (step_at q x) hf e (step_sound q x (f, x, [], hf, e) lt)
+
+-- a step that needs more leaves a rest that is open, and one that brings a frame has spelled it
+pub open-after_need : (q : List ℕ) (x : ℕ) → x < 256 → IsOpen q → step_at q x ≡ Need → IsOpen (q ++ x ∷ [])
+open-after_need q x lt h e = let P : Step → Type 0 = λ s. IsStep q x s in subst P e (step_sound q x h lt)
+
+pub spelled-at_frame : (q : List ℕ) (x : ℕ) (f : FrameIn) → x < 256 → IsOpen q → step_at q x ≡ Frame f → IsFrame f × (q ++ x ∷ [] ≡ spelling f)
+spelled-at_frame q x f lt h e = let P : Step → Type 0 = λ s. IsStep q x s in subst P e (step_sound q x h lt)
+
+-- ---- octets by their front and the last of them
+
+-- all but the last
+abbrev pub front_of : List ℕ → List ℕ
+front_of octets = take (length octets - 1) octets
+
+abbrev pub last_of : List ℕ → ℕ
+last_of octets = get_or octets (length octets - 1) 0
+
+pub front-last : (octets : List ℕ) → 0 < length octets → octets ≡ front_of octets ++ last_of octets ∷ []
+front-last octets l =
+    let all : length octets - 1 + 1 ≡ length octets = omega arith in
+    sym (take-length octets) ∙ ap (λ (n : ℕ). take n octets) (sym all) ∙ take_more octets (length octets - 1) 0 (omega arith)
+
+pub small-front_of : (octets : List ℕ) (i : ℕ) → ((k : ℕ) → get_or octets k 0 < 256) → i < length (front_of octets) → get_or (front_of octets) i 0 < 256
+small-front_of octets i small lt =
+    let len : length (front_of octets) ≡ length octets - 1 = length-take-le (length octets - 1) octets (omega arith) in
+    let at : get_or (front_of octets) i 0 ≡ get_or octets i 0 = get_or-take (length octets - 1) octets i 0 (omega arith) in
+    omega (arith, small i)
+
+split_at : (xs : List ℕ) (i : ℕ) → i < length xs → take i xs ++ get_or xs i 0 ∷ drop (i + 1) xs ≡ xs
+split_at xs i lt = rw (add-one, ← drop-cons xs i 0) (take-append-drop i xs)
+
+-- before its last octet a frame needs more
+pub step-in_front : (octets : List ℕ) (i : ℕ) (f : FrameIn) → ((k : ℕ) → get_or octets k 0 < 256) → 0 < length octets → i < length (front_of octets) → IsFrame f → octets ≡ spelling f → step_at (take i (front_of octets)) (get_or (front_of octets) i 0) ≡ Need
+step-in_front octets i f small l lt hf e =
+    let front : List ℕ = front_of octets in
+    let rest : List ℕ = drop (i + 1) front ++ last_of octets ∷ [] in
+    let parts : take i front ++ get_or front i 0 ∷ rest ≡ spelling f = sym (append_assoc (take i front) (get_or front i 0 ∷ drop (i + 1) front) (last_of octets ∷ [])) ∙ ap (λ (xs : List ℕ). xs ++ last_of octets ∷ []) (split_at front i lt) ∙ sym (front-last octets l) ∙ e in
+    step-inside (take i front) (get_or front i 0) rest f (small-front_of octets i small lt) hf parts (omega (arith, length-append (drop (i + 1) front) (last_of octets ∷ [])))
+
+-- at its last octet it is whole
+pub step-after_front : (octets : List ℕ) (f : FrameIn) → ((k : ℕ) → get_or octets k 0 < 256) → 0 < length octets → IsFrame f → octets ≡ spelling f → step_at (front_of octets) (last_of octets) ≡ Frame f
+step-after_front octets f small l hf e = step-at_last (front_of octets) (last_of octets) f (small (length octets - 1)) hf (sym (front-last octets l) ∙ e)

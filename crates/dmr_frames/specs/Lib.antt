@@ -1,0 +1,5 @@
+pub mod Frames
+pub mod Rest
+pub mod Stream
+pub mod Reading
+pub mod Shape

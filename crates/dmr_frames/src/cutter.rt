@@ -1,0 +1,233 @@
+//! Cuts a carrier's octets into frames.
+
+ghost use Rattle.std.specs.Prelude.{◌≡◌, ◌==◌, ℕ, ◌<◌, List, [], ◌∷◌, ◌++◌, length, if◌then◌else◌};
+ghost use Rattle.dmr_bits.specs.Bits.{field_of};
+ghost use Rattle.dmr_bits.specs.Words.{word_of};
+ghost use Rattle.dmr_frames.specs.Rest.{Open};
+ghost use Rattle.dmr_frames.specs.Shape.{IsShape, IsRxBody};
+ghost use Rattle.dmr_frames.specs.declared.frame.FrameIn.{FrameIn};
+ghost use Rattle.dmr_frames.specs.Stream.{Reads};
+ghost use Rattle.dmr_frames.specs.Reading.{frame_of, fed, left_by};
+ghost use Rattle.dmr_frames.specs.Reading.{step_at, type_step, length_step, body_step, hello_step, rx_step, active_step};
+
+use crate::frame::{Cause, FrameIn};
+use crate::frame_type::{ACTIVE, BYE, HELLO, POLL, RX, length_octet};
+use dmr_bits::Word196;
+use dmr_pdu::SlotNo;
+use std::marker::Model;
+
+/// What an octet brings.
+#[derive(Clone, Copy, Debug, PartialEq, Eq)]
+pub enum Step {
+    /// No frame yet: a frame has begun, and more of its octets must come.
+    Need,
+    /// The octet is the last one of this frame.
+    Frame(FrameIn),
+    /// The octets can be no frame, and this octet is the first that shows it; or there was such an octet before.
+    Fault(Cause),
+}
+
+/// Cuts the octets of one connection into frames: the octets since the last whole frame, or the fault that was met.
+/// Contracts see it as that rest.
+#[derive(Debug, Drop)]
+pub struct Cutter {
+    octets: [u8; 28],
+    count: usize,
+    fault: Option<Cause>,
+}
+
+impl Model for Cutter {
+    ghost use Rattle.std.specs.Prelude.{◌<◌, take};
+    ghost use Rattle.dmr_frames.specs.Rest.{Rest, rest_of};
+    ghost use Rattle.dmr_frames.specs.Shape.{IsShape};
+
+    ghost Value = { Rest };
+
+    ghost view = { λ c. rest_of c.fault (take c.count c.octets) };
+
+    ghost invariant = { λ c. (c.count < 28) × IsShape (take c.count c.octets) };
+}
+
+impl Cutter {
+    /// The cutter of a connection that has begun: no octets, no fault.
+    pub fn new() -> Self
+        ensures { result ≡ Open [] }
+    {
+        Cutter {
+            octets: [0; 28],
+            count: 0,
+            fault: None,
+        }
+    }
+
+    /// Takes the next octet, and says what it brings. A frame comes at its last octet, a fault at the first octet with
+    /// which the octets since the last frame begin no frame at all: `UnknownType`, `BadLength`, `BadSlot` or `BadPad`.
+    /// From then on every octet is answered with that same fault.
+    pub fn feed_byte(&mut self, octet: u8) -> Step
+        // Where the octets so far are the spellings of these frames and a rest, they still are with this octet and
+        // with the frame that it brings, if it brings one.
+        ensures stream { (octets : List ℕ) (frames : List FrameIn) → Reads octets frames self.old →
+            Reads (octets ++ octet ∷ []) (frames ++ frame_of result) self.new }
+        ensures step { result ≡ fed self.old octet }
+        ensures rest { self.new ≡ left_by self.old octet }
+    {
+        self.take(octet)
+    }
+
+    /// Takes the next octet.
+    fn take(&mut self, octet: u8) -> Step
+        ensures step { result ≡ fed self.old octet }
+        ensures rest { self.new ≡ left_by self.old octet }
+    {
+        if let Some(cause) = self.fault {
+            return Step::Fault(cause);
+        }
+        let step = read_octet(&self.octets[..self.count], octet);
+        match step {
+            Step::Need => {
+                self.octets[self.count] = octet;
+                self.count += 1;
+            }
+            Step::Frame(_) => self.count = 0,
+            Step::Fault(cause) => self.fault = Some(cause),
+        }
+        step
+    }
+}
+
+/// The cutter of a connection that has begun.
+impl Default for Cutter {
+    ghost use Rattle.std.specs.Prelude.{◌≡◌, []};
+    ghost use Rattle.dmr_frames.specs.Rest.{Open};
+
+    ghost is_default = { λ c. c ≡ Open [] };
+
+    fn default() -> Self {
+        Cutter::new()
+    }
+}
+
+/// What an octet brings after those of a frame that has begun.
+#[tactic(auto, unfolding(crate::specs::Reading::step_at))]
+fn read_octet(begun: &[u8], octet: u8) -> Step
+    requires { IsShape begun.now }
+    ensures { result ≡ step_at begun.now octet }
+{
+    match begun {
+        [] => read_type(octet),
+        [kind] => read_length(*kind, octet),
+        [kind, _, body @ ..] => read_body(*kind, body, octet),
+    }
+}
+
+/// A type octet. No carrier's frame consists of its type alone.
+#[tactic(auto, unfolding(crate::specs::Reading::type_step))]
+fn read_type(octet: u8) -> Step
+    ensures { result ≡ type_step octet }
+{
+    if octet < HELLO || octet > BYE {
+        Step::Fault(Cause::UnknownType)
+    } else {
+        Step::Need
+    }
+}
+
+/// The length octet of a frame of this type, which ends a frame that has no body.
+#[tactic(auto, unfolding(crate::specs::Reading::length_step))]
+fn read_length(kind: u8, octet: u8) -> Step
+    ensures { result ≡ length_step kind octet }
+{
+    if octet != length_octet(kind) {
+        return Step::Fault(Cause::BadLength);
+    }
+    match kind {
+        POLL => Step::Frame(FrameIn::Poll),
+        BYE => Step::Frame(FrameIn::Bye),
+        _ => Step::Need,
+    }
+}
+
+/// An octet of a body, which follows these octets of it.
+#[tactic(auto, unfolding(crate::specs::Reading::body_step))]
+fn read_body(kind: u8, body: &[u8], octet: u8) -> Step
+    requires { kind ≡ 2 → IsRxBody body.now }
+    ensures { result ≡ body_step kind body.now octet }
+{
+    match kind {
+        HELLO => read_hello(body, octet),
+        RX => read_rx(body, octet),
+        _ => read_active(octet),
+    }
+}
+
+/// An octet of a HELLO's body.
+#[tactic(auto, unfolding(crate::specs::Reading::hello_step))]
+fn read_hello(body: &[u8], octet: u8) -> Step
+    ensures { result ≡ hello_step body.now octet }
+{
+    match body {
+        [version, carrier, high] => Step::Frame(FrameIn::Hello {
+            version: *version,
+            carrier: *carrier,
+            lpcn: 256 * u16::from(*high) + u16::from(octet),
+        }),
+        _ => Step::Need,
+    }
+}
+
+/// An octet of an RX's body: the slot, or one of the word's 25.
+#[tactic(auto, unfolding(crate::specs::Reading::rx_step))]
+fn read_rx(body: &[u8], octet: u8) -> Step
+    requires { IsRxBody body.now }
+    ensures { result ≡ rx_step body.now octet }
+{
+    match body {
+        [] => {
+            if octet < 2 {
+                Step::Need
+            } else {
+                Step::Fault(Cause::BadSlot)
+            }
+        }
+        [slot, octets @ ..] => {
+            if octets.len() < 24 {
+                Step::Need
+            } else {
+                read_last(*slot, octets, octet)
+            }
+        }
+    }
+}
+
+/// The last octet of an RX, which follows the slot and 24 octets.
+fn read_last(slot: u8, octets: &[u8], octet: u8) -> Step
+    requires slot { slot < 2 }
+    requires len { length octets.now ≡ 24 }
+    ensures { let whole = octets.now ++ octet ∷ [] in
+        result ≡ (if field_of whole 196 4 == 0 then Step.Frame (FrameIn.Rx slot (word_of whole)) else Step.Fault Cause.BadPad) }
+{
+    let mut whole = [0; 25];
+    whole[..24].copy_from_slice(octets);
+    whole[24] = octet;
+    match Word196::from_octets(&whole) {
+        Ok(word) => Step::Frame(FrameIn::Rx {
+            slot: SlotNo::new(u32::from(slot)),
+            word,
+        }),
+        Err(_) => Step::Fault(Cause::BadPad),
+    }
+}
+
+/// The slot of an ACTIVE.
+#[tactic(auto, unfolding(crate::specs::Reading::active_step))]
+fn read_active(octet: u8) -> Step
+    ensures { result ≡ active_step octet }
+{
+    match SlotNo::try_new(u32::from(octet)) {
+        Some(slot) => Step::Frame(FrameIn::Active { slot }),
+        None => Step::Fault(Cause::BadSlot),
+    }
+}
+
+#[cfg(test)]
+mod tests;

@@ -1,0 +1,65 @@
+//! The frames of the link (version 1 of this project's profile).
+
+use dmr_bits::Word196;
+use dmr_pdu::SlotNo;
+
+/// A frame that comes from a carrier.
+#[derive(Clone, Copy, Debug, PartialEq, Eq)]
+pub enum FrameIn {
+    /// HELLO, the first frame of a connection: the version of the link format that the carrier speaks, the carrier's
+    /// number within the site, and its logical physical channel number. All three are as they were sent; no range of
+    /// theirs was examined.
+    Hello { version: u8, carrier: u8, lpcn: u16 },
+    /// RX: a burst was received on a slot.
+    Rx { slot: SlotNo, word: Word196 },
+    /// POLL: the carrier asks for what it is to send.
+    Poll,
+    /// ACTIVE: there is traffic on a slot.
+    Active { slot: SlotNo },
+    /// BYE: the carrier ends the connection.
+    Bye,
+}
+
+/// Why a carrier is refused.
+#[derive(Clone, Copy, Debug, PartialEq, Eq)]
+pub enum Refusal {
+    /// The carrier speaks another version of the link format.
+    BadVersion,
+    /// The carrier's number or its channel is not the one that belongs to the port.
+    WrongCarrier,
+}
+
+/// A frame that goes to a carrier.
+#[derive(Clone, Copy, Debug, PartialEq, Eq)]
+pub enum FrameOut {
+    /// WELCOME: the answer to a HELLO that is accepted. It carries the link format's version, 1.
+    Welcome,
+    /// TX: a burst to be sent on a slot.
+    Tx { slot: SlotNo, word: Word196 },
+    /// DONE: the answer to a POLL is complete.
+    Done,
+    /// REFUSED: the answer to a HELLO that is not accepted.
+    Refused(Refusal),
+}
+
+/// What is wrong with a connection. The first four are told by the cutter at one octet, the last four by the session at
+/// a whole frame.
+#[derive(Clone, Copy, Debug, PartialEq, Eq)]
+pub enum Cause {
+    /// A type octet that is not one of a carrier's frames, 01 to 05.
+    UnknownType,
+    /// A length octet other than the one that belongs to the type octet before it.
+    BadLength,
+    /// A slot octet, in RX or ACTIVE, that is not 00 or 01.
+    BadSlot,
+    /// The last octet of an RX: one of its last four bits, which follow the word, is 1.
+    BadPad,
+    /// The first frame of the connection is not a HELLO.
+    NoHello,
+    /// A HELLO that is not the first frame of the connection.
+    SecondHello,
+    /// A HELLO whose version is not 1. This goes before `WrongCarrier`.
+    BadVersion,
+    /// A HELLO of version 1 whose carrier number or channel is not the one that belongs to the port.
+    WrongCarrier,
+}

@@ -1,0 +1,37 @@
+//! What holds of frames and of streams of octets. These functions do nothing: their contracts are the laws.
+
+ghost use Rattle.std.specs.Prelude.{◌≡◌, ◌+◌, ◌<◌, ℕ, List, [], ◌∷◌, ◌++◌, All, length, slice_index};
+ghost use Rattle.dmr_frames.specs.declared.frame.FrameIn.{FrameIn};
+ghost use Rattle.dmr_frames.specs.declared.frame.FrameOut.{FrameOut};
+ghost use Rattle.dmr_frames.specs.Frames.{IsFrame, IsFrameOut, spelling, spelling_out};
+ghost use Rattle.dmr_frames.specs.Rest.{Rest, Open};
+ghost use Rattle.dmr_frames.specs.Stream.{IsOpen, Reads};
+ghost use Rattle.dmr_frames.specs.Reading.{frames_from, rest_from};
+
+/// Octets have one reading at most, and any octets have one: the frames and the rest that they bring one by one, in
+/// whatever pieces they come.
+pub fn one_reading()
+    ensures one { (octets : List ℕ) (fs gs : List FrameIn) (r q : Rest) →
+        Reads octets fs r → Reads octets gs q → (fs ≡ gs) × (r ≡ q) }
+    ensures found { (octets : List ℕ) → All (λ x. x < 256) octets →
+        Reads octets (frames_from (Open []) octets) (rest_from (Open []) octets) }
+    ensures cut { (rest : Rest) (a b : List ℕ) →
+        (frames_from rest (a ++ b) ≡ frames_from rest a ++ frames_from (rest_from rest a) b)
+        × (rest_from rest (a ++ b) ≡ rest_from (rest_from rest a) b) }
+    // The octets of a frame bring it and leave nothing; those of a part of a frame bring nothing and stay.
+    ensures frame { (f : FrameIn) → IsFrame f →
+        (frames_from (Open []) (spelling f) ≡ f ∷ []) × (rest_from (Open []) (spelling f) ≡ Open []) }
+    ensures part { (q : List ℕ) → IsOpen q →
+        (frames_from (Open []) q ≡ []) × (rest_from (Open []) q ≡ Open q) }
+{}
+
+/// Each frame has one spelling, and none is a proper prefix of another's: octets that begin with the spelling of one
+/// frame begin with no other frame's. The second octet of a spelling counts the octets behind it.
+pub fn spellings_part()
+    ensures from_carrier { (f g : FrameIn) (a b : List ℕ) → IsFrame f → IsFrame g →
+        spelling f ++ a ≡ spelling g ++ b → (f ≡ g) × (a ≡ b) }
+    ensures to_carrier { (f g : FrameOut) (a b : List ℕ) → IsFrameOut f → IsFrameOut g →
+        spelling_out f ++ a ≡ spelling_out g ++ b → (f ≡ g) × (a ≡ b) }
+    ensures length_in { (f : FrameIn) → length (spelling f) ≡ slice_index (spelling f) 1 + 2 }
+    ensures length_out { (f : FrameOut) → length (spelling_out f) ≡ slice_index (spelling_out f) 1 + 2 }
+{}

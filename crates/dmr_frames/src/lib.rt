@@ -1,0 +1,19 @@
+//! Link frames of version 1 (this project's profile): the octets that a carrier and the site exchange.
+//!
+//! A frame is a type octet, a length octet that counts its body's octets, and the body. A `Cutter` takes a carrier's
+//! octets one by one, so it does not matter in which pieces they come, and answers each frame at its last octet;
+//! `write_frame` spells the frames that go to a carrier. Nothing here takes memory.
+#![tactic(auto)]
+
+mod cutter;
+mod frame;
+mod frame_type;
+mod law;
+mod whole;
+mod write;
+
+pub use cutter::{Cutter, Step};
+pub use frame::{Cause, FrameIn, FrameOut, Refusal};
+pub use law::{one_reading, spellings_part};
+pub use whole::whole_frame;
+pub use write::write_frame;

@@ -1,0 +1,5 @@
+pub mod EqualityLemmas
+pub mod FunctionLemmas
+pub mod LayoutLemmas
+pub mod PaddingLemmas
+pub mod RowLemmas

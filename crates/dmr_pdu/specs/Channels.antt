@@ -1,0 +1,6 @@
+-- The range of channel numbers.
+use Rattle.std.specs.Prelude.{ℕ, ◌≤◌}
+
+-- a number that a channel may have
+abbrev pub IsChannel : ℕ → Type 0
+IsChannel n = (1 ≤ n) × (n ≤ 4094)

@@ -1,0 +1,33 @@
+-- The octets of a PDU, and the PDU of octets, as functions. That they give what `Spells` and `Agrees` say, and nothing
+-- else, is proved in proofs/FunctionLemmas; the crates above rest on that alone.
+use Rattle.std.specs.Prelude.{◌==◌, ℕ, ◌+◌, ◌-◌, ◌*◌, ◌/◌, ◌%◌, ◌^◌, Bool, true, false, ◌&&◌, nat_lt, List, [], ◌∷◌, Option, Some, None, if◌then◌else◌, map}
+use Rattle.std.specs.List.{range_with_len}
+use Rattle.dmr_bits.specs.Bits.{spelled, field_of}
+use Rattle.dmr_pdu.specs.declared.pdu.Pdu.{Pdu}
+use Rattle.dmr_pdu.specs.declared.pdu.Pdu.TheVariants.{Other}
+use Rattle.dmr_pdu.specs.Layout.{Row, layout}
+use Rattle.dmr_pdu.specs.Reading.{read_as}
+
+-- the bit at a place of octets that rows are written into
+abbrev pub row_bit : List Row → ℕ → Bool
+row_bit [] place = false
+row_bit (r ∷ rows) place = if nat_lt place (r.0.first + r.0.width) then r.1 / 2 ^ (r.0.first + r.0.width - 1 - place) % 2 == 1 else row_bit rows place
+
+-- the ten octets that a PDU is written as
+unfoldable pub octets_of : Pdu → List ℕ
+octets_of (Other carried) = carried
+octets_of pdu = map (λ k. spelled (row_bit (layout pdu)) (8 * k) 8) (range_with_len 0 10)
+
+-- every row holds, as a test
+abbrev pub do_hold : List ℕ → List Row → Bool
+do_hold octets [] = true
+do_hold octets (r ∷ rows) = (field_of octets r.0.first r.0.width == r.1) && do_hold octets rows
+
+-- the PDU that was read, where all of its layout holds
+abbrev pub confirmed : List ℕ → Option Pdu → Pdu
+confirmed octets None = Other octets
+confirmed octets (Some pdu) = if do_hold octets (layout pdu) then pdu else Other octets
+
+-- the one PDU that agrees with ten octets
+unfoldable pub pdu_of : List ℕ → Pdu
+pdu_of octets = confirmed octets (read_as (field_of octets 0 8) octets)

@@ -1,0 +1,92 @@
+-- The layouts of the PDUs, and which octets a PDU agrees with.
+use Rattle.std.specs.Prelude.{◌≡◌, ◌==◌, ℕ, ◌+◌, ◌<◌, ◌^◌, Bool, ◌&&◌, nat_le, List, [], ◌∷◌, if◌then◌else◌}
+use Rattle.dmr_bits.specs.Bits.{field_of}
+use Rattle.dmr_pdu.specs.Channels.{IsChannel}
+use Rattle.dmr_pdu.specs.declared.layouts.Place.{Place}
+use Rattle.dmr_pdu.specs.declared.pdu.Pdu.{Pdu}
+use Rattle.dmr_pdu.specs.declared.pdu.Pdu.TheVariants.{Aloha, Ahoy, Random, Ackd, Acku, Clear, PvGrant, TvGrant, Move, Other}
+
+-- a row of a layout: a place of ten octets, and the number that stands there
+abbrev pub Row : Type 0
+Row = Place × ℕ
+
+abbrev pub row : ℕ → ℕ → ℕ → Row
+row first width number = (record { first = first; width = width }, number)
+
+-- the number of a bit
+abbrev pub bit : Bool → ℕ
+bit b = if b then 1 else 0
+
+-- the rows of each PDU: octet 0 is LB, PF and the opcode, octet 1 the feature set, and what no field fills is 0
+unfoldable pub layout : Pdu → List Row
+layout (Aloha sync version offset active mask function nrand_wait register backoff system address) =
+    row 0 8 0x99 ∷ row 8 8 0 ∷ row 16 2 0 ∷ row 18 1 (bit sync) ∷ row 19 3 version ∷ row 22 1 (bit offset) ∷ row 23 1 (bit active)
+    ∷ row 24 5 mask ∷ row 29 2 function ∷ row 31 4 nrand_wait ∷ row 35 1 (bit register) ∷ row 36 4 backoff ∷ row 40 16 system ∷ row 56 24 address ∷ []
+layout (Ahoy options group kind called calling) =
+    row 0 8 0x9C ∷ row 8 8 0 ∷ row 16 7 options ∷ row 23 2 0 ∷ row 25 1 (bit group) ∷ row 26 2 0 ∷ row 28 4 kind ∷ row 32 24 called ∷ row 56 24 calling ∷ []
+layout (Random options flags kind target source) =
+    row 0 8 0x9F ∷ row 8 8 0 ∷ row 16 7 options ∷ row 23 5 flags ∷ row 28 4 kind ∷ row 32 24 target ∷ row 56 24 source ∷ []
+layout (Ackd info reason spare target additional) =
+    row 0 8 0xA0 ∷ row 8 8 0 ∷ row 16 7 info ∷ row 23 8 reason ∷ row 31 1 (bit spare) ∷ row 32 24 target ∷ row 56 24 additional ∷ []
+layout (Acku info reason spare target additional) =
+    row 0 8 0xA1 ∷ row 8 8 0 ∷ row 16 7 info ∷ row 23 8 reason ∷ row 31 1 (bit spare) ∷ row 32 24 target ∷ row 56 24 additional ∷ []
+layout (Clear lpcn group target source) =
+    row 0 8 0xAE ∷ row 8 8 0 ∷ row 16 12 lpcn ∷ row 28 3 0 ∷ row 31 1 (bit group) ∷ row 32 24 target ∷ row 56 24 source ∷ []
+layout (PvGrant lpcn slot target source) =
+    row 0 8 0xB0 ∷ row 8 8 0 ∷ row 16 12 lpcn ∷ row 28 1 slot ∷ row 29 3 0 ∷ row 32 24 target ∷ row 56 24 source ∷ []
+layout (TvGrant lpcn slot late target source) =
+    row 0 8 0xB1 ∷ row 8 8 0 ∷ row 16 12 lpcn ∷ row 28 1 slot ∷ row 29 1 (bit late) ∷ row 30 2 0 ∷ row 32 24 target ∷ row 56 24 source ∷ []
+layout (Move register backoff lpcn) =
+    row 0 8 0xB9 ∷ row 8 8 0 ∷ row 16 19 0 ∷ row 35 1 (bit register) ∷ row 36 4 backoff ∷ row 40 4 0 ∷ row 44 12 lpcn ∷ row 56 24 0 ∷ []
+layout (Other octets) = []
+
+-- every row holds
+abbrev pub Holds : List ℕ → List Row → Type 0
+Holds octets [] = Unit {0}
+Holds octets (r ∷ rows) = (field_of octets r.0.first r.0.width ≡ r.1) × Holds octets rows
+
+-- a PDU that names a channel names one that may stand
+unfoldable pub HasChannel : Pdu → Type 0
+HasChannel (Clear lpcn group target source) = IsChannel lpcn
+HasChannel (PvGrant lpcn slot target source) = IsChannel lpcn
+HasChannel (TvGrant lpcn slot late target source) = IsChannel lpcn
+HasChannel (Move register backoff lpcn) = IsChannel lpcn
+HasChannel pdu = Unit {0}
+
+-- the PDU has a layout of the table
+unfoldable pub IsListed : Pdu → Type 0
+IsListed (Other octets) = ⊥
+IsListed pdu = Unit {0}
+
+-- the octets are laid out as the PDU's layout says
+pub record IsLaidOut (pdu : Pdu) (octets : List ℕ) : Type 0 where
+  pub listed : IsListed pdu
+  pub rows : Holds octets (layout pdu)
+  pub channel : HasChannel pdu
+
+-- the octets that a PDU is written as: those of its layout, and those that `Other` carries
+unfoldable pub Spells : Pdu → List ℕ → Type 0
+Spells (Other carried) octets = carried ≡ octets
+Spells pdu octets = IsLaidOut pdu octets
+
+-- a PDU and ten octets agree
+unfoldable pub Agrees : Pdu → List ℕ → Type 0
+Agrees (Other carried) octets = (carried ≡ octets) × ((pdu : Pdu) → ¬ IsLaidOut pdu octets)
+Agrees pdu octets = IsLaidOut pdu octets
+
+-- the octets that the PDU is written as mean it: always, save where `Other` carries octets that are laid out as a PDU
+unfoldable pub IsReadable : Pdu → Type 0
+IsReadable (Other carried) = (pdu : Pdu) → ¬ IsLaidOut pdu carried
+IsReadable pdu = Unit {0}
+
+-- ---- what the writer of rows asks of them
+
+-- the places follow one another, from a bit on to bit 80
+abbrev pub fills : ℕ → List Row → Bool
+fills first [] = first == 80
+fills first (r ∷ rows) = (r.0.first == first) && (nat_le r.0.width 32 && fills (first + r.0.width) rows)
+
+-- each number fits its place
+abbrev pub AllFit : List Row → Type 0
+AllFit [] = Unit {0}
+AllFit (r ∷ rows) = (r.1 < 2 ^ r.0.width) × AllFit rows

@@ -1,0 +1,157 @@
+//! A list of bounded length that is `Copy` and takes no memory from an allocator.
+
+ghost use Rattle.std.specs.Prelude.{◌≡◌, ◌<◌, ◌++◌, ◌∷◌, ◌↔◌, [], length, IsTrue};
+ghost use Rattle.std.specs.Cmp.Lexicographic.{pointwise, lists_per, lists_equiv};
+
+use std::alloc::AllocError;
+use std::fmt;
+use std::marker::Model;
+
+/// A type with a value that stands in the unused cells of a [`BoundedList`].
+pub trait Blank: Copy {
+    ghost blank: { Self };
+
+    /// The value of unused cells.
+    fn blank() -> Self
+        ensures { result ≡ blank };
+}
+
+/// A list of at most `N` entries, held in place: `Copy`, and without an allocator. Contracts see it as the list of its
+/// entries. Unused cells hold the type's blank, so two lists are equal exactly where their entries are.
+pub struct BoundedList<T: Blank, const N: usize> {
+    cells: [T; N],
+    count: usize,
+}
+
+impl<T: Blank, const N: usize> Model for BoundedList<T, N> {
+    ghost use Rattle.std.specs.Prelude.{◌≡◌, ◌≤◌, ◌-◌, List, length, take, drop, replicate};
+    ghost use Rattle.dmr_pdu.specs.Padding.{padded, padded-take};
+
+    ghost Value = { List T };
+
+    ghost view = { λ list. take list.count list.cells };
+
+    ghost invariant = { λ list. (list.count ≤ N) × (length list.cells ≡ N) × (drop list.count list.cells ≡ replicate (N - list.count) T.blank) };
+
+    ghost inverse = { λ entries. record { cells = padded N T.blank entries; count = length entries } };
+
+    ghost use Rattle.std.proofs.Common.{arith, length-take-le};
+
+    ghost inverse_ok = { λ list is i. record { cells = padded-take N T.blank list.count list.cells is.0 is.1 is.2 i; count = length-take-le list.count list.cells (Prim.omega (arith, is.0, is.1)) i } };
+}
+
+/// The same list. It never fails.
+impl<T: Blank, const N: usize> Clone for BoundedList<T, N> {
+    ghost use Rattle.std.specs.Prelude.{◌≡◌, ⊤};
+
+    ghost is_clone = { λ list copy. copy ≡ list };
+
+    ghost is_infallible = { λ _. ⊤ };
+
+    fn clone(&self) -> Result<Self, AllocError> {
+        Ok(*self)
+    }
+}
+
+impl<T: Blank, const N: usize> Copy for BoundedList<T, N> {}
+
+impl<T: Blank, const N: usize> BoundedList<T, N> {
+    /// The list of no entries.
+    pub fn new() -> Self
+        ensures { result ≡ [] }
+    {
+        BoundedList {
+            cells: [T::blank(); N],
+            count: 0,
+        }
+    }
+
+    /// How many entries there are, 0 to `N`.
+    pub fn len(&self) -> usize
+        ensures { result ≡ length self.now }
+    {
+        self.as_slice().len()
+    }
+
+    /// Whether there are no entries.
+    pub fn is_empty(&self) -> bool
+        ensures { IsTrue result ↔ (self.now ≡ []) }
+    {
+        self.count == 0
+    }
+
+    /// Whether there are `N` entries, so that none may be added.
+    pub fn is_full(&self) -> bool
+        ensures { IsTrue result ↔ (length self.now ≡ N) }
+    {
+        self.count == N
+    }
+
+    /// The entries, in the order in which they were added.
+    pub fn as_slice(&self) -> &[T]
+        ensures { result.now ≡ self.now }
+    {
+        &self.cells[..self.count]
+    }
+
+    /// Adds an entry at the end. There must be room for it.
+    pub fn push(&mut self, entry: T)
+        requires { length self.old < N }
+        ensures { self.new ≡ self.old ++ entry ∷ [] }
+    {
+        self.cells[self.count] = entry;
+        self.count += 1;
+    }
+}
+
+/// Two lists are equal where their entries are, one by one.
+impl<T: Blank + PartialEq, const N: usize> PartialEq for BoundedList<T, N> {
+    ghost eq = { λ v w. pointwise T.eq v w };
+
+    ghost laws = { lists_per T.laws };
+
+    fn eq(&self, other: &Self) -> bool {
+        self.as_slice() == other.as_slice()
+    }
+}
+
+impl<T: Blank + Eq, const N: usize> Eq for BoundedList<T, N> {
+    ghost laws = { lists_equiv T.Eq.laws };
+}
+
+/// As the slice of the entries.
+impl<T: Blank + fmt::Debug, const N: usize> fmt::Debug for BoundedList<T, N> {
+    fn fmt<W: fmt::Write>(&self, f: &mut fmt::Formatter<W>) -> fmt::Result {
+        write!(f, "{:?}", self.as_slice())
+    }
+}
+
+#[cfg(test)]
+mod tests {
+    use super::*;
+    use crate::numbers::Address;
+    use std::test::Fail;
+
+    #[test]
+    fn lists_of_addresses(rt: HostRuntime) -> Result<(), Fail> {
+        let mut list = BoundedList::<Address, 3>::new();
+        assert!(rt; list.is_empty() && !list.is_full());
+        list.push(Address::new(91));
+        list.push(Address::new(1001));
+        let mut copy = list;
+        assert!(rt; copy == list);
+        copy.push(Address::new(0));
+        assert!(rt; copy != list && copy.is_full());
+        assert_eq!(rt; list.len(), 2);
+        assert_eq!(rt;
+            list.as_slice(),
+            [Address::new(91), Address::new(1001)].as_slice()
+        );
+        assert!(rt; list.clone()? == list);
+        let mut one = BoundedList::<Address, 3>::new();
+        one.push(Address::new(91));
+        let text = format!(in rt.alloc(); "{one:?}")?;
+        assert_eq!(rt; text.as_str(), "[Address { number: 91 }]");
+        Ok(())
+    }
+}

@@ -1,0 +1,231 @@
+//! The table of layouts: where each field of each PDU stands in ten octets. It is read in both directions.
+
+ghost use Rattle.std.specs.Prelude.{◌≡◌, ◌+◌, ◌<◌, ◌≤◌, ◌^◌, ℕ, IsTrue, IfSome, if◌then◌else◌};
+ghost use Rattle.dmr_bits.specs.Bits.{field_of, IsOctets};
+ghost use Rattle.dmr_pdu.specs.Layout.{Holds, IsListed, Spells, fills, AllFit};
+ghost use Rattle.dmr_pdu.specs.Reading.{read_as, bit_of, channel};
+
+use crate::numbers::{Address, Kind, Number, Reason};
+use crate::pdu::Pdu;
+use crate::slots::{Lpcn, SlotNo};
+use dmr_bits::{Octets10, field, set_field};
+
+/// Where a number stands in ten octets: its first bit, 0 being the most significant bit of octet 0, and how many bits
+/// it has.
+#[derive(Clone, Copy)]
+struct Place {
+    first: u32,
+    width: u32,
+}
+
+/// The table of layouts (TS 102 361-4, clause 7.1.1; those of C_ALOHA, P_CLEAR and C_MOVE, and the bits that are fixed,
+/// are this project's profile). Of each PDU: its first octet (LB 1, PF 0, the opcode), and the rows behind the first two
+/// octets, which are first bit, width, and the field that stands there. Bits without a field are 0, and so is octet 1,
+/// the feature set.
+macro_rules! layouts {
+    ($direction:ident, $of:expr) => {
+        $direction! { $of;
+            Aloha = 0x99 {
+                16, 2;
+                18, 1 => sync: bool;
+                19, 3 => version: Number;
+                22, 1 => offset: bool;
+                23, 1 => active: bool;
+                24, 5 => mask: Number;
+                29, 2 => function: Number;
+                31, 4 => nrand_wait: Number;
+                35, 1 => register: bool;
+                36, 4 => backoff: Number;
+                40, 16 => system: Number;
+                56, 24 => address: Address;
+            }
+            Ahoy = 0x9C {
+                16, 7 => options: Number;
+                23, 2;
+                25, 1 => group: bool;
+                26, 2;
+                28, 4 => kind: Kind;
+                32, 24 => called: Address;
+                56, 24 => calling: Address;
+            }
+            Random = 0x9F {
+                16, 7 => options: Number;
+                23, 5 => flags: Number;
+                28, 4 => kind: Kind;
+                32, 24 => target: Address;
+                56, 24 => source: Address;
+            }
+            Ackd = 0xA0 {
+                16, 7 => info: Number;
+                23, 8 => reason: Reason;
+                31, 1 => spare: bool;
+                32, 24 => target: Address;
+                56, 24 => additional: Address;
+            }
+            Acku = 0xA1 {
+                16, 7 => info: Number;
+                23, 8 => reason: Reason;
+                31, 1 => spare: bool;
+                32, 24 => target: Address;
+                56, 24 => additional: Address;
+            }
+            Clear = 0xAE {
+                16, 12 => lpcn: Lpcn;
+                28, 3;
+                31, 1 => group: bool;
+                32, 24 => target: Address;
+                56, 24 => source: Address;
+            }
+            PvGrant = 0xB0 {
+                16, 12 => lpcn: Lpcn;
+                28, 1 => slot: SlotNo;
+                29, 3;
+                32, 24 => target: Address;
+                56, 24 => source: Address;
+            }
+            TvGrant = 0xB1 {
+                16, 12 => lpcn: Lpcn;
+                28, 1 => slot: SlotNo;
+                29, 1 => late: bool;
+                30, 2;
+                32, 24 => target: Address;
+                56, 24 => source: Address;
+            }
+            Move = 0xB9 {
+                16, 19;
+                35, 1 => register: bool;
+                36, 4 => backoff: Number;
+                40, 4;
+                44, 12 => lpcn: Lpcn;
+                56, 24;
+            }
+        }
+    };
+}
+
+/// The number that stands in a row.
+macro_rules! number {
+    () => {
+        0
+    };
+    ($field:ident: bool) => {
+        number_of($field)
+    };
+    ($field:ident: $type:ident) => {
+        $field.get()
+    };
+}
+
+/// The octets that a PDU is written as, by its rows.
+macro_rules! octets_of {
+    ($pdu:expr; $($name:ident = $opcode:literal { $($first:literal, $width:literal $(=> $field:ident: $type:ident)?;)* })*) => {
+        match $pdu {
+            $(Pdu::$name { $($($field,)?)* } => spell(&[
+                (Place { first: 0, width: 8 }, $opcode),
+                (Place { first: 8, width: 8 }, 0),
+                $((Place { first: $first, width: $width }, number!($($field: $type)?)),)*
+            ]),)*
+            Pdu::Other(octets) => copy_of(&octets),
+        }
+    };
+}
+
+/// The field that stands in a row.
+macro_rules! field_at {
+    (bool, $octets:expr, $first:literal, $width:literal) => {
+        flag_at($octets, $first)
+    };
+    (Lpcn, $octets:expr, $first:literal, $width:literal) => {
+        channel_at($octets, $first)?
+    };
+    ($type:ident, $octets:expr, $first:literal, $width:literal) => {
+        $type::new(number_at($octets, $first, $width))
+    };
+}
+
+/// The PDU whose fields stand in ten octets, by its rows.
+macro_rules! pdu_of {
+    ($octets:expr; $($name:ident = $opcode:literal { $($first:literal, $width:literal $(=> $field:ident: $type:ident)?;)* })*) => {
+        Some(match number_at($octets, 0, 8) {
+            $($opcode => Pdu::$name { $($($field: field_at!($type, $octets, $first, $width),)?)* },)*
+            _ => return None,
+        })
+    };
+}
+
+/// The octets that a PDU is written as: those of its layout, and those that `Other` carries.
+#[tactic(auto, unfolding(crate::specs::Layout::Spells, crate::specs::Layout::layout, crate::specs::Layout::IsListed, crate::specs::Layout::HasChannel))]
+pub(crate) fn written(pdu: &Pdu) -> Octets10
+    ensures octets { IsOctets 10 result }
+    ensures is { Spells pdu.now result }
+{
+    layouts!(octets_of, *pdu)
+}
+
+/// The PDU of the table whose fields stand in ten octets, by the first of these. What the other bits hold is left
+/// aside.
+#[tactic(auto, unfolding(crate::specs::Reading::read_as, crate::specs::Layout::IsListed))]
+pub(crate) fn read(octets: &Octets10) -> Option<Pdu>
+    ensures listed { IfSome result IsListed }
+    ensures is { result ≡ read_as (field_of octets.now 0 8) octets.now }
+{
+    layouts!(pdu_of, octets)
+}
+
+/// The ten octets in which every row holds.
+fn spell(rows: &[(Place, u32)]) -> Octets10
+    requires whole { IsTrue (fills 0 rows.now) }
+    requires fit { AllFit rows.now }
+    ensures octets { IsOctets 10 result }
+    ensures rows { Holds result rows.now }
+{
+    let mut octets = [0; 10];
+    for row in rows {
+        set_field(&mut octets, row.0.first, row.0.width, row.1);
+    }
+    octets
+}
+
+/// The number of a bit.
+fn number_of(flag: bool) -> u32
+    ensures value { result ≡ (if flag then 1 else 0) }
+    ensures range { result < 2 }
+{
+    if flag { 1 } else { 0 }
+}
+
+/// The number that stands at a place.
+fn number_at(octets: &Octets10, first: u32, width: u32) -> u32
+    requires width { width ≤ 32 }
+    requires inside { first + width ≤ 80 }
+    ensures value { result ≡ field_of octets.now first width }
+    ensures fits { result < 2 ^ width }
+{
+    field(octets, first, width)
+}
+
+/// The bit that stands at a place.
+fn flag_at(octets: &Octets10, place: u32) -> bool
+    requires { place < 80 }
+    ensures { result ≡ bit_of octets.now place }
+{
+    field(octets, place, 1) == 1
+}
+
+/// The channel whose number stands from a bit on, if it is the number of one.
+fn channel_at(octets: &Octets10, first: u32) -> Option<Lpcn>
+    requires { first + 12 ≤ 80 }
+    ensures { result ≡ channel (field_of octets.now first 12) }
+{
+    Lpcn::try_new(field(octets, first, 12))
+}
+
+/// The octets again, whose count and range the contract tells.
+fn copy_of(octets: &Octets10) -> Octets10
+    ensures octets { IsOctets 10 result }
+    ensures same { result ≡ octets.now }
+{
+    let mut copy = [0; 10];
+    copy.copy_from_slice(octets);
+    copy
+}

@@ -1,0 +1,186 @@
+//! PDUs, and what they are in octets.
+
+ghost use Rattle.std.specs.Prelude.{◌≡◌, ◌↔◌, ℕ, List, IsTrue, IfSome};
+ghost use Rattle.dmr_bits.specs.Bits.{IsOctets};
+ghost use Rattle.dmr_pdu.specs.declared.pdu.Pdu.{Pdu as APdu};
+ghost use Rattle.dmr_pdu.specs.Layout.{IsLaidOut, Spells, Agrees};
+
+use crate::layouts::{read, written};
+use crate::numbers::{Address, Kind, Number, Options, Reason};
+use crate::slots::{Lpcn, SlotNo};
+use dmr_bits::Octets10;
+
+/// A PDU of the control slot (TS 102 361-4, clause 7.1.1): one of the nine that the site sends or reads, or ten other
+/// octets.
+#[derive(Clone, Copy, Debug, PartialEq, Eq)]
+pub enum Pdu {
+    /// C_ALOHA: the site invites radios to random access. The layout is this project's profile.
+    Aloha {
+        /// Whether the site is synchronised with others.
+        sync: bool,
+        /// The version of the standard.
+        version: Number<3>,
+        /// Whether the slots of the two directions are offset against each other.
+        offset: bool,
+        /// Whether the site is connected to its network.
+        active: bool,
+        /// How many bits of `address` a radio compares with its own address; 0: all radios are invited.
+        mask: Number<5>,
+        /// The service function that is invited; 0: all.
+        function: Number<2>,
+        /// How long a radio waits for an answer before it tries again.
+        nrand_wait: Number<4>,
+        /// Whether radios must register.
+        register: bool,
+        /// Over how many slots radios spread their tries.
+        backoff: Number<4>,
+        /// The system's identity code.
+        system: Number<16>,
+        /// The address that `mask` is for.
+        address: Address,
+    },
+    /// C_AHOY: the site calls a radio, to see whether it is there (TS 102 361-4, clause 7.1.1).
+    Ahoy {
+        /// The service options of the request.
+        options: Options,
+        /// Whether the call is one to a talkgroup.
+        group: bool,
+        /// The service that was asked for.
+        kind: Kind,
+        /// The radio that is to answer.
+        called: Address,
+        /// Who calls it.
+        calling: Address,
+    },
+    /// C_RAND: a radio's request by random access (TS 102 361-4, clause 7.1.1).
+    Random {
+        /// The service options.
+        options: Options,
+        /// The bits between the options and the service kind.
+        flags: Number<5>,
+        /// The service that is asked for.
+        kind: Kind,
+        /// The radio, talkgroup or service that is called.
+        target: Address,
+        /// The radio that asks.
+        source: Address,
+    },
+    /// C_ACKD: the site acknowledges (TS 102 361-4, clause 7.1.1).
+    Ackd {
+        /// The response information.
+        info: Number<7>,
+        /// The answer.
+        reason: Reason,
+        /// A reserved bit.
+        spare: bool,
+        /// The radio that is answered.
+        target: Address,
+        /// Whom the answer is from, or about.
+        additional: Address,
+    },
+    /// C_ACKU: a radio acknowledges (TS 102 361-4, clause 7.1.1).
+    Acku {
+        /// The response information.
+        info: Number<7>,
+        /// The answer.
+        reason: Reason,
+        /// A reserved bit.
+        spare: bool,
+        /// Whom the answer is for.
+        target: Address,
+        /// The radio that answers.
+        additional: Address,
+    },
+    /// P_CLEAR: a call's slot is taken back, and its radios go to a channel. The layout is this project's profile.
+    Clear {
+        /// The channel that the radios go to.
+        lpcn: Lpcn,
+        /// Whether the call is one to a talkgroup.
+        group: bool,
+        /// The radio or talkgroup that was called.
+        target: Address,
+        /// Who sends the PDU.
+        source: Address,
+    },
+    /// PV_GRANT: a voice call to one radio gets a slot (TS 102 361-4, clause 7.1.1).
+    PvGrant {
+        /// The channel of the slot's carrier.
+        lpcn: Lpcn,
+        /// Which of its slots.
+        slot: SlotNo,
+        /// The radio that is called.
+        target: Address,
+        /// The radio that calls.
+        source: Address,
+    },
+    /// TV_GRANT: a voice call to a talkgroup gets a slot (TS 102 361-4, clause 7.1.1).
+    TvGrant {
+        /// The channel of the slot's carrier.
+        lpcn: Lpcn,
+        /// Which of its slots.
+        slot: SlotNo,
+        /// Whether the call is told again, to radios that come late.
+        late: bool,
+        /// The talkgroup that is called.
+        target: Address,
+        /// The radio that calls.
+        source: Address,
+    },
+    /// C_MOVE: radios are to use another control channel. The layout is this project's profile.
+    Move {
+        /// Whether radios must register there.
+        register: bool,
+        /// Over how many slots radios spread their tries.
+        backoff: Number<4>,
+        /// The channel to use.
+        lpcn: Lpcn,
+    },
+    /// Ten octets that no layout fits: another opcode or feature set, a fixed bit that isn't as listed, or a channel
+    /// number of 0 or 4095.
+    Other(Octets10),
+}
+
+impl Pdu {
+    /// The octets that the PDU is written as: those of its layout, and those that `Other` carries.
+    pub fn to_octets(&self) -> Octets10
+        ensures octets { IsOctets 10 result }
+        ensures is { Spells self.now result }
+        // There are no others.
+        ensures alone { (octets : List ℕ) → IsOctets 10 octets → Spells self.now octets → octets ≡ result }
+    {
+        written(self)
+    }
+
+    /// The one PDU that agrees with ten octets: that whose layout they are, or else `Other`.
+    pub fn from_octets(octets: &Octets10) -> Self
+        ensures agrees { Agrees result octets.now }
+        // There is no other.
+        ensures only { (pdu : APdu) → Agrees pdu octets.now → pdu ≡ result }
+    {
+        match Pdu::listed(octets) {
+            Some(pdu) => pdu,
+            None => Pdu::Other(*octets),
+        }
+    }
+
+    /// The PDU of the table that is laid out in ten octets, if there is one.
+    fn listed(octets: &Octets10) -> Option<Self>
+        ensures found { IfSome result (λ pdu. IsLaidOut pdu octets.now) }
+        ensures only { (pdu : APdu) → IsLaidOut pdu octets.now → result ≡ Some pdu }
+    {
+        let pdu = read(octets)?;
+        // Whatever was left aside must be as the layout says.
+        let spelled = pdu.to_octets();
+        if spelled == *octets { Some(pdu) } else { None }
+    }
+
+    /// Whether two PDUs are the same, as `==` says; here with a contract.
+    pub fn is(&self, other: &Pdu) -> bool
+        ensures { IsTrue result ↔ (self.now ≡ other.now) }
+    {
+        self == other
+    }
+}
+
+#[cfg(test)]
+mod tests;

@@ -1,0 +1,262 @@
+//! Carriers, their slots, and the channel numbers that radios tune to.
+
+ghost use Rattle.std.specs.Prelude.{◌≡◌, ◌<◌, ℕ};
+ghost use Rattle.std.specs.Option.{SomeIff};
+ghost use Rattle.dmr_pdu.specs.Channels.{IsChannel};
+
+use crate::bounded_list::Blank;
+use std::fmt;
+use std::marker::Model;
+
+/// A carrier's number within the site: 0 to 15 (this project's profile).
+#[derive(Clone, Copy, Debug, PartialEq, Eq, PartialOrd, Ord, Hash)]
+pub struct CarrierNo {
+    number: u32,
+}
+
+impl Model for CarrierNo {
+    ghost use Rattle.std.specs.Prelude.{ℕ, ◌<◌};
+
+    ghost Value = { ℕ };
+
+    ghost view = { λ n. n.number };
+
+    ghost invariant = { λ n. n.number < 16 };
+
+    ghost inverse = { λ n. record { number = n } };
+}
+
+impl CarrierNo {
+    /// The carrier of a number from 0 to 15.
+    pub fn new(number: u32) -> Self
+        requires { number < 16 }
+        ensures { result ≡ number }
+    {
+        CarrierNo { number }
+    }
+
+    /// The carrier of a number, where the number is 0 to 15.
+    pub fn try_new(number: u32) -> Option<Self>
+        ensures { SomeIff result (number < 16) number }
+    {
+        if number < 16 {
+            Some(CarrierNo::new(number))
+        } else {
+            None
+        }
+    }
+
+    /// The carrier's number as an integer.
+    pub fn get(&self) -> u32
+        ensures value { result ≡ self.now }
+        ensures range { result < 16 }
+    {
+        self.number
+    }
+}
+
+/// The decimal number.
+impl fmt::Display for CarrierNo {
+    ghost use Rattle.std.specs.Prelude.{Some, decimal};
+
+    ghost output = { λ n. Some (decimal n) };
+
+    fn fmt<W: fmt::Write>(&self, f: &mut fmt::Formatter<W>) -> fmt::Result {
+        let carrier = self.get();
+        write!(f, "{carrier}")
+    }
+}
+
+impl Blank for CarrierNo {
+    ghost blank = { 0 };
+
+    fn blank() -> Self {
+        CarrierNo { number: 0 }
+    }
+}
+
+/// One of a carrier's two slots: 0 or 1 (TS 102 361-1, clause 4.2).
+#[derive(Clone, Copy, Debug, PartialEq, Eq, PartialOrd, Ord, Hash)]
+pub struct SlotNo {
+    index: u32,
+}
+
+impl Model for SlotNo {
+    ghost use Rattle.std.specs.Prelude.{ℕ, ◌<◌};
+
+    ghost Value = { ℕ };
+
+    ghost view = { λ n. n.index };
+
+    ghost invariant = { λ n. n.index < 2 };
+
+    ghost inverse = { λ n. record { index = n } };
+}
+
+impl SlotNo {
+    /// The slot of a number that is 0 or 1.
+    pub fn new(number: u32) -> Self
+        requires { number < 2 }
+        ensures { result ≡ number }
+    {
+        SlotNo { index: number }
+    }
+
+    /// The slot of a number, where the number is 0 or 1.
+    pub fn try_new(number: u32) -> Option<Self>
+        ensures { SomeIff result (number < 2) number }
+    {
+        if number < 2 {
+            Some(SlotNo::new(number))
+        } else {
+            None
+        }
+    }
+
+    /// The slot's number as an integer.
+    pub fn get(&self) -> u32
+        ensures value { result ≡ self.now }
+        ensures range { result < 2 }
+    {
+        self.index
+    }
+}
+
+/// The decimal number.
+impl fmt::Display for SlotNo {
+    ghost use Rattle.std.specs.Prelude.{Some, decimal};
+
+    ghost output = { λ n. Some (decimal n) };
+
+    fn fmt<W: fmt::Write>(&self, f: &mut fmt::Formatter<W>) -> fmt::Result {
+        let slot = self.get();
+        write!(f, "{slot}")
+    }
+}
+
+impl Blank for SlotNo {
+    ghost blank = { 0 };
+
+    fn blank() -> Self {
+        SlotNo { index: 0 }
+    }
+}
+
+/// One slot of the site: a carrier, and which of its two slots. Ordered by carrier, then slot.
+#[derive(Clone, Copy, Debug, PartialEq, Eq, PartialOrd, Ord, Hash)]
+pub struct Slot {
+    /// The carrier.
+    pub carrier: CarrierNo,
+    /// Which of the carrier's slots.
+    pub slot: SlotNo,
+}
+
+impl Blank for Slot {
+    ghost blank = { record { carrier = 0; slot = 0 } };
+
+    fn blank() -> Self {
+        Slot {
+            carrier: CarrierNo::blank(),
+            slot: SlotNo::blank(),
+        }
+    }
+}
+
+/// A logical physical channel number, which radios tune to: 1 to 4094 (TS 102 361-4, clause 7.2). 0 and 4095 name no
+/// channel.
+#[derive(Clone, Copy, Debug, PartialEq, Eq, PartialOrd, Ord, Hash)]
+pub struct Lpcn {
+    channel: u32,
+}
+
+impl Model for Lpcn {
+    ghost use Rattle.std.specs.Prelude.{ℕ};
+    ghost use Rattle.dmr_pdu.specs.Channels.{IsChannel};
+
+    ghost Value = { ℕ };
+
+    ghost view = { λ n. n.channel };
+
+    ghost invariant = { λ n. IsChannel n.channel };
+
+    ghost inverse = { λ n. record { channel = n } };
+}
+
+impl Lpcn {
+    /// The channel of a number from 1 to 4094.
+    pub fn new(number: u32) -> Self
+        requires { IsChannel number }
+        ensures { result ≡ number }
+    {
+        Lpcn { channel: number }
+    }
+
+    /// The channel of a number, where the number is 1 to 4094.
+    pub fn try_new(number: u32) -> Option<Self>
+        ensures { SomeIff result (IsChannel number) number }
+    {
+        if 1 <= number && number <= 4094 {
+            Some(Lpcn::new(number))
+        } else {
+            None
+        }
+    }
+
+    /// The channel's number as an integer.
+    pub fn get(&self) -> u32
+        ensures value { result ≡ self.now }
+        ensures range { IsChannel result }
+    {
+        self.channel
+    }
+}
+
+/// The decimal number.
+impl fmt::Display for Lpcn {
+    ghost use Rattle.std.specs.Prelude.{Some, decimal};
+
+    ghost output = { λ n. Some (decimal n) };
+
+    fn fmt<W: fmt::Write>(&self, f: &mut fmt::Formatter<W>) -> fmt::Result {
+        let channel = self.get();
+        write!(f, "{channel}")
+    }
+}
+
+impl Blank for Lpcn {
+    ghost blank = { 1 };
+
+    fn blank() -> Self {
+        Lpcn { channel: 1 }
+    }
+}
+
+#[cfg(test)]
+mod tests {
+    use super::*;
+    use std::test::Fail;
+
+    #[test]
+    fn channels(rt: HostRuntime) -> Result<(), Fail> {
+        assert_eq!(rt; Lpcn::try_new(0), None);
+        assert_eq!(rt; Lpcn::try_new(4095), None);
+        assert_eq!(rt; Lpcn::try_new(1), Some(Lpcn::blank()));
+        let highest = Lpcn::try_new(4094).ok_or("in range")?;
+        assert_eq!(rt; format!(in rt.alloc(); "{highest}")?.as_str(), "4094");
+        Ok(())
+    }
+
+    #[test]
+    fn slots(rt: HostRuntime) -> Result<(), Fail> {
+        assert_eq!(rt; CarrierNo::try_new(16), None);
+        assert_eq!(rt; SlotNo::try_new(2), None);
+        let slot = Slot {
+            carrier: CarrierNo::try_new(15).ok_or("in range")?,
+            slot: SlotNo::try_new(1).ok_or("in range")?,
+        };
+        assert!(rt; Slot::blank() < slot);
+        let text = format!(in rt.alloc(); "{} {}", slot.carrier, slot.slot)?;
+        assert_eq!(rt; text.as_str(), "15 1");
+        Ok(())
+    }
+}

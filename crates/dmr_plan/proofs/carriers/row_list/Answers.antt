@@ -1,0 +1,20 @@
+use Rattle.std.proofs.Common.{arith, ap, length, length-append}
+use Rattle.std.proofs.lemmas.List.Elements.{All-push}
+use Rattle.dmr_plan.specs.Kept.{IsRow}
+use Rattle.dmr_plan.specs.Carriers.{carrier_of}
+use Rattle.dmr_plan.proofs.Apart.{AreApart-grown}
+use Rattle.dmr_plan.proofs.Turns.{in_turn-step}
+use Rattle.dmr_plan.proofs.carriers.row_list.Goals as goal
+
+pub loop-value-preserved : goal.loop-value-preserved
+loop-value-preserved c =
+    let old = c.loop-value.invariant in
+    let row = c.in_ok-row.row in
+    let new = c.in_ok-row.ensures in
+    let more = c.push.ensures in
+    record {
+      count = omega (arith, simp length-append at (ap length more), old.count);
+      each = rw more (All-push IsRow _ row old.each new.kept);
+      apart = AreApart-grown c.args.console_port _ _ _ row c.as_slice.ensures more old.apart new.number new.lpcn new.port new.console;
+      same = in_turn-step (carrier_of c.args.console_port) _ _ _ row _ _ _ _ c.as_slice.ensures more c.loop-value-test.true c.value-item.is new.gives old.same;
+    }

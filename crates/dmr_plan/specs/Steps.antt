@@ -1,0 +1,21 @@
+-- One step after another, up to the first fault.
+use Rattle.std.specs.Prelude.{◌≡◌, Result, Ok, Err}
+use Rattle.dmr_plan.specs.declared.fault.PlanFault.{PlanFault}
+use Rattle.dmr_plan.specs.declared.fault.PlanFault.TheVariants.{NotToml, OutOfMemory}
+
+-- the next step, unless this one is a fault
+infixl 10 ◌>>=◌
+abbrev pub ◌>>=◌ : {A B : Type 0} → Result A PlanFault → (A → Result B PlanFault) → Result B PlanFault
+(Ok x) >>= f = f x
+(Err e) >>= f = Err e
+
+-- what a function returned, seen by view, is what the definition gives
+abbrev pub Gives : {X Y : Type 0} → (X → Y) → Result X PlanFault → Result Y PlanFault → Type 0
+Gives view (Ok x) read = read ≡ Ok (view x)
+Gives view (Err e) read = read ≡ Err e
+
+-- a fault of a key, and not of the text as a whole
+abbrev pub IsOfKey : PlanFault → Type 0
+IsOfKey NotToml = ⊥
+IsOfKey OutOfMemory = ⊥
+IsOfKey _ = Unit {0}

@@ -1,0 +1,112 @@
+//! The arrays at keys: the types of their items, and how many there are.
+
+ghost use Rattle.std.specs.Prelude.{◌≡◌, ◌≤◌, option_map, length, IfErr};
+ghost use Rattle.std.specs.Bool.{OnTrue};
+ghost use Rattle.toml.specs.Data.{get_member};
+ghost use Rattle.toml.specs.View.{view, items_view, array_view, table_view};
+ghost use Rattle.dmr_plan.specs.Keys.{entry_of};
+ghost use Rattle.dmr_plan.specs.Steps.{IsOfKey, Gives};
+ghost use Rattle.dmr_plan.specs.Arrays.{is_item, is_pair, two_of, all_items, array_of, array_in, count_of, is_count};
+
+use crate::fault::PlanFault;
+use crate::key::{Key, Kind};
+use crate::numbers::member;
+use toml::value::Array;
+use toml::{Table, Value};
+
+impl Kind {
+    /// Whether a value may be an item.
+    fn admits(self, value: &Value) -> bool
+        ensures { result ≡ is_item self (view value.now) }
+    {
+        match self {
+            Kind::OneNumber => value.is_integer(),
+            Kind::Numbers => value.is_integer(),
+            Kind::Pairs => admits_pair(value),
+            Kind::Tables => value.is_table(),
+        }
+    }
+}
+
+/// Whether a value is an array of two whole numbers.
+fn admits_pair(value: &Value) -> bool
+    ensures { result ≡ is_pair (view value.now) }
+{
+    let Some(pair) = value.as_array() else {
+        return false;
+    };
+    match two_in(pair.as_slice()) {
+        Some((first, last)) => first.is_integer() && last.is_integer(),
+        None => false,
+    }
+}
+
+/// The two values, where there are two.
+pub fn two_in(values: &[Value]) -> Option<(&Value, &Value)>
+    ensures { option_map (λ p. (view p.0.now, view p.1.now)) result ≡ two_of (items_view values.now) }
+{
+    if values.len() != 2 {
+        return None;
+    }
+    Some((&values[0], &values[1]))
+}
+
+/// Whether each value may be an item.
+fn admits_all(values: &[Value], kind: Kind) -> bool
+    ensures { result ≡ all_items (is_item kind) (items_view values.now) }
+{
+    for value in values {
+        if !kind.admits(value) {
+            return false;
+        }
+    }
+    true
+}
+
+/// The array that a value is, where each of its items is of the key's kind.
+pub fn array_from(value: &Value, key: Key) -> Result<&Array, PlanFault>
+    ensures gives { Gives (λ a. array_view a.now) result (array_of key (view value.now)) }
+    ensures of_key { IfErr result IsOfKey }
+{
+    match value.as_array() {
+        Some(array) => {
+            if admits_all(array.as_slice(), key.entry().kind) {
+                Ok(array)
+            } else {
+                Err(PlanFault::WrongType(key))
+            }
+        }
+        None => Err(PlanFault::WrongType(key)),
+    }
+}
+
+/// The array at a key that must stand there.
+#[tactic(auto, unfolding(crate::specs::Arrays::array_in))]
+pub fn array_at(table: &Table, key: Key) -> Result<&Array, PlanFault>
+    ensures gives { Gives (λ a. array_view a.now) result (array_in (table_view table.now) key) }
+    ensures of_key { IfErr result IsOfKey }
+{
+    match member(table, key) {
+        Some(value) => array_from(value, key),
+        None => Err(PlanFault::Missing(key)),
+    }
+}
+
+/// How many values there are.
+fn count(values: &[Value]) -> usize
+    ensures same { result ≡ count_of (items_view values.now) }
+    ensures len { result ≡ length values.now }
+{
+    values.len()
+}
+
+/// Whether there are as many values as the key may have.
+pub fn has_count(values: &[Value], key: Key) -> bool
+    ensures gives { result ≡ is_count key (items_view values.now) }
+    ensures few { OnTrue result ((entry_of key).count.least ≤ length values.now) }
+    ensures many { OnTrue result (length values.now ≤ (entry_of key).count.most) }
+{
+    let bounds = key.entry().count;
+    let count = count(values);
+    bounds.least as usize <= count && count <= bounds.most as usize
+}

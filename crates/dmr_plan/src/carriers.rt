@@ -1,0 +1,180 @@
+//! The keys `carrier` and `control`.
+
+ghost use Rattle.std.specs.Prelude.{◌≡◌, ◌≤◌, ◌==◌, length, [], true, false, IfOk, IfErr, IfSome};
+ghost use Rattle.std.specs.List.{All, Contains};
+ghost use Rattle.toml.specs.View.{view, items_view, table_view};
+ghost use Rattle.dmr_plan.specs.Steps.{IsOfKey};
+ghost use Rattle.dmr_plan.specs.Arrays.{in_turn};
+ghost use Rattle.dmr_plan.specs.Carriers.{row_with, has_number_in, has_lpcn_in, has_port_in, row_of, carrier_of, carriers_of, carriers_of_items, control_of};
+ghost use Rattle.dmr_plan.specs.Kept.{IsRow, AreApart, AreCarriers};
+
+use crate::arrays::{array_at, has_count};
+use crate::fault::PlanFault;
+use crate::key::Key;
+use crate::numbers::number as number_at;
+use dmr_pdu::{Blank, BoundedList, CarrierNo, Lpcn};
+use toml::{Table, Value};
+
+/// One carrier of the site.
+#[derive(Clone, Copy, PartialEq, Eq, Debug)]
+pub struct CarrierRow {
+    /// The carrier's number, unlike that of each other carrier.
+    pub number: CarrierNo,
+    /// The logical physical channel number of both of its slots, unlike that of each other carrier.
+    pub lpcn: Lpcn,
+    /// The TCP port of its connection, 1 to 65535, unlike that of each other carrier and the console's.
+    pub port: u16,
+}
+
+impl Blank for CarrierRow {
+    ghost use Rattle.dmr_plan.specs.Carriers.{no_row};
+
+    ghost blank = { no_row };
+
+    fn blank() -> CarrierRow {
+        CarrierRow {
+            number: CarrierNo::blank(),
+            lpcn: Lpcn::blank(),
+            port: 0,
+        }
+    }
+}
+
+/// Whether a row has this number.
+fn has_number(rows: &[CarrierRow], number: CarrierNo) -> bool
+    ensures { result ≡ has_number_in rows.now number }
+{
+    rows.iter().any(|row| row.number == number)
+}
+
+/// Whether a row has this channel.
+fn has_lpcn(rows: &[CarrierRow], lpcn: Lpcn) -> bool
+    ensures { result ≡ has_lpcn_in rows.now lpcn }
+{
+    rows.iter().any(|row| row.lpcn == lpcn)
+}
+
+/// Whether a row has this port.
+fn has_port(rows: &[CarrierRow], port: u16) -> bool
+    ensures { result ≡ has_port_in rows.now port }
+{
+    rows.iter().any(|row| row.port == port)
+}
+
+/// The carrier of a number, if there is one.
+pub fn row_numbered(rows: &[CarrierRow], number: CarrierNo) -> Option<CarrierRow>
+    ensures gives { result ≡ row_with rows.now number }
+    ensures row { IfSome result (λ row. (row.number ≡ number) × Contains rows.now row) }
+{
+    rows.iter().copied().find(|row| row.number == number)
+}
+
+/// The carrier of a table, beside those before it.
+#[tactic(auto, unfolding(crate::specs::Carriers::row_of))]
+fn row_in(console_port: u16, earlier: &[CarrierRow], table: &Table) -> Result<CarrierRow, PlanFault>
+    ensures gives { result ≡ row_of console_port earlier.now (table_view table.now) }
+    ensures kept { IfOk result IsRow }
+    ensures number { IfOk result (λ row. has_number_in earlier.now row.number ≡ false) }
+    ensures lpcn { IfOk result (λ row. has_lpcn_in earlier.now row.lpcn ≡ false) }
+    ensures port { IfOk result (λ row. has_port_in earlier.now row.port ≡ false) }
+    ensures console { IfOk result (λ row. (row.port == console_port) ≡ false) }
+    ensures of_key { IfErr result IsOfKey }
+{
+    let number = CarrierNo::new(number_at(table, Key::Number)?);
+    if has_number(earlier, number) {
+        return Err(PlanFault::Repeated(Key::Number));
+    }
+    let lpcn = Lpcn::new(number_at(table, Key::Lpcn)?);
+    if has_lpcn(earlier, lpcn) {
+        return Err(PlanFault::Repeated(Key::Lpcn));
+    }
+    let port = number_at(table, Key::Port)? as u16;
+    if port == console_port {
+        return Err(PlanFault::Repeated(Key::Port));
+    }
+    if has_port(earlier, port) {
+        return Err(PlanFault::Repeated(Key::Port));
+    }
+    Ok(CarrierRow { number, lpcn, port })
+}
+
+/// The carrier that a value spells, beside those before it.
+fn row_from(
+    console_port: u16,
+    earlier: &[CarrierRow],
+    value: &Value,
+) -> Result<CarrierRow, PlanFault>
+    ensures gives { result ≡ carrier_of console_port earlier.now (view value.now) }
+    ensures kept { IfOk result IsRow }
+    ensures number { IfOk result (λ row. has_number_in earlier.now row.number ≡ false) }
+    ensures lpcn { IfOk result (λ row. has_lpcn_in earlier.now row.lpcn ≡ false) }
+    ensures port { IfOk result (λ row. has_port_in earlier.now row.port ≡ false) }
+    ensures console { IfOk result (λ row. (row.port == console_port) ≡ false) }
+    ensures of_key { IfErr result IsOfKey }
+{
+    match value.as_table() {
+        Some(table) => row_in(console_port, earlier, table),
+        None => Err(PlanFault::WrongType(Key::Carrier)),
+    }
+}
+
+/// The carriers, one by one.
+fn row_list(console_port: u16, values: &[Value]) -> Result<BoundedList<CarrierRow, 16>, PlanFault>
+    requires { length values.now ≤ 16 }
+    ensures gives { result ≡ in_turn (carrier_of console_port) [] (items_view values.now) }
+    ensures count { IfOk result (λ rows. length rows ≡ length values.now) }
+    ensures each { IfOk result (All IsRow) }
+    ensures apart { IfOk result (AreApart console_port) }
+    ensures of_key { IfErr result IsOfKey }
+{
+    let mut rows = BoundedList::new();
+    for value in values {
+        let row = row_from(console_port, rows.as_slice(), value)?;
+        rows.push(row);
+    }
+    Ok(rows)
+}
+
+/// The carriers that an array spells.
+fn carriers_from(
+    console_port: u16,
+    values: &[Value],
+) -> Result<BoundedList<CarrierRow, 16>, PlanFault>
+    ensures gives { result ≡ carriers_of_items console_port (items_view values.now) }
+    ensures kept { IfOk result (AreCarriers console_port) }
+    ensures of_key { IfErr result IsOfKey }
+{
+    if !has_count(values, Key::Carrier) {
+        return Err(PlanFault::OutOfRange(Key::Carrier));
+    }
+    row_list(console_port, values)
+}
+
+/// The carriers in the file's order.
+#[tactic(auto, unfolding(crate::specs::Carriers::carriers_of))]
+pub fn carriers_in(
+    table: &Table,
+    console_port: u16,
+) -> Result<BoundedList<CarrierRow, 16>, PlanFault>
+    ensures gives { result ≡ carriers_of (table_view table.now) console_port }
+    ensures kept { IfOk result (AreCarriers console_port) }
+    ensures of_key { IfErr result IsOfKey }
+{
+    let array = array_at(table, Key::Carrier)?;
+    carriers_from(console_port, array.as_slice())
+}
+
+/// The number of the control carrier, which is one of the carriers.
+#[tactic(auto, unfolding(crate::specs::Carriers::control_of))]
+pub fn control_in(table: &Table, rows: &[CarrierRow]) -> Result<CarrierNo, PlanFault>
+    ensures gives { result ≡ control_of (table_view table.now) rows.now }
+    ensures kept { IfOk result (λ c. has_number_in rows.now c ≡ true) }
+    ensures of_key { IfErr result IsOfKey }
+{
+    let control = CarrierNo::new(number_at(table, Key::Control)?);
+    if has_number(rows, control) {
+        Ok(control)
+    } else {
+        Err(PlanFault::OutOfRange(Key::Control))
+    }
+}

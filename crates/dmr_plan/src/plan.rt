@@ -1,0 +1,363 @@
+//! The plan that a site file makes.
+
+ghost use Rattle.std.specs.Prelude.{◌≡◌, ◌⊎◌, ◌↔◌, ◌≤◌, IsTrue, Err, IfErr, None, IfSome, IsSome, is_some};
+ghost use Rattle.std.specs.List.{Any, Contains};
+ghost use Rattle.toml.specs.Errors.{IsBlank};
+ghost use Rattle.toml.specs.Parse.{parse_document};
+ghost use Rattle.toml.specs.View.{table_view};
+ghost use Rattle.dmr_plan.specs.Steps.{IsOfKey};
+ghost use Rattle.dmr_plan.specs.Plan.{plan_of, plan_of_document, lists_radio, lists_group};
+ghost use Rattle.dmr_plan.specs.Carriers.{row_with, has_number_in};
+ghost use Rattle.dmr_plan.specs.IsPlan.{IsPlan};
+
+use crate::carriers::{CarrierRow, carriers_in, control_in, row_numbered};
+use crate::fault::PlanFault;
+use crate::key::Key;
+use crate::lists::{RadioRange, address_in, groups_in, radios_in};
+use crate::numbers::number;
+use crate::sections::{aloha_in, identity_in, pace_in, times_in};
+use crate::settings::{Settings, same_settings};
+use dmr_pdu::{Address, CarrierNo};
+use std::alloc::Global;
+use std::marker::Model;
+use toml::Table;
+
+/// What an accepted site file says. `Copy`, and without memory of its own. Contracts see it as the settings, a field for
+/// each key; what they all keep is `IsPlan`, which [`Plan::keeps`] tells.
+#[derive(Clone, Copy, Debug)]
+pub struct Plan {
+    settings: Settings,
+}
+
+impl Model for Plan {
+    ghost use Rattle.dmr_plan.specs.declared.settings.Settings.{Settings};
+
+    ghost Value = { Settings };
+
+    ghost view = { λ plan. plan.settings };
+
+    ghost use Rattle.dmr_plan.specs.IsPlan.{IsPlan};
+
+    ghost invariant = { λ plan. IsPlan plan.settings };
+
+    ghost inverse = { λ settings. record { settings = settings } };
+}
+
+/// Two plans are equal where they say the same at each key.
+impl PartialEq for Plan {
+    ghost use Rattle.std.specs.Cmp.{partial_equiv_from_equiv};
+    ghost use Rattle.dmr_plan.specs.Same.{are_same, are_same-equivalence};
+
+    ghost eq = { are_same };
+
+    ghost laws = { partial_equiv_from_equiv are_same-equivalence };
+
+    fn eq(&self, other: &Self) -> bool
+        ensures gives { result ≡ are_same self.now other.now }
+        ensures same { IsTrue result ↔ (self.now ≡ other.now) }
+    {
+        same_settings(&self.settings, &other.settings)
+    }
+}
+
+impl Eq for Plan {
+    ghost use Rattle.dmr_plan.specs.Same.{are_same-equivalence};
+
+    ghost laws = { are_same-equivalence };
+}
+
+/// The plan that a table spells, or its first fault in the order of the keys.
+#[tactic(auto, unfolding(crate::specs::Plan::plan_of))]
+fn plan_in(table: &Table) -> Result<Plan, PlanFault>
+    ensures gives { result ≡ plan_of (table_view table.now) }
+    ensures of_key { IfErr result IsOfKey }
+{
+    let identity = identity_in(table)?;
+    let aloha = aloha_in(table)?;
+    let times = times_in(table)?;
+    let pace = pace_in(table)?;
+    let address = address_in(table)?;
+    let console_port = number(table, Key::ConsolePort)? as u16;
+    let radios = radios_in(table)?;
+    let groups = groups_in(table)?;
+    let carriers = carriers_in(table, console_port)?;
+    let control = control_in(table, carriers.as_slice())?;
+    Ok(Plan {
+        settings: Settings {
+            system: identity.system,
+            regi: identity.regi,
+            tsi: identity.tsi,
+            leave_bit: identity.leave_bit,
+            aloha_sync: aloha.sync,
+            aloha_version: aloha.version,
+            aloha_offset: aloha.offset,
+            aloha_active: aloha.active,
+            nrand_wait: aloha.nrand_wait,
+            hang: times.hang,
+            maximum: times.maximum,
+            ahoy_wait: times.ahoy_wait,
+            ahoy_tries: times.ahoy_tries,
+            grant_copies: times.grant_copies,
+            clear_copies: times.clear_copies,
+            backoff_low: pace.backoff_low,
+            backoff_high: pace.backoff_high,
+            tick_ms: pace.tick_ms,
+            silence: pace.silence,
+            term_entries: pace.term_entries,
+            address,
+            console_port,
+            radios,
+            groups,
+            carriers,
+            control,
+        },
+    })
+}
+
+impl Plan {
+    /// Reads the text of a site file. `Ok` is exactly the plan that the key table gives. A text that isn't TOML is
+    /// `NotToml`; a TOML text that spells no plan is its first fault, key by key in the table's order, within a key
+    /// `Missing`, `WrongType`, `OutOfRange` and `Repeated` in this order. `OutOfMemory` comes only where an allocation was
+    /// refused while the text was parsed. The plan keeps nothing of the text.
+    pub fn read(alloc: Global, text: &str) -> Result<Plan, PlanFault>
+        // The one plan of the text or its one fault, unless memory runs out.
+        ensures exact { (result ≡ plan_of_document (parse_document text.now)) ⊎ (result ≡ Err PlanFault.OutOfMemory) }
+        // A text that is TOML is never called another thing.
+        ensures not_toml { result ≡ Err PlanFault.NotToml → parse_document text.now ≡ None }
+        // A blank text takes no memory.
+        ensures memory { result ≡ Err PlanFault.OutOfMemory → ¬ IsBlank text.now }
+    {
+        match toml::table_from_str(alloc, text) {
+            Ok(table) => plan_in(&table),
+            Err(e) => {
+                if e.is_memory() {
+                    Err(PlanFault::OutOfMemory)
+                } else {
+                    Err(PlanFault::NotToml)
+                }
+            }
+        }
+    }
+
+    /// The system identity code that C_ALOHA announces: 0 to 65535.
+    pub fn system(&self) -> u16
+        ensures { result ≡ self.now.system }
+    {
+        self.settings.system
+    }
+
+    /// The address of the registration service: 16776416 to 16777215 (TS 102 361-4, annex A).
+    pub fn regi(&self) -> Address
+        ensures { result ≡ self.now.regi }
+    {
+        self.settings.regi
+    }
+
+    /// The address that the site itself speaks from, as in P_CLEAR: 16776416 to 16777215, and not that of
+    /// [`regi`](Plan::regi) (TS 102 361-4, annex A).
+    pub fn tsi(&self) -> Address
+        ensures { result ≡ self.now.tsi }
+    {
+        self.settings.tsi
+    }
+
+    /// Which option bit of a registration request, counted from the last, is 0 where the radio leaves: 0 to 6. `None`
+    /// where each registration request registers.
+    pub fn leave_bit(&self) -> Option<u8>
+        ensures { result ≡ self.now.leave_bit }
+    {
+        self.settings.leave_bit
+    }
+
+    /// The field sync of C_ALOHA: 0 to 1; 0 where the file doesn't say.
+    pub fn aloha_sync(&self) -> u8
+        ensures { result ≡ self.now.aloha_sync }
+    {
+        self.settings.aloha_sync
+    }
+
+    /// The field version of C_ALOHA: 0 to 7; 0 where the file doesn't say.
+    pub fn aloha_version(&self) -> u8
+        ensures { result ≡ self.now.aloha_version }
+    {
+        self.settings.aloha_version
+    }
+
+    /// The field offset of C_ALOHA: 0 to 1; 0 where the file doesn't say.
+    pub fn aloha_offset(&self) -> u8
+        ensures { result ≡ self.now.aloha_offset }
+    {
+        self.settings.aloha_offset
+    }
+
+    /// The field active of C_ALOHA: 0 to 1; 0 where the file doesn't say.
+    pub fn aloha_active(&self) -> u8
+        ensures { result ≡ self.now.aloha_active }
+    {
+        self.settings.aloha_active
+    }
+
+    /// The field nrand_wait of C_ALOHA, which sets how long radios wait for an answer to their random access: 0 to 15; 0
+    /// where the file doesn't say.
+    pub fn nrand_wait(&self) -> u8
+        ensures { result ≡ self.now.nrand_wait }
+    {
+        self.settings.nrand_wait
+    }
+
+    /// After how many ticks without activity a call ends: 1 to 65535.
+    pub fn hang(&self) -> u16
+        ensures { result ≡ self.now.hang }
+    {
+        self.settings.hang
+    }
+
+    /// After how many ticks from its beginning a call ends, however active it is: 1 to 65535.
+    pub fn maximum(&self) -> u16
+        ensures { result ≡ self.now.maximum }
+    {
+        self.settings.maximum
+    }
+
+    /// How many ticks pass between two C_AHOY to one radio: 1 to 65535.
+    pub fn ahoy_wait(&self) -> u16
+        ensures { result ≡ self.now.ahoy_wait }
+    {
+        self.settings.ahoy_wait
+    }
+
+    /// How many C_AHOY a radio is sent before it counts as away: 1 to 8.
+    pub fn ahoy_tries(&self) -> u8
+        ensures { result ≡ self.now.ahoy_tries }
+    {
+        self.settings.ahoy_tries
+    }
+
+    /// How many times a channel grant is queued: 1 to 4.
+    pub fn grant_copies(&self) -> u8
+        ensures { result ≡ self.now.grant_copies }
+    {
+        self.settings.grant_copies
+    }
+
+    /// How many times P_CLEAR is queued where a call ends: 1 to 4.
+    pub fn clear_copies(&self) -> u8
+        ensures { result ≡ self.now.clear_copies }
+    {
+        self.settings.clear_copies
+    }
+
+    /// The backoff that a quiet control slot sends: 1 to 15.
+    pub fn backoff_low(&self) -> u8
+        ensures { result ≡ self.now.backoff_low }
+    {
+        self.settings.backoff_low
+    }
+
+    /// The most that noise on the control slot raises the backoff to: [`backoff_low`](Plan::backoff_low) to 15.
+    pub fn backoff_high(&self) -> u8
+        ensures { result ≡ self.now.backoff_high }
+    {
+        self.settings.backoff_high
+    }
+
+    /// How many milliseconds a tick lasts: 10 to 1000.
+    pub fn tick_ms(&self) -> u16
+        ensures { result ≡ self.now.tick_ms }
+    {
+        self.settings.tick_ms
+    }
+
+    /// After how many waits of 100 ms in a row without an octet a connection is cut: 1 to 65535.
+    pub fn silence(&self) -> u16
+        ensures { result ≡ self.now.silence }
+    {
+        self.settings.silence
+    }
+
+    /// How many entries the journal of a term takes: 1 to 100000; 10000 where the file doesn't say.
+    pub fn term_entries(&self) -> u32
+        ensures { result ≡ self.now.term_entries }
+    {
+        self.settings.term_entries
+    }
+
+    /// The IPv4 address to listen at, first octet first; 127.0.0.1 where the file doesn't say.
+    pub fn address(&self) -> [u8; 4]
+        ensures { result ≡ self.now.address }
+    {
+        self.settings.address
+    }
+
+    /// The TCP port of the console: 1 to 65535.
+    pub fn console_port(&self) -> u16
+        ensures { result ≡ self.now.console_port }
+    {
+        self.settings.console_port
+    }
+
+    /// The ranges of the radios that may register, in the file's order: 1 to 16, of addresses 1 to 16776415, first at most
+    /// last. They may overlap.
+    pub fn radios(&self) -> &[RadioRange]
+        ensures { result.now ≡ self.now.radios }
+    {
+        self.settings.radios.as_slice()
+    }
+
+    /// The talkgroups in the file's order: 0 to 64, of addresses 1 to 16776415, none twice.
+    pub fn groups(&self) -> &[Address]
+        ensures { result.now ≡ self.now.groups }
+    {
+        self.settings.groups.as_slice()
+    }
+
+    /// The carriers in the file's order, which need not be that of their numbers: 1 to 16. No number, channel or port stands
+    /// twice.
+    pub fn carriers(&self) -> &[CarrierRow]
+        ensures { result.now ≡ self.now.carriers }
+    {
+        self.settings.carriers.as_slice()
+    }
+
+    /// The number of the control carrier, which is one of the carriers. Its slot 0 is the control slot; its slot 1 and the
+    /// slots of the others carry calls.
+    pub fn control(&self) -> CarrierNo
+        ensures { result ≡ self.now.control }
+    {
+        self.settings.control
+    }
+
+    /// Whether a radio may register: it lies in one of the ranges.
+    pub fn lists_radio(&self, radio: Address) -> bool
+        ensures gives { result ≡ lists_radio self.now radio }
+        ensures member { IsTrue result ↔ Any (λ range. (range.first ≤ radio) × (radio ≤ range.last)) self.now.radios }
+    {
+        self.radios().iter().any(|range| range.contains(radio))
+    }
+
+    /// Whether a talkgroup is one of the site's.
+    pub fn lists_group(&self, group: Address) -> bool
+        ensures gives { result ≡ lists_group self.now group }
+        ensures member { IsTrue result ↔ Contains self.now.groups group }
+    {
+        self.groups().contains(&group)
+    }
+
+    /// The carrier of a number, or `None` where no carrier has it.
+    pub fn carrier(&self, number: CarrierNo) -> Option<CarrierRow>
+        ensures gives { result ≡ row_with self.now.carriers number }
+        ensures row { IfSome result (λ row. (row.number ≡ number) × Contains self.now.carriers row) }
+        ensures found { is_some result ≡ has_number_in self.now.carriers number }
+        // The plan has its control carrier.
+        ensures control { number ≡ self.now.control → IsSome result }
+    {
+        row_numbered(self.settings.carriers.as_slice(), number)
+    }
+
+    /// Does nothing. A proof learns from it what every accepted plan keeps.
+    pub fn keeps(&self)
+        ensures { IsPlan self.now }
+    {
+        let _ = &self.settings;
+    }
+}

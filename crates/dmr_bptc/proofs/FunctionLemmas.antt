@@ -48,15 +48,15 @@ filled_grid-column g column = filled_column (λ r. filled row_equations (g r) co
 filled_grid-row : (g : ℕ → ℕ → Bool) (row : ℕ) → row < 13 → Satisfies row_equations (λ column. filled_grid g row column)
 filled_grid-row g row row_lt =
     rows_satisfied (filled_grid g)
-      (λ r r_lt. satisfies-same row_equations (λ c. filled_grid g r c) (λ c. filled row_equations (λ k. g r k) c) 15 row_indices (λ c c_lt. filled_grid-data_row g r c r_lt) (filled_row (λ k. g r k)))
-      (λ column column_lt. filled_grid-column g column)
-      row row_lt
+    (λ r r_lt. satisfies-same row_equations (λ c. filled_grid g r c) (λ c. filled row_equations (λ k. g r k) c) 15 row_indices (λ c c_lt. filled_grid-data_row g r c r_lt) (filled_row (λ k. g r k)))
+    (λ column column_lt. filled_grid-column g column)
+    row row_lt
 
 filled_grid-data : (g : ℕ → ℕ → Bool) (row column : ℕ) → row < 9 → column < 11 → filled_grid g row column ≡ g row column
 unfolding row_equations
 filled_grid-data g row column row_lt column_lt =
     filled_grid-data_row g row column row_lt
-      ∙ filled-other row_equations (λ c. g row c) column (omega arith, (omega arith, (omega arith, (omega arith, tt))))
+    ∙ filled-other row_equations (λ c. g row c) column (omega arith, (omega arith, (omega arith, (omega arith, tt))))
 
 -- ---- the word of a grid
 
@@ -79,8 +79,8 @@ cell-grid_word grid row column row_lt column_lt =
     let at = place_facts row column row_lt column_lt in
     let apart : (place_of row column == 0) ≡ false = ne_eqb (place_of row column) 0 (let low : 0 < place_of row column = at.low in omega (arith, low)) in
     word_bit-grid_word grid (place_of row column) at.high
-      ∙ ap (λ b. cond b false (grid (row_of (place_of row column)) (column_of (place_of row column)))) apart
-      ∙ (λ i. grid (at.row_is i) (at.column_is i))
+    ∙ ap (λ b. cond b false (grid (row_of (place_of row column)) (column_of (place_of row column)))) apart
+    ∙ (λ i. grid (at.row_is i) (at.column_is i))
 
 -- a grid with its parities in place makes a codeword
 pub grid_word-codeword : (g : ℕ → ℕ → Bool) → IsCodeword (grid_word (filled_grid g))
@@ -116,7 +116,7 @@ pub information_octets-bits : (word : List Bool) → HasInformation word (inform
 information_octets-bits word k lt =
     let at : 8 * (k / 8) + k % 8 ≡ k = omega arith in
     rw (octet_at word (k / 8) (omega arith))
-      (spelled-bit (λ i. cell word ((i + 3) / 11) ((i + 3) % 11)) (8 * (k / 8)) 8 (k % 8) (omega arith) ∙ ap (λ i. cell word ((i + 3) / 11) ((i + 3) % 11)) at)
+    (spelled-bit (λ i. cell word ((i + 3) / 11) ((i + 3) % 11)) (8 * (k / 8)) 8 (k % 8) (omega arith) ∙ ap (λ i. cell word ((i + 3) / 11) ((i + 3) % 11)) at)
 
 -- ---- decoding
 
@@ -131,10 +131,10 @@ mended_codeword-cells word x codeword near =
     let grid : ℕ → ℕ → Bool = λ row column. mended row_equations (λ c. mended column_equations (λ r. cell word r c) row) column in
     let made : IsCodeword (grid_word (filled_grid grid)) = grid_word-codeword grid in
     grid_determined (cell (grid_word (filled_grid grid))) (cell x) made.rows made.columns codeword.rows codeword.columns
-      (λ row column row_lt column_lt.
-        cell-grid_word (filled_grid grid) row column (omega arith) (omega arith)
-          ∙ filled_grid-data grid row column row_lt column_lt
-          ∙ passes_mend word x (λ row column. mended column_equations (λ r. cell word r column) row) codeword near (λ row column row_lt column_lt. refl) row column (omega arith) (omega arith))
+    (λ row column row_lt column_lt.
+    cell-grid_word (filled_grid grid) row column (omega arith) (omega arith)
+    ∙ filled_grid-data grid row column row_lt column_lt
+    ∙ passes_mend word x (λ row column. mended column_equations (λ r. cell word r column) row) codeword near (λ row column row_lt column_lt. refl) row column (omega arith) (omega arith))
 
 decoded-near : (word : List Bool) → distance word (mended_codeword word) ≤ 3 → decoded word ≡ Some (information_octets (mended_codeword word))
 unfolding decoded
@@ -148,10 +148,10 @@ decoded-far word far = rw (lt-leb (distance word (mended_codeword word)) 3 far) 
 pub decoded-found : (word : List Bool) → IfSome (decoded word) (λ octets. IsOctets 12 octets × Means 3 word octets)
 decoded-found word =
     ⊎_elim
-      (λ (far : 3 < distance word (mended_codeword word)). rw (decoded-far word far) tt)
-      (λ (near : distance word (mended_codeword word) ≤ 3).
-        rw (decoded-near word near) (information_octets-octets (mended_codeword word), (mended_codeword word, record { is_codeword = mended_codeword-codeword word; near = near; information = information_octets-bits (mended_codeword word) })))
-      (cases_lt 3 (distance word (mended_codeword word)))
+    (λ (far : 3 < distance word (mended_codeword word)). rw (decoded-far word far) tt)
+    (λ (near : distance word (mended_codeword word) ≤ 3).
+    rw (decoded-near word near) (information_octets-octets (mended_codeword word), (mended_codeword word, record { is_codeword = mended_codeword-codeword word; near = near; information = information_octets-bits (mended_codeword word) })))
+    (cases_lt 3 (distance word (mended_codeword word)))
 
 -- what is meant is decoded
 pub decoded-meant : (word : List Bool) (octets : List ℕ) → IsOctets 12 octets → Means 3 word octets → decoded word ≡ Some octets
@@ -160,8 +160,8 @@ decoded-meant word octets is_octets means =
     let same : distance word (mended_codeword word) ≡ distance word means.0 = distance-same word (mended_codeword word) means.0 cells in
     let near : distance word means.0 ≤ 3 = means.1.near in
     let information : information_octets (mended_codeword word) ≡ octets =
-      octets-same 12 (information_octets (mended_codeword word)) octets (information_octets-octets (mended_codeword word)) is_octets (λ k lt.
-        information_octets-bits (mended_codeword word) k (omega arith) ∙ cells ((k + 3) / 11) ((k + 3) % 11) (omega arith) (omega arith) ∙ sym (means.1.information k (omega arith))) in
+    octets-same 12 (information_octets (mended_codeword word)) octets (information_octets-octets (mended_codeword word)) is_octets (λ k lt.
+    information_octets-bits (mended_codeword word) k (omega arith) ∙ cells ((k + 3) / 11) ((k + 3) % 11) (omega arith) (omega arith) ∙ sym (means.1.information k (omega arith))) in
     decoded-near word (omega arith) ∙ ap Some information
 
 -- ---- encoding
@@ -180,12 +180,12 @@ encoded-encoding octets = record {
   information = λ k lt.
       let at : 11 * ((k + 3) / 11) + (k + 3) % 11 - 3 ≡ k = omega arith in
       sym (cell-grid_word (filled_grid (information_grid octets)) ((k + 3) / 11) ((k + 3) % 11) (omega arith) (omega arith)
-        ∙ filled_grid-data (information_grid octets) ((k + 3) / 11) ((k + 3) % 11) (omega arith) (omega arith)
-        ∙ information_cell octets ((k + 3) / 11) ((k + 3) % 11) (omega arith) (omega arith) (omega arith)
-        ∙ ap (octet_bit octets) at);
+      ∙ filled_grid-data (information_grid octets) ((k + 3) / 11) ((k + 3) % 11) (omega arith) (omega arith)
+      ∙ information_cell octets ((k + 3) / 11) ((k + 3) % 11) (omega arith) (omega arith) (omega arith)
+      ∙ ap (octet_bit octets) at);
   free = grid_word-free (filled_grid (information_grid octets));
   reserved = λ column lt.
       cell-grid_word (filled_grid (information_grid octets)) 0 column (omega arith) (omega arith)
-        ∙ filled_grid-data (information_grid octets) 0 column (omega arith) (omega arith)
-        ∙ reserved_cell octets column lt;
+      ∙ filled_grid-data (information_grid octets) 0 column (omega arith) (omega arith)
+      ∙ reserved_cell octets column lt;
 }

@@ -28,7 +28,7 @@ opened-with_check : (octets : List ℕ) → IsOctets 10 octets → opened (with_
 unfolding opened
 opened-with_check octets is =
     let same : pointwise eqb (with_check (take 10 (with_check octets))) (with_check octets) ≡ true =
-      ap (λ (o : List ℕ). pointwise eqb (with_check o) (with_check octets)) (front octets is) ∙ pointwise-self (with_check octets) in
+    ap (λ (o : List ℕ). pointwise eqb (with_check o) (with_check octets)) (front octets is) ∙ pointwise-self (with_check octets) in
     rw same (ap Some (front octets is))
 
 take-octets : (sealed : List ℕ) → IsOctets 12 sealed → IsOctets 10 (take 10 sealed)
@@ -44,9 +44,9 @@ opened-found : (sealed : List ℕ) → IfSome (opened sealed) (λ octets. (octet
 unfolding opened
 opened-found sealed =
     ⊎_elim
-      (λ (yes : pointwise eqb (with_check (take 10 sealed)) sealed ≡ true). rw yes (refl, sym (pointwise-same (with_check (take 10 sealed)) sealed yes)))
-      (λ (no : pointwise eqb (with_check (take 10 sealed)) sealed ≡ false). rw no tt)
-      (cases_Bool (pointwise eqb (with_check (take 10 sealed)) sealed))
+    (λ (yes : pointwise eqb (with_check (take 10 sealed)) sealed ≡ true). rw yes (refl, sym (pointwise-same (with_check (take 10 sealed)) sealed yes)))
+    (λ (no : pointwise eqb (with_check (take 10 sealed)) sealed ≡ false). rw no tt)
+    (cases_Bool (pointwise eqb (with_check (take 10 sealed)) sealed))
 
 -- ---- meaning
 
@@ -56,8 +56,8 @@ unfolding meaning_of
 meaning_of-meant word pdu means =
     let found : decoded word ≡ Some (with_check means.0) = decoded-meant word (with_check means.0) (with_check-octets means.0 means.1.are_octets) means.1.means in
     ap (λ (o : Option (List ℕ)). option_map pdu_of (option_and_then opened o)) found
-      ∙ ap (option_map pdu_of) (opened-with_check means.0 means.1.are_octets)
-      ∙ ap Some (pdu_of-only pdu means.0 means.1.agrees)
+    ∙ ap (option_map pdu_of) (opened-with_check means.0 means.1.are_octets)
+    ∙ ap Some (pdu_of-only pdu means.0 means.1.agrees)
 
 from_opened : (word : List Bool) (sealed : List ℕ) (o : Option (List ℕ)) → IsOctets 12 sealed → Means 3 word sealed
     → IfSome o (λ octets. (octets ≡ take 10 sealed) × (sealed ≡ with_check octets)) → IfSome (option_map pdu_of o) (MeansPdu word)

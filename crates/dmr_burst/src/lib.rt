@@ -60,3 +60,6 @@ pub fn meanings_are_single()
     ensures only { (word : List Bool) (pdu : APdu) → MeansPdu word pdu → meaning_of word ≡ Some pdu }
     ensures flipped { (pdu : APdu) (sent word : List Bool) → IsBurst pdu sent → IsReadable pdu → distance word sent ≤ 3 → meaning_of word ≡ Some pdu }
 {}
+
+#[cfg(test)]
+mod tests;

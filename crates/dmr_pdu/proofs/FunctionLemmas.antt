@@ -24,17 +24,17 @@ row_bit-is first [] octets e holds q low high = absurd (omega (arith, eqb-true f
 row_bit-is first (r ∷ rows) octets e holds q low high =
     let here = follows first r rows e in
     ⊎_elim
-      (λ (inside : q < r.0.first + r.0.width).
-        let at : r.0.first + (q - first) ≡ q = omega (arith, here.starts) in
-        let place : r.0.first + r.0.width - 1 - q ≡ r.0.width - 1 - (q - first) = omega (arith, here.starts) in
-        rw (lt-ltb q (r.0.first + r.0.width) inside)
-          (ap (λ k. r.1 / 2 ^ k % 2 == 1) place
-            ∙ ap (λ n. n / 2 ^ (r.0.width - 1 - (q - first)) % 2 == 1) (sym holds.0)
-            ∙ spelled-bit (octet_bit octets) r.0.first r.0.width (q - first) (omega (arith, here.starts))
-            ∙ ap (octet_bit octets) at))
-      (λ (behind : r.0.first + r.0.width ≤ q).
-        rw (le-ltb q (r.0.first + r.0.width) behind) (row_bit-is (first + r.0.width) rows octets here.rest holds.1 q (omega (arith, here.starts)) high))
-      (cases_lt q (r.0.first + r.0.width))
+    (λ (inside : q < r.0.first + r.0.width).
+    let at : r.0.first + (q - first) ≡ q = omega (arith, here.starts) in
+    let place : r.0.first + r.0.width - 1 - q ≡ r.0.width - 1 - (q - first) = omega (arith, here.starts) in
+    rw (lt-ltb q (r.0.first + r.0.width) inside)
+    (ap (λ k. r.1 / 2 ^ k % 2 == 1) place
+    ∙ ap (λ n. n / 2 ^ (r.0.width - 1 - (q - first)) % 2 == 1) (sym holds.0)
+    ∙ spelled-bit (octet_bit octets) r.0.first r.0.width (q - first) (omega (arith, here.starts))
+    ∙ ap (octet_bit octets) at))
+    (λ (behind : r.0.first + r.0.width ≤ q).
+    rw (le-ltb q (r.0.first + r.0.width) behind) (row_bit-is (first + r.0.width) rows octets here.rest holds.1 q (omega (arith, here.starts)) high))
+    (cases_lt q (r.0.first + r.0.width))
 
 written : List Row → List ℕ
 written rows = map (λ k. spelled (row_bit rows) (8 * k) 8) (range_with_len 0 10)
@@ -64,7 +64,7 @@ written-bit rows q lt =
 written-is : (pdu : Pdu) (octets : List ℕ) → IsOctets 10 octets → IsLaidOut pdu octets → written (layout pdu) ≡ octets
 written-is pdu octets is_octets is =
     octets-same 10 (written (layout pdu)) octets (written-octets (layout pdu)) is_octets (λ q lt.
-      written-bit (layout pdu) q (omega arith) ∙ row_bit-is 0 (layout pdu) octets (layout-fills pdu is.listed) is.rows q (omega arith) (omega arith))
+    written-bit (layout pdu) q (omega arith) ∙ row_bit-is 0 (layout pdu) octets (layout-fills pdu is.listed) is.rows q (omega arith) (omega arith))
 
 -- octets that a PDU is written as are its octets
 pub octets_of-spells : (pdu : Pdu) (octets : List ℕ) → IsOctets 10 octets → Spells pdu octets → octets_of pdu ≡ octets
@@ -104,15 +104,15 @@ read_as-formed : (opcode : ℕ) (o : List ℕ) → IfSome (read_as opcode o) IsF
 unfolding read_as IsListed HasChannel
 read_as-formed opcode o =
     either (opcode == 0x99) _ _ (record { listed = tt; channel_is = tt })
-      (either (opcode == 0x9C) _ _ (record { listed = tt; channel_is = tt })
-        (either (opcode == 0x9F) _ _ (record { listed = tt; channel_is = tt })
-          (either (opcode == 0xA0) _ _ (record { listed = tt; channel_is = tt })
-            (either (opcode == 0xA1) _ _ (record { listed = tt; channel_is = tt })
-              (either (opcode == 0xAE) _ _ (on_channel (field_of o 16 12) _ (λ lpcn is. record { listed = tt; channel_is = is }))
-                (either (opcode == 0xB0) _ _ (on_channel (field_of o 16 12) _ (λ lpcn is. record { listed = tt; channel_is = is }))
-                  (either (opcode == 0xB1) _ _ (on_channel (field_of o 16 12) _ (λ lpcn is. record { listed = tt; channel_is = is }))
-                    (either (opcode == 0xB9) _ _ (on_channel (field_of o 44 12) _ (λ lpcn is. record { listed = tt; channel_is = is }))
-                      tt))))))))
+    (either (opcode == 0x9C) _ _ (record { listed = tt; channel_is = tt })
+    (either (opcode == 0x9F) _ _ (record { listed = tt; channel_is = tt })
+    (either (opcode == 0xA0) _ _ (record { listed = tt; channel_is = tt })
+    (either (opcode == 0xA1) _ _ (record { listed = tt; channel_is = tt })
+    (either (opcode == 0xAE) _ _ (on_channel (field_of o 16 12) _ (λ lpcn is. record { listed = tt; channel_is = is }))
+    (either (opcode == 0xB0) _ _ (on_channel (field_of o 16 12) _ (λ lpcn is. record { listed = tt; channel_is = is }))
+    (either (opcode == 0xB1) _ _ (on_channel (field_of o 16 12) _ (λ lpcn is. record { listed = tt; channel_is = is }))
+    (either (opcode == 0xB9) _ _ (on_channel (field_of o 44 12) _ (λ lpcn is. record { listed = tt; channel_is = is }))
+    tt))))))))
 
 -- where nothing is read, or its layout doesn't hold, no PDU is laid out
 none-unread : (octets : List ℕ) → read_as (field_of octets 0 8) octets ≡ None → (pdu : Pdu) → ¬ IsLaidOut pdu octets
@@ -122,16 +122,16 @@ confirmed-agrees : (octets : List ℕ) (found : Option Pdu) → read_as (field_o
 confirmed-agrees octets None e formed = agrees-other octets (none-unread octets e)
 confirmed-agrees octets (Some pdu) e formed =
     ⊎_elim
-      (λ (yes : do_hold octets (layout pdu) ≡ true).
-        rw yes (agrees-laid_out pdu octets (record { listed = formed.listed; rows = do_hold-true octets (layout pdu) yes; channel = formed.channel_is })))
-      (λ (no : do_hold octets (layout pdu) ≡ false).
-        rw no (agrees-other octets (λ other is.
-          let read : read_as (field_of octets 0 8) octets ≡ Some other = laid_out-read other octets is in
-          let both : Some pdu ≡ Some other = sym e ∙ read in
-          let same : pdu ≡ other = cc in
-          let holds : do_hold octets (layout pdu) ≡ true = ap (λ (p : Pdu). do_hold octets (layout p)) same ∙ do_hold-holds octets (layout other) is.rows in
-          false≢true (sym no ∙ holds))))
-      (cases_Bool (do_hold octets (layout pdu)))
+    (λ (yes : do_hold octets (layout pdu) ≡ true).
+    rw yes (agrees-laid_out pdu octets (record { listed = formed.listed; rows = do_hold-true octets (layout pdu) yes; channel = formed.channel_is })))
+    (λ (no : do_hold octets (layout pdu) ≡ false).
+    rw no (agrees-other octets (λ other is.
+    let read : read_as (field_of octets 0 8) octets ≡ Some other = laid_out-read other octets is in
+    let both : Some pdu ≡ Some other = sym e ∙ read in
+    let same : pdu ≡ other = cc in
+    let holds : do_hold octets (layout pdu) ≡ true = ap (λ (p : Pdu). do_hold octets (layout p)) same ∙ do_hold-holds octets (layout other) is.rows in
+    false≢true (sym no ∙ holds))))
+    (cases_Bool (do_hold octets (layout pdu)))
 
 pub pdu_of-agrees : (octets : List ℕ) → Agrees (pdu_of octets) octets
 unfolding pdu_of

@@ -20,4 +20,3 @@ returns-clause-only c = λ pdu means.
     let sealed : c.in_ok-sealed.sealed ≡ with_check means.0 = some-same c.in_ok-sealed.sealed (with_check means.0) (sym c.in_ok-sealed.was ∙ decoded) in
     let opened : c.in_ok-octets.octets ≡ means.0 = some-same c.in_ok-octets.octets means.0 (sym c.in_ok-octets.was ∙ c.open_sealed.ensures.only means.0 means.1.are_octets sealed) in
     ap Some (sym (c.from_octets.ensures.only pdu (subst (Agrees pdu) (sym opened) means.1.agrees)))
-

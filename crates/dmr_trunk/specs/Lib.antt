@@ -1,0 +1,3 @@
+pub mod LittleSite
+pub mod Session
+pub mod Inputs

@@ -1,0 +1,169 @@
+//! What the program says to files that cannot be read, to site files and to words.
+
+use crate::replay::replay;
+use crate::rows::SITE;
+use crate::words::{Job, choose};
+use std::io;
+use std::io::Write;
+use std::process::Abort;
+
+/// A writer that takes nothing.
+#[derive(Drop)]
+struct Refusing;
+
+impl Write for Refusing {
+    fn write(&mut self, _octets: &[u8]) -> io::Result<usize> {
+        Err(io::Error::from(io::ErrorKind::BrokenPipe))
+    }
+
+    fn flush(&mut self) -> io::Result<()> {
+        Err(io::Error::from(io::ErrorKind::BrokenPipe))
+    }
+}
+
+/// Wants a replay of no input to print nothing, say this and end with this status.
+fn check_fault(
+    rt: &(impl Abort + AllocGlobal),
+    site: Option<&[u8]>,
+    script: Option<&[u8]>,
+    said: &[u8],
+    status: u8,
+) {
+    let mut out = Vec::new(rt.alloc());
+    let mut err = Vec::new(rt.alloc());
+    let answer = replay(
+        rt.alloc(),
+        "the.toml",
+        site,
+        "the.txt",
+        script,
+        &mut out,
+        &mut err,
+    );
+    assert_eq!(rt; err.as_slice(), said);
+    assert_eq!(rt; out.len(), 0);
+    assert_eq!(rt; answer, status);
+}
+
+#[test]
+fn files_that_cannot_be_read(rt: HostRuntime) {
+    check_fault(
+        &rt,
+        None,
+        Some(b""),
+        b"dmr_trunk: cannot read the.toml\n",
+        1,
+    );
+    check_fault(
+        &rt,
+        Some(SITE),
+        None,
+        b"dmr_trunk: cannot read the.txt\n",
+        1,
+    );
+    // The site file is judged first.
+    check_fault(&rt, None, None, b"dmr_trunk: cannot read the.toml\n", 1);
+    check_fault(
+        &rt,
+        Some(b"system = "),
+        None,
+        b"dmr_trunk: site file: not TOML\n",
+        1,
+    );
+}
+
+#[test]
+fn site_files(rt: HostRuntime) {
+    let script = Some(b"nothing of a script".as_slice());
+    check_fault(
+        &rt,
+        Some(b""),
+        script,
+        b"dmr_trunk: site file: missing system\n",
+        1,
+    );
+    check_fault(
+        &rt,
+        Some(b"system = 65536"),
+        script,
+        b"dmr_trunk: site file: out of range system\n",
+        1,
+    );
+    check_fault(
+        &rt,
+        Some(b"system = true"),
+        script,
+        b"dmr_trunk: site file: wrong type system\n",
+        1,
+    );
+    let repeated = b"system = 0\nregi = 0xFFFEC6\ntsi = 0xFFFEC6";
+    check_fault(
+        &rt,
+        Some(repeated),
+        script,
+        b"dmr_trunk: site file: repeated tsi\n",
+        1,
+    );
+    // Octets that are not UTF-8.
+    check_fault(
+        &rt,
+        Some(b"# \xFF"),
+        script,
+        b"dmr_trunk: site file: not TOML\n",
+        1,
+    );
+}
+
+#[test]
+fn output_that_is_not_taken(rt: HostRuntime) {
+    let mut err = Vec::new(rt.alloc());
+    let status = replay(
+        rt.alloc(),
+        "the.toml",
+        Some(SITE),
+        "the.txt",
+        Some(b"open 0\n"),
+        &mut Refusing,
+        &mut err,
+    );
+    assert_eq!(rt; err.as_slice(), b"dmr_trunk: cannot write\n".as_slice());
+    assert_eq!(rt; status, 1);
+    // That a fault cannot be told is passed over.
+    let mut out = Vec::new(rt.alloc());
+    let status = replay(rt.alloc(), "a", None, "b", None, &mut out, &mut Refusing);
+    assert_eq!(rt; status, 1);
+}
+
+#[test]
+fn words_that_are_taken(rt: HostRuntime) {
+    let mut err = Vec::new(rt.alloc());
+    let words = ["dmr_trunk", "--site", "a", "--script=b"];
+    let job = choose(rt.alloc(), &words, &mut err);
+    let wanted = Job::Script {
+        site: "a",
+        script: "b",
+    };
+    assert!(rt; job == Ok(wanted));
+    assert_eq!(rt; err.len(), 0);
+}
+
+/// Wants words to be refused with a text that begins so, and status 2.
+fn check_refused(rt: &(impl Abort + AllocGlobal), words: &[&str], begins: &[u8]) {
+    let mut err = Vec::new(rt.alloc());
+    let job = choose(rt.alloc(), words, &mut err);
+    assert!(rt; job == Err(2));
+    assert!(rt; err.as_slice().starts_with(begins));
+}
+
+#[test]
+fn words_that_are_refused(rt: HostRuntime) {
+    let missing =
+        b"error: the following required arguments were not provided:\n  --script <FILE>\n";
+    check_refused(&rt, &["dmr_trunk", "--site", "a"], missing);
+    check_refused(
+        &rt,
+        &["dmr_trunk", "--serve"],
+        b"error: unexpected argument '--serve' found",
+    );
+    check_refused(&rt, &["dmr_trunk", "--help"], b"Usage: dmr_trunk");
+}

@@ -5,10 +5,10 @@
 .PHONY: demo build test bench
 
 demo:
-	cd crates/dmr_trunk && rt try -- --site data/site.toml --script data/registration.txt
+	@cd crates/dmr_trunk && rt try -- --site data/site.toml --script data/registration.txt
 
 build:
-	cd crates/dmr_trunk && rt run -- --help || true
+	cd crates/dmr_trunk && rt run -- --site data/site.toml --script data/registration.txt
 	mkdir -p build && cp crates/dmr_trunk/out/dmr_trunk build/dmr_trunk
 
 test:
@@ -16,5 +16,5 @@ test:
 
 bench:
 	@date -u +%Y-%m-%d
-	@sed -n 's/^model name[^:]*: *//p' /proc/cpuinfo | sort | uniq -c
+	@sed -n 's/^model name[^:]*: *//p' /proc/cpuinfo | uniq -c
 	@cd crates/dmr_bench && rt run -- --time

@@ -8,10 +8,10 @@ use Rattle.std.proofs.lemmas.List.{take_at, get_or-take, get_or_past}
 use Rattle.dmr_bits.specs.Bits.{IsOctets}
 use Rattle.dmr_csbk.specs.Check.{check, with_check}
 use Rattle.dmr_csbk.proofs.Sealed.{with_check-octets}
-use Rattle.dmr_bptc.specs.Bptc.{Means, IsEncoding}
+use Rattle.dmr_bptc.specs.Bptc.{IsCodeword, IsEncoding, Means, distance}
 use Rattle.dmr_bptc.specs.Functions.{decoded, encoded}
 use Rattle.dmr_bptc.proofs.FunctionLemmas.{decoded-found, decoded-meant, encoded-encoding}
-use Rattle.dmr_bptc.proofs.Meanings.{encodings-same}
+use Rattle.dmr_bptc.proofs.Meanings.{encodings-same, meaning_of_codeword, distance-self}
 use Rattle.dmr_pdu.specs.declared.pdu.Pdu.{Pdu}
 use Rattle.dmr_pdu.specs.Functions.{octets_of, pdu_of}
 use Rattle.dmr_pdu.proofs.RowLemmas.{pointwise-self, pointwise-same}
@@ -96,3 +96,40 @@ answer-meaning word None only found = unmeant word (meaning_of word) only (meani
     unmeant : (word : List Bool) (meaning : Option Pdu) → ((pdu : Pdu) → MeansPdu word pdu → None ≡ Some pdu) → IfSome meaning (MeansPdu word) → None ≡ meaning
     unmeant word None only found = refl
     unmeant word (Some pdu) only found = only pdu found
+
+-- ---- near a codeword
+
+near-self : (codeword : List Bool) → distance codeword codeword ≤ 3
+near-self codeword = rw (distance-self codeword) (omega arith)
+
+-- what is meant near a codeword, the codeword means, and the other way round
+means-clean : (word codeword : List Bool) (pdu : Pdu) → IsCodeword codeword → distance word codeword ≤ 3 → MeansPdu word pdu → MeansPdu codeword pdu
+means-clean word codeword pdu is near means = (
+  means.0,
+  record {
+    are_octets = means.1.are_octets;
+    means = (codeword, record { is_codeword = is; near = near-self codeword; information = meaning_of_codeword word codeword (with_check means.0) is near means.1.means });
+    agrees = means.1.agrees;
+  },
+)
+
+means-flipped : (word codeword : List Bool) (pdu : Pdu) → IsCodeword codeword → distance word codeword ≤ 3 → MeansPdu codeword pdu → MeansPdu word pdu
+means-flipped word codeword pdu is near means = (
+  means.0,
+  record {
+    are_octets = means.1.are_octets;
+    means = (codeword, record { is_codeword = is; near = near; information = meaning_of_codeword codeword codeword (with_check means.0) is (near-self codeword) means.1.means });
+    agrees = means.1.agrees;
+  },
+)
+
+-- a burst with at most three flipped bits means what the clean burst meant
+pub meaning_of-clean : (word codeword : List Bool) → IsCodeword codeword → distance word codeword ≤ 3 → meaning_of word ≡ meaning_of codeword
+meaning_of-clean word codeword is near =
+    answer-meaning codeword (meaning_of word)
+    (λ pdu means. meaning_of-meant word pdu (means-flipped word codeword pdu is near means))
+    (clean_answer (meaning_of word) (meaning_of-found word))
+  where
+    clean_answer : (answer : Option Pdu) → IfSome answer (MeansPdu word) → IfSome answer (MeansPdu codeword)
+    clean_answer None found = tt
+    clean_answer (Some pdu) found = means-clean word codeword pdu is near found

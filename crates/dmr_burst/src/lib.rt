@@ -6,7 +6,7 @@
 #![tactic(auto)]
 
 ghost use Rattle.std.specs.Prelude.{◌≡◌, ◌≤◌, ℕ, List, Bool, Some, IfSome};
-ghost use Rattle.dmr_bptc.specs.Bptc.{distance};
+ghost use Rattle.dmr_bptc.specs.Bptc.{IsCodeword, distance};
 ghost use Rattle.dmr_pdu.specs.declared.pdu.Pdu.{Pdu as APdu};
 ghost use Rattle.dmr_pdu.specs.Layout.{IsReadable};
 ghost use Rattle.dmr_burst.specs.Burst.{MeansPdu, IsBurst};
@@ -53,11 +53,14 @@ fn opened(word: &Word196) -> Option<Pdu>
     Some(Pdu::from_octets(&octets))
 }
 
-/// A word means one PDU at most, the one that `meaning_of` gives; and three flipped bits leave the meaning of a burst as it
-/// was, whatever PDU can be read back at all.
+/// The laws of meaning: a word means one PDU at most, the one that `meaning_of` gives, and a burst with at most three flipped
+/// bits means what the clean burst meant. It does nothing; its contract is the law.
 pub fn meanings_are_single()
     ensures found { (word : List Bool) → IfSome (meaning_of word) (MeansPdu word) }
     ensures only { (word : List Bool) (pdu : APdu) → MeansPdu word pdu → meaning_of word ≡ Some pdu }
+    // A word means what the codeword means that differs from it in at most three places, be it a PDU or nothing.
+    ensures clean { (word codeword : List Bool) → IsCodeword codeword → distance word codeword ≤ 3 → meaning_of word ≡ meaning_of codeword }
+    // What was sent is meant.
     ensures flipped { (pdu : APdu) (sent word : List Bool) → IsBurst pdu sent → IsReadable pdu → distance word sent ≤ 3 → meaning_of word ≡ Some pdu }
 {}
 

@@ -122,7 +122,7 @@ impl Plan {
     pub fn read(alloc: Global, text: &str) -> Result<Plan, PlanFault>
         // The one plan of the text or its one fault, unless memory runs out.
         ensures exact { (result ≡ plan_of_document (parse_document text.now)) ⊎ (result ≡ Err PlanFault.OutOfMemory) }
-        // A text that is TOML is never called another thing.
+        // A text that is TOML is never told to be none.
         ensures not_toml { result ≡ Err PlanFault.NotToml → parse_document text.now ≡ None }
         // A blank text takes no memory.
         ensures memory { result ≡ Err PlanFault.OutOfMemory → ¬ IsBlank text.now }

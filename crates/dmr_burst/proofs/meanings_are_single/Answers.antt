@@ -1,4 +1,4 @@
-use Rattle.dmr_burst.proofs.FunctionLemmas.{meaning_of-found, meaning_of-meant}
+use Rattle.dmr_burst.proofs.FunctionLemmas.{meaning_of-found, meaning_of-meant, meaning_of-clean}
 use Rattle.dmr_burst.proofs.Sending.{sent_means}
 use Rattle.dmr_burst.proofs.meanings_are_single.Goals as goal
 
@@ -10,3 +10,6 @@ returns-clause-only c = meaning_of-meant
 
 pub returns-clause-flipped : goal.returns-clause-flipped
 returns-clause-flipped c = λ pdu sent word burst readable near. meaning_of-meant word pdu (sent_means pdu sent word burst readable near)
+
+pub returns-clause-clean : goal.returns-clause-clean
+returns-clause-clean c = meaning_of-clean

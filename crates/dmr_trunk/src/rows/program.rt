@@ -3,6 +3,7 @@
 use crate::replay::replay;
 use crate::rows::SITE;
 use crate::words::{Job, choose};
+use std::alloc::{AllocError, Global};
 use std::io;
 use std::io::Write;
 use std::process::Abort;
@@ -112,6 +113,57 @@ fn site_files(rt: HostRuntime) {
         b"dmr_trunk: site file: not TOML\n",
         1,
     );
+}
+
+/// The site of the cases with a piece of its text written otherwise.
+fn site_with(alloc: Global, old: &[u8], new: &[u8]) -> Result<Vec<u8>, AllocError> {
+    let mut text = Vec::new(alloc);
+    let at = (0..SITE.len())
+        .position(|at| SITE[at..].starts_with(old))
+        .unwrap_or(SITE.len());
+    for (index, octet) in SITE.iter().enumerate() {
+        if index == at {
+            text.extend_from_slice(new)?;
+        }
+        if index < at || index - at >= old.len() {
+            text.push(*octet)?;
+        }
+    }
+    Ok(text)
+}
+
+/// Wants the site with that piece of its text written otherwise to be refused so.
+fn check_site(
+    rt: &(impl Abort + AllocGlobal),
+    old: &[u8],
+    new: &[u8],
+    said: &[u8],
+) -> Result<(), AllocError> {
+    let site = site_with(rt.alloc(), old, new)?;
+    check_fault(rt, Some(site.as_slice()), Some(b"open 0\n"), said, 1);
+    Ok(())
+}
+
+#[test]
+fn faults_of_a_site(rt: HostRuntime) -> Result<(), AllocError> {
+    check_site(
+        &rt,
+        b"lpcn = 2",
+        b"lpcn = 4095",
+        b"dmr_trunk: site file: out of range lpcn\n",
+    )?;
+    check_site(
+        &rt,
+        b"number = 1",
+        b"number = 0",
+        b"dmr_trunk: site file: repeated number\n",
+    )?;
+    check_site(
+        &rt,
+        b"regi = 0xFFFEC6\n",
+        b"",
+        b"dmr_trunk: site file: missing regi\n",
+    )
 }
 
 #[test]

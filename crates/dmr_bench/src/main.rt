@@ -4,6 +4,8 @@
 //! many, and prints how many a second, beside a baseline: reading the same words bit by bit into octets.
 #![tactic(auto)]
 
+ghost use Rattle.std.specs.Prelude.{◌<◌};
+
 use dmr_bits::{Octets12, Word196};
 use dmr_bptc::{decode, encode};
 use rand_core::utils::NextWord;

@@ -18,11 +18,8 @@ use std::{env, io};
 /// How many words of each kind are decoded where no time is taken.
 const FEW: u32 = 1_000;
 
-/// How many words of each kind are decoded in a round where time is taken.
-const SAMPLE: u32 = 10_000;
-
-/// How many rounds are timed.
-const ROUNDS: u32 = 20;
+/// How many words of each kind are decoded where time is taken: each once, so that no answer can be used again.
+const MANY: u32 = 200_000;
 
 /// The kinds of words.
 #[derive(Clone, Copy)]
@@ -108,30 +105,23 @@ fn show<R: Print + AllocGlobal>(rt: &R, kind: Kind) -> io::Result<()> {
     println!(rt; "{name}: {count} of {FEW} decoded")
 }
 
-/// Words a second, of so many words in so much time.
-fn rate(count: u64, nanos: u128) -> u128 {
-    u128::from(count) * 1_000_000_000 / nanos.max(1)
+/// Words a second, where `MANY` words took so many nanoseconds.
+fn rate(nanos: u128) -> u128 {
+    u128::from(MANY) * 1_000_000_000 / nanos.max(1)
 }
 
 /// Prints how many words of a kind are decoded in a second, and how many are read bit by bit.
 fn time<R: Print + AllocGlobal + Clock>(rt: &R, kind: Kind) -> io::Result<()> {
-    let words = words_of(rt.alloc(), kind, SAMPLE)?;
+    let words = words_of(rt.alloc(), kind, MANY)?;
     let start = Instant::now(rt)?;
-    let mut count = 0usize;
-    for _ in 0..ROUNDS {
-        count = count.saturating_add(decoded(words.as_slice()));
-    }
+    let count = decoded(words.as_slice());
     let decoding = start.elapsed(rt)?.as_nanos();
     let start = Instant::now(rt)?;
-    let mut seen = 0usize;
-    for _ in 0..ROUNDS {
-        seen = seen.saturating_add(begun(words.as_slice()));
-    }
+    let seen = begun(words.as_slice());
     let reading = start.elapsed(rt)?.as_nanos();
     let name = kind.name();
-    let all = u64::from(SAMPLE) * u64::from(ROUNDS);
-    let decode_rate = rate(all, decoding);
-    let read_rate = rate(all, reading);
+    let decode_rate = rate(decoding);
+    let read_rate = rate(reading);
     println!(rt; "{name:>12} {decode_rate:>14} {read_rate:>14}   ({count} decoded, {seen} begun)")
 }
 

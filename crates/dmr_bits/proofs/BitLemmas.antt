@@ -1,8 +1,8 @@
 -- Bits of octets, and the numbers that bits spell.
-use Rattle.std.proofs.Common.{◌≡◌, ◌≢◌, ◌==◌, ℕ, zero, suc, ◌+◌, ◌-◌, ◌*◌, ◌/◌, ◌%◌, ◌^◌, ◌<◌, ◌≤◌, Bool, true, false, cond, List, replicate, length, get_or, set, if◌then◌else◌, refl, sym, ap, ◌∙◌, arith, get_or-set_same, get_or-set_other, add-one, pow-suc, ⊎_elim}
+use Rattle.std.proofs.Common.{◌≡◌, ◌≢◌, ◌==◌, ℕ, zero, suc, ◌+◌, ◌-◌, ◌*◌, ◌/◌, ◌%◌, ◌^◌, ◌<◌, Bool, true, false, cond, List, replicate, length, get_or, set, if◌then◌else◌, refl, sym, ap, ◌∙◌, arith, get_or-set_same, get_or-set_other, add-one, pow-suc, ⊎_elim}
 use Rattle.std.proofs.lemmas.Nat.{shr-shr, mod-pow-add}
 use Rattle.std.proofs.Math.Nat.{zero-div, zero-mod}
-use Rattle.std.proofs.lemmas.Bool.{cases_eq, cases_lt, cases_Bool, eq-eqb, eqb-true, ne_eqb}
+use Rattle.std.proofs.lemmas.Bool.{cases_eq, cases_Bool, eq-eqb, eqb-true, ne_eqb}
 use Rattle.std.proofs.lemmas.List.{ext_get_or, length-replicate}
 use Rattle.std.proofs.lemmas.Nat.Bits.{same_from_bits_below}
 use Rattle.dmr_bits.specs.Bits.{octet_bit, spelled, IsOctets}

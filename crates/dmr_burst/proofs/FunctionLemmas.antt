@@ -1,5 +1,5 @@
 -- `meaning_of` and `burst_of` give what `MeansPdu` and `IsBurst` say.
-use Rattle.std.proofs.Common.{◌≡◌, ℕ, Bool, true, false, List, [], ◌∷◌, ◌++◌, Option, Some, None, length, length-take-le, get_or, ◌<◌, ◌≤◌, take, refl, sym, ap, ◌∙◌, eqb, arith, ⊎_elim, subst}
+use Rattle.std.proofs.Common.{◌≡◌, ℕ, Bool, true, false, List, Option, Some, None, length-take-le, ◌<◌, ◌≤◌, take, refl, sym, ap, ◌∙◌, eqb, arith, ⊎_elim, subst}
 use Rattle.std.specs.Prelude.{IfSome, option_map, option_and_then}
 use Rattle.std.specs.Int.{w16, to_be_bytes}
 use Rattle.std.specs.Cmp.Lexicographic.{pointwise}
@@ -8,7 +8,7 @@ use Rattle.std.proofs.lemmas.List.{take_at, get_or-take, get_or_past}
 use Rattle.dmr_bits.specs.Bits.{IsOctets}
 use Rattle.dmr_csbk.specs.Check.{check, with_check}
 use Rattle.dmr_csbk.proofs.Sealed.{with_check-octets}
-use Rattle.dmr_bptc.specs.Bptc.{IsCodeword, IsEncoding, Means, distance}
+use Rattle.dmr_bptc.specs.Bptc.{IsCodeword, Means, distance}
 use Rattle.dmr_bptc.specs.Functions.{decoded, encoded}
 use Rattle.dmr_bptc.proofs.FunctionLemmas.{decoded-found, decoded-meant, encoded-encoding}
 use Rattle.dmr_bptc.proofs.Meanings.{encodings-same, meaning_of_codeword, distance-self}
@@ -16,7 +16,7 @@ use Rattle.dmr_pdu.specs.declared.pdu.Pdu.{Pdu}
 use Rattle.dmr_pdu.specs.Functions.{octets_of, pdu_of}
 use Rattle.dmr_pdu.proofs.RowLemmas.{pointwise-self, pointwise-same}
 use Rattle.dmr_pdu.proofs.FunctionLemmas.{octets_of-spells, pdu_of-agrees, pdu_of-only}
-use Rattle.dmr_burst.specs.Burst.{IsMeaning, MeansPdu, IsSending, IsBurst}
+use Rattle.dmr_burst.specs.Burst.{MeansPdu, IsBurst}
 use Rattle.dmr_burst.specs.Functions.{opened, meaning_of, burst_of}
 
 -- ---- the check

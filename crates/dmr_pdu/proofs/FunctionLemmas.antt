@@ -9,11 +9,11 @@ use Rattle.dmr_bits.specs.Bits.{octet_bit, spelled, field_of, IsOctets}
 use Rattle.dmr_bits.proofs.BitLemmas.{octets-same, spelled-lt, spelled-bit}
 use Rattle.dmr_pdu.specs.Channels.{IsChannel}
 use Rattle.dmr_pdu.specs.declared.pdu.Pdu.{Pdu}
-use Rattle.dmr_pdu.specs.declared.pdu.Pdu.TheVariants.{Aloha, Ahoy, Random, Ackd, Acku, Clear, PvGrant, TvGrant, Move, Other}
+use Rattle.dmr_pdu.specs.declared.pdu.Pdu.TheVariants.{Other}
 use Rattle.dmr_pdu.specs.Layout.{Row, layout, Holds, HasChannel, IsListed, IsLaidOut, Spells, Agrees, fills}
 use Rattle.dmr_pdu.specs.Reading.{channel, read_as}
 use Rattle.dmr_pdu.specs.Functions.{row_bit, octets_of, do_hold, confirmed, pdu_of}
-use Rattle.dmr_pdu.proofs.RowLemmas.{Follows, follows}
+use Rattle.dmr_pdu.proofs.RowLemmas.{follows}
 use Rattle.dmr_pdu.proofs.LayoutLemmas.{layout-fills, laid_out-read, agrees-laid_out, agrees-same, agrees-other, agrees-other_same}
 
 -- ---- the octets of a PDU

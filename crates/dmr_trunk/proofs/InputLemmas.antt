@@ -1,11 +1,10 @@
 -- Octets that are one whole frame.
 use Rattle.std.proofs.Common.{◌≡◌, ℕ, ◌<◌, List, [], ◌∷◌, ◌++◌, Option, Some, None, refl, sym, ap, ◌∙◌, arith}
 use Rattle.std.specs.Prelude.{IfSome, All}
-use Rattle.std.specs.List.{flat_map}
 use Rattle.std.proofs.lemmas.List.{append-nil}
 use Rattle.dmr_frames.specs.declared.frame.FrameIn.{FrameIn}
 use Rattle.dmr_frames.specs.Frames.{IsFrame, spelling}
-use Rattle.dmr_frames.specs.Rest.{Rest, Open, Faulty}
+use Rattle.dmr_frames.specs.Rest.{Rest, Open}
 use Rattle.dmr_frames.specs.Stream.{Reads}
 use Rattle.dmr_frames.specs.Reading.{frames_from, rest_from}
 use Rattle.dmr_frames.proofs.Streams.{readings-same}

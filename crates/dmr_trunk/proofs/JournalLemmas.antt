@@ -1,5 +1,5 @@
 -- One input more: what was put out, followed by the session text of what is still to come, stays the whole.
-use Rattle.std.proofs.Common.{◌≡◌, ◌==◌, ℕ, ◌+◌, ◌<◌, List, [], ◌∷◌, ◌++◌, Option, Some, None, length, drop, slice_index_or, cond, sym, ap, ◌∙◌, append_assoc}
+use Rattle.std.proofs.Common.{◌≡◌, ◌==◌, ℕ, ◌+◌, ◌<◌, List, [], ◌∷◌, ◌++◌, Some, None, length, drop, slice_index_or, cond, sym, ap, ◌∙◌, append_assoc}
 use Rattle.std.proofs.lemmas.List.{drop_more}
 use Rattle.dmr_trunk.specs.declared.first.FirstInput.{FirstInput}
 use Rattle.dmr_trunk.specs.declared.little_site.Event.{Event}

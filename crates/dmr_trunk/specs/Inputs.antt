@@ -4,7 +4,7 @@ use Rattle.std.specs.List.{list_any}
 use Rattle.std.specs.Option.{option_map_or}
 use Rattle.dmr_frames.specs.declared.frame.FrameIn.{FrameIn}
 use Rattle.dmr_frames.specs.declared.frame.FrameIn.TheVariants as frame
-use Rattle.dmr_frames.specs.Rest.{Rest, Open, Faulty}
+use Rattle.dmr_frames.specs.Rest.{Rest, Open}
 use Rattle.dmr_frames.specs.Reading.{frames_from, rest_from}
 use Rattle.dmr_pdu.specs.declared.pdu.Pdu.{Pdu}
 use Rattle.dmr_plan.specs.declared.settings.Settings.{Settings}

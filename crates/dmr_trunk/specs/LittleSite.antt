@@ -1,5 +1,5 @@
 -- THE LITTLE SITE of the first path. It registers radios, acknowledges, and sends what waits.
-use Rattle.std.specs.Prelude.{ℕ, ◌==◌, ◌&&◌, not, Bool, true, false, nat_lt, nat_le, List, [], ◌∷◌, ◌++◌, Option, Some, None, if◌then◌else◌, length, drop}
+use Rattle.std.specs.Prelude.{ℕ, ◌==◌, ◌&&◌, not, Bool, false, nat_lt, nat_le, List, [], ◌∷◌, ◌++◌, Option, Some, None, if◌then◌else◌, length, drop}
 use Rattle.std.specs.List.{list_any}
 use Rattle.dmr_pdu.specs.declared.pdu.Pdu.{Pdu}
 use Rattle.dmr_pdu.specs.declared.pdu.Pdu.TheVariants.{Random, Ackd}
@@ -7,7 +7,7 @@ use Rattle.dmr_pdu.specs.declared.slots.Slot.{Slot}
 use Rattle.dmr_plan.specs.declared.settings.Settings.{Settings}
 use Rattle.dmr_plan.specs.Plan.{lists_radio}
 use Rattle.dmr_trunk.specs.declared.little_site.Event.{Event}
-use Rattle.dmr_trunk.specs.declared.little_site.Event.TheVariants.{Up, Heard, Noise, Poll}
+use Rattle.dmr_trunk.specs.declared.little_site.Event.TheVariants.{Heard, Poll}
 
 -- what stands: the plan, the registered radios by joining, and what waits on the control slot
 pub record Facts : Type 0 where

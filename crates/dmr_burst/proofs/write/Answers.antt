@@ -1,7 +1,6 @@
 use Rattle.std.proofs.Common.{◌≡◌, List, ap, ◌∙◌, sym, subst, ℕ}
 use Rattle.dmr_csbk.specs.Check.{with_check}
 use Rattle.dmr_bptc.specs.Bptc.{IsEncoding}
-use Rattle.dmr_burst.specs.Burst.{IsBurst}
 use Rattle.dmr_burst.proofs.FunctionLemmas.{burst_of-is}
 use Rattle.dmr_burst.proofs.write.Goals as goal
 

@@ -1,4 +1,4 @@
-use Rattle.std.proofs.Common.{◌≡◌, ◌==◌, ◌+◌, ◌++◌, List, [], Option, Some, None, length, drop, slice_index_or, cond, arith, sym, ap, ◌∙◌}
+use Rattle.std.proofs.Common.{◌≡◌, ◌==◌, ◌+◌, ◌++◌, List, [], Option, Some, None, drop, slice_index_or, cond, arith, sym, ap, ◌∙◌}
 use Rattle.std.proofs.lemmas.List.{append-nil, drop_all}
 use Rattle.dmr_trunk.specs.declared.first.FirstInput.{FirstInput}
 use Rattle.dmr_pdu.specs.declared.pdu.Pdu.{Pdu}

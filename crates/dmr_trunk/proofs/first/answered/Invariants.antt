@@ -1,4 +1,4 @@
-use Rattle.std.proofs.Common.{◌≡◌, ℕ, List, [], ◌++◌, slice_index_or, drop}
+use Rattle.std.proofs.Common.{◌≡◌, ℕ, [], ◌++◌, slice_index_or, drop}
 use Rattle.dmr_trunk.specs.Inputs.{journal}
 use Rattle.dmr_trunk.specs.Session.{session_text}
 use Rattle.dmr_trunk.proofs.first.answered.Given as goal

@@ -1,4 +1,4 @@
-use Rattle.std.proofs.Common.{◌≡◌, ℕ, ◌+◌, Bool, false, option_map, slice_index_or, take, drop}
+use Rattle.std.proofs.Common.{◌≡◌, ℕ, ◌+◌, false, option_map, slice_index_or, take, drop}
 use Rattle.std.specs.List.{list_any}
 use Rattle.dmr_trunk.specs.Inputs.{refused, refused_behind, opens, speaks}
 use Rattle.dmr_trunk.proofs.first.first_refused.Given as goal

@@ -1,0 +1,3 @@
+pub mod Noise
+pub mod Fill
+pub mod Same

@@ -1,0 +1,74 @@
+//! Worked cases, on a site file of two carriers.
+
+use super::*;
+use dmr_pdu::Pdu;
+use dmr_plan::Plan;
+use std::alloc::Global;
+use std::test::Fail;
+
+/// A site of two carriers.
+const SITE: &str =
+    "system = 0x1234\nregi = 0xFFFEC6\ntsi = 0xFFFECA\nleave_bit = 0\nhang = 100\nmaximum = 3000\nahoy_wait = 8\nahoy_tries = 3\ngrant_copies = 1\nclear_copies = 1\nbackoff_low = 1\nbackoff_high = 8\ntick_ms = 60\nsilence = 100\nconsole_port = 7100\nradios = [[1000, 1999]]\ngroups = [91, 92, 93, 94]\ncontrol = 0\n[[carrier]]\nnumber = 0\nlpcn = 1\nport = 7101\n[[carrier]]\nnumber = 1\nlpcn = 2\nport = 7102\n";
+
+/// Access by that site file, with the control carrier up.
+fn access(alloc: Global) -> Result<Access, Fail> {
+    let plan = Plan::read(alloc, SITE)?;
+    let mut access = Access::new(alloc, &plan)?;
+    access.reset();
+    Ok(access)
+}
+
+#[test]
+fn fills_by_the_site_file(rt: HostRuntime) -> Result<(), Fail> {
+    let mut access = access(rt.alloc())?;
+    let quiet = [0x99, 0, 0, 0, 0x11, 0x12, 0x34, 0, 0, 0];
+    assert_eq!(rt; access.fill(), Pdu::from_octets(&quiet));
+    assert_eq!(rt; access.fill().to_octets(), quiet);
+    access.noise();
+    let disturbed = [0x99, 0, 0, 0, 0x12, 0x12, 0x34, 0, 0, 0];
+    assert_eq!(rt; access.fill().to_octets(), disturbed);
+    Ok(())
+}
+
+#[test]
+fn keeps_to_the_highest_backoff(rt: HostRuntime) -> Result<(), Fail> {
+    let mut access = access(rt.alloc())?;
+    for noises in 0..20 {
+        assert_eq!(rt; access.backoff(), 8.min(1 + noises));
+        access.noise();
+    }
+    assert_eq!(rt; access.numbers().len(), 32);
+    assert_eq!(rt; access.numbers()[0], 15);
+    assert_eq!(rt; access.numbers()[1], 0);
+    Ok(())
+}
+
+#[test]
+fn forgets_after_32_polls(rt: HostRuntime) -> Result<(), Fail> {
+    let mut access = access(rt.alloc())?;
+    access.noise();
+    for _ in 0..31 {
+        access.polled();
+        assert_eq!(rt; access.backoff(), 2);
+    }
+    access.polled();
+    assert_eq!(rt; access.backoff(), 1);
+    Ok(())
+}
+
+#[test]
+fn counts_nothing_while_the_carrier_is_down(rt: HostRuntime) -> Result<(), Fail> {
+    let mut access = access(rt.alloc())?;
+    let up = access.try_clone(rt.alloc())?;
+    assert!(rt; access == up);
+    access.noise();
+    assert!(rt; access != up);
+    access.stop();
+    access.noise();
+    access.polled();
+    assert_eq!(rt; access.backoff(), 1);
+    assert!(rt; access != up);
+    access.reset();
+    assert!(rt; access == up);
+    Ok(())
+}

@@ -1,0 +1,28 @@
+-- Registered radios: a list of numbers, the one that joined first in front.
+use Rattle.std.specs.Prelude.{ℕ, List, [], ◌∷◌, ◌++◌, ◌==◌, ◌≢◌, Bool, true, false, not, nat_le, filter, length, if◌then◌else◌, Result, Ok, Err}
+use Rattle.std.specs.List.{list_any, AllPairs}
+use Rattle.dmr_registry.specs.declared.registry.Full.{Full}
+
+-- no radio stands twice
+abbrev pub AreDistinct : List ℕ → Type 0
+AreDistinct radios = AllPairs (λ a b. a ≢ b) radios
+
+-- whether a radio is registered
+abbrev pub is_held : List ℕ → ℕ → Bool
+is_held radios radio = list_any (λ r. r == radio) radios
+
+-- whether no more may join
+abbrev pub is_full : List ℕ → Bool
+is_full radios = nat_le 4096 (length radios)
+
+-- what a radio that joins is told: whether it is new, or that there is no place
+abbrev pub answer_to_join : List ℕ → ℕ → Result Bool Full
+answer_to_join radios radio = if is_held radios radio then Ok false else if is_full radios then Err (record {}) else Ok true
+
+-- the radios after one joined: it goes to the end, where it is new and there is a place
+abbrev pub joined : List ℕ → ℕ → List ℕ
+joined radios radio = if is_held radios radio then radios else if is_full radios then radios else radios ++ radio ∷ []
+
+-- the radios after one left: the others, in their order
+abbrev pub without : List ℕ → ℕ → List ℕ
+without radios radio = filter (λ r. not (r == radio)) radios

@@ -1,0 +1,164 @@
+//! The set of registered radios, in the order of joining.
+
+ghost use Rattle.std.specs.Prelude.{◌≡◌, ℕ, ◌≤◌, ◌⊎◌, ◌↔◌, [], length, IsTrue, IfOk, MatchOption, nat_eq};
+ghost use Rattle.std.specs.List.{All, Contains};
+ghost use Rattle.dmr_registry.specs.Radios.{AreDistinct, is_held, answer_to_join, joined, without};
+ghost use Rattle.dmr_registry.specs.Least.{held_from, AreLeast};
+
+use dmr_pdu::{Address, BoundedList};
+use std::alloc::{AllocError, Global};
+use std::marker::Model;
+
+/// The most radios that can be registered at a time.
+const MOST_RADIOS: usize = 4096;
+
+/// There is no place for another radio: 4,096 others are registered.
+#[derive(Clone, Copy, Debug, PartialEq, Eq)]
+pub struct Full;
+
+/// The registered radios: at most 4,096, none of them twice, in the order in which they joined. Contracts see it as the
+/// list of their addresses, the one that joined first in front.
+#[derive(Drop)]
+pub struct Registry {
+    radios: Vec<Address>,
+}
+
+impl Model for Registry {
+    ghost use Rattle.std.specs.Prelude.{List, ℕ, ◌≤◌, vec_len, vec_capacity};
+    ghost use Rattle.dmr_registry.specs.Radios.{AreDistinct};
+
+    ghost Value = { List ℕ };
+
+    ghost view = { λ registry. registry.radios.items };
+
+    ghost invariant = { λ registry. (vec_len registry.radios ≤ 4096) × (4096 ≤ vec_capacity registry.radios) × AreDistinct registry.radios.items };
+}
+
+impl Registry {
+    /// A registry without radios. It takes the room for 4,096 of them; `Err` where there is no memory for that.
+    pub fn new(alloc: Global) -> Result<Registry, AllocError>
+        ensures { IfOk result (λ registry. registry ≡ []) }
+    {
+        Ok(Registry {
+            radios: Vec::with_capacity(alloc, MOST_RADIOS)?,
+        })
+    }
+
+    /// The same radios in the same order, with room of their own for 4,096. `Err` where there is no memory for that.
+    pub fn try_clone(&self, alloc: Global) -> Result<Registry, AllocError>
+        ensures { IfOk result (λ copy. copy ≡ self.now) }
+    {
+        let mut radios = Vec::with_capacity(alloc, MOST_RADIOS)?;
+        radios.extend_from_slice(&self.radios)?;
+        Ok(Registry { radios })
+    }
+
+    /// How many radios are registered: 0 to 4,096.
+    pub fn len(&self) -> usize
+        ensures value { result ≡ length self.now }
+        ensures few { result ≤ 4096 }
+    {
+        self.radios.len()
+    }
+
+    /// Whether no radio is registered.
+    pub fn is_empty(&self) -> bool
+        ensures { IsTrue result ↔ (self.now ≡ []) }
+    {
+        self.radios.is_empty()
+    }
+
+    /// The registered radios, the one that joined first in front. There are at most 4,096, and none stands twice.
+    pub fn as_slice(&self) -> &[Address]
+        ensures value { result.now ≡ self.now }
+        ensures few { length self.now ≤ 4096 }
+        ensures distinct { AreDistinct self.now }
+    {
+        self.radios.as_slice()
+    }
+
+    /// Whether a radio is registered.
+    pub fn has(&self, radio: Address) -> bool
+        ensures gives { result ≡ is_held self.now radio }
+        ensures member { IsTrue result ↔ Contains self.now radio }
+    {
+        self.radios.contains(&radio)
+    }
+
+    /// Registers a radio, behind those that are registered: `Ok(true)`. A radio that is registered already keeps its
+    /// place: `Ok(false)`. `Err` says that it isn't, and that 4,096 others are. Only `Ok(true)` changes anything.
+    pub fn join(&mut self, radio: Address) -> Result<bool, Full>
+        ensures answer { result ≡ answer_to_join self.old radio }
+        ensures radios { self.new ≡ joined self.old radio }
+    {
+        if self.has(radio) {
+            return Ok(false);
+        }
+        if self.len() >= MOST_RADIOS {
+            return Err(Full);
+        }
+        self.radios.push_reserved(radio);
+        Ok(true)
+    }
+
+    /// Takes a radio out, and answers whether it was registered. The others keep their order.
+    pub fn leave(&mut self, radio: Address) -> bool
+        ensures answer { result ≡ is_held self.old radio }
+        ensures radios { self.new ≡ without self.old radio }
+    {
+        let was_held = self.has(radio);
+        self.radios.retain(|r| *r != radio);
+        was_held
+    }
+
+    /// The 16 least registered radios from a number on, in ascending order; all of them where there are fewer.
+    pub fn from_number(&self, from: Address) -> BoundedList<Address, 16>
+        ensures { AreLeast self.now from result }
+    {
+        let mut listed = BoundedList::new();
+        let mut next = from.get();
+        while !listed.is_full() {
+            let Some(radio) = self.least_from(next) else {
+                return listed;
+            };
+            listed.push(radio);
+            next = radio.get() + 1;
+        }
+        listed
+    }
+
+    /// The least registered radio from a number on.
+    fn least_from(&self, from: u32) -> Option<Address>
+        ensures { MatchOption result (length (held_from self.now from) ≡ 0) (λ least. Contains (held_from self.now from) least × All (λ radio. least ≤ radio) (held_from self.now from)) }
+    {
+        self.radios
+            .iter()
+            .copied()
+            .filter(|radio| radio.get() >= from)
+            .min()
+    }
+}
+
+/// Two registries are equal where the same radios joined in the same order.
+impl PartialEq for Registry {
+    ghost use Rattle.std.specs.Prelude.{nat_eq};
+    ghost use Rattle.std.specs.Cmp.Lexicographic.{pointwise, nat_list_eq_equiv};
+    ghost use Rattle.std.specs.Cmp.{partial_equiv_from_equiv};
+
+    ghost eq = { pointwise nat_eq };
+
+    ghost laws = { partial_equiv_from_equiv nat_list_eq_equiv };
+
+    fn eq(&self, other: &Self) -> bool
+        ensures gives { result ≡ pointwise nat_eq self.now other.now }
+        ensures same { IsTrue result ↔ (self.now ≡ other.now) }
+    {
+        self.radios == other.radios
+    }
+}
+
+impl Eq for Registry {
+    ghost use Rattle.std.specs.Cmp.Lexicographic.{nat_list_eq_equiv};
+
+    ghost laws = { nat_list_eq_equiv };
+}

@@ -6,7 +6,7 @@ ghost use Rattle.toml.specs.Errors.{IsBlank};
 ghost use Rattle.toml.specs.Parse.{parse_document};
 ghost use Rattle.toml.specs.View.{table_view};
 ghost use Rattle.dmr_plan.specs.Steps.{IsOfKey};
-ghost use Rattle.dmr_plan.specs.Plan.{plan_of, plan_of_document, lists_radio, lists_group};
+ghost use Rattle.dmr_plan.specs.Plan.{plan_of, plan_of_text, lists_radio, lists_group};
 ghost use Rattle.dmr_plan.specs.Carriers.{row_with, has_number_in};
 ghost use Rattle.dmr_plan.specs.IsPlan.{IsPlan};
 
@@ -121,7 +121,7 @@ impl Plan {
     /// refused while the text was parsed. The plan keeps nothing of the text.
     pub fn read(alloc: Global, text: &str) -> Result<Plan, PlanFault>
         // The one plan of the text or its one fault, unless memory runs out.
-        ensures exact { (result ≡ plan_of_document (parse_document text.now)) ⊎ (result ≡ Err PlanFault.OutOfMemory) }
+        ensures exact { (result ≡ plan_of_text text.now) ⊎ (result ≡ Err PlanFault.OutOfMemory) }
         // A text that is TOML is never told to be none.
         ensures not_toml { result ≡ Err PlanFault.NotToml → parse_document text.now ≡ None }
         // A blank text takes no memory.

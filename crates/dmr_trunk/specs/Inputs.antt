@@ -1,5 +1,5 @@
 -- What the inputs of a replay mean.
-use Rattle.std.specs.Prelude.{ℕ, ◌+◌, ◌==◌, ◌&&◌, not, Bool, true, false, List, [], ◌∷◌, ◌++◌, Option, Some, None, is_some, option_map, if◌then◌else◌}
+use Rattle.std.specs.Prelude.{ℕ, ◌+◌, ◌==◌, ◌&&◌, not, Bool, true, false, List, [], ◌∷◌, ◌++◌, Option, Some, None, is_some, option_map, if◌then◌else◌, reverse, filter_map}
 use Rattle.std.specs.List.{list_any}
 use Rattle.std.specs.Option.{option_map_or}
 use Rattle.dmr_frames.specs.declared.frame.FrameIn.{FrameIn}
@@ -12,11 +12,19 @@ use Rattle.dmr_plan.specs.declared.carriers.CarrierRow.{CarrierRow}
 use Rattle.dmr_plan.specs.Carriers.{row_with}
 use Rattle.dmr_burst.specs.Functions.{meaning_of}
 use Rattle.dmr_trunk.specs.declared.first.FirstInput.{FirstInput}
-use Rattle.dmr_trunk.specs.declared.first.FirstInput.TheVariants as input
-use Rattle.dmr_trunk.specs.declared.little_site.Event.{Event}
-use Rattle.dmr_trunk.specs.declared.little_site.Event.TheVariants as event
-use Rattle.dmr_trunk.specs.LittleSite.{Facts, after, sent_by}
-use Rattle.dmr_trunk.specs.Session.{Entry}
+use Rattle.dmr_trunk.specs.declared.first.FirstInput.TheVariants as first
+use Rattle.dmr_core.specs.declared.event.Event.{Event}
+use Rattle.dmr_core.specs.declared.event.Event.TheVariants as event
+use Rattle.dmr_core.specs.declared.entry.Entry.{Entry}
+use Rattle.dmr_core.specs.Facts.{nothing}
+use Rattle.dmr_core.specs.Journal.{journal_of}
+use Rattle.dmr_trunk.specs.Input.{Input, Opening, Octets}
+use Rattle.dmr_trunk.specs.Session.{session_text}
+
+-- what an input of a replay is
+abbrev pub input_of : FirstInput → Input
+input_of (first.Open carrier) = Opening carrier
+input_of (first.Bytes carrier octets) = Octets carrier octets.now
 
 -- ---- octets that are one whole frame
 
@@ -30,20 +38,20 @@ sole_frame octets = sole (frames_from (Open []) octets) (rest_from (Open []) oct
 
 -- ---- which inputs are taken
 
-abbrev pub carrier_of_input : FirstInput → ℕ
-carrier_of_input (input.Open carrier) = carrier
-carrier_of_input (input.Bytes carrier octets) = carrier
+abbrev pub carrier_of_input : Input → ℕ
+carrier_of_input (Opening carrier) = carrier
+carrier_of_input (Octets carrier octets) = carrier
 
-abbrev pub is_opening : FirstInput → Bool
-is_opening (input.Open carrier) = true
-is_opening (input.Bytes carrier octets) = false
+abbrev pub is_opening : Input → Bool
+is_opening (Opening carrier) = true
+is_opening (Octets carrier octets) = false
 
 -- the input opens this carrier's connection
-abbrev pub opens : ℕ → FirstInput → Bool
+abbrev pub opens : ℕ → Input → Bool
 opens carrier i = is_opening i && (carrier_of_input i == carrier)
 
 -- the input brings octets of this carrier
-abbrev pub speaks : ℕ → FirstInput → Bool
+abbrev pub speaks : ℕ → Input → Bool
 speaks carrier i = not (is_opening i) && (carrier_of_input i == carrier)
 
 -- the first frame of a connection is the HELLO of version 1 with this carrier and its LPCN, each later one RX or POLL
@@ -53,21 +61,21 @@ fits has_spoken row (Some (frame.Rx slot word)) = has_spoken
 fits has_spoken row (Some frame.Poll) = has_spoken
 fits has_spoken row frame = false
 
--- an Open of a carrier of the plan that isn't open, or one whole frame, which fits, on an open carrier
-abbrev pub is_taken_by : Settings → Bool → Bool → FirstInput → Bool
-is_taken_by plan is_open has_spoken (input.Open carrier) = is_some (row_with plan.carriers carrier) && not is_open
-is_taken_by plan is_open has_spoken (input.Bytes carrier octets) = is_open && option_map_or (λ row. fits has_spoken row (sole_frame octets.now)) (row_with plan.carriers carrier) false
+-- the opening of a carrier of the plan that isn't open, or one whole frame, which fits, on an open carrier
+abbrev pub is_taken_by : Settings → Bool → Bool → Input → Bool
+is_taken_by plan is_open has_spoken (Opening carrier) = is_some (row_with plan.carriers carrier) && not is_open
+is_taken_by plan is_open has_spoken (Octets carrier octets) = is_open && option_map_or (λ row. fits has_spoken row (sole_frame octets)) (row_with plan.carriers carrier) false
 
 -- the input is taken behind these: they tell whether its carrier is open, and has spoken
-abbrev pub is_taken : Settings → List FirstInput → FirstInput → Bool
+abbrev pub is_taken : Settings → List Input → Input → Bool
 is_taken plan earlier i = is_taken_by plan (list_any (opens (carrier_of_input i)) earlier) (list_any (speaks (carrier_of_input i)) earlier) i
 
 -- how many inputs stand before the first that isn't taken, if there is one
-abbrev pub refused_behind : Settings → List FirstInput → List FirstInput → Option ℕ
+abbrev pub refused_behind : Settings → List Input → List Input → Option ℕ
 refused_behind plan earlier [] = None
 refused_behind plan earlier (i ∷ later) = if is_taken plan earlier i then option_map (λ n. n + 1) (refused_behind plan (earlier ++ i ∷ []) later) else Some 0
 
-abbrev pub refused : Settings → List FirstInput → Option ℕ
+abbrev pub refused : Settings → List Input → Option ℕ
 refused plan inputs = refused_behind plan [] inputs
 
 -- ---- the events of the inputs
@@ -84,23 +92,15 @@ event_of carrier (Some (frame.Rx slot word)) = Some (heard carrier slot (meaning
 event_of carrier (Some frame.Poll) = Some (event.Poll carrier)
 event_of carrier frame = None
 
--- what an input means: an Open nothing, octets what their frame means
-abbrev pub meant : FirstInput → Option Event
-meant (input.Open carrier) = None
-meant (input.Bytes carrier octets) = event_of carrier (sole_frame octets.now)
+-- what an input means: an opening nothing, octets what their frame means
+abbrev pub meant : Input → Option Event
+meant (Opening carrier) = None
+meant (Octets carrier octets) = event_of carrier (sole_frame octets)
 
--- the journal: each event that the inputs mean, in their order, and what the site sends for it
-abbrev pub entry_of : Facts → Event → Entry
-entry_of site happened = record { event = happened; sent = sent_by site happened }
+-- the one legal journal, from a site on which nothing stands, of the events that the inputs mean; the newest entry first
+abbrev pub journal : Settings → List Input → List Entry
+journal plan inputs = journal_of plan nothing (reverse (filter_map meant inputs))
 
-abbrev pub entries_of : Facts → Option Event → List Entry
-entries_of site None = []
-entries_of site (Some happened) = entry_of site happened ∷ []
-
-abbrev pub after_any : Facts → Option Event → Facts
-after_any site None = site
-after_any site (Some happened) = after site happened
-
-abbrev pub journal : Facts → List FirstInput → List Entry
-journal site [] = []
-journal site (i ∷ later) = entries_of site (meant i) ++ journal (after_any site (meant i)) later
+-- what is put out for a carrier
+abbrev pub put_out : Settings → List Input → ℕ → List ℕ
+put_out plan inputs carrier = session_text carrier (journal plan inputs)

@@ -1,3 +1,6 @@
-pub mod LittleSite
+pub mod Input
 pub mod Session
 pub mod Inputs
+pub mod Script
+pub mod Words
+pub mod Replay

@@ -1,40 +1,31 @@
 -- What is said to a carrier.
-use Rattle.std.specs.Prelude.{ℕ, ◌==◌, List, [], ◌∷◌, ◌++◌, Option, Some, None, if◌then◌else◌}
+use Rattle.std.specs.Prelude.{ℕ, ◌==◌, List, [], ◌∷◌, ◌++◌, if◌then◌else◌, flat_map}
 use Rattle.dmr_frames.specs.declared.frame.FrameOut.TheVariants as out
 use Rattle.dmr_frames.specs.Frames.{spelling_out}
-use Rattle.dmr_pdu.specs.declared.pdu.Pdu.{Pdu}
 use Rattle.dmr_burst.specs.Functions.{burst_of}
-use Rattle.dmr_trunk.specs.declared.little_site.Event.{Event}
-use Rattle.dmr_trunk.specs.declared.little_site.Event.TheVariants.{Up, Heard, Noise, Poll}
+use Rattle.dmr_core.specs.declared.act.Act.{Act}
+use Rattle.dmr_core.specs.declared.act.Act.TheVariants.{Send, Fill}
+use Rattle.dmr_core.specs.declared.event.Event.{Event}
+use Rattle.dmr_core.specs.declared.event.Event.TheVariants.{Up, Poll}
+use Rattle.dmr_core.specs.declared.entry.Entry.{Entry}
 
--- the carrier of an event
-abbrev pub carrier_of : Event → ℕ
-carrier_of (Up carrier) = carrier
-carrier_of (Heard slot pdu) = slot.carrier
-carrier_of (Noise slot) = slot.carrier
-carrier_of (Poll carrier) = carrier
+-- a TX for what is sent in a slot: the number of the slot, and the burst of the PDU
+abbrev pub transmission : Act → List ℕ
+transmission (Send slot pdu) = spelling_out (out.Tx slot.slot (burst_of pdu))
+transmission (Fill slot pdu) = spelling_out (out.Tx slot.slot (burst_of pdu))
+transmission act = []
 
--- a TX: the slot, and the burst of the PDU
-abbrev pub transmission : ℕ → Pdu → List ℕ
-transmission slot pdu = spelling_out (out.Tx slot (burst_of pdu))
+-- a TX for each Send and Fill, in their order
+abbrev pub transmissions : List Act → List ℕ
+transmissions acts = flat_map transmission acts
 
--- a TX on slot 0 for what was sent, if anything was
-abbrev pub transmissions : Option Pdu → List ℕ
-transmissions None = []
-transmissions (Some pdu) = transmission 0 pdu
+-- what an event and its answer say to a carrier: WELCOME to one that comes up, and to one that polls what is sent, then DONE
+abbrev pub said : ℕ → Event → List Act → List ℕ
+said carrier (Up c) acts = if c == carrier then spelling_out out.Welcome else []
+said carrier (Poll c) acts = if c == carrier then transmissions acts ++ spelling_out out.Done else []
+said carrier event acts = []
 
--- what an event and what was sent for it say to the event's carrier
-abbrev pub said : Event → Option Pdu → List ℕ
-said (Up carrier) sent = spelling_out out.Welcome
-said (Poll carrier) sent = transmissions sent ++ spelling_out out.Done
-said event sent = []
-
--- an event, and what the site sent for it
-pub record Entry : Type 0 where
-  pub event : Event
-  pub sent : Option Pdu
-
--- SESSION TEXT: what a journal, the oldest entry first, says to a carrier
+-- SESSION TEXT: what a journal, the newest entry first, has said to a carrier
 abbrev pub session_text : ℕ → List Entry → List ℕ
 session_text carrier [] = []
-session_text carrier (entry ∷ later) = (if carrier_of entry.event == carrier then said entry.event entry.sent else []) ++ session_text carrier later
+session_text carrier (entry ∷ earlier) = session_text carrier earlier ++ said carrier entry.event entry.acts.list

@@ -1,14 +1,13 @@
-//! The replay of whole frames through the little site.
+//! The replay of whole frames through the site.
 
-ghost use Rattle.std.specs.Prelude.{◌≡◌, ◌⊎◌, ℕ, ◌<◌, List, [], Bool, false, Some, Err, IfOk, IfErr, MatchOption, option_map, slice_index_or, ◌||◌};
-ghost use Rattle.dmr_trunk.specs.Inputs.{sole_frame, refused, journal, event_of as event_of_frame, meant, heard as heard_of, fits, is_taken_by, is_opening, carrier_of_input, opens, speaks};
-ghost use Rattle.dmr_trunk.specs.Session.{session_text};
+ghost use Rattle.std.specs.Prelude.{◌≡◌, ◌⊎◌, ℕ, ◌<◌, List, [], Bool, false, Some, Err, IfOk, IfErr, MatchOption, option_map, slice_index_or, ◌||◌, map};
+ghost use Rattle.dmr_trunk.specs.Inputs.{sole_frame, refused, put_out, event_of as event_of_frame, meant, heard as heard_of, fits, is_taken_by, is_opening, carrier_of_input, input_of, opens, speaks};
 ghost use Rattle.dmr_burst.specs.Functions.{meaning_of};
 
-use crate::little_site::{Event, LittleSite};
 use crate::outputs::FirstOutputs;
 use dmr_bits::Word196;
 use dmr_burst::read;
+use dmr_core::{Event, Site};
 use dmr_frames::{FrameIn, whole_frame};
 use dmr_pdu::{CarrierNo, Slot, SlotNo};
 use dmr_plan::{CarrierRow, Plan};
@@ -35,7 +34,7 @@ pub enum FirstFault {
 impl FirstInput<'_> {
     /// The carrier that the input is of.
     fn carrier(&self) -> CarrierNo
-        ensures { result ≡ carrier_of_input self.now }
+        ensures { result ≡ carrier_of_input (input_of self.now) }
     {
         match self {
             FirstInput::Open(carrier) => *carrier,
@@ -44,7 +43,7 @@ impl FirstInput<'_> {
     }
 
     fn is_opening(&self) -> bool
-        ensures { result ≡ is_opening self.now }
+        ensures { result ≡ is_opening (input_of self.now) }
     {
         match self {
             FirstInput::Open(_) => true,
@@ -63,8 +62,8 @@ struct Seen {
 impl Seen {
     /// Notes an input.
     fn note(&mut self, input: &FirstInput<'_>)
-        ensures opened { (c : ℕ) → slice_index_or self.new.opened c false ≡ (slice_index_or self.old.opened c false || opens c input.now) }
-        ensures spoken { (c : ℕ) → slice_index_or self.new.spoken c false ≡ (slice_index_or self.old.spoken c false || speaks c input.now) }
+        ensures opened { (c : ℕ) → slice_index_or self.new.opened c false ≡ (slice_index_or self.old.opened c false || opens c (input_of input.now)) }
+        ensures spoken { (c : ℕ) → slice_index_or self.new.spoken c false ≡ (slice_index_or self.old.spoken c false || speaks c (input_of input.now)) }
     {
         let carrier = input.carrier().get() as usize;
         if input.is_opening() {
@@ -107,7 +106,7 @@ fn event_of(carrier: CarrierNo, frame: &FrameIn) -> Option<Event>
 
 /// What an input means to the site.
 fn meaning(input: &FirstInput<'_>) -> Option<Event>
-    ensures { result ≡ meant input.now }
+    ensures { result ≡ meant (input_of input.now) }
 {
     match input {
         FirstInput::Open(_) => None,
@@ -143,7 +142,7 @@ fn fits(has_spoken: bool, row: &CarrierRow, frame: &Option<FrameIn>) -> bool
 
 /// Whether an input is taken, whose carrier is open or not, and has spoken or not.
 fn is_taken(plan: &Plan, is_open: bool, has_spoken: bool, input: &FirstInput<'_>) -> bool
-    ensures { result ≡ is_taken_by plan.now is_open has_spoken input.now }
+    ensures { result ≡ is_taken_by plan.now is_open has_spoken (input_of input.now) }
 {
     match input {
         FirstInput::Open(carrier) => plan.carrier(*carrier).is_some() && !is_open,
@@ -156,7 +155,7 @@ fn is_taken(plan: &Plan, is_open: bool, has_spoken: bool, input: &FirstInput<'_>
 
 /// The index of the first input that is not taken, if there is one.
 fn first_refused(plan: &Plan, inputs: &[FirstInput<'_>]) -> Option<usize>
-    ensures { result ≡ refused plan.now inputs.now }
+    ensures { result ≡ refused plan.now (map input_of inputs.now) }
 {
     let mut seen = Seen {
         opened: [false; 16],
@@ -178,25 +177,25 @@ fn answered(
     plan: Plan,
     inputs: &[FirstInput<'_>],
 ) -> Result<FirstOutputs, AllocError>
-    ensures { IfOk result (λ outputs. (c : ℕ) → slice_index_or outputs c [] ≡ session_text c (journal (record { plan = plan; radios = []; outbox = [] }) inputs.now)) }
+    ensures { IfOk result (λ outputs. (c : ℕ) → slice_index_or outputs c [] ≡ put_out plan (map input_of inputs.now) c) }
 {
-    let mut site = LittleSite::new(alloc, plan)?;
+    let mut site = Site::new(alloc, plan)?;
     let mut outputs = FirstOutputs::new(alloc);
     for input in inputs {
         if let Some(event) = meaning(input) {
-            let sent = site.apply(&event);
-            outputs.say(&event, &sent)?;
+            let acts = site.apply(event);
+            outputs.say(&event, acts.list.as_slice())?;
         }
     }
     Ok(outputs)
 }
 
-/// Runs the inputs, from a site with no radio registered and nothing waiting.
+/// Runs the inputs, from a site on which nothing stands. Memory is taken for the site and for what is put out.
 pub fn run(alloc: Global, plan: Plan, inputs: &[FirstInput<'_>]) -> Result<FirstOutputs, FirstFault>
     // NotFrame is answered exactly where an input is not taken, for the first that is not.
-    ensures not_frame { MatchOption (refused plan inputs.now) (IfErr result (λ fault. fault ≡ FirstFault.OutOfMemory)) (λ index. result ≡ Err (FirstFault.NotFrame index)) }
-    // What is put out for each carrier is the session text of the site's answers to what the inputs mean.
-    ensures texts { IfOk result (λ outputs. (c : ℕ) → slice_index_or outputs c [] ≡ session_text c (journal (record { plan = plan; radios = []; outbox = [] }) inputs.now)) }
+    ensures not_frame { MatchOption (refused plan (map input_of inputs.now)) (IfErr result (λ fault. fault ≡ FirstFault.OutOfMemory)) (λ index. result ≡ Err (FirstFault.NotFrame index)) }
+    // What is put out for each carrier is the session text of the one legal journal of what the inputs mean.
+    ensures texts { IfOk result (λ outputs. (c : ℕ) → slice_index_or outputs c [] ≡ put_out plan (map input_of inputs.now) c) }
 {
     if let Some(index) = first_refused(&plan, inputs) {
         return Err(FirstFault::NotFrame(index));

@@ -6,7 +6,6 @@
 #![tactic(auto)]
 
 mod first;
-mod little_site;
 mod outputs;
 mod replay;
 #[cfg(test)]
@@ -14,6 +13,9 @@ mod rows;
 mod script;
 mod status;
 mod words;
+
+ghost use Rattle.std.specs.Prelude.{◌≡◌, IfOk, map, string_bytes};
+ghost use Rattle.dmr_trunk.specs.Replay.{IsStatus};
 
 use crate::replay::replay;
 use crate::status::{out_of_memory, words_refused};
@@ -25,7 +27,9 @@ use std::rt::{Env, Files};
 use std::{env, fs, io};
 
 /// The words as texts.
-fn texts_of(alloc: Global, words: &[String]) -> Result<Vec<&str>, AllocError> {
+fn texts_of(alloc: Global, words: &[String]) -> Result<Vec<&str>, AllocError>
+    ensures { IfOk result (λ texts. map (λ text. text.now) texts.items ≡ map string_bytes words.now) }
+{
     let mut texts = Vec::new(alloc);
     for word in words {
         texts.push(word.as_str())?;
@@ -53,7 +57,9 @@ fn run_words<R: AllocGlobal + Files, W: Write, E: Write>(
     words: &[String],
     out: &mut W,
     err: &mut E,
-) -> Result<u8, AllocError> {
+) -> Result<u8, AllocError>
+    ensures { IfOk result IsStatus }
+{
     let texts = texts_of(rt.alloc(), words)?;
     match choose(rt.alloc(), texts.as_slice(), err) {
         Ok(Job::Script { site, script }) => {
@@ -78,7 +84,9 @@ fn run_program<R: AllocGlobal + Env + Files, W: Write, E: Write>(
     rt: &R,
     out: &mut W,
     err: &mut E,
-) -> u8 {
+) -> u8
+    ensures { IsStatus result }
+{
     let words = match env::args(rt) {
         Ok(words) => words,
         Err(error) => {

@@ -1,13 +1,14 @@
 //! What was put out for each carrier.
 
-ghost use Rattle.std.specs.Prelude.{◌≡◌, ◌==◌, ◌++◌, ◌<◌, ℕ, List, [], if◌then◌else◌, OnOk, OnErr, slice_index_or, length};
-ghost use Rattle.dmr_trunk.specs.Session.{said, carrier_of};
+ghost use Rattle.std.specs.Prelude.{◌≡◌, ◌++◌, ◌<◌, ℕ, [], OnOk, slice_index_or, length};
+ghost use Rattle.dmr_trunk.specs.Session.{said, transmission, transmissions};
 ghost use Rattle.dmr_frames.specs.Frames.{spelling_out};
+ghost use Rattle.dmr_frames.specs.declared.frame.FrameOut.TheVariants.{Done};
 
-use crate::little_site::Event;
 use dmr_burst::write;
+use dmr_core::{Act, Event};
 use dmr_frames::{FrameOut, write_frame};
-use dmr_pdu::{CarrierNo, Pdu, SlotNo};
+use dmr_pdu::CarrierNo;
 use std::alloc::{AllocError, Global};
 use std::marker::Model;
 
@@ -57,23 +58,27 @@ impl Text {
         self.octets.extend_from_slice(write_frame(frame).as_slice())
     }
 
-    /// Puts what an event and the PDU that was sent for it say at the end.
-    fn say(&mut self, event: &Event, sent: &Option<Pdu>) -> Result<(), AllocError>
-        ensures ok { OnOk result (self.new ≡ self.old ++ said event.now sent.now) }
+    /// Puts a TX at the end, where something is sent in a slot.
+    fn transmit(&mut self, act: &Act) -> Result<(), AllocError>
+        ensures ok { OnOk result (self.new ≡ self.old ++ transmission act.now) }
     {
-        match event {
-            Event::Up(_) => self.put(&FrameOut::Welcome),
-            Event::Poll(_) => {
-                if let Some(pdu) = sent {
-                    self.put(&FrameOut::Tx {
-                        slot: SlotNo::new(0),
-                        word: write(pdu),
-                    })?;
-                }
-                self.put(&FrameOut::Done)
-            }
+        match act {
+            Act::Send(slot, pdu) | Act::Fill(slot, pdu) => self.put(&FrameOut::Tx {
+                slot: slot.slot,
+                word: write(pdu),
+            }),
             _ => Ok(()),
         }
+    }
+
+    /// Puts what answers a poll at the end: a TX for each PDU that is sent, and DONE.
+    fn answer(&mut self, acts: &[Act]) -> Result<(), AllocError>
+        ensures ok { OnOk result (self.new ≡ self.old ++ transmissions acts.now ++ spelling_out Done) }
+    {
+        for act in acts {
+            self.transmit(act)?;
+        }
+        self.put(&FrameOut::Done)
     }
 }
 
@@ -112,12 +117,20 @@ impl FirstOutputs {
         text.octets.as_slice()
     }
 
-    /// Puts what an event and the PDU that was sent for it say at the end of the text of the event's carrier.
-    pub(crate) fn say(&mut self, event: &Event, sent: &Option<Pdu>) -> Result<(), AllocError>
-        ensures ok { OnOk result ((c : ℕ) → slice_index_or self.new c [] ≡ slice_index_or self.old c [] ++ (if carrier_of event.now == c then said event.now sent.now else [])) }
+    /// Puts what an event and its answer say at the end of the text of the event's carrier.
+    pub(crate) fn say(&mut self, event: &Event, acts: &[Act]) -> Result<(), AllocError>
+        ensures ok { OnOk result ((c : ℕ) → slice_index_or self.new c [] ≡ slice_index_or self.old c [] ++ said c event.now acts.now) }
     {
-        let carrier = event.carrier();
-        let text = &mut self.texts[carrier.get() as usize];
-        text.say(event, sent)
+        match event {
+            Event::Up(carrier) => {
+                let text = &mut self.texts[carrier.get() as usize];
+                text.put(&FrameOut::Welcome)
+            }
+            Event::Poll(carrier) => {
+                let text = &mut self.texts[carrier.get() as usize];
+                text.answer(acts)
+            }
+            _ => Ok(()),
+        }
     }
 }

@@ -1,9 +1,15 @@
 //! Replays a script over the site of a site file, and prints what was put out.
 
+ghost use Rattle.std.specs.Prelude.{◌≡◌, ◌⊎◌, ℕ, [], IfErr, IfOk, IsErrAnd, IsSomeAnd, MatchResult, None, Ok, OnOk, false, map, option_map, slice_index_or, string_bytes};
+ghost use Rattle.std.specs.Io.KnownBytes.{Appends};
+ghost use Rattle.dmr_trunk.specs.Inputs.{input_of, put_out, refused};
+ghost use Rattle.dmr_trunk.specs.Script.{line_in, script_of};
+ghost use Rattle.dmr_trunk.specs.Replay.{IsPrinted, Prints, Tells, carrier_line, digits_or_dash, inputs_of, is_printed, number_at, outcome, plan_in, printed, status_of};
+
 use crate::first::{FirstFault, FirstInput, run};
 use crate::outputs::FirstOutputs;
 use crate::script::{ScriptFault, ScriptLine, read_script};
-use crate::status;
+use crate::status::{FAULT, MEMORY, OK};
 use dmr_pdu::CarrierNo;
 use dmr_plan::{Plan, PlanFault};
 use std::alloc::{AllocError, Global};
@@ -31,10 +37,13 @@ enum ReplayFault<'a> {
 }
 
 impl ReplayFault<'_> {
-    fn status(&self) -> u8 {
+    /// The exit status.
+    fn status(&self) -> u8
+        ensures { result ≡ status_of self.now }
+    {
         match self {
-            ReplayFault::OutOfMemory => status::MEMORY,
-            _ => status::FAULT,
+            ReplayFault::OutOfMemory => MEMORY,
+            _ => FAULT,
         }
     }
 }
@@ -53,13 +62,19 @@ pub fn replay<'a, W: Write, E: Write>(
     script: Option<&[u8]>,
     out: &mut W,
     err: &mut E,
-) -> u8 {
+) -> u8
+    // At status 0 the files give a text, and `out` got the whole of it.
+    ensures ok { result ≡ OK → IsPrinted (outcome (option_map (λ o. o.now) site.entry) (option_map (λ o. o.now) script.entry)) (W.contents out.old) (W.contents out.new) }
+    // Where they give none, `out` is left as it was, and the status says so.
+    ensures quiet { is_printed (outcome (option_map (λ o. o.now) site.entry) (option_map (λ o. o.now) script.entry)) ≡ false → out.new ≡ out.old }
+    ensures status { (result ≡ OK) ⊎ (result ≡ FAULT) ⊎ (result ≡ MEMORY) }
+{
     let printed = match text_of_replay(alloc, site_name, site, script_name, script) {
         Ok(text) => print(&text, out),
         Err(fault) => Err(fault),
     };
     match printed {
-        Ok(()) => status::OK,
+        Ok(()) => OK,
         Err(fault) => {
             let _ = writeln!(err, "dmr_trunk: {fault}");
             fault.status()
@@ -67,21 +82,30 @@ pub fn replay<'a, W: Write, E: Write>(
     }
 }
 
-fn print<'a, W: Write>(text: &Vec<u8>, out: &mut W) -> Result<(), ReplayFault<'a>> {
-    if out.write_all(text.as_slice()).is_err() || out.flush().is_err() {
+/// Writes a text whole.
+fn print<'a, W: Write>(text: &[u8], out: &mut W) -> Result<(), ReplayFault<'a>>
+    ensures whole { OnOk result (Appends (W.contents out.old) (W.contents out.new) text.now) }
+    ensures fault { IfErr result (λ fault. fault ≡ ReplayFault.CannotWrite) }
+{
+    if out.write_all(text).is_err() || out.flush().is_err() {
         return Err(ReplayFault::CannotWrite);
     }
     Ok(())
 }
 
 /// What is to be printed.
+#[tactic(auto, using(crate::proofs::ReplayLemmas::no_plan, crate::proofs::ReplayLemmas::no_lines, crate::proofs::ReplayLemmas::no_inputs))]
 fn text_of_replay<'a>(
     alloc: Global,
     site_name: &'a str,
     site: Option<&[u8]>,
     script_name: &'a str,
     script: Option<&[u8]>,
-) -> Result<Vec<u8>, ReplayFault<'a>> {
+) -> Result<Vec<u8>, ReplayFault<'a>>
+    ensures { MatchResult result
+        (λ text. outcome (option_map (λ o. o.now) site.entry) (option_map (λ o. o.now) script.entry) ≡ Prints text.items)
+        (Tells site_name.now script_name.now (outcome (option_map (λ o. o.now) site.entry) (option_map (λ o. o.now) script.entry))) }
+{
     let plan = plan_of(alloc, site.ok_or(ReplayFault::CannotRead(site_name))?)?;
     let lines = lines_of(alloc, script.ok_or(ReplayFault::CannotRead(script_name))?)?;
     let outputs = outputs_of(alloc, &plan, lines.as_slice())?;
@@ -91,7 +115,13 @@ fn text_of_replay<'a>(
     }
 }
 
-fn plan_of<'a>(alloc: Global, site: &[u8]) -> Result<Plan, ReplayFault<'a>> {
+/// The plan of a site file.
+#[tactic(auto, using(crate::proofs::ReplayLemmas::plan_in_text, crate::proofs::ReplayLemmas::plan_in_no_text))]
+fn plan_of<'a>(alloc: Global, site: &[u8]) -> Result<Plan, ReplayFault<'a>>
+    ensures { MatchResult result
+        (λ plan. plan_in site.now ≡ Ok plan)
+        (λ fault. (fault ≡ ReplayFault.OutOfMemory) ⊎ IsErrAnd (plan_in site.now) (λ told. fault ≡ ReplayFault.SiteFile told)) }
+{
     let Ok(text) = str::from_utf8(site) else {
         return Err(ReplayFault::SiteFile(PlanFault::NotToml));
     };
@@ -102,7 +132,12 @@ fn plan_of<'a>(alloc: Global, site: &[u8]) -> Result<Plan, ReplayFault<'a>> {
     }
 }
 
-fn lines_of<'a>(alloc: Global, script: &[u8]) -> Result<Vec<ScriptLine>, ReplayFault<'a>> {
+/// The lines of a script that give inputs.
+fn lines_of<'a>(alloc: Global, script: &[u8]) -> Result<Vec<ScriptLine>, ReplayFault<'a>>
+    ensures { MatchResult result
+        (λ lines. script_of script.now ≡ Ok (map line_in lines.items))
+        (λ fault. (fault ≡ ReplayFault.OutOfMemory) ⊎ IsErrAnd (script_of script.now) (λ number. fault ≡ ReplayFault.ScriptLine number)) }
+{
     match read_script(alloc, script) {
         Ok(lines) => Ok(lines),
         Err(ScriptFault::Line(number)) => Err(ReplayFault::ScriptLine(number)),
@@ -110,18 +145,32 @@ fn lines_of<'a>(alloc: Global, script: &[u8]) -> Result<Vec<ScriptLine>, ReplayF
     }
 }
 
+/// The inputs of lines.
+fn inputs_of<'a>(alloc: Global, lines: &'a [ScriptLine]) -> Result<Vec<FirstInput<'a>>, AllocError>
+    ensures { IfOk result (λ inputs. map input_of inputs.items ≡ inputs_of (map line_in lines.entry.now)) }
+{
+    let mut inputs = Vec::new(alloc);
+    for line in lines {
+        if inputs.push(line.as_input()).is_err() {
+            return Err(AllocError);
+        }
+    }
+    Ok(inputs)
+}
+
 /// What the lines' inputs put out.
 fn outputs_of<'a>(
     alloc: Global,
     plan: &Plan,
     lines: &[ScriptLine],
-) -> Result<FirstOutputs, ReplayFault<'a>> {
-    let mut inputs: Vec<FirstInput<'_>> = Vec::new(alloc);
-    for line in lines {
-        if inputs.push(line.as_input()).is_err() {
-            return Err(ReplayFault::OutOfMemory);
-        }
-    }
+) -> Result<FirstOutputs, ReplayFault<'a>>
+    ensures { MatchResult result
+        (λ outputs. (refused plan.now (inputs_of (map line_in lines.now)) ≡ None) × ((c : ℕ) → slice_index_or outputs c [] ≡ put_out plan.now (inputs_of (map line_in lines.now)) c))
+        (λ fault. (fault ≡ ReplayFault.OutOfMemory) ⊎ IsSomeAnd (refused plan.now (inputs_of (map line_in lines.now))) (λ index. fault ≡ ReplayFault.ScriptLine (number_at (map line_in lines.now) index))) }
+{
+    let Ok(inputs) = inputs_of(alloc, lines) else {
+        return Err(ReplayFault::OutOfMemory);
+    };
     match run(alloc, *plan, inputs.as_slice()) {
         Ok(outputs) => Ok(outputs),
         Err(FirstFault::NotFrame(index)) => {
@@ -132,22 +181,35 @@ fn outputs_of<'a>(
     }
 }
 
-/// A line per carrier of the plan, by number: its number, and the octets that were put out for it in upper case
-/// hexadecimal digits, or `-` where there are none.
-fn outputs_text(alloc: Global, plan: &Plan, outputs: &FirstOutputs) -> Result<Vec<u8>, AllocError> {
+/// A line per carrier of the plan, by number.
+fn outputs_text(alloc: Global, plan: &Plan, outputs: &FirstOutputs) -> Result<Vec<u8>, AllocError>
+    ensures { IfOk result (λ text. text.items ≡ printed plan.now (λ c. slice_index_or outputs.now c [])) }
+{
     let mut text = Vec::new(alloc);
     for number in 0..16u32 {
         let carrier = CarrierNo::new(number);
         if plan.carrier(carrier).is_some() {
-            let octets = outputs.carrier(carrier);
-            let line = if octets.is_empty() {
-                format!(in alloc; "carrier {number} -\n")?
-            } else {
-                let digits = hex::encode_upper(alloc, octets)?;
-                format!(in alloc; "carrier {number} {digits}\n")?
-            };
+            let line = carrier_line(alloc, number, outputs.carrier(carrier))?;
             text.extend_from_slice(line.as_bytes())?;
         }
     }
     Ok(text)
+}
+
+/// The line of a carrier: its number, and the octets that were put out for it.
+fn carrier_line(alloc: Global, number: u32, octets: &[u8]) -> Result<String, AllocError>
+    ensures { IfOk result (λ line. string_bytes line ≡ carrier_line number octets.now) }
+{
+    let digits = digits_or_dash(alloc, octets)?;
+    format!(in alloc; "carrier {number} {digits}\n")
+}
+
+/// Octets in upper case hexadecimal digits, or `-` where there are none.
+fn digits_or_dash(alloc: Global, octets: &[u8]) -> Result<String, AllocError>
+    ensures { IfOk result (λ text. string_bytes text ≡ digits_or_dash octets.now) }
+{
+    match octets {
+        [] => String::from_str(alloc, "-"),
+        _ => hex::encode_upper(alloc, octets),
+    }
 }

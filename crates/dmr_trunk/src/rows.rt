@@ -1,49 +1,110 @@
 //! Worked cases, through `replay`: a script, and what is printed for it. They were worked out apart from this program.
 
+mod control_slot;
 mod faults;
 mod program;
 mod registration;
+mod sites;
 mod three_flips;
 
 use crate::replay::replay;
+use std::alloc::{AllocError, Global};
 use std::process::Abort;
 
 /// The site of the cases: carriers 0 and 1, the first of them the control carrier, radios 1000 to 1999.
 pub const SITE: &[u8] =
     b"system = 0x1234\nregi = 0xFFFEC6\ntsi = 0xFFFECA\nleave_bit = 0\nhang = 100\nmaximum = 3000\nahoy_wait = 8\nahoy_tries = 3\ngrant_copies = 1\nclear_copies = 1\nbackoff_low = 1\nbackoff_high = 8\ntick_ms = 60\nsilence = 100\nconsole_port = 7100\nradios = [[1000, 1999]]\ngroups = [91, 92, 93, 94]\ncontrol = 0\n[[carrier]]\nnumber = 0\nlpcn = 1\nport = 7101\n[[carrier]]\nnumber = 1\nlpcn = 2\nport = 7102\n";
 
-/// A script over the site of `SITE`, and what it gives.
+/// A replay, and what it gives.
 #[derive(Clone, Copy)]
-pub struct Case {
+pub struct Case<'a> {
     /// What the case is about.
-    pub name: &'static str,
+    pub name: &'a str,
+    /// The site file.
+    pub site: &'a [u8],
     /// The script.
-    pub script: &'static [u8],
+    pub script: &'a [u8],
     /// Standard output.
-    pub printed: &'static [u8],
+    pub printed: &'a [u8],
     /// Standard error.
-    pub fault: &'static [u8],
+    pub fault: &'a [u8],
     /// The exit status.
     pub status: u8,
 }
 
-/// Wants each case to give what it says.
-pub fn check_cases(rt: &(impl Abort + AllocGlobal), cases: &[Case]) {
-    for case in cases {
-        let mut out = Vec::new(rt.alloc());
-        let mut err = Vec::new(rt.alloc());
+/// What a replay gave.
+#[derive(Drop)]
+pub struct Answer {
+    /// Standard output.
+    pub printed: Vec<u8>,
+    /// Standard error.
+    pub fault: Vec<u8>,
+    /// The exit status.
+    pub status: u8,
+}
+
+impl Case<'_> {
+    /// Replays the script.
+    pub fn answer(&self, rt: &impl AllocGlobal) -> Answer {
+        let mut printed = Vec::new(rt.alloc());
+        let mut fault = Vec::new(rt.alloc());
         let status = replay(
             rt.alloc(),
             "site.toml",
-            Some(SITE),
+            Some(self.site),
             "script.txt",
-            Some(case.script),
-            &mut out,
-            &mut err,
+            Some(self.script),
+            &mut printed,
+            &mut fault,
         );
-        let name = case.name;
-        assert_eq!(rt; out.as_slice(), case.printed, "printed: {name}");
-        assert_eq!(rt; err.as_slice(), case.fault, "fault: {name}");
-        assert_eq!(rt; status, case.status, "status: {name}");
+        Answer {
+            printed,
+            fault,
+            status,
+        }
     }
+
+    /// Wants the replay to give what the case says.
+    pub fn check(&self, rt: &(impl Abort + AllocGlobal)) {
+        let answer = self.answer(rt);
+        let name = self.name;
+        assert_eq!(rt; answer.printed.as_slice(), self.printed, "printed: {name}");
+        assert_eq!(rt; answer.fault.as_slice(), self.fault, "fault: {name}");
+        assert_eq!(rt; answer.status, self.status, "status: {name}");
+    }
+}
+
+/// Wants each case to give what it says.
+pub fn check_cases(rt: &(impl Abort + AllocGlobal), cases: &[Case<'_>]) {
+    for case in cases {
+        case.check(rt);
+    }
+}
+
+/// The site of the cases with a piece of its text written otherwise.
+pub fn site_with(alloc: Global, old: &[u8], new: &[u8]) -> Result<Vec<u8>, AllocError> {
+    let mut text = Vec::new(alloc);
+    let at = (0..SITE.len())
+        .position(|at| SITE[at..].starts_with(old))
+        .unwrap_or(SITE.len());
+    for (index, octet) in SITE.iter().enumerate() {
+        if index == at {
+            text.extend_from_slice(new)?;
+        }
+        if index < at || index - at >= old.len() {
+            text.push(*octet)?;
+        }
+    }
+    Ok(text)
+}
+
+/// A text of pieces that stand so many times each.
+pub fn text_of(alloc: Global, pieces: &[(usize, &str)]) -> Result<String, AllocError> {
+    let mut text = String::new(alloc);
+    for (times, piece) in pieces {
+        for _ in 0..*times {
+            text.push_str(piece)?;
+        }
+    }
+    Ok(text)
 }

@@ -1,11 +1,12 @@
 //! Scripts that are refused: nothing is run, and nothing printed.
 
-use crate::rows::{Case, check_cases};
+use crate::rows::{Case, SITE, check_cases};
 
 /// Lines that are no lines of a script.
-const BAD_LINES: [Case; 13] = [
+const BAD_LINES: [Case<'static>; 13] = [
     Case {
         name: "bad hex",
+        site: SITE,
         script: b"open 0\nbytes 0 010401000001\n# third line\nbytes 0 03G0\nbytes 0 021A000EB49CDF34F2749CECBA5CB3B7C40E88138C9A38F96248E180\nbytes 0 0300\n",
         printed: b"",
         fault: b"dmr_trunk: script line 4\n",
@@ -13,6 +14,7 @@ const BAD_LINES: [Case; 13] = [
     },
     Case {
         name: "carrier 16",
+        site: SITE,
         script: b"open 0\nbytes 0 010401000001\n# third line\nopen 16\nbytes 0 021A000EB49CDF34F2749CECBA5CB3B7C40E88138C9A38F96248E180\nbytes 0 0300\n",
         printed: b"",
         fault: b"dmr_trunk: script line 4\n",
@@ -20,6 +22,7 @@ const BAD_LINES: [Case; 13] = [
     },
     Case {
         name: "cr",
+        site: SITE,
         script: b"open 0\nbytes 0 010401000001\n# third line\nopen 0\r\nbytes 0 021A000EB49CDF34F2749CECBA5CB3B7C40E88138C9A38F96248E180\nbytes 0 0300\n",
         printed: b"",
         fault: b"dmr_trunk: script line 4\n",
@@ -27,6 +30,7 @@ const BAD_LINES: [Case; 13] = [
     },
     Case {
         name: "leading space",
+        site: SITE,
         script: b"open 0\nbytes 0 010401000001\n# third line\n open 0\nbytes 0 021A000EB49CDF34F2749CECBA5CB3B7C40E88138C9A38F96248E180\nbytes 0 0300\n",
         printed: b"",
         fault: b"dmr_trunk: script line 4\n",
@@ -34,6 +38,7 @@ const BAD_LINES: [Case; 13] = [
     },
     Case {
         name: "leading zero",
+        site: SITE,
         script: b"open 0\nbytes 0 010401000001\n# third line\nopen 00\nbytes 0 021A000EB49CDF34F2749CECBA5CB3B7C40E88138C9A38F96248E180\nbytes 0 0300\n",
         printed: b"",
         fault: b"dmr_trunk: script line 4\n",
@@ -41,6 +46,7 @@ const BAD_LINES: [Case; 13] = [
     },
     Case {
         name: "no hex",
+        site: SITE,
         script: b"open 0\nbytes 0 010401000001\n# third line\nbytes 0 \nbytes 0 021A000EB49CDF34F2749CECBA5CB3B7C40E88138C9A38F96248E180\nbytes 0 0300\n",
         printed: b"",
         fault: b"dmr_trunk: script line 4\n",
@@ -48,6 +54,7 @@ const BAD_LINES: [Case; 13] = [
     },
     Case {
         name: "odd hex",
+        site: SITE,
         script: b"open 0\nbytes 0 010401000001\n# third line\nbytes 0 030\nbytes 0 021A000EB49CDF34F2749CECBA5CB3B7C40E88138C9A38F96248E180\nbytes 0 0300\n",
         printed: b"",
         fault: b"dmr_trunk: script line 4\n",
@@ -55,6 +62,7 @@ const BAD_LINES: [Case; 13] = [
     },
     Case {
         name: "tab",
+        site: SITE,
         script: b"open 0\nbytes 0 010401000001\n# third line\nopen\t0\nbytes 0 021A000EB49CDF34F2749CECBA5CB3B7C40E88138C9A38F96248E180\nbytes 0 0300\n",
         printed: b"",
         fault: b"dmr_trunk: script line 4\n",
@@ -62,6 +70,7 @@ const BAD_LINES: [Case; 13] = [
     },
     Case {
         name: "tick not yet",
+        site: SITE,
         script: b"open 0\nbytes 0 010401000001\n# third line\ntick\nbytes 0 021A000EB49CDF34F2749CECBA5CB3B7C40E88138C9A38F96248E180\nbytes 0 0300\n",
         printed: b"",
         fault: b"dmr_trunk: script line 4\n",
@@ -69,6 +78,7 @@ const BAD_LINES: [Case; 13] = [
     },
     Case {
         name: "trailing space",
+        site: SITE,
         script: b"open 0\nbytes 0 010401000001\n# third line\nopen 0 \nbytes 0 021A000EB49CDF34F2749CECBA5CB3B7C40E88138C9A38F96248E180\nbytes 0 0300\n",
         printed: b"",
         fault: b"dmr_trunk: script line 4\n",
@@ -76,6 +86,7 @@ const BAD_LINES: [Case; 13] = [
     },
     Case {
         name: "two spaces",
+        site: SITE,
         script: b"open 0\nbytes 0 010401000001\n# third line\nopen  0\nbytes 0 021A000EB49CDF34F2749CECBA5CB3B7C40E88138C9A38F96248E180\nbytes 0 0300\n",
         printed: b"",
         fault: b"dmr_trunk: script line 4\n",
@@ -83,6 +94,7 @@ const BAD_LINES: [Case; 13] = [
     },
     Case {
         name: "unknown word",
+        site: SITE,
         script: b"open 0\nbytes 0 010401000001\n# third line\nopens 0\nbytes 0 021A000EB49CDF34F2749CECBA5CB3B7C40E88138C9A38F96248E180\nbytes 0 0300\n",
         printed: b"",
         fault: b"dmr_trunk: script line 4\n",
@@ -90,6 +102,7 @@ const BAD_LINES: [Case; 13] = [
     },
     Case {
         name: "upper word",
+        site: SITE,
         script: b"open 0\nbytes 0 010401000001\n# third line\nOPEN 0\nbytes 0 021A000EB49CDF34F2749CECBA5CB3B7C40E88138C9A38F96248E180\nbytes 0 0300\n",
         printed: b"",
         fault: b"dmr_trunk: script line 4\n",
@@ -103,9 +116,10 @@ fn bad_lines(rt: HostRuntime) {
 }
 
 /// Inputs that are not taken: told by the line, before any is run.
-const NOT_TAKEN: [Case; 8] = [
+const NOT_TAKEN: [Case<'static>; 8] = [
     Case {
         name: "not open",
+        site: SITE,
         script: b"bytes 0 010401000001\n",
         printed: b"",
         fault: b"dmr_trunk: script line 1\n",
@@ -113,6 +127,7 @@ const NOT_TAKEN: [Case; 8] = [
     },
     Case {
         name: "opened twice",
+        site: SITE,
         script: b"open 0\nopen 0\n",
         printed: b"",
         fault: b"dmr_trunk: script line 2\n",
@@ -120,6 +135,7 @@ const NOT_TAKEN: [Case; 8] = [
     },
     Case {
         name: "carrier 2",
+        site: SITE,
         script: b"# not in the plan\nopen 2\n",
         printed: b"",
         fault: b"dmr_trunk: script line 2\n",
@@ -127,6 +143,7 @@ const NOT_TAKEN: [Case; 8] = [
     },
     Case {
         name: "second hello",
+        site: SITE,
         script: b"open 0\nbytes 0 010401000001\nbytes 0 010401000001\n",
         printed: b"",
         fault: b"dmr_trunk: script line 3\n",
@@ -134,6 +151,7 @@ const NOT_TAKEN: [Case; 8] = [
     },
     Case {
         name: "hello of another carrier",
+        site: SITE,
         script: b"open 0\nbytes 0 010401010002\n",
         printed: b"",
         fault: b"dmr_trunk: script line 2\n",
@@ -141,6 +159,7 @@ const NOT_TAKEN: [Case; 8] = [
     },
     Case {
         name: "part of a frame",
+        site: SITE,
         script: b"open 0\nbytes 0 010401000001\nbytes 0 03\n",
         printed: b"",
         fault: b"dmr_trunk: script line 3\n",
@@ -148,6 +167,7 @@ const NOT_TAKEN: [Case; 8] = [
     },
     Case {
         name: "two frames in one piece",
+        site: SITE,
         script: b"open 0\nbytes 0 0104010000010300\n",
         printed: b"",
         fault: b"dmr_trunk: script line 2\n",
@@ -155,6 +175,7 @@ const NOT_TAKEN: [Case; 8] = [
     },
     Case {
         name: "pad not zero",
+        site: SITE,
         script: b"open 0\nbytes 0 010401000001\nbytes 0 021A000EB49CDF34F2749CECBA5CB3B7C40E88138C9A38F96248E181\n",
         printed: b"",
         fault: b"dmr_trunk: script line 3\n",

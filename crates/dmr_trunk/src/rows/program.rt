@@ -1,9 +1,9 @@
 //! What the program says to files that cannot be read, to site files and to words.
 
 use crate::replay::replay;
-use crate::rows::SITE;
+use crate::rows::{SITE, site_with};
 use crate::words::{Job, choose};
-use std::alloc::{AllocError, Global};
+use std::alloc::AllocError;
 use std::io;
 use std::io::Write;
 use std::process::Abort;
@@ -113,23 +113,6 @@ fn site_files(rt: HostRuntime) {
         b"dmr_trunk: site file: not TOML\n",
         1,
     );
-}
-
-/// The site of the cases with a piece of its text written otherwise.
-fn site_with(alloc: Global, old: &[u8], new: &[u8]) -> Result<Vec<u8>, AllocError> {
-    let mut text = Vec::new(alloc);
-    let at = (0..SITE.len())
-        .position(|at| SITE[at..].starts_with(old))
-        .unwrap_or(SITE.len());
-    for (index, octet) in SITE.iter().enumerate() {
-        if index == at {
-            text.extend_from_slice(new)?;
-        }
-        if index < at || index - at >= old.len() {
-            text.push(*octet)?;
-        }
-    }
-    Ok(text)
 }
 
 /// Wants the site with that piece of its text written otherwise to be refused so.

@@ -1,7 +1,10 @@
-use Rattle.std.proofs.Common.{◌≡◌, ℕ, [], ◌++◌, slice_index_or, drop}
-use Rattle.dmr_trunk.specs.Inputs.{journal}
-use Rattle.dmr_trunk.specs.Session.{session_text}
+use Rattle.std.proofs.Common.{◌≡◌, ℕ, [], map, slice_index_or, take}
+use Rattle.dmr_core.specs.Facts.{facts_after, nothing}
+use Rattle.dmr_trunk.specs.Inputs.{input_of, journal, put_out}
 use Rattle.dmr_trunk.proofs.first.answered.Given as goal
 
 abbrev pub invariant-loop-input : goal.invariant-loop-input
-invariant-loop-input l = (c : ℕ) → slice_index_or l.outputs c [] ++ session_text c (journal l.site (drop l.input-index l.inputs)) ≡ session_text c (journal (record { plan = l.fn.plan; radios = []; outbox = [] }) l.inputs)
+invariant-loop-input l = record {
+  site : l.site ≡ record { plan = l.fn.plan; facts = facts_after l.fn.plan nothing (journal l.fn.plan (map input_of (take l.input-index l.inputs))) };
+  texts : (c : ℕ) → slice_index_or l.outputs c [] ≡ put_out l.fn.plan (map input_of (take l.input-index l.inputs)) c;
+}

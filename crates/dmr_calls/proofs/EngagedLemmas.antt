@@ -1,0 +1,40 @@
+-- A radio is engaged by something exactly where it is a party to something.
+use Rattle.std.proofs.Common.{◌≡◌, ℕ, List, [], ◌∷◌, Bool, true, false, refl, ◌∙◌}
+use Rattle.std.specs.Prelude.{◌||◌, Option, Some, None, find, is_some, option_map, if◌then◌else◌}
+use Rattle.std.specs.List.{list_any}
+use Rattle.std.specs.Option.{option_or}
+use Rattle.dmr_calls.specs.declared.ask.Asking.{Asking}
+use Rattle.dmr_calls.specs.declared.call.Standing.{Standing}
+use Rattle.dmr_calls.specs.declared.answer.Engagement.TheVariants.{CallOf, AskOf, LineOf}
+use Rattle.dmr_calls.specs.Standings.{Standings}
+use Rattle.dmr_calls.specs.Engaged.{in_call, in_ask, in_line, call_of, ask_with, line_with, engagement_of, is_engaged}
+
+-- something passes a test where something that passes it is found
+some_found : {X : Type 0} (test : X → Bool) (xs : List X) → is_some (find test xs) ≡ list_any test xs
+some_found test [] = refl
+some_found test (x ∷ xs) = by_first (test x) (some_found test xs)
+  where
+    by_first : (b : Bool) → is_some (find test xs) ≡ list_any test xs → is_some (if b then Some x else find test xs) ≡ (b || list_any test xs)
+    by_first true same = refl
+    by_first false same = same
+
+-- as much is found in another form
+some_mapped : {X Y : Type 0} (f : X → Y) (o : Option X) → is_some (option_map f o) ≡ is_some o
+some_mapped f None = refl
+some_mapped f (Some x) = refl
+
+-- the first of three, if there is any
+some_of_three : {X : Type 0} (a b c : Option X) → is_some (option_or a (option_or b c)) ≡ ((is_some a || is_some b) || is_some c)
+some_of_three (Some x) b c = refl
+some_of_three None (Some y) c = refl
+some_of_three None None c = refl
+
+-- something engages a radio where it is a party to something
+pub some_engaged : (now : Standings) (radio : ℕ) → is_some (engagement_of now radio) ≡ is_engaged now radio
+some_engaged now radio =
+    let calls = find (in_call radio) now.calls in
+    let asks = find (in_ask radio) now.asks in
+    let call : is_some (option_map CallOf (call_of now.calls radio)) ≡ list_any (in_call radio) now.calls = some_mapped CallOf (call_of now.calls radio) ∙ some_mapped (λ (s : Standing). s.call) calls ∙ some_found (in_call radio) now.calls in
+    let ask : is_some (option_map AskOf (ask_with now.asks radio)) ≡ list_any (in_ask radio) now.asks = some_mapped AskOf (ask_with now.asks radio) ∙ some_mapped (λ (a : Asking). a.ask) asks ∙ some_found (in_ask radio) now.asks in
+    let line : is_some (option_map LineOf (line_with now.lines radio)) ≡ list_any (in_line radio) now.lines = some_mapped LineOf (line_with now.lines radio) ∙ some_found (in_line radio) now.lines in
+    some_of_three (option_map CallOf (call_of now.calls radio)) (option_map AskOf (ask_with now.asks radio)) (option_map LineOf (line_with now.lines radio)) ∙ cc (call, ask, line)

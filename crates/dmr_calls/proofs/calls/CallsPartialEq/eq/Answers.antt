@@ -1,0 +1,8 @@
+use Rattle.std.proofs.Common.{sym, ◌∙◌}
+use Rattle.dmr_calls.specs.Same.{are_same-Decides}
+use Rattle.dmr_calls.proofs.calls.CallsPartialEq.eq.Goals as goal
+
+pub returns-clause-same : goal.returns-clause-same
+returns-clause-same c =
+    let decides = are_same-Decides c.args.self.now c.args.other.now in
+    (λ told. decides.0 (sym c.is_same.ensures ∙ told), λ same. c.is_same.ensures ∙ decides.1 same)

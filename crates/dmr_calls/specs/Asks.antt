@@ -1,0 +1,47 @@
+-- Asks: a list, the one with the oldest C_AHOY in front.
+use Rattle.std.specs.Prelude.{ℕ, List, [], ◌∷◌, ◌++◌, Bool, not, ◌==◌, ◌≢◌, ◌&&◌, nat_le, length, filter, find, Option, option_map, if◌then◌else◌}
+use Rattle.std.specs.List.{list_any, AllPairs}
+use Rattle.std.specs.Option.{option_map_or}
+use Rattle.dmr_calls.specs.declared.ask.Ask.{Ask}
+use Rattle.dmr_calls.specs.declared.ask.Asking.{Asking}
+use Rattle.dmr_calls.specs.Ticks.{one_more}
+
+-- no radio has two asks
+abbrev pub HaveOwnSources : List Asking → Type 0
+HaveOwnSources asks = AllPairs (λ a b. a.ask.source ≢ b.ask.source) asks
+
+-- an ask whose C_AHOY was sent just now
+abbrev pub just_asked : Ask → Asking
+just_asked ask = record { ask = ask; waited = 0 }
+
+-- an ask after one tick more
+abbrev pub waited_more : Asking → Asking
+waited_more a = record { ask = a.ask; waited = one_more a.waited }
+
+-- the asks of other sources
+abbrev pub others_than : ℕ → List Asking → List Asking
+others_than source asks = filter (λ a. not (a.ask.source == source)) asks
+
+-- whether there is no place for an ask of this source: 32 of other sources stand
+abbrev pub has_no_place : List Asking → ℕ → Bool
+has_no_place asks source = nat_le 32 (length (others_than source asks))
+
+-- the asks with one more, where it has a place: it goes to the end, and takes the place of the one of its source
+abbrev pub with_ask : List Asking → Ask → List Asking
+with_ask asks ask = if has_no_place asks ask.source then asks else others_than ask.source asks ++ just_asked ask ∷ []
+
+-- the ask of a radio, of which there is one at most
+abbrev pub ask_of : List Asking → ℕ → Option Ask
+ask_of asks source = option_map (λ (a : Asking). a.ask) (find (λ a. a.ask.source == source) asks)
+
+-- the first ask to a radio
+abbrev pub ask_to : List Asking → ℕ → Option Ask
+ask_to asks target = option_map (λ (a : Asking). a.ask) (find (λ a. a.ask.target == target) asks)
+
+-- whether the source asks the target
+abbrev pub has_own_ask : List Asking → ℕ → ℕ → Bool
+has_own_ask asks source target = list_any (λ a. (a.ask.source == source) && (a.ask.target == target)) asks
+
+-- the asks after an answer of the target: the first one to it is over
+abbrev pub without_ask_to : List Asking → ℕ → List Asking
+without_ask_to asks target = option_map_or (λ ask. others_than ask.source asks) (ask_to asks target) asks

@@ -1,0 +1,21 @@
+-- What stands on a site besides registrations.
+use Rattle.std.specs.Prelude.{◌≤◌, List, [], length}
+use Rattle.dmr_calls.specs.declared.ask.Asking.{Asking}
+use Rattle.dmr_calls.specs.declared.line.Line.{Line}
+use Rattle.dmr_calls.specs.declared.call.Standing.{Standing}
+
+-- the asks, lines and calls
+pub record Standings : Type 0 where
+  pub asks : List Asking  -- the one with the oldest C_AHOY in front
+  pub lines : List Line  -- in the order of lining
+  pub calls : List Standing  -- in the order of beginning
+
+-- nothing stands
+abbrev pub nothing : Standings
+nothing = record { asks = []; lines = []; calls = [] }
+
+-- at most 32 asks, 32 lines and 31 calls stand
+pub record AreFew (now : Standings) : Type 0 where
+  pub asks : length now.asks ≤ 32
+  pub lines : length now.lines ≤ 32
+  pub calls : length now.calls ≤ 31

@@ -1,0 +1,25 @@
+//! Asks.
+
+use dmr_pdu::{Address, Options};
+
+/// An ask: a C_AHOY was sent to the target of an individual call, and its C_ACKU is awaited.
+#[derive(Clone, Copy, Debug, PartialEq, Eq)]
+pub struct Ask {
+    /// The radio that calls.
+    pub source: Address,
+    /// The radio that is called, to which the C_AHOY was sent.
+    pub target: Address,
+    /// The service options of the call.
+    pub options: Options,
+    /// Which C_AHOY to the target this is: 1 for the first.
+    pub attempt: u8,
+}
+
+/// An ask that stands.
+#[derive(Clone, Copy, Debug, PartialEq, Eq)]
+pub struct Asking {
+    /// The ask.
+    pub ask: Ask,
+    /// The ticks since its C_AHOY, kept to 65,535.
+    pub waited: u16,
+}

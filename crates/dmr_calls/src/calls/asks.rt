@@ -1,0 +1,104 @@
+//! The asks among what stands.
+
+ghost use Rattle.std.specs.Prelude.{◌≡◌, length, is_err};
+ghost use Rattle.dmr_calls.specs.Asks.{others_than, has_no_place, with_ask, ask_of, ask_to, has_own_ask, without_ask_to};
+ghost use Rattle.dmr_calls.specs.Engaged.{ask_with};
+ghost use Rattle.dmr_calls.specs.Due.{due_ask};
+
+use super::{Calls, MOST_ASKS};
+use crate::answer::Full;
+use crate::ask::{Ask, Asking};
+use crate::party::is_party;
+use dmr_pdu::Address;
+
+impl Calls {
+    /// A C_AHOY was sent: the ask stands behind the others, with no tick since then. It takes the place of the ask of the
+    /// same source, if there is one. `Err` where 32 asks of other sources stand; then nothing changes.
+    pub fn ask(&mut self, ask: &Ask) -> Result<(), Full>
+        ensures full { is_err result ≡ has_no_place self.old.asks ask.now.source }
+        ensures asks { self.new ≡ record self.old { asks = with_ask self.old.asks ask.now } }
+    {
+        if self.asks_of_others(ask.source) >= MOST_ASKS {
+            return Err(Full);
+        }
+        self.ask_over(ask.source);
+        self.asks.push_reserved(Asking {
+            ask: *ask,
+            waited: 0,
+        });
+        Ok(())
+    }
+
+    /// Takes out the ask of a radio, if there is one.
+    pub fn ask_over(&mut self, source: Address)
+        ensures { self.new ≡ record self.old { asks = others_than source self.old.asks } }
+    {
+        self.asks.retain(|a| a.ask.source != source);
+    }
+
+    /// The target of an ask answered: takes out the first ask to it, and gives it. `None` where there is none; then
+    /// nothing changes.
+    pub fn answer(&mut self, target: Address) -> Option<Ask>
+        ensures ask { result ≡ ask_to self.old.asks target }
+        ensures asks { self.new ≡ record self.old { asks = without_ask_to self.old.asks target } }
+    {
+        let first = self.ask_to(target)?;
+        self.ask_over(first.source);
+        Some(first)
+    }
+
+    /// The first ask to a radio.
+    pub fn ask_to(&self, target: Address) -> Option<Ask>
+        ensures { result ≡ ask_to self.now.asks target }
+    {
+        let found = self.asks.iter().find(|a| a.ask.target == target)?;
+        Some(found.ask)
+    }
+
+    /// The ask of a radio.
+    pub fn ask_of(&self, source: Address) -> Option<Ask>
+        ensures { result ≡ ask_of self.now.asks source }
+    {
+        let found = self.asks.iter().find(|a| a.ask.source == source)?;
+        Some(found.ask)
+    }
+
+    /// Whether the ask of the source is to the target.
+    pub fn has_own_ask(&self, source: Address, target: Address) -> bool
+        ensures { result ≡ has_own_ask self.now.asks source target }
+    {
+        self.asks
+            .iter()
+            .any(|a| a.ask.source == source && a.ask.target == target)
+    }
+
+    /// The first ask that a radio is a party to.
+    pub(super) fn ask_with(&self, radio: Address) -> Option<Ask>
+        ensures { result ≡ ask_with self.now.asks radio }
+    {
+        let found = self
+            .asks
+            .iter()
+            .find(|a| is_party(radio, false, a.ask.source, a.ask.target))?;
+        Some(found.ask)
+    }
+
+    /// The first ask, where the wait for its answer is over.
+    pub(super) fn due_ask(&self, ahoy_wait: u16) -> Option<Ask>
+        ensures { result ≡ due_ask ahoy_wait self.now.asks }
+    {
+        let first = self.asks.first()?;
+        if first.waited >= ahoy_wait {
+            Some(first.ask)
+        } else {
+            None
+        }
+    }
+
+    /// How many asks of other sources stand.
+    fn asks_of_others(&self, source: Address) -> usize
+        ensures { result ≡ length (others_than source self.now.asks) }
+    {
+        self.asks.iter().filter(|a| a.ask.source != source).count()
+    }
+}

@@ -1,0 +1,98 @@
+//! The lines among what stands.
+
+ghost use Rattle.std.specs.Prelude.{◌≡◌, nat_le, length, is_err};
+ghost use Rattle.dmr_calls.specs.Lines.{with_line, without_line, first_line, has_lines, line_of, line_to, has_group_line, has_own_group_line, has_own_line};
+ghost use Rattle.dmr_calls.specs.Engaged.{line_with};
+
+use super::{Calls, MOST_LINES};
+use crate::answer::Full;
+use crate::line::Line;
+use crate::party::is_party;
+use dmr_pdu::Address;
+
+impl Calls {
+    /// Puts a line behind the others. `Err` where 32 lines stand; then nothing changes.
+    pub fn line(&mut self, line: &Line) -> Result<(), Full>
+        ensures full { is_err result ≡ nat_le 32 (length self.old.lines) }
+        ensures lines { self.new ≡ record self.old { lines = with_line self.old.lines line.now } }
+    {
+        if self.lines.len() >= MOST_LINES {
+            return Err(Full);
+        }
+        self.lines.push_reserved(*line);
+        Ok(())
+    }
+
+    /// Takes out the lines of a radio.
+    pub fn unline(&mut self, source: Address)
+        ensures { self.new ≡ record self.old { lines = without_line source self.old.lines } }
+    {
+        self.lines.retain(|l| l.source != source);
+    }
+
+    /// The line that has waited longest.
+    pub fn first_line(&self) -> Option<Line>
+        ensures { result ≡ first_line self.now.lines }
+    {
+        self.lines.first().copied()
+    }
+
+    /// Whether any line stands.
+    pub fn has_lines(&self) -> bool
+        ensures { result ≡ has_lines self.now.lines }
+    {
+        !self.lines.is_empty()
+    }
+
+    /// The first line of a radio.
+    pub fn line_of(&self, source: Address) -> Option<Line>
+        ensures { result ≡ line_of self.now.lines source }
+    {
+        self.lines.iter().copied().find(|l| l.source == source)
+    }
+
+    /// The first individual line to a radio.
+    pub fn line_to(&self, target: Address) -> Option<Line>
+        ensures { result ≡ line_to self.now.lines target }
+    {
+        self.lines
+            .iter()
+            .copied()
+            .find(|l| !l.group && l.target == target)
+    }
+
+    /// Whether any line is to the talkgroup.
+    pub fn group_line(&self, group: Address) -> bool
+        ensures { result ≡ has_group_line self.now.lines group }
+    {
+        self.lines.iter().any(|l| l.group && l.target == group)
+    }
+
+    /// Whether the source has a line to the talkgroup.
+    pub fn own_group_line(&self, source: Address, group: Address) -> bool
+        ensures { result ≡ has_own_group_line self.now.lines source group }
+    {
+        self.lines
+            .iter()
+            .any(|l| l.source == source && l.group && l.target == group)
+    }
+
+    /// Whether the source has an individual line to the target.
+    pub fn own_line(&self, source: Address, target: Address) -> bool
+        ensures { result ≡ has_own_line self.now.lines source target }
+    {
+        self.lines
+            .iter()
+            .any(|l| l.source == source && !l.group && l.target == target)
+    }
+
+    /// The first line that a radio is a party to.
+    pub(super) fn line_with(&self, radio: Address) -> Option<Line>
+        ensures { result ≡ line_with self.now.lines radio }
+    {
+        self.lines
+            .iter()
+            .copied()
+            .find(|l| is_party(radio, l.group, l.source, l.target))
+    }
+}

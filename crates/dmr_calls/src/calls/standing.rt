@@ -1,0 +1,119 @@
+//! The calls among what stands.
+
+ghost use Rattle.std.specs.Prelude.{◌≡◌, nat_le, length, map, is_err};
+ghost use Rattle.dmr_calls.specs.Calls.{marked, with_call, on_other_slots, on_other_carriers, call_on, group_call, own_group_call, own_call};
+ghost use Rattle.dmr_calls.specs.Engaged.{call_of};
+ghost use Rattle.dmr_calls.specs.Due.{due_call};
+
+use super::{Calls, MOST_CALLS};
+use crate::answer::Full;
+use crate::call::{Call, Standing};
+use crate::party::is_party;
+use crate::ticks::mark;
+use dmr_pdu::{Address, CarrierNo, Slot};
+
+impl Calls {
+    /// A call begins: it stands behind the others, with no tick since then. `Err` where 31 calls stand; then nothing
+    /// changes.
+    pub fn begin(&mut self, call: &Call) -> Result<(), Full>
+        ensures full { is_err result ≡ nat_le 31 (length self.old.calls) }
+        ensures calls { self.new ≡ record self.old { calls = with_call self.old.calls call.now } }
+    {
+        if self.calls.len() >= MOST_CALLS {
+            return Err(Full);
+        }
+        self.calls.push_reserved(Standing {
+            call: *call,
+            age: 0,
+            quiet: 0,
+        });
+        Ok(())
+    }
+
+    /// Takes out the calls on a slot, and gives the first of them.
+    pub fn end(&mut self, slot: &Slot) -> Option<Call>
+        ensures first { result ≡ call_on self.old.calls slot.now }
+        ensures calls { self.new ≡ record self.old { calls = on_other_slots slot.now self.old.calls } }
+    {
+        let first = self.call_on(slot);
+        self.calls.retain(|s| s.call.slot != *slot);
+        first
+    }
+
+    /// Takes out the calls on the slots of a carrier.
+    pub fn end_of_carrier(&mut self, carrier: CarrierNo)
+        ensures { self.new ≡ record self.old { calls = on_other_carriers carrier self.old.calls } }
+    {
+        self.calls.retain(|s| s.call.slot.carrier != carrier);
+    }
+
+    /// Marks the calls on a slot as active: no tick since then.
+    pub fn active(&mut self, slot: &Slot)
+        ensures { self.new ≡ record self.old { calls = map (marked slot.now) self.old.calls } }
+    {
+        mark(&mut self.calls, slot);
+    }
+
+    /// The first call on a slot.
+    pub fn call_on(&self, slot: &Slot) -> Option<Call>
+        ensures { result ≡ call_on self.now.calls slot.now }
+    {
+        let found = self.calls.iter().find(|s| s.call.slot == *slot)?;
+        Some(found.call)
+    }
+
+    /// The first call to a talkgroup.
+    pub fn group_call(&self, group: Address) -> Option<Call>
+        ensures { result ≡ group_call self.now.calls group }
+    {
+        let found = self
+            .calls
+            .iter()
+            .find(|s| s.call.group && s.call.target == group)?;
+        Some(found.call)
+    }
+
+    /// The first call of the source to a talkgroup.
+    pub fn own_group_call(&self, source: Address, group: Address) -> Option<Call>
+        ensures { result ≡ own_group_call self.now.calls source group }
+    {
+        let found = self.calls.iter().find(|s| s.call.source == source
+            && s.call.group
+            && s.call.target == group)?;
+        Some(found.call)
+    }
+
+    /// The first individual call of the source to the target.
+    pub fn own_call(&self, source: Address, target: Address) -> Option<Call>
+        ensures { result ≡ own_call self.now.calls source target }
+    {
+        let found = self.calls.iter().find(|s| s.call.source == source
+            && !s.call.group
+            && s.call.target == target)?;
+        Some(found.call)
+    }
+
+    /// The first call that a radio is a party to: the source, or the target of an individual call.
+    pub fn call_of(&self, radio: Address) -> Option<Call>
+        ensures { result ≡ call_of self.now.calls radio }
+    {
+        let found = self.calls.iter().find(|s| is_party(
+            radio,
+            s.call.group,
+            s.call.source,
+            s.call.target,
+        ))?;
+        Some(found.call)
+    }
+
+    /// The slot of the first call that was quiet for the hang time, or has lasted as long as one may.
+    pub(super) fn due_call(&self, hang: u16, maximum: u16) -> Option<Slot>
+        ensures { result ≡ due_call hang maximum self.now.calls }
+    {
+        let found = self
+            .calls
+            .iter()
+            .find(|s| s.quiet >= hang || s.age >= maximum)?;
+        Some(found.call.slot)
+    }
+}

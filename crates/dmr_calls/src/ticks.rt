@@ -1,0 +1,71 @@
+//! How asks and calls are counted and marked.
+
+ghost use Rattle.std.specs.Prelude.{◌≡◌, map};
+ghost use Rattle.dmr_calls.specs.Asks.{waited_more as waited_more_of};
+ghost use Rattle.dmr_calls.specs.Calls.{counted as counted_of, marked as marked_of};
+
+use crate::ask::Asking;
+use crate::call::Standing;
+use dmr_pdu::Slot;
+
+/// An ask after one tick more.
+fn waited_more(asking: Asking) -> Asking
+    ensures { result ≡ waited_more_of asking }
+{
+    Asking {
+        ask: asking.ask,
+        waited: asking.waited.saturating_add(1),
+    }
+}
+
+/// A call after one tick more.
+fn counted(standing: Standing) -> Standing
+    ensures { result ≡ counted_of standing }
+{
+    Standing {
+        call: standing.call,
+        age: standing.age.saturating_add(1),
+        quiet: standing.quiet.saturating_add(1),
+    }
+}
+
+/// A call after the slot was marked as active.
+fn marked(standing: Standing, slot: &Slot) -> Standing
+    ensures { result ≡ marked_of slot.now standing }
+{
+    if standing.call.slot == *slot {
+        Standing {
+            quiet: 0,
+            ..standing
+        }
+    } else {
+        standing
+    }
+}
+
+/// One tick more for each ask.
+pub fn count_asks(asks: &mut [Asking])
+    ensures { asks.new ≡ map waited_more_of asks.old }
+{
+    for asking in asks.iter_mut() {
+        *asking = waited_more(*asking);
+    }
+}
+
+/// One tick more for each call.
+pub fn count_calls(calls: &mut [Standing])
+    ensures { calls.new ≡ map counted_of calls.old }
+{
+    for standing in calls.iter_mut() {
+        *standing = counted(*standing);
+    }
+}
+
+/// Marks the calls on the slot as active.
+pub fn mark(calls: &mut [Standing], slot: &Slot)
+    ensures { calls.new ≡ map (marked_of slot.now) calls.old }
+{
+    for standing in calls.iter_mut() {
+        *standing = marked(*standing, slot);
+    }
+}

@@ -1,0 +1,11 @@
+mod Steps
+mod Runs
+mod ListLemmas
+mod ActLemmas
+mod EventLemmas
+mod RuleLemmas
+mod LawLemmas
+mod LastLemmas
+mod BackoffLemmas
+mod DownLemmas
+mod WaitingLemmas

@@ -1,0 +1,13 @@
+use Rattle.std.proofs.Common.{[], ◌∷◌, sym, subst}
+use Rattle.dmr_core.specs.State.{State, IsSite}
+use Rattle.dmr_core.proofs.LawLemmas.{sound_after, same_saying}
+use Rattle.dmr_core.proofs.site.Site.apply.Goals as goal
+
+pub invariant_of-self : goal.invariant_of-self
+invariant_of-self c =
+    let P : State → Type 0 = λ s. IsSite s in
+    subst P (sym c.apply.ensures.facts)
+    (record {
+      plan = c.self.invariant.plan;
+      sound = sound_after c.self.inside.machine.plan c.self.inside.machine.facts (record { actor = 0; event = c.args.event; acts = record { list = c.apply.result } } ∷ []) c.self.invariant.plan c.self.invariant.sound (same_saying _ _ c.apply.ensures.acts, tt);
+    })

@@ -1,0 +1,38 @@
+-- How many Noises the backoff counts, said of the events.
+use Rattle.std.specs.Prelude.{ℕ, ◌+◌, ◌-◌, List, [], ◌∷◌, Bool, false, ◌==◌, if◌then◌else◌}
+use Rattle.dmr_plan.specs.declared.settings.Settings.{Settings}
+use Rattle.dmr_core.specs.declared.event.Event.{Event}
+use Rattle.dmr_core.specs.declared.event.Event.TheVariants.{Up, Noise, Poll}
+use Rattle.dmr_core.specs.declared.entry.Entry.{Entry}
+use Rattle.dmr_core.specs.Facts.{is_control}
+
+-- the control carrier comes up
+abbrev pub is_start : Settings → Event → Bool
+is_start plan (Up c) = c == plan.control
+is_start plan _ = false
+
+-- the control carrier polls
+abbrev pub is_poll : Settings → Event → Bool
+is_poll plan (Poll c) = c == plan.control
+is_poll plan _ = false
+
+-- a Noise on the control slot is one
+abbrev pub noise_in : Settings → Event → ℕ
+noise_in plan (Noise slot) = if is_control plan slot then 1 else 0
+noise_in plan _ = 0
+
+-- one event more: what came before its Up does not count, nor what came before a Poll that is one too many
+abbrev pub counted : Settings → ℕ → Event → (ℕ → ℕ) → ℕ
+counted plan polls event before =
+    if is_start plan event then 0 else
+    if is_poll plan event then (if polls == 0 then 0 else before (polls - 1)) else
+    noise_in plan event + before polls
+
+-- the Noises on the control slot since its carrier's last Up, and since the first Poll that is one too many
+abbrev pub noises_within : Settings → List Entry → ℕ → ℕ
+noises_within plan [] polls = 0
+noises_within plan (entry ∷ earlier) polls = counted plan polls entry.event (noises_within plan earlier)
+
+-- the Noises on the control slot after the later of its carrier's last Up and the 32nd last of its Polls
+abbrev pub recent_noises : Settings → List Entry → ℕ
+recent_noises plan journal = noises_within plan journal 31

@@ -1,0 +1,13 @@
+pub mod Facts
+pub mod Words
+pub mod Rules
+pub mod Journal
+pub mod Sound
+pub mod State
+pub mod Same
+pub mod May
+pub mod Last
+pub mod Waiting
+pub mod Down
+pub mod Backoff
+pub mod Cases

@@ -1,0 +1,38 @@
+//! What the site does.
+
+use dmr_pdu::{Address, Blank, BoundedList, Pdu, Slot};
+
+/// One thing that the site does in answer to an event.
+#[derive(Clone, Copy, Debug, PartialEq, Eq)]
+pub enum Act {
+    /// A PDU is put behind those that wait for a slot.
+    Queue(Slot, Pdu),
+    /// The first PDU that waits for a slot is sent in it.
+    Send(Slot, Pdu),
+    /// A PDU is sent in a slot for which nothing waits.
+    Fill(Slot, Pdu),
+    /// A radio is registered from now on.
+    Joined(Address),
+    /// A radio is registered no more.
+    Left(Address),
+}
+
+impl Blank for Act {
+    ghost use Rattle.dmr_core.specs.declared.act.Act.TheVariants.{Joined};
+
+    ghost blank = { Joined 0 };
+
+    fn blank() -> Self {
+        Act::Joined(Address::blank())
+    }
+}
+
+/// At most 16 acts, in the order in which they are done. `Copy`, and without memory of its own.
+pub type ActList = BoundedList<Act, 16>;
+
+/// How the site answers an event.
+#[derive(Clone, Copy, Debug, PartialEq, Eq)]
+pub struct Acts {
+    /// What it does, in order.
+    pub list: ActList,
+}

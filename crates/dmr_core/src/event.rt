@@ -1,0 +1,20 @@
+//! What the site is told.
+
+use dmr_pdu::{CarrierNo, Pdu, Slot};
+
+/// What happens to the site.
+#[derive(Clone, Copy, Debug, PartialEq, Eq)]
+pub enum Event {
+    /// A carrier comes up: its connection to the site begins.
+    Up(CarrierNo),
+    /// A carrier is lost: its connection to the site has ended.
+    Lost(CarrierNo),
+    /// A PDU was read in a slot (TS 102 361-4, clause 7.1.1).
+    Heard(Slot, Pdu),
+    /// Something was received in a slot, and no PDU could be read.
+    Noise(Slot),
+    /// A carrier asks what it is to send in its next two slots.
+    Poll(CarrierNo),
+    /// The site's clock has gone on by one.
+    Tick,
+}

@@ -1,0 +1,103 @@
+//! A site.
+
+ghost use Rattle.std.specs.Prelude.{◌≡◌, ◌↔◌, [], ◌∷◌, IfOk, IsTrue};
+ghost use Rattle.dmr_core.specs.Facts.{facts_after, nothing};
+ghost use Rattle.dmr_core.specs.Rules.{acts_of};
+ghost use Rattle.dmr_core.specs.Same.{are_same};
+ghost use Rattle.dmr_core.specs.State.{IsSite};
+
+use crate::act::Acts;
+use crate::event::Event;
+use crate::machine::Machine;
+use dmr_plan::Plan;
+use std::alloc::{AllocError, Global};
+use std::marker::Model;
+
+/// A trunked site. Contracts see it as its plan and its facts: which carriers are up, which radios are registered, what
+/// waits for the control slot, and how much the control slot was disturbed. The facts of a site fit together always, as
+/// [`keeps`](Site::keeps) tells.
+#[derive(Drop)]
+pub struct Site {
+    machine: Machine,
+}
+
+impl Model for Site {
+    ghost use Rattle.dmr_core.specs.State.{State, IsSite};
+
+    ghost Value = { State };
+
+    ghost view = { λ site. site.machine };
+
+    ghost invariant = { λ site. IsSite site.machine };
+}
+
+impl Site {
+    /// The site of a plan on which nothing stands. It takes all the memory that it ever needs; `Err` where there is none
+    /// for that.
+    pub fn new(alloc: Global, plan: Plan) -> Result<Site, AllocError>
+        ensures { IfOk result (λ site. site ≡ record { plan = plan; facts = nothing }) }
+    {
+        plan.keeps();
+        Ok(Site {
+            machine: Machine::new(alloc, &plan)?,
+        })
+    }
+
+    /// The site's plan.
+    pub fn plan(&self) -> &Plan
+        ensures { result.now ≡ self.now.plan }
+    {
+        self.machine.plan()
+    }
+
+    /// Answers an event. The acts are those that the rules give for the event and what stands when it comes; after it the
+    /// facts are those that the event and the acts leave. No event is refused, and no memory is taken.
+    pub fn apply(&mut self, event: Event) -> Acts
+        ensures acts { result.list ≡ acts_of self.old.plan self.old.facts event }
+        ensures facts { self.new ≡ record { plan = self.old.plan; facts = facts_after self.old.plan self.old.facts (record { actor = 0; event = event; acts = result } ∷ []) } }
+    {
+        let event = &event;
+        Acts {
+            list: self.machine.apply(event),
+        }
+    }
+
+    /// A site of its own with the same plan and facts. `Err` where there is no memory for it; this site stays as it is.
+    pub fn try_clone(&self, alloc: Global) -> Result<Site, AllocError>
+        ensures { IfOk result (λ copy. copy ≡ self.now) }
+    {
+        Ok(Site {
+            machine: self.machine.try_clone(alloc)?,
+        })
+    }
+
+    /// Does nothing. A proof learns from it what every site keeps.
+    pub fn keeps(&self)
+        ensures { IsSite self.now }
+    {
+        let _ = &self.machine;
+    }
+}
+
+/// Two sites are equal where they have the same plan and the same facts.
+impl PartialEq for Site {
+    ghost use Rattle.std.specs.Cmp.{partial_equiv_from_equiv};
+    ghost use Rattle.dmr_core.specs.Same.{are_same, are_same-equivalence};
+
+    ghost eq = { are_same };
+
+    ghost laws = { partial_equiv_from_equiv are_same-equivalence };
+
+    fn eq(&self, other: &Self) -> bool
+        ensures gives { result ≡ are_same self.now other.now }
+        ensures same { IsTrue result ↔ (self.now ≡ other.now) }
+    {
+        self.machine.is(&other.machine)
+    }
+}
+
+impl Eq for Site {
+    ghost use Rattle.dmr_core.specs.Same.{are_same-equivalence};
+
+    ghost laws = { are_same-equivalence };
+}

@@ -1,0 +1,71 @@
+-- The first free slot is free, and none before it is.
+use Rattle.std.proofs.Common.{arith, ◌≡◌, ℕ, zero, suc, ◌+◌, ◌<◌, ◌≤◌, ◌⊎◌, inl, inr, Bool, true, false, refl, subst, ap, map}
+use Rattle.std.specs.Prelude.{◌/◌, ◌%◌, Option, Some, None, MatchOption, cond}
+use Rattle.std.specs.List.{find, range_with_len}
+use Rattle.std.proofs.lemmas.Bool.{cases_lt}
+use Rattle.dmr_pdu.specs.declared.slots.Slot.{Slot}
+use Rattle.dmr_pool.specs.Slots.{Slots, IsSlot, place, slot_at}
+use Rattle.dmr_pool.specs.Free.{is_free, lowest_free, HasNoFreeSlot, IsLowestFree}
+
+-- no slot passes from one place on and before another
+abbrev NonePass : (Slot → Bool) → ℕ → ℕ → Type 0
+NonePass passes from to = (k : ℕ) → from ≤ k → k < to → passes (slot_at k) ≡ false
+
+-- a slot passes, and none before it does, from one place on and before another
+record IsFirst (passes : Slot → Bool) (from to : ℕ) (slot : Slot) : Type 0 where
+  pub at : ℕ
+  pub is : slot_at at ≡ slot
+  pub within : at < to
+  pub passing : passes slot ≡ true
+  pub before : NonePass passes from at
+
+-- where the slot a place earlier doesn't pass either, none passes from there on
+none_more : (passes : Slot → Bool) (from to : ℕ) → passes (slot_at from) ≡ false → NonePass passes (from + 1) to → NonePass passes from to
+none_more passes from to here after k reached below = either (cases_lt from k)
+  where
+    either : (from < k) ⊎ (k ≤ from) → passes (slot_at k) ≡ false
+    either (inl behind) = after k (omega arith) below
+    either (inr there) = let same : from ≡ k = omega arith in subst (λ n. passes (slot_at n) ≡ false) same here
+
+-- the same of what is found
+one_more : (passes : Slot → Bool) (from to : ℕ) (found : Option Slot) → passes (slot_at from) ≡ false → MatchOption found (NonePass passes (from + 1) to) (IsFirst passes (from + 1) to) → MatchOption found (NonePass passes from to) (IsFirst passes from to)
+one_more passes from to None here after = none_more passes from to here after
+one_more passes from to (Some slot) here after = record {
+  at = after.at;
+  is = after.is;
+  within = after.within;
+  passing = after.passing;
+  before = none_more passes from after.at here after.before;
+}
+
+-- what is found among the slots of so many places is the first that passes, if any does
+found_first : (passes : Slot → Bool) (from n to : ℕ) → from + n ≡ to → MatchOption (find passes (map slot_at (range_with_len from n))) (NonePass passes from to) (IsFirst passes from to)
+found_first passes from zero to all = λ k reached below. absurd (omega arith)
+found_first passes from (suc n) to all = either (passes (slot_at from)) refl (found_first passes (from + 1) n to (omega arith))
+  where
+    either : (b : Bool) → passes (slot_at from) ≡ b → MatchOption (find passes (map slot_at (range_with_len (from + 1) n))) (NonePass passes (from + 1) to) (IsFirst passes (from + 1) to) → MatchOption (cond b (Some (slot_at from)) (find passes (map slot_at (range_with_len (from + 1) n)))) (NonePass passes from to) (IsFirst passes from to)
+    either true here after = record { at = from; is = refl; within = omega arith; passing = here; before = λ k reached below. absurd (omega arith) }
+    either false here after = one_more passes from to (find passes (map slot_at (range_with_len (from + 1) n))) here after
+
+-- a slot is the one at its place
+slot_at-place : (slot : Slot) → IsSlot slot → slot_at (place slot) ≡ slot
+slot_at-place slot is_slot =
+    let carrier : place slot / 2 ≡ slot.carrier = omega (arith, is_slot.1) in
+    let number : place slot % 2 ≡ slot.slot = omega (arith, is_slot.1) in
+    λ i. record { carrier = carrier i; slot = number i }
+
+-- the first free slot by places is the lowest
+at_place : (slots : Slots) (found : Option Slot) → MatchOption found (NonePass (is_free slots) 0 32) (IsFirst (is_free slots) 0 32) → MatchOption found (HasNoFreeSlot slots) (IsLowestFree slots)
+at_place slots None none = λ slot is_slot. subst (λ s. is_free slots s ≡ false) (slot_at-place slot is_slot) (none (place slot) (omega arith) (omega (arith, is_slot.0, is_slot.1)))
+at_place slots (Some slot) first = record {
+  within = subst IsSlot first.is (omega (arith, first.within), omega arith);
+  free = first.passing;
+  lowest = λ other is_slot below.
+      let there : place (slot_at first.at) ≡ place slot = ap place first.is in
+      subst (λ s. is_free slots s ≡ false) (slot_at-place other is_slot) (first.before (place other) (omega arith) (omega (arith, there, below)));
+}
+
+-- the lowest free slot is free, and none before it is; without one, none is
+pub lowest_free-lowest : (slots : Slots) → MatchOption (lowest_free slots) (HasNoFreeSlot slots) (IsLowestFree slots)
+unfolding lowest_free
+lowest_free-lowest slots = at_place slots _ (found_first (is_free slots) 0 32 32 refl)

@@ -1,0 +1,59 @@
+-- Which slots are free for a call.
+use Rattle.std.specs.Prelude.{◌≡◌, ℕ, ◌<◌, List, [], ◌∷◌, map, Bool, true, false, not, ◌==◌, ◌&&◌, Option}
+use Rattle.std.specs.List.{list_any, find, range_with_len}
+use Rattle.std.specs.Option.{option_map_or}
+use Rattle.dmr_pdu.specs.declared.slots.Slot.{Slot}
+use Rattle.dmr_pdu.specs.declared.pdu.Pdu.{Pdu}
+use Rattle.dmr_pdu.specs.declared.pdu.Pdu.TheVariants.{PvGrant, TvGrant}
+use Rattle.dmr_plan.specs.declared.settings.Settings.{Settings}
+use Rattle.dmr_plan.specs.declared.carriers.CarrierRow.{CarrierRow}
+use Rattle.dmr_plan.specs.Carriers.{has_number_in, row_with}
+use Rattle.dmr_pool.specs.Slots.{Slots, IsSlot, place, slot_at, is_up, is_held, box}
+
+-- slot 0 of the control carrier
+abbrev pub control_slot : Settings → Slot
+control_slot plan = record { carrier = plan.control; slot = 0 }
+
+-- a slot is the control slot
+abbrev pub is_control : Settings → Slot → Bool
+is_control plan slot = (slot.carrier == plan.control) && (slot.slot == 0)
+
+-- no entry
+abbrev pub is_empty : {X : Type 0} → List X → Bool
+is_empty [] = true
+is_empty (x ∷ xs) = false
+
+-- a grant that names the channel and the slot number
+abbrev pub names : ℕ → ℕ → Pdu → Bool
+names lpcn number (PvGrant channel slot target source) = (channel == lpcn) && (slot == number)
+names lpcn number (TvGrant channel slot late target source) = (channel == lpcn) && (slot == number)
+names lpcn number _ = false
+
+-- a grant that names a slot by its carrier's channel waits for the control slot
+abbrev pub is_granted : Slots → Slot → Bool
+is_granted slots slot =
+    option_map_or (λ (row : CarrierRow). list_any (names row.lpcn slot.slot) (box slots.outboxes (control_slot slots.plan))) (row_with slots.plan.carriers slot.carrier) false
+
+-- the carrier is in the plan and up, the slot is not the control slot, no call holds it, nothing waits for it, and no grant of it waits
+abbrev pub is_free : Slots → Slot → Bool
+is_free slots slot =
+    has_number_in slots.plan.carriers slot.carrier && is_up slots.up slot.carrier && not (is_control slots.plan slot)
+    && not (is_held slots.held slot) && is_empty (box slots.outboxes slot) && not (is_granted slots slot)
+
+-- by carrier, then by slot
+abbrev pub all_slots : List Slot
+all_slots = map slot_at (range_with_len 0 32)
+
+-- the first of all slots that is free
+unfoldable pub lowest_free : Slots → Option Slot
+lowest_free slots = find (is_free slots) all_slots
+
+-- no slot of the site is free
+abbrev pub HasNoFreeSlot : Slots → Type 0
+HasNoFreeSlot slots = (slot : Slot) → IsSlot slot → is_free slots slot ≡ false
+
+-- a slot is free, and none before it is
+pub record IsLowestFree (slots : Slots) (slot : Slot) : Type 0 where
+  pub within : IsSlot slot
+  pub free : is_free slots slot ≡ true
+  pub lowest : (other : Slot) → IsSlot other → place other < place slot → is_free slots other ≡ false

@@ -1,0 +1,4 @@
+pub mod Slots
+pub mod Free
+pub mod Kept
+pub mod Same

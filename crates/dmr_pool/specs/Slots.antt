@@ -1,0 +1,56 @@
+-- The slots of a site: what stands on them, and how it changes.
+use Rattle.std.specs.Prelude.{ℕ, ◌+◌, ◌*◌, ◌/◌, ◌%◌, ◌<◌, List, [], ◌∷◌, ◌++◌, Bool, false, drop, replicate, slice_set, slice_index_or}
+use Rattle.dmr_pdu.specs.declared.slots.Slot.{Slot}
+use Rattle.dmr_pdu.specs.declared.pdu.Pdu.{Pdu}
+use Rattle.dmr_plan.specs.declared.settings.Settings.{Settings}
+
+-- the plan, and what stands on the slots
+pub record Slots : Type 0 where
+  pub plan : Settings
+  pub up : List Bool  -- for each carrier number, 0 to 15, whether the carrier is up
+  pub held : List Bool  -- for each slot, at its place, whether a call holds it
+  pub outboxes : List (List Pdu)  -- for each slot, at its place, what waits for it, the oldest first
+
+-- a slot of a carrier 0 to 15
+abbrev pub IsSlot : Slot → Type 0
+IsSlot slot = (slot.carrier < 16) × (slot.slot < 2)
+
+-- the place of a slot among those of all carriers: by carrier, then by slot
+abbrev pub place : Slot → ℕ
+place slot = 2 * slot.carrier + slot.slot
+
+-- the slot at a place
+abbrev pub slot_at : ℕ → Slot
+slot_at place = record { carrier = place / 2; slot = place % 2 }
+
+-- a carrier is up
+abbrev pub is_up : List Bool → ℕ → Bool
+is_up up carrier = slice_index_or up carrier false
+
+-- a call holds a slot
+abbrev pub is_held : List Bool → Slot → Bool
+is_held held slot = slice_index_or held (place slot) false
+
+-- what waits for a slot
+abbrev pub box : List (List Pdu) → Slot → List Pdu
+box boxes slot = slice_index_or boxes (place slot) []
+
+-- the held slots after those of a carrier are released
+abbrev pub released : List Bool → ℕ → List Bool
+released held carrier = slice_set (slice_set held (2 * carrier) false) (2 * carrier + 1) false
+
+-- the outboxes after those of a carrier's slots are emptied
+abbrev pub emptied : List (List Pdu) → ℕ → List (List Pdu)
+emptied boxes carrier = slice_set (slice_set boxes (2 * carrier) []) (2 * carrier + 1) []
+
+-- the outboxes after a PDU is put behind those that wait for a slot
+abbrev pub queued : List (List Pdu) → Slot → Pdu → List (List Pdu)
+queued boxes slot pdu = slice_set boxes (place slot) (box boxes slot ++ pdu ∷ [])
+
+-- the outboxes after the PDU that has waited longest for a slot is taken out
+abbrev pub sent : List (List Pdu) → Slot → List (List Pdu)
+sent boxes slot = slice_set boxes (place slot) (drop 1 (box boxes slot))
+
+-- nothing is up, held or waiting
+abbrev pub nothing_on : Settings → Slots
+nothing_on plan = record { plan = plan; up = replicate 16 false; held = replicate 32 false; outboxes = replicate 32 [] }

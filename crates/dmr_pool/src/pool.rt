@@ -1,0 +1,277 @@
+//! The carriers that are up, the slots that calls hold, and what waits to be sent on each slot.
+
+ghost use Rattle.std.specs.Prelude.{◌≡◌, ◌≤◌, ◌↔◌, length, slice_get, slice_set, true, false, IsTrue, IsErr, IfOk, OnOk, OnErr, MatchOption};
+ghost use Rattle.dmr_plan.specs.Carriers.{has_number_in};
+ghost use Rattle.dmr_pool.specs.Slots.{box, is_up, emptied, released, queued, sent, place, nothing_on};
+ghost use Rattle.dmr_pool.specs.Free.{control_slot, is_control, is_granted, is_free, lowest_free, HasNoFreeSlot, IsLowestFree};
+ghost use Rattle.dmr_pool.specs.Kept.{AreKept};
+ghost use Rattle.dmr_pool.specs.Same.{are_same};
+
+use crate::outbox::{MOST_WAITING, Outbox, copied_outboxes, empty_outboxes};
+use crate::places::{place_of, slot_at};
+use dmr_pdu::{CarrierNo, Pdu, Slot, SlotNo};
+use dmr_plan::Plan;
+use std::alloc::{AllocError, Global};
+use std::marker::Model;
+
+/// There is no place for another PDU: 64 wait for the slot.
+#[derive(Clone, Copy, Debug, PartialEq, Eq)]
+pub struct Full;
+
+/// The slots of a plan's site. Contracts see it as the plan, which carriers are up, which slots calls hold, and what waits
+/// for each slot; what they all keep is `AreKept`, which [`Pool::keeps`] tells.
+#[derive(Drop)]
+pub struct Pool {
+    plan: Plan,
+    up: [bool; 16],
+    held: [bool; 32],
+    outboxes: Vec<Outbox>,
+}
+
+impl Model for Pool {
+    ghost use Rattle.dmr_pool.specs.Slots.{Slots};
+    ghost use Rattle.dmr_pool.specs.Kept.{AreKept};
+
+    ghost Value = { Slots };
+
+    ghost view = { λ pool. record {
+      plan = pool.plan;
+      up = pool.up;
+      held = pool.held;
+      outboxes = pool.outboxes.items;
+    } };
+
+    ghost invariant = { λ pool. AreKept (record {
+      plan = pool.plan;
+      up = pool.up;
+      held = pool.held;
+      outboxes = pool.outboxes.items;
+    }) };
+}
+
+impl Pool {
+    /// The slots of a plan's site on which nothing is up, held or waiting. It takes the room for 64 PDUs in each of the 32
+    /// outboxes; `Err` where there is no memory for that.
+    pub fn new(alloc: Global, plan: &Plan) -> Result<Pool, AllocError>
+        ensures { IfOk result (λ pool. pool ≡ nothing_on plan.now) }
+    {
+        Ok(Pool {
+            plan: *plan,
+            up: [false; 16],
+            held: [false; 32],
+            outboxes: empty_outboxes(alloc)?,
+        })
+    }
+
+    /// The same plan, carriers up, held slots and waiting PDUs, with room of their own. `Err` where there is no memory for
+    /// that.
+    pub fn try_clone(&self, alloc: Global) -> Result<Pool, AllocError>
+        ensures { IfOk result (λ copy. copy ≡ self.now) }
+    {
+        Ok(Pool {
+            plan: self.plan,
+            up: self.up,
+            held: self.held,
+            outboxes: copied_outboxes(alloc, &self.outboxes)?,
+        })
+    }
+
+    /// Whether a carrier is up.
+    pub fn is_up(&self, carrier: CarrierNo) -> bool
+        ensures { result ≡ is_up self.now.up carrier }
+    {
+        let number = carrier.get() as usize;
+        self.up[number]
+    }
+
+    /// A carrier of the plan comes up. Its slots are released, and what waited for them is gone.
+    pub fn up(&mut self, carrier: CarrierNo)
+        requires { IsTrue (has_number_in self.old.plan.carriers carrier) }
+        ensures { self.new ≡ record self.old {
+          up = slice_set self.old.up carrier true;
+          held = released self.old.held carrier;
+          outboxes = emptied self.old.outboxes carrier;
+        } }
+    {
+        self.up[carrier.get() as usize] = true;
+        self.clear(carrier);
+    }
+
+    /// A carrier is lost, or was not up. Its slots are released, and what waited for them is gone.
+    pub fn lost(&mut self, carrier: CarrierNo)
+        ensures { self.new ≡ record self.old {
+          up = slice_set self.old.up carrier false;
+          held = released self.old.held carrier;
+          outboxes = emptied self.old.outboxes carrier;
+        } }
+    {
+        self.up[carrier.get() as usize] = false;
+        self.clear(carrier);
+    }
+
+    /// Releases the slots of a carrier, and takes out all that waits for them.
+    fn clear(&mut self, carrier: CarrierNo)
+        ensures { self.new ≡ record self.old {
+          held = released self.old.held carrier;
+          outboxes = emptied self.old.outboxes carrier;
+        } }
+    {
+        let first = 2 * carrier.get() as usize;
+        self.held[first] = false;
+        self.held[first + 1] = false;
+        self.outboxes[first].clear();
+        self.outboxes[first + 1].clear();
+    }
+
+    /// The free slot of the lowest carrier number, and of that carrier the lowest slot number; `None` where no slot is free.
+    pub fn free_slot(&self) -> Option<Slot>
+        ensures gives { result ≡ lowest_free self.now }
+        // It is free, and none before it is; without one, none is.
+        ensures lowest { MatchOption result (HasNoFreeSlot self.now) (IsLowestFree self.now) }
+    {
+        self.lowest_free()
+    }
+
+    /// The first of all slots that is free.
+    #[tactic(auto, unfolding(crate::specs::Free::lowest_free))]
+    fn lowest_free(&self) -> Option<Slot>
+        ensures { result ≡ lowest_free self.now }
+    {
+        (0..32).map(slot_at).find(|slot| self.is_free(slot))
+    }
+
+    /// Whether a slot is free for a call: its carrier is in the plan and up, it is not the control slot, no call holds it,
+    /// nothing waits for it, and no grant of it waits for the control slot.
+    pub fn is_free(&self, slot: &Slot) -> bool
+        ensures { result ≡ is_free self.now slot.now }
+    {
+        self.plan.carrier(slot.carrier).is_some()
+            && self.is_up(slot.carrier)
+            && !self.is_control(slot)
+            && !self.held[place_of(slot)]
+            && self.waiting(slot) == 0
+            && !self.is_granted(slot)
+    }
+
+    /// Slot 0 of the control carrier.
+    fn control_slot(&self) -> Slot
+        ensures { result ≡ control_slot self.now.plan }
+    {
+        Slot {
+            carrier: self.plan.control(),
+            slot: SlotNo::new(0),
+        }
+    }
+
+    /// Whether a slot is the control slot.
+    fn is_control(&self, slot: &Slot) -> bool
+        ensures { result ≡ is_control self.now.plan slot.now }
+    {
+        slot.carrier == self.plan.control() && slot.slot.get() == 0
+    }
+
+    /// Whether a grant of a slot waits for the control slot.
+    fn is_granted(&self, slot: &Slot) -> bool
+        ensures { result ≡ is_granted self.now slot.now }
+    {
+        let control = place_of(&self.control_slot());
+        match self.plan.carrier(slot.carrier) {
+            Some(row) => self.outboxes[control].has_grant(row.lpcn, slot.slot),
+            None => false,
+        }
+    }
+
+    /// A call takes a slot, which must be free: it is held from now on.
+    pub fn hold(&mut self, slot: &Slot)
+        requires { IsTrue (is_free self.old slot.now) }
+        ensures { self.new ≡ record self.old { held = slice_set self.old.held (place slot.now) true } }
+    {
+        self.held[place_of(slot)] = true;
+    }
+
+    /// No call holds a slot any longer. One that none holds stays as it is.
+    pub fn release(&mut self, slot: &Slot)
+        ensures { self.new ≡ record self.old { held = slice_set self.old.held (place slot.now) false } }
+    {
+        self.held[place_of(slot)] = false;
+    }
+
+    /// Puts a PDU behind those that wait for a slot, whose carrier must be up. `Err` says that 64 wait, and then nothing is
+    /// changed.
+    pub fn push(&mut self, slot: &Slot, pdu: &Pdu) -> Result<(), Full>
+        requires { IsTrue (is_up self.old.up slot.now.carrier) }
+        ensures full { IsErr result ↔ (length (box self.old.outboxes slot.now) ≡ 64) }
+        ensures ok { OnOk result (self.new ≡ record self.old { outboxes = queued self.old.outboxes slot.now pdu.now }) }
+        ensures err { OnErr result (self.new ≡ self.old) }
+    {
+        if self.waiting(slot) >= MOST_WAITING {
+            return Err(Full);
+        }
+        self.outboxes[place_of(slot)].push(pdu);
+        Ok(())
+    }
+
+    /// Takes out the PDU that has waited longest for a slot, if one waits.
+    pub fn take(&mut self, slot: &Slot) -> Option<Pdu>
+        ensures first { result ≡ slice_get (box self.old.outboxes slot.now) 0 }
+        ensures rest { self.new ≡ record self.old { outboxes = sent self.old.outboxes slot.now } }
+    {
+        self.outboxes[place_of(slot)].take()
+    }
+
+    /// The PDU that has waited longest for a slot, if one waits.
+    pub fn first(&self, slot: &Slot) -> Option<Pdu>
+        ensures { result ≡ slice_get (box self.now.outboxes slot.now) 0 }
+    {
+        self.outboxes[place_of(slot)].first()
+    }
+
+    /// How many PDUs wait for a slot: 0 to 64.
+    pub fn waiting(&self, slot: &Slot) -> usize
+        ensures value { result ≡ length (box self.now.outboxes slot.now) }
+        ensures few { result ≤ 64 }
+    {
+        self.outboxes[place_of(slot)].len()
+    }
+
+    /// Whether two have the same plan, and the same stands on their slots.
+    fn is(&self, other: &Pool) -> bool
+        ensures { result ≡ are_same self.now other.now }
+    {
+        self.plan == other.plan
+            && self.up == other.up
+            && self.held == other.held
+            && self.outboxes == other.outboxes
+    }
+
+    /// Does nothing. A proof learns from it what the slots of every site keep.
+    pub fn keeps(&self)
+        ensures { AreKept self.now }
+    {
+        let _ = &self.plan;
+    }
+}
+
+/// Two are equal where they have the same plan, the same carriers up, the same slots held, and the same PDUs waiting for
+/// each slot in the same order.
+impl PartialEq for Pool {
+    ghost use Rattle.std.specs.Cmp.{partial_equiv_from_equiv};
+    ghost use Rattle.dmr_pool.specs.Same.{are_same, are_same-equivalence};
+
+    ghost eq = { are_same };
+
+    ghost laws = { partial_equiv_from_equiv are_same-equivalence };
+
+    fn eq(&self, other: &Self) -> bool
+        ensures gives { result ≡ are_same self.now other.now }
+        ensures same { IsTrue result ↔ (self.now ≡ other.now) }
+    {
+        self.is(other)
+    }
+}
+
+impl Eq for Pool {
+    ghost use Rattle.dmr_pool.specs.Same.{are_same-equivalence};
+
+    ghost laws = { are_same-equivalence };
+}

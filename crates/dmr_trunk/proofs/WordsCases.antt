@@ -1,0 +1,53 @@
+-- Worked values of command lines. The first word is the program's name.
+use Rattle.std.proofs.Common.{◌≡◌, List, [], ◌∷◌, Some, codes, refl}
+use Rattle.clap.specs.Words.{Text}
+use Rattle.clap.proofs.OnLiterals.{clap_on_literals}
+use Rattle.clap.specs.declared.error.kind.ErrorKind.TheVariants.{ArgumentConflict, DisplayHelp, InvalidValue, MissingRequiredArgument, UnknownArgument}
+use Rattle.dmr_trunk.specs.Words.{faults_in, value_in}
+
+abbrev both : List Text
+both = codes "dmr_trunk" ∷ codes "--site" ∷ codes "a.toml" ∷ codes "--script" ∷ codes "b.txt" ∷ []
+
+abbrev by_equals : List Text
+by_equals = codes "dmr_trunk" ∷ codes "--script=b.txt" ∷ codes "--site=a.toml" ∷ []
+
+taken : faults_in both ≡ []
+unfolding clap_on_literals faults_in
+taken = refl
+
+site_of_both : value_in both (codes "site") ≡ Some (codes "a.toml")
+unfolding clap_on_literals value_in
+site_of_both = refl
+
+script_of_both : value_in both (codes "script") ≡ Some (codes "b.txt")
+unfolding clap_on_literals value_in
+script_of_both = refl
+
+taken_by_equals : faults_in by_equals ≡ []
+unfolding clap_on_literals faults_in
+taken_by_equals = refl
+
+site_by_equals : value_in by_equals (codes "site") ≡ Some (codes "a.toml")
+unfolding clap_on_literals value_in
+site_by_equals = refl
+
+no_script : faults_in (codes "dmr_trunk" ∷ codes "--site" ∷ codes "a.toml" ∷ []) ≡ MissingRequiredArgument ∷ []
+unfolding clap_on_literals faults_in
+no_script = refl
+
+no_file : faults_in (codes "dmr_trunk" ∷ codes "--script" ∷ codes "b.txt" ∷ codes "--site" ∷ []) ≡ InvalidValue ∷ []
+unfolding clap_on_literals faults_in
+no_file = refl
+
+two_sites : faults_in (codes "dmr_trunk" ∷ codes "--site" ∷ codes "a.toml" ∷ codes "--site" ∷ codes "c.toml" ∷ []) ≡ ArgumentConflict ∷ []
+unfolding clap_on_literals faults_in
+two_sites = refl
+
+another_word : faults_in (codes "dmr_trunk" ∷ codes "now" ∷ []) ≡ UnknownArgument ∷ []
+unfolding clap_on_literals faults_in
+another_word = refl
+
+-- that help is asked for is a refusal
+help : faults_in (codes "dmr_trunk" ∷ codes "--help" ∷ []) ≡ DisplayHelp ∷ []
+unfolding clap_on_literals faults_in
+help = refl

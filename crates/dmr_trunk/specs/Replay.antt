@@ -1,0 +1,112 @@
+-- What a replay prints, or why it prints nothing.
+use Rattle.std.specs.Prelude.{◌≡◌, ◌⊎◌, ⊤, ℕ, Bool, true, false, List, [], ◌∷◌, ◌++◌, Option, Some, None, Result, Ok, Err, if◌then◌else◌, codes, flat_map, map, slice_get}
+use Rattle.std.specs.List.{range_with_len}
+use Rattle.std.specs.Option.{option_map_or}
+use Rattle.std.specs.Fmt.{decimal}
+use Rattle.std.specs.Io.KnownBytes.{Appends}
+use Rattle.std.specs.Str.{is_utf8}
+use Rattle.hex.specs.Hex.{encode_upper}
+use Rattle.dmr_plan.specs.declared.fault.PlanFault.{PlanFault}
+use Rattle.dmr_plan.specs.declared.fault.PlanFault.TheVariants.{NotToml}
+use Rattle.dmr_plan.specs.declared.settings.Settings.{Settings}
+use Rattle.dmr_plan.specs.Carriers.{has_number_in}
+use Rattle.dmr_plan.specs.Plan.{plan_of_text}
+use Rattle.dmr_trunk.specs.declared.replay.ReplayFault.{ReplayFault}
+use Rattle.dmr_trunk.specs.declared.replay.ReplayFault.TheVariants as fault
+use Rattle.dmr_trunk.specs.Input.{Input}
+use Rattle.dmr_trunk.specs.Inputs.{refused, put_out}
+use Rattle.dmr_trunk.specs.Script.{Line, script_of}
+
+-- ---- the text
+
+-- octets in upper case hexadecimal digits; `-` where there are none
+abbrev pub digits_or_dash : List ℕ → List ℕ
+digits_or_dash [] = codes "-"
+digits_or_dash (octet ∷ octets) = encode_upper (octet ∷ octets)
+
+-- the line of a carrier, for the octets that were put out for it
+abbrev pub carrier_line : ℕ → List ℕ → List ℕ
+carrier_line number octets = codes "carrier " ++ decimal number ++ codes " " ++ digits_or_dash octets ++ codes "\n"
+
+-- the line of a carrier that the plan has; nothing for a number that it doesn't have
+abbrev pub line_of_number : Settings → (ℕ → List ℕ) → ℕ → List ℕ
+line_of_number plan put_out number = if has_number_in plan.carriers number then carrier_line number (put_out number) else []
+
+-- a line per carrier of the plan, by number
+abbrev pub lines_to : Settings → (ℕ → List ℕ) → ℕ → List ℕ
+lines_to plan put_out numbers = flat_map (line_of_number plan put_out) (range_with_len 0 numbers)
+
+abbrev pub printed : Settings → (ℕ → List ℕ) → List ℕ
+printed plan put_out = lines_to plan put_out 16
+
+-- ---- what the files give
+
+-- a text that is printed, or the first fault, the site file's before the script's
+pub data Outcome : Type 0 where
+  Prints : (text : List ℕ) → Outcome
+  SiteNotRead : Outcome
+  NoPlan : (fault : PlanFault) → Outcome
+  ScriptNotRead : Outcome
+  NoLine : (number : ℕ) → Outcome
+
+-- the plan of a site file, or its first fault; octets that aren't UTF-8 are no TOML
+abbrev pub plan_in : List ℕ → Result Settings PlanFault
+plan_in site = if is_utf8 site then plan_of_text site else Err NotToml
+
+-- the number of the line that gives the input of this index
+abbrev pub number_at : List Line → ℕ → ℕ
+number_at lines index = option_map_or (λ line. line.number) (slice_get lines index) 0
+
+abbrev pub inputs_of : List Line → List Input
+inputs_of lines = map (λ line. line.input) lines
+
+-- where an input isn't taken its line is at fault; where all are, what they put out is printed
+abbrev pub of_inputs : Settings → List Line → Option ℕ → Outcome
+of_inputs plan lines (Some index) = NoLine (number_at lines index)
+of_inputs plan lines None = Prints (printed plan (put_out plan (inputs_of lines)))
+
+abbrev pub of_lines : Settings → Result (List Line) ℕ → Outcome
+of_lines plan (Err number) = NoLine number
+of_lines plan (Ok lines) = of_inputs plan lines (refused plan (inputs_of lines))
+
+abbrev pub of_script : Settings → Option (List ℕ) → Outcome
+of_script plan None = ScriptNotRead
+of_script plan (Some script) = of_lines plan (script_of script)
+
+abbrev pub of_plan : Result Settings PlanFault → Option (List ℕ) → Outcome
+of_plan (Err fault) script = NoPlan fault
+of_plan (Ok plan) script = of_script plan script
+
+-- the octets of the two files, or none where one could not be read
+abbrev pub outcome : Option (List ℕ) → Option (List ℕ) → Outcome
+outcome None script = SiteNotRead
+outcome (Some site) script = of_plan (plan_in site) script
+
+-- ---- what is told of it
+
+abbrev pub is_printed : Outcome → Bool
+is_printed (Prints text) = true
+is_printed other = false
+
+-- the writer got the text whole, and there is one
+abbrev pub IsPrinted : Outcome → Option (List ℕ) → Option (List ℕ) → Type 0
+IsPrinted (Prints text) old new = Appends old new text
+IsPrinted other old new = ⊥
+
+-- the fault that is told is the first one, with the name of the file that could not be read; want of memory may be told always
+abbrev pub Tells : List ℕ → List ℕ → Outcome → ReplayFault → Type 0
+Tells site script SiteNotRead (fault.CannotRead name) = name.now ≡ site
+Tells site script ScriptNotRead (fault.CannotRead name) = name.now ≡ script
+Tells site script (NoPlan what) (fault.SiteFile told) = told ≡ what
+Tells site script (NoLine number) (fault.ScriptLine told) = told ≡ number
+Tells site script outcome fault.OutOfMemory = ⊤
+Tells site script outcome fault = ⊥
+
+-- the exit status of a fault: 4 for want of memory, else 1
+abbrev pub status_of : ReplayFault → ℕ
+status_of fault.OutOfMemory = 4
+status_of fault = 1
+
+-- a status that the program ends with: all went through, a file or the output is at fault, the words are refused, no memory
+abbrev pub IsStatus : ℕ → Type 0
+IsStatus status = (status ≡ 0) ⊎ (status ≡ 1) ⊎ (status ≡ 2) ⊎ (status ≡ 4)

@@ -2,7 +2,8 @@
 # make build   the proved program, at build/dmr_trunk
 # make test    the whole gate: every proof, must-fail edit and test, and each program's stored run
 # make bench   words decoded per second, beside a baseline, on this machine
-.PHONY: demo build test bench
+# make soak    200,000 random events on each of two sites, every answer tested, by the proved program (seconds, once it is proved)
+.PHONY: demo build test bench soak
 
 demo:
 	@cd crates/dmr_trunk && rt try -- --site data/site.toml --script data/registration.txt
@@ -18,3 +19,6 @@ bench:
 	@date -u +%Y-%m-%d
 	@sed -n 's/^model name[^:]*: *//p' /proc/cpuinfo | uniq -c
 	@cd crates/dmr_bench && rt run -- --time
+
+soak:
+	@cd crates/dmr_soak && rt run -- --events 200000 --counts

@@ -1,27 +1,96 @@
 -- An event of a carrier that isn't up changes nothing.
-use Rattle.std.proofs.Common.{◌≡◌, ℕ, zero, suc, List, [], ◌∷◌, Bool, true, false, refl, sym, ap}
-use Rattle.std.specs.Prelude.{if◌then◌else◌, ◌==◌, slice_set, slice_index_or}
+use Rattle.std.proofs.Common.{◌≡◌, ◌<◌, ◌+◌, ◌*◌, ℕ, zero, suc, List, [], ◌∷◌, Bool, true, false, refl, sym, ◌∙◌, ap, subst, arith, map, filter}
+use Rattle.std.specs.Prelude.{if◌then◌else◌, not, ◌||◌, ◌==◌, slice_set, slice_index_or}
 use Rattle.dmr_pdu.specs.declared.slots.Slot.{Slot}
+use Rattle.dmr_pdu.specs.declared.pdu.Pdu.{Pdu}
 use Rattle.dmr_plan.specs.declared.settings.Settings.{Settings}
 use Rattle.dmr_plan.specs.IsPlan.{IsPlan}
 use Rattle.dmr_access.specs.Noise.{with_noise, with_poll}
+use Rattle.dmr_calls.specs.declared.call.Standing.{Standing}
+use Rattle.dmr_calls.specs.Calls.{is_slot, marked}
+use Rattle.dmr_pool.specs.Slots.{box, emptied}
+use Rattle.dmr_pool.specs.Free.{is_control}
 use Rattle.dmr_core.specs.declared.event.Event.{Event}
-use Rattle.dmr_core.specs.declared.event.Event.TheVariants.{Up, Lost, Heard, Noise, Poll, Tick}
-use Rattle.dmr_core.specs.Facts.{Facts, noted, has_carrier, is_control}
-use Rattle.dmr_core.specs.Words.{is_up}
+use Rattle.dmr_core.specs.declared.event.Event.TheVariants.{Up, Lost, Heard, Noise, Active, Poll, Tick}
+use Rattle.dmr_core.specs.Facts.{Facts, noted, has_carrier}
+use Rattle.dmr_core.specs.Words.{is_up, stands_on}
 use Rattle.dmr_core.specs.Rules.{acts_of}
 use Rattle.dmr_core.specs.Sound.{IsSound}
 use Rattle.dmr_core.specs.Down.{IsOfNoCarrier}
-use Rattle.dmr_core.proofs.ListLemmas.{equal_numbers, and_true}
+use Rattle.dmr_core.proofs.ListLemmas.{equal_numbers}
+use Rattle.dmr_core.proofs.Choices.{and_true, or_false}
+use Rattle.dmr_core.proofs.Events.{not_control}
+use Rattle.dmr_core.proofs.Plans.{plan_known}
+use Rattle.dmr_core.proofs.Slots.{itself, true_false}
 
 same_up : (up : List Bool) (c : ℕ) → slice_index_or up c false ≡ false → slice_set up c false ≡ up
 same_up [] c h = refl
 same_up (b ∷ up) zero h = ap (λ (x : Bool). x ∷ up) (sym h)
 same_up (b ∷ up) (suc c) h = ap (λ (xs : List Bool). b ∷ xs) (same_up up c h)
 
+-- an outbox that is empty is emptied
+same_box : (boxes : List (List Pdu)) (i : ℕ) → slice_index_or boxes i [] ≡ [] → slice_set boxes i [] ≡ boxes
+same_box [] i h = refl
+same_box (b ∷ boxes) zero h = ap (λ (x : List Pdu). x ∷ boxes) (sym h)
+same_box (b ∷ boxes) (suc i) h = ap (λ (xs : List (List Pdu)). b ∷ xs) (same_box boxes i h)
+
+same_boxes : (boxes : List (List Pdu)) (c : ℕ) → slice_index_or boxes (2 * c) [] ≡ [] → slice_index_or boxes (2 * c + 1) [] ≡ [] → emptied boxes c ≡ boxes
+same_boxes boxes c h k =
+    ap (λ (xs : List (List Pdu)). slice_set xs (2 * c + 1) []) (same_box boxes (2 * c) h) ∙ same_box boxes (2 * c + 1) k
+
+both_boxes : (boxes : List (List Pdu)) (c : ℕ) → ((n : ℕ) → n < 2 → box boxes (record { carrier = c; slot = n }) ≡ []) → emptied boxes c ≡ boxes
+both_boxes boxes c none =
+    let first : 2 * c + 0 ≡ 2 * c = omega arith in
+    same_boxes boxes c (subst (λ (i : ℕ). slice_index_or boxes i [] ≡ []) first (none 0 (omega arith))) (none 1 (omega arith))
+
+-- calls of other carriers stay
+or_right : (a b : Bool) → b ≡ true → (a || b) ≡ true
+or_right true b h = refl
+or_right false b h = h
+
+same_calls : (cs : List Standing) (c : ℕ) → ((slot : Slot) → stands_on cs slot ≡ true → (slot.carrier == c) ≡ false) → filter (λ s. not (s.call.slot.carrier == c)) cs ≡ cs
+same_calls [] c others = refl
+same_calls (s ∷ cs) c others =
+    let here : (s.call.slot.carrier == c) ≡ false = others s.call.slot (rw (itself s.call.slot) refl) in
+    rw here (ap (λ (xs : List Standing). s ∷ xs) (same_calls cs c (λ slot k. others slot (or_right (is_slot s.call.slot slot) (stands_on cs slot) k))))
+
+-- no call on the slot is marked
+same_marked : (cs : List Standing) (slot : Slot) → stands_on cs slot ≡ false → map (marked slot) cs ≡ cs
+same_marked [] slot h = refl
+same_marked (s ∷ cs) slot h =
+    let both = or_false (is_slot s.call.slot slot) (stands_on cs slot) h in
+    rw both.0 (ap (λ (xs : List Standing). s ∷ xs) (same_marked cs slot both.1))
+
+-- no call stands on a carrier that isn't up
+not_there : (plan : Settings) (now : Facts) (c : ℕ) (slot : Slot) → IsSound plan now → is_up now c ≡ false → stands_on now.calls slot ≡ true → (slot.carrier == c) ≡ false
+not_there plan now c slot h down k = either (slot.carrier == c) refl
+  where
+    either : (b : Bool) → (slot.carrier == c) ≡ b → b ≡ false
+    either true e =
+        let same : slot.carrier ≡ c = equal_numbers slot.carrier c e in
+        let up : is_up now slot.carrier ≡ true = (h.payload slot k).is_up in
+        true_false _ up (subst (λ (n : ℕ). is_up now n ≡ false) (sym same) down)
+    either false e = refl
+
+none_there : (plan : Settings) (now : Facts) (slot : Slot) → IsSound plan now → is_up now slot.carrier ≡ false → stands_on now.calls slot ≡ false
+none_there plan now slot h down = either (stands_on now.calls slot) refl
+  where
+    either : (b : Bool) → stands_on now.calls slot ≡ b → b ≡ false
+    either true e = true_false _ (h.payload slot e).is_up down
+    either false e = refl
+
+-- a carrier that the plan does not have isn't up
+unknown_down : (plan : Settings) (now : Facts) (c : ℕ) → IsSound plan now → has_carrier plan c ≡ false → is_up now c ≡ false
+unknown_down plan now c h none = either (is_up now c) refl
+  where
+    either : (b : Bool) → is_up now c ≡ b → b ≡ false
+    either true e = true_false _ (h.known c e) none
+    either false e = refl
+
 -- facts, field by field
-same_facts : (a b : Facts) → a.up ≡ b.up → a.registered ≡ b.registered → a.outbox ≡ b.outbox → a.noise ≡ b.noise → a ≡ b
-same_facts a b up registered outbox noise = λ i. record { up = up i; registered = registered i; outbox = outbox i; noise = noise i }
+same_facts : (a b : Facts) → a.up ≡ b.up → a.registered ≡ b.registered → a.asks ≡ b.asks → a.lines ≡ b.lines → a.calls ≡ b.calls → a.outboxes ≡ b.outboxes → a.noise ≡ b.noise → a ≡ b
+same_facts a b up registered asks lines calls outboxes noise =
+    λ i. record { up = up i; registered = registered i; asks = asks i; lines = lines i; calls = calls i; outboxes = outboxes i; noise = noise i }
 
 none_or : {X : Type 0} (b : Bool) (xs : List X) → (b ≡ true → xs ≡ []) → (if b then [] else xs) ≡ xs
 none_or true xs h = sym (h refl)
@@ -35,14 +104,6 @@ poll_or : (b : Bool) (ns : List ℕ) → (b ≡ true → ns ≡ []) → (if b th
 poll_or true ns h = rw (h refl) refl
 poll_or false ns h = refl
 
-not_control : (plan : Settings) (c : ℕ) (b : Bool) → (c == plan.control) ≡ b → IsPlan plan → has_carrier plan c ≡ false → b ≡ false
-not_control plan c true e p h =
-    let same : c ≡ plan.control = equal_numbers c plan.control e in
-    let no : has_carrier plan plan.control ≡ false = rw same at h in
-    let yes : has_carrier plan plan.control ≡ true = p.control in
-    cc
-not_control plan c false e p h = refl
-
 -- the control carrier is down where a carrier is that is the control carrier
 down_too : (plan : Settings) (now : Facts) (c : ℕ) → is_up now c ≡ false → (c == plan.control) ≡ true → is_up now plan.control ≡ false
 down_too plan now c h e = let same : c ≡ plan.control = equal_numbers c plan.control e in rw same at h
@@ -52,14 +113,24 @@ slot_down plan now slot h e = down_too plan now slot.carrier h (and_true (slot.c
 
 pub same_noted : (plan : Settings) (now : Facts) (event : Event) → IsPlan plan → IsSound plan now → IsOfNoCarrier plan now event → noted plan now event ≡ now
 same_noted plan now (Up c) p h none =
-    let other : (c == plan.control) ≡ false = not_control plan c (c == plan.control) refl p none in
-    rw (none, other) refl
+    let other : (c == plan.control) ≡ false = not_control plan c (plan_known plan p) none in
+    let down : is_up now c ≡ false = unknown_down plan now c h none in
+    same_facts (noted plan now (Up c)) now (rw none refl) refl (rw other refl) (rw other refl)
+    (same_calls now.calls c (λ slot k. not_there plan now c slot h down k))
+    (both_boxes now.outboxes c (λ n small. h.down (record { carrier = c; slot = n }) small down)) (rw other refl)
 same_noted plan now (Lost c) p h none =
     same_facts (noted plan now (Lost c)) now (same_up now.up c none) refl
-    (none_or (c == plan.control) now.outbox (λ e. h.down (down_too plan now c none e)))
-    (none_or (c == plan.control) now.noise (λ e. h.quiet (down_too plan now c none e)))
-same_noted plan now (Noise slot) p h none = same_facts (noted plan now (Noise slot)) now refl refl refl (noise_or (is_control plan slot) now.noise (λ e. h.quiet (slot_down plan now slot none e)))
-same_noted plan now (Poll c) p h none = same_facts (noted plan now (Poll c)) now refl refl refl (poll_or (c == plan.control) now.noise (λ e. h.quiet (down_too plan now c none e)))
+    (none_or (c == plan.control) now.asks (λ e. h.asks (down_too plan now c none e)))
+    (none_or (c == plan.control) now.lines (λ e. h.lines (down_too plan now c none e)))
+    (same_calls now.calls c (λ slot k. not_there plan now c slot h none k))
+    (both_boxes now.outboxes c (λ n small. h.down (record { carrier = c; slot = n }) small none))
+    (none_or (c == plan.control) now.noise (λ e. h.noiseless (down_too plan now c none e)))
+same_noted plan now (Noise slot) p h none =
+    same_facts (noted plan now (Noise slot)) now refl refl refl refl refl refl (noise_or (is_control plan slot) now.noise (λ e. h.noiseless (slot_down plan now slot none e)))
+same_noted plan now (Active slot) p h none =
+    same_facts (noted plan now (Active slot)) now refl refl refl refl (same_marked now.calls slot (none_there plan now slot h none)) refl refl
+same_noted plan now (Poll c) p h none =
+    same_facts (noted plan now (Poll c)) now refl refl refl refl refl refl (poll_or (c == plan.control) now.noise (λ e. h.noiseless (down_too plan now c none e)))
 same_noted plan now (Heard slot pdu) p h none = refl
 same_noted plan now Tick p h none = elim none [ ]
 
@@ -69,4 +140,5 @@ no_acts plan now (Poll c) none = rw none refl
 no_acts plan now (Up c) none = refl
 no_acts plan now (Lost c) none = refl
 no_acts plan now (Noise slot) none = refl
-no_acts plan now Tick none = refl
+no_acts plan now (Active slot) none = refl
+no_acts plan now Tick none = elim none [ ]

@@ -14,7 +14,7 @@ use Rattle.dmr_core.specs.Facts.{Facts, facts_after, since, unchanged, registere
 use Rattle.dmr_core.specs.Words.{is_registered, is_up}
 use Rattle.dmr_core.specs.Last.{or_earlier, last_word, stands, no_event, no_act, of_registration, of_carrier}
 use Rattle.dmr_core.proofs.ListLemmas.{equal_numbers, flipped, other_number}
-use Rattle.dmr_core.proofs.EventLemmas.{cleared}
+use Rattle.dmr_core.proofs.Events.{cleared}
 
 joined_one : (rs : List ℕ) (q r : ℕ) → list_any (λ p. p == r) (rs ++ q ∷ []) ≡ unwrap_or (if q == r then Some true else None) (list_any (λ p. p == r) rs)
 joined_one [] q r = cases (q == r)
@@ -63,7 +63,7 @@ one_act rs (Joined q) r = joined_one rs q r
 one_act rs (Left q) r = left_one rs q r
 one_act rs _ r = refl
 
-later_first : (a b : Option Bool) (c : Bool) → unwrap_or (or_earlier a b) c ≡ unwrap_or a (unwrap_or b c)
+pub later_first : {X : Type 0} (a b : Option X) (c : X) → unwrap_or (or_earlier a b) c ≡ unwrap_or a (unwrap_or b c)
 later_first None b c = refl
 later_first (Some x) b c = refl
 
@@ -86,7 +86,7 @@ same_up : (acts : List Act) (up : List Bool) → fold unchanged up acts ≡ up
 same_up [] up = refl
 same_up (act ∷ acts) up = same_up acts up
 
-no_word : (acts : List Act) → last_word no_act acts ≡ None
+no_word : (acts : List Act) → last_word {X = Bool} no_act acts ≡ None
 no_word [] = refl
 no_word (act ∷ acts) = rw (no_word acts) refl
 

@@ -1,145 +1,118 @@
--- What was queued on the control slot is what was sent there, and then what waits.
-use Rattle.std.proofs.Common.{◌≡◌, ℕ, List, [], ◌∷◌, ◌++◌, Bool, true, false, refl, sym, ◌∙◌, ap, subst, append_assoc}
-use Rattle.std.specs.Prelude.{fold, flat_map, if◌then◌else◌, ◌==◌, ◌&&◌, nat_le, not, length}
-use Rattle.std.proofs.lemmas.List.{append-nil}
+-- What was queued on a slot is what was sent there, and then what waits.
+use Rattle.std.proofs.Common.{◌≡◌, ◌<◌, ◌+◌, ◌*◌, ◌≢◌, ℕ, List, [], ◌∷◌, ◌++◌, Bool, true, false, refl, sym, ◌∙◌, ap, subst, append_assoc, arith, drop}
+use Rattle.std.specs.Prelude.{fold, flat_map, if◌then◌else◌, ◌==◌, Some, slice_get, slice_set}
+use Rattle.std.proofs.lemmas.List.{append-nil, get_or-set_same, get_or-set_other}
 use Rattle.dmr_pdu.specs.declared.slots.Slot.{Slot}
 use Rattle.dmr_pdu.specs.declared.pdu.Pdu.{Pdu}
-use Rattle.dmr_pdu.specs.declared.pdu.Pdu.TheVariants.{Random, Ackd}
 use Rattle.dmr_plan.specs.declared.settings.Settings.{Settings}
-use Rattle.dmr_plan.specs.Plan.{lists_radio}
-use Rattle.dmr_access.specs.Fill.{fill_of}
-use Rattle.dmr_core.specs.declared.request.Request.{Request}
+use Rattle.dmr_calls.specs.Calls.{is_slot}
+use Rattle.dmr_pool.specs.Slots.{box, emptied, place, queued, sent}
 use Rattle.dmr_core.specs.declared.event.Event.{Event}
-use Rattle.dmr_core.specs.declared.event.Event.TheVariants.{Up, Lost, Heard, Poll}
+use Rattle.dmr_core.specs.declared.event.Event.TheVariants.{Up, Lost}
 use Rattle.dmr_core.specs.declared.act.Act.{Act}
-use Rattle.dmr_core.specs.declared.act.Act.TheVariants.{Fill, Left}
+use Rattle.dmr_core.specs.declared.act.Act.TheVariants.{Queue, Send}
 use Rattle.dmr_core.specs.declared.act.Acts.{Acts}
 use Rattle.dmr_core.specs.declared.entry.Entry.{Entry}
-use Rattle.dmr_core.specs.Facts.{Facts, facts_after, outbox_by_event, outbox_by_act, is_control}
-use Rattle.dmr_core.specs.Words.{is_up, control_slot, has_room, is_registered}
-use Rattle.dmr_core.specs.Rules.{ack, is_leaving, leaving, registration, request, heard, sent, poll, acts_of}
+use Rattle.dmr_core.specs.Facts.{Facts, done, facts_after, noted}
+use Rattle.dmr_core.specs.Words.{is_up, outbox}
+use Rattle.dmr_core.specs.Rules.{acts_of}
 use Rattle.dmr_core.specs.Journal.{IsLegal}
+use Rattle.dmr_core.specs.Sound.{IsSound}
+use Rattle.dmr_core.specs.May.{AllMayDo, MayDo, MayQueue}
 use Rattle.dmr_core.specs.Waiting.{queued_by, sent_by, is_turn, since_turn}
-use Rattle.dmr_core.proofs.RuleLemmas.{by_if}
+use Rattle.dmr_core.proofs.PlanLemmas.{KnowsPlan}
+use Rattle.dmr_core.proofs.ListLemmas.{equal_numbers, flipped, other_number}
+use Rattle.dmr_core.proofs.Apart.{same_slots}
+use Rattle.dmr_core.proofs.Slots.{other_place, same_slot, within_boxes}
+use Rattle.dmr_core.proofs.Done.{sound-done}
+use Rattle.dmr_core.proofs.Events.{emptied_box, sound-noted}
+use Rattle.dmr_core.proofs.Answers.{acts_may}
+use Rattle.dmr_core.proofs.SafeLaws.{sound_after}
+use Rattle.dmr_core.proofs.Steps.{facts_after-step}
 
--- what waited, and what the acts queue, is what they send, and then what waits after them
-abbrev Passes : Settings → List Pdu → List Act → Type 0
-Passes plan w acts = w ++ flat_map (queued_by plan) acts ≡ flat_map (sent_by plan) acts ++ fold (outbox_by_act plan) w acts
+-- another slot's outbox changes nothing there
+other_box : (there : Slot) (boxes : List (List Pdu)) (slot : Slot) (v : List Pdu) → there.slot < 2 → slot.slot < 2 → is_slot slot there ≡ false → box boxes there ++ [] ≡ box (slice_set boxes (place slot) v) there
+other_box there boxes slot v near small apart =
+    append-nil (box boxes there)
+    ∙ sym (get_or-set_other boxes (place slot) (place there) v [] (other_place there slot near small (same_slots there slot ∙ apart)))
 
-none_passes : (plan : Settings) (w : List Pdu) → Passes plan w []
-none_passes plan w = append-nil w
+queue_passes : (plan : Settings) (there : Slot) (now : Facts) (slot : Slot) (pdu : Pdu) (b : Bool) → is_slot slot there ≡ b → there.slot < 2 → KnowsPlan plan → IsSound plan now → MayQueue plan now slot pdu → outbox now there ++ (if b then pdu ∷ [] else []) ≡ box (queued now.outboxes slot pdu) there
+queue_passes plan there now slot pdu true e near p h may =
+    let put : box (queued now.outboxes slot pdu) slot ≡ box now.outboxes slot ++ pdu ∷ [] = get_or-set_same now.outboxes (place slot) (box now.outboxes slot ++ pdu ∷ []) [] (within_boxes plan now slot p h may.up may.small) in
+    subst (λ (x : Slot). box now.outboxes x ++ pdu ∷ [] ≡ box (queued now.outboxes slot pdu) x) (same_slot slot there e) (sym put)
+queue_passes plan there now slot pdu false e near p h may = other_box there now.outboxes slot (box now.outboxes slot ++ pdu ∷ []) near may.small e
 
-ack_passes : (plan : Settings) (w : List Pdu) (q : Request) (reason : ℕ) → Passes plan w (ack plan q reason)
-ack_passes plan w q reason = either (is_control plan (control_slot plan)) (Ackd 0 reason false q.source q.target)
-  where
-    either : (b : Bool) (pdu : Pdu) → w ++ ((if b then pdu ∷ [] else []) ++ []) ≡ (if b then w ++ pdu ∷ [] else w)
-    either true pdu = refl
-    either false pdu = append-nil w
+first_and_rest : (xs : List Pdu) (x : Pdu) → slice_get xs 0 ≡ Some x → xs ≡ x ∷ drop 1 xs
+first_and_rest [] x h = cc
+first_and_rest (y ∷ ys) x h = let same : y ≡ x = cc in ap (λ (z : Pdu). z ∷ ys) same
 
-leaving_passes : (plan : Settings) (w : List Pdu) (now : Facts) (q : Request) → Passes plan w (leaving plan now q)
-unfolding leaving
-leaving_passes plan w now q = either (is_registered now q.source)
-  where
-    either : (b : Bool) → Passes plan w ((if b then Left q.source ∷ [] else []) ++ ack plan q 0x60)
-    either true = ack_passes plan w q 0x60
-    either false = ack_passes plan w q 0x60
+send_passes : (plan : Settings) (there : Slot) (now : Facts) (slot : Slot) (pdu : Pdu) (b : Bool) → is_slot slot there ≡ b → there.slot < 2 → KnowsPlan plan → IsSound plan now → is_up now slot.carrier ≡ true → slot.slot < 2 → slice_get (outbox now slot) 0 ≡ Some pdu → outbox now there ++ [] ≡ (if b then pdu ∷ [] else []) ++ box (sent now.outboxes slot) there
+send_passes plan there now slot pdu true e near p h up small first =
+    let left : box (sent now.outboxes slot) slot ≡ drop 1 (box now.outboxes slot) = get_or-set_same now.outboxes (place slot) (drop 1 (box now.outboxes slot)) [] (within_boxes plan now slot p h up small) in
+    subst (λ (x : Slot). box now.outboxes x ++ [] ≡ pdu ∷ box (sent now.outboxes slot) x) (same_slot slot there e)
+    (append-nil (box now.outboxes slot) ∙ first_and_rest (box now.outboxes slot) pdu first ∙ ap (λ (xs : List Pdu). pdu ∷ xs) (sym left))
+send_passes plan there now slot pdu false e near p h up small first = other_box there now.outboxes slot (drop 1 (box now.outboxes slot)) near small e
 
-registration_passes : (plan : Settings) (w : List Pdu) (now : Facts) (q : Request) → Passes plan w (registration plan now q)
-unfolding registration
-registration_passes plan w now q =
-    by_if (Passes plan w) (is_leaving plan q.options) _ _ (λ h. leaving_passes plan w now q)
-    (by_if (Passes plan w) (not (lists_radio plan q.source)) _ _ (λ h. ack_passes plan w q _)
-    (by_if (Passes plan w) (is_registered now q.source) _ _ (λ h. ack_passes plan w q _)
-    (by_if (Passes plan w) (nat_le 4096 (length now.registered)) _ _ (λ h. ack_passes plan w q _)
-    (ack_passes plan w q _))))
+-- what waits, and what an act queues, is what it sends, and then what waits after it
+act_passes : (plan : Settings) (there : Slot) (now : Facts) (act : Act) → there.slot < 2 → KnowsPlan plan → IsSound plan now → MayDo plan now act → outbox now there ++ queued_by there act ≡ sent_by there act ++ outbox (done now act) there
+act_passes plan there now (Queue slot pdu) near p h may = queue_passes plan there now slot pdu (is_slot slot there) refl near p h may
+act_passes plan there now (Send slot pdu) near p h may = send_passes plan there now slot pdu (is_slot slot there) refl near p h may.0 may.1 may.2
+act_passes plan there now act near p h may = append-nil (outbox now there)
 
-request_passes : (plan : Settings) (w : List Pdu) (now : Facts) (q : Request) (flags kind : ℕ) → Passes plan w (request plan now q flags kind)
-unfolding request
-request_passes plan w now q flags kind =
-    by_if (Passes plan w) (not (flags == 0)) _ _ (λ h. ack_passes plan w q _)
-    (by_if (Passes plan w) (not (kind == 14)) _ _ (λ h. ack_passes plan w q _)
-    (registration_passes plan w now q))
+acts_pass : (plan : Settings) (there : Slot) (now : Facts) (acts : List Act) → there.slot < 2 → KnowsPlan plan → IsSound plan now → AllMayDo plan now acts → outbox now there ++ flat_map (queued_by there) acts ≡ flat_map (sent_by there) acts ++ outbox (fold done now acts) there
+acts_pass plan there now [] near p h may = append-nil (outbox now there)
+acts_pass plan there now (act ∷ acts) near p h may =
+    let w : List Pdu = outbox now there in
+    let after : List Pdu = outbox (done now act) there in
+    let last : List Pdu = outbox (fold done (done now act) acts) there in
+    let q : List Pdu = queued_by there act in
+    let s : List Pdu = sent_by there act in
+    let qs : List Pdu = flat_map (queued_by there) acts in
+    let ss : List Pdu = flat_map (sent_by there) acts in
+    sym (append_assoc w q qs)
+    ∙ ap (λ (xs : List Pdu). xs ++ qs) (act_passes plan there now act near p h may.0)
+    ∙ append_assoc s after qs
+    ∙ ap (λ (xs : List Pdu). s ++ xs) (acts_pass plan there (done now act) acts near p (sound-done plan now act p h may.0) may.1)
+    ∙ sym (append_assoc s ss last)
 
-heard_passes : (plan : Settings) (w : List Pdu) (now : Facts) (pdu : Pdu) → Passes plan w (heard plan now pdu)
-unfolding heard
-heard_passes plan w now (Random options flags kind target source) = request_passes plan w now _ flags kind
-heard_passes plan w now _ = none_passes plan w
+-- what waits after an event
+lower : (c d s : ℕ) → s < 2 → (c == d) ≡ false → 2 * d + s ≢ 2 * c
+lower c d s h e = λ same. other_number d c (flipped c d e) (omega arith)
 
--- a slot for which nothing waits, but for the control slot, is sent nothing
-idle : (plan : Settings) (now : Facts) (slot : Slot) → is_control plan slot ≡ false → poll plan now slot ≡ []
-unfolding poll
-idle plan now slot isnt =
-    ap (λ (b : Bool). sent plan now slot (if b then now.outbox else [])) isnt
-    ∙ ap (λ (b : Bool). if b then Fill slot (fill_of plan now.noise) ∷ [] else []) isnt
+upper : (c d s : ℕ) → s < 2 → (c == d) ≡ false → 2 * d + s ≢ 2 * c + 1
+upper c d s h e = λ same. other_number d c (flipped c d e) (omega arith)
 
--- the control slot is sent the first that waits, or its fill
-served : (plan : Settings) (now : Facts) (slot : Slot) → is_control plan slot ≡ true → sent plan now slot now.outbox ≡ poll plan now slot
-unfolding poll
-served plan now slot is = ap (λ (b : Bool). sent plan now slot (if b then now.outbox else [])) (sym is)
+kept_box : (boxes : List (List Pdu)) (c : ℕ) (there : Slot) → there.slot < 2 → (c == there.carrier) ≡ false → box (emptied boxes c) there ≡ box boxes there
+kept_box boxes c there near e =
+    get_or-set_other (slice_set boxes (2 * c) []) (2 * c + 1) (place there) [] [] (upper c there.carrier there.slot near e)
+    ∙ get_or-set_other boxes (2 * c) (place there) [] [] (lower c there.carrier there.slot near e)
 
-sent_passes : (plan : Settings) (now : Facts) (slot : Slot) (w : List Pdu) → is_control plan slot ≡ true → Passes plan w (sent plan now slot w)
-sent_passes plan now slot [] is = either (is_control plan slot)
-  where
-    either : (b : Bool) → Passes plan [] (if b then Fill slot (fill_of plan now.noise) ∷ [] else [])
-    either true = refl
-    either false = refl
-sent_passes plan now slot (pdu ∷ pdus) is = either (is_control plan slot) is
-  where
-    either : (b : Bool) → b ≡ true → (pdu ∷ pdus) ++ [] ≡ ((if b then pdu ∷ [] else []) ++ []) ++ (if b then pdus else pdu ∷ pdus)
-    either true is = append-nil (pdu ∷ pdus)
-    either false is = cc
+reset_turn : (there : Slot) (now : Facts) (c : ℕ) (b : Bool) → (c == there.carrier) ≡ b → there.slot < 2 → (before gone : List Pdu) → before ≡ gone ++ outbox now there → (if b then [] else before) ≡ (if b then [] else gone) ++ box (emptied now.outboxes c) there
+reset_turn there now c true e near before gone h = sym (emptied_box now.outboxes c there near (sym (equal_numbers c there.carrier e)))
+reset_turn there now c false e near before gone h = h ∙ ap (λ (xs : List Pdu). gone ++ xs) (sym (kept_box now.outboxes c there near e))
 
-poll_passes : (plan : Settings) (now : Facts) (slot : Slot) → Passes plan now.outbox (poll plan now slot)
-poll_passes plan now slot = either (is_control plan slot) refl
-  where
-    either : (b : Bool) → is_control plan slot ≡ b → Passes plan now.outbox (poll plan now slot)
-    either true is = subst (Passes plan now.outbox) (served plan now slot is) (sent_passes plan now slot now.outbox is)
-    either false isnt = subst (Passes plan now.outbox) (sym (idle plan now slot isnt)) (none_passes plan now.outbox)
+turned : (plan : Settings) (there : Slot) (now : Facts) (event : Event) (before gone : List Pdu) → there.slot < 2 → before ≡ gone ++ outbox now there → (if is_turn there.carrier event then [] else before) ≡ (if is_turn there.carrier event then [] else gone) ++ outbox (noted plan now event) there
+turned plan there now (Up c) before gone near h = reset_turn there now c (c == there.carrier) refl near before gone h
+turned plan there now (Lost c) before gone near h = reset_turn there now c (c == there.carrier) refl near before gone h
+turned plan there now event before gone near h = h
 
--- slot 1 is never the control slot
-payload : (plan : Settings) (c : ℕ) → is_control plan (record { carrier = c; slot = 1 }) ≡ false
-payload plan c = either (c == plan.control)
-  where
-    either : (b : Bool) → (b && false) ≡ false
-    either true = refl
-    either false = refl
-
-acts_pass : (plan : Settings) (now : Facts) (event : Event) → Passes plan (outbox_by_event plan now.outbox event) (acts_of plan now event)
-acts_pass plan now (Heard slot pdu) =
-    by_if (Passes plan now.outbox) (is_up now slot.carrier && (is_control plan slot && has_room now)) _ _ (λ h. heard_passes plan now.outbox now pdu) (none_passes plan now.outbox)
-acts_pass plan now (Poll c) =
-    let first : Slot = record { carrier = c; slot = 0 } in
-    let second : Slot = record { carrier = c; slot = 1 } in
-    let alone : poll plan now first ≡ poll plan now first ++ poll plan now second =
-    sym (ap (λ (acts : List Act). poll plan now first ++ acts) (idle plan now second (payload plan c)) ∙ append-nil (poll plan now first)) in
-    by_if (Passes plan now.outbox) (is_up now c) _ _ (λ h. subst (Passes plan now.outbox) alone (poll_passes plan now first)) (none_passes plan now.outbox)
-acts_pass plan now event = none_passes plan (outbox_by_event plan now.outbox event)
-
-turned : (plan : Settings) (event : Event) (queued sent waits : List Pdu) → queued ≡ sent ++ waits
-    → (if is_turn plan event then [] else queued) ≡ (if is_turn plan event then [] else sent) ++ outbox_by_event plan waits event
-turned plan (Up c) queued sent waits h = either (c == plan.control)
-  where
-    either : (b : Bool) → (if b then [] else queued) ≡ (if b then [] else sent) ++ (if b then [] else waits)
-    either true = refl
-    either false = h
-turned plan (Lost c) queued sent waits h = either (c == plan.control)
-  where
-    either : (b : Bool) → (if b then [] else queued) ≡ (if b then [] else sent) ++ (if b then [] else waits)
-    either true = refl
-    either false = h
-turned plan event queued sent waits h = h
-
-pub sent_then_waits : (plan : Settings) (facts : Facts) (journal : List Entry) → IsLegal plan facts journal
-    → since_turn plan (queued_by plan) facts.outbox journal ≡ since_turn plan (sent_by plan) [] journal ++ (facts_after plan facts journal).outbox
-sent_then_waits plan facts [] legal = refl
-sent_then_waits plan facts (entry ∷ earlier) legal =
+pub sent_then_waits : (plan : Settings) (facts : Facts) (there : Slot) (journal : List Entry) → there.slot < 2 → KnowsPlan plan → IsSound plan facts → IsLegal plan facts journal → since_turn there.carrier (queued_by there) (outbox facts there) journal ≡ since_turn there.carrier (sent_by there) [] journal ++ outbox (facts_after plan facts journal) there
+sent_then_waits plan facts there [] near p h legal = refl
+sent_then_waits plan facts there (entry ∷ earlier) near p h legal =
     let now : Facts = facts_after plan facts earlier in
-    let w : List Pdu = outbox_by_event plan now.outbox entry.event in
-    let queued : List Pdu = flat_map (queued_by plan) entry.acts.list in
-    let gone : List Pdu = flat_map (sent_by plan) entry.acts.list in
-    let before : List Pdu = if is_turn plan entry.event then [] else since_turn plan (sent_by plan) [] earlier in
-    let passes : Passes plan w entry.acts.list = subst (λ (acts : Acts). Passes plan w acts.list) (sym legal.0) (acts_pass plan now entry.event) in
-    ap (λ (q : List Pdu). q ++ queued) (turned plan entry.event _ _ now.outbox (sent_then_waits plan facts earlier legal.1))
-    ∙ append_assoc before w queued
-    ∙ ap (λ (q : List Pdu). before ++ q) passes
-    ∙ sym (append_assoc before gone (fold (outbox_by_act plan) w entry.acts.list))
+    let sound : IsSound plan now = sound_after plan facts earlier p h legal.1 in
+    let after : Facts = noted plan now entry.event in
+    let w : List Pdu = outbox after there in
+    let last : List Pdu = outbox (fold done after entry.acts.list) there in
+    let more : List Pdu = flat_map (queued_by there) entry.acts.list in
+    let gone : List Pdu = flat_map (sent_by there) entry.acts.list in
+    let before : List Pdu = if is_turn there.carrier entry.event then [] else since_turn there.carrier (sent_by there) [] earlier in
+    let passes : w ++ more ≡ gone ++ last =
+    subst (λ (acts : Acts). outbox after there ++ flat_map (queued_by there) acts.list ≡ flat_map (sent_by there) acts.list ++ outbox (fold done after acts.list) there) (sym legal.0)
+    (acts_pass plan there after (acts_of plan now entry.event) near p (sound-noted plan now entry.event p sound) (acts_may plan now entry.event p sound)) in
+    ap (λ (xs : List Pdu). xs ++ more)
+    (turned plan there now entry.event (since_turn there.carrier (queued_by there) (outbox facts there) earlier) (since_turn there.carrier (sent_by there) [] earlier) near (sent_then_waits plan facts there earlier near p h legal.1))
+    ∙ append_assoc before w more
+    ∙ ap (λ (xs : List Pdu). before ++ xs) passes
+    ∙ sym (append_assoc before gone last)
+    ∙ ap (λ (f : Facts). (before ++ gone) ++ outbox f there) (sym (facts_after-step plan facts entry earlier))

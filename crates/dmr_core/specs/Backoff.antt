@@ -1,10 +1,10 @@
 -- How many Noises the backoff counts, said of the events.
 use Rattle.std.specs.Prelude.{ℕ, ◌+◌, ◌-◌, List, [], ◌∷◌, Bool, false, ◌==◌, if◌then◌else◌}
 use Rattle.dmr_plan.specs.declared.settings.Settings.{Settings}
+use Rattle.dmr_pool.specs.Free.{is_control}
 use Rattle.dmr_core.specs.declared.event.Event.{Event}
 use Rattle.dmr_core.specs.declared.event.Event.TheVariants.{Up, Noise, Poll}
 use Rattle.dmr_core.specs.declared.entry.Entry.{Entry}
-use Rattle.dmr_core.specs.Facts.{is_control}
 
 -- the control carrier comes up
 abbrev pub is_start : Settings → Event → Bool

@@ -2,16 +2,18 @@
 use Rattle.std.specs.Prelude.{◌≡◌, ℕ, List, [], ◌∷◌, true, false, refl, reverse, Some}
 use Rattle.dmr_pdu.specs.declared.slots.Slot.{Slot}
 use Rattle.dmr_pdu.specs.declared.pdu.Pdu.{Pdu}
-use Rattle.dmr_pdu.specs.declared.pdu.Pdu.TheVariants.{Aloha, Random, Ackd}
+use Rattle.dmr_pdu.specs.declared.pdu.Pdu.TheVariants.{Aloha, Random, Ackd, TvGrant}
 use Rattle.dmr_plan.specs.declared.settings.Settings.{Settings}
 use Rattle.dmr_access.specs.Noise.{noise_at_up}
 use Rattle.dmr_core.specs.declared.event.Event.{Event}
 use Rattle.dmr_core.specs.declared.event.Event.TheVariants.{Up, Lost, Heard, Noise, Poll}
 use Rattle.dmr_core.specs.declared.act.Act.{Act}
-use Rattle.dmr_core.specs.declared.act.Act.TheVariants.{Queue, Send, Fill, Joined, Left}
+use Rattle.dmr_core.specs.declared.act.Act.TheVariants.{Queue, Send, Fill, Joined, Left, Began}
 use Rattle.dmr_core.specs.declared.entry.Entry.{Entry}
 use Rattle.dmr_core.specs.Facts.{facts_after, nothing}
-use Rattle.dmr_core.specs.Rules.{is_leaving, leaving, registration, request, heard, poll}
+use Rattle.dmr_core.specs.Rules.{is_leaving, close, leaving, registration, grant, clear, new_call, talkgroup, individual, answered, cancel, request, heard, ended, repeat, serve, tick, poll}
+use Rattle.dmr_core.specs.Words.{lowest_free}
+use Rattle.dmr_calls.specs.declared.call.Call.{Call}
 use Rattle.dmr_core.specs.Journal.{journal_of}
 
 -- a site of two carriers
@@ -50,8 +52,8 @@ abbrev pub slot : ℕ → ℕ → Slot
 slot c s = record { carrier = c; slot = s }
 
 -- opens the rules
-pub all_rules : Unit {0}
-unfolding noise_at_up is_leaving leaving registration request heard poll
+unfoldable pub all_rules : Unit {0}
+unfolding noise_at_up is_leaving close leaving registration grant clear new_call talkgroup individual answered cancel lowest_free request heard ended repeat serve tick poll
 all_rules = tt
 
 -- the journal of these events, the first of them first
@@ -132,3 +134,26 @@ idle_payload = refl
 pub lost : facts_after site nothing (after (Up 0 ∷ registers 1001 ∷ Lost 0 ∷ [])) ≡ record nothing { registered = 1001 ∷ [] }
 unfolding all_rules
 lost = refl
+
+-- a radio asks for a talkgroup
+abbrev pub talks : ℕ → ℕ → Event
+talks group r = Heard (slot 0 0) (Random 1 0 1 group r)
+
+-- a talkgroup call on a slot
+abbrev pub call : Slot → ℕ → ℕ → Call
+call at source group = record { slot = at; source = source; target = group; group = true }
+
+-- a call begins on the lowest free slot, and is granted
+pub begins : last (Up 0 ∷ registers 1001 ∷ talks 91 1001 ∷ []) ≡ Began (call (slot 0 1) 1001 91) ∷ Queue (slot 0 0) (TvGrant 1 1 false 91 1001) ∷ []
+unfolding all_rules
+begins = refl
+
+-- another radio that asks for the group is told of the call, late, with its source
+pub joins_late : last (Up 0 ∷ registers 1001 ∷ registers 1002 ∷ talks 91 1001 ∷ talks 91 1002 ∷ []) ≡ Queue (slot 0 0) (TvGrant 1 1 true 91 1001) ∷ []
+unfolding all_rules
+joins_late = refl
+
+-- a radio that isn't registered is told so
+pub unregistered : last (Up 0 ∷ talks 91 1003 ∷ []) ≡ Queue (slot 0 0) (acked 0x2D 1003 91) ∷ []
+unfolding all_rules
+unregistered = refl

@@ -1,22 +1,32 @@
 -- What stands after a journal. Each question goes through the entries, the newest first, down to what stood before them.
-use Rattle.std.specs.Prelude.{ℕ, List, [], ◌∷◌, ◌++◌, Bool, true, false, if◌then◌else◌, ◌==◌, ◌&&◌, fold, drop, slice_set, replicate}
-use Rattle.dmr_pdu.specs.declared.slots.Slot.{Slot}
+use Rattle.std.specs.Prelude.{ℕ, List, [], ◌∷◌, ◌++◌, Bool, true, false, if◌then◌else◌, ◌==◌, fold, map, slice_set, replicate}
 use Rattle.dmr_pdu.specs.declared.pdu.Pdu.{Pdu}
 use Rattle.dmr_plan.specs.declared.settings.Settings.{Settings}
 use Rattle.dmr_plan.specs.Carriers.{has_number_in}
 use Rattle.dmr_registry.specs.Radios.{without}
 use Rattle.dmr_access.specs.Noise.{noise_at_up, with_noise, with_poll}
+use Rattle.dmr_calls.specs.declared.ask.Asking.{Asking}
+use Rattle.dmr_calls.specs.declared.line.Line.{Line}
+use Rattle.dmr_calls.specs.declared.call.Standing.{Standing}
+use Rattle.dmr_calls.specs.Asks.{just_asked, waited_more, others_than}
+use Rattle.dmr_calls.specs.Lines.{without_line}
+use Rattle.dmr_calls.specs.Calls.{just_begun, counted, marked, on_other_slots, on_other_carriers}
+use Rattle.dmr_pool.specs.Slots.{emptied, queued, sent}
+use Rattle.dmr_pool.specs.Free.{is_control}
 use Rattle.dmr_core.specs.declared.event.Event.{Event}
-use Rattle.dmr_core.specs.declared.event.Event.TheVariants.{Up, Lost, Noise, Poll}
+use Rattle.dmr_core.specs.declared.event.Event.TheVariants.{Up, Lost, Noise, Active, Poll, Tick}
 use Rattle.dmr_core.specs.declared.act.Act.{Act}
-use Rattle.dmr_core.specs.declared.act.Act.TheVariants.{Queue, Send, Joined, Left}
+use Rattle.dmr_core.specs.declared.act.Act.TheVariants.{Queue, Send, Joined, Left, Asked, AskOver, Lined, Unlined, Began, Ended}
 use Rattle.dmr_core.specs.declared.entry.Entry.{Entry}
 
 -- what stands on a site
 pub record Facts : Type 0 where
   pub up : List Bool  -- for each carrier number, 0 to 15, whether the carrier is up
   pub registered : List ℕ  -- the registered radios in the order of joining
-  pub outbox : List Pdu  -- what waits for the control slot, the oldest first
+  pub asks : List Asking  -- the asks, the one with the oldest C_AHOY in front
+  pub lines : List Line  -- the lines in the order of lining
+  pub calls : List Standing  -- the calls in the order of beginning
+  pub outboxes : List (List Pdu)  -- for each slot, at its place, what waits for it, the oldest first
   pub noise : List ℕ  -- the Noises on the control slot since the last Poll, between that and the one before, and so on
 
 -- what is found after the entries: what was found before, as each event and each act opened or closed it
@@ -32,10 +42,6 @@ unchanged x y = x
 abbrev pub has_carrier : Settings → ℕ → Bool
 has_carrier plan c = has_number_in plan.carriers c
 
--- slot 0 of the control carrier
-abbrev pub is_control : Settings → Slot → Bool
-is_control plan slot = (slot.carrier == plan.control) && (slot.slot == 0)
-
 -- carriers up: opened by Up of a carrier of the plan, closed by Lost
 abbrev pub up_by_event : Settings → List Bool → Event → List Bool
 up_by_event plan up (Up c) = if has_carrier plan c then slice_set up c true else up
@@ -48,17 +54,56 @@ registered_by_act radios (Joined r) = radios ++ r ∷ []
 registered_by_act radios (Left r) = without radios r
 registered_by_act radios _ = radios
 
--- the control slot's outbox: emptied by Up and Lost of its carrier; Queue puts behind the last, Send takes the first
-abbrev pub outbox_by_event : Settings → List Pdu → Event → List Pdu
-outbox_by_event plan waiting (Up c) = if c == plan.control then [] else waiting
-outbox_by_event plan waiting (Lost c) = if c == plan.control then [] else waiting
-outbox_by_event plan waiting _ = waiting
+-- asks: closed by Up and Lost of the control carrier; a Tick is counted
+abbrev pub asks_by_event : Settings → List Asking → Event → List Asking
+asks_by_event plan asks (Up c) = if c == plan.control then [] else asks
+asks_by_event plan asks (Lost c) = if c == plan.control then [] else asks
+asks_by_event plan asks Tick = map waited_more asks
+asks_by_event plan asks _ = asks
 
--- the same, as acts change it
-abbrev pub outbox_by_act : Settings → List Pdu → Act → List Pdu
-outbox_by_act plan waiting (Queue slot pdu) = if is_control plan slot then waiting ++ pdu ∷ [] else waiting
-outbox_by_act plan waiting (Send slot pdu) = if is_control plan slot then drop 1 waiting else waiting
-outbox_by_act plan waiting _ = waiting
+-- the same: opened by Asked, in place of the one of its source, closed by AskOver
+abbrev pub asks_by_act : List Asking → Act → List Asking
+asks_by_act asks (Asked ask) = others_than ask.source asks ++ just_asked ask ∷ []
+asks_by_act asks (AskOver r) = others_than r asks
+asks_by_act asks _ = asks
+
+-- lines: closed by Up and Lost of the control carrier
+abbrev pub lines_by_event : Settings → List Line → Event → List Line
+lines_by_event plan lines (Up c) = if c == plan.control then [] else lines
+lines_by_event plan lines (Lost c) = if c == plan.control then [] else lines
+lines_by_event plan lines _ = lines
+
+-- the same: opened by Lined, closed by Unlined
+abbrev pub lines_by_act : List Line → Act → List Line
+lines_by_act lines (Lined line) = lines ++ line ∷ []
+lines_by_act lines (Unlined r) = without_line r lines
+lines_by_act lines _ = lines
+
+-- calls: closed by Up and Lost of their carrier; an Active marks the call on its slot, and a Tick is counted
+abbrev pub calls_by_event : List Standing → Event → List Standing
+calls_by_event calls (Up c) = on_other_carriers c calls
+calls_by_event calls (Lost c) = on_other_carriers c calls
+calls_by_event calls (Active slot) = map (marked slot) calls
+calls_by_event calls Tick = map counted calls
+calls_by_event calls _ = calls
+
+-- the same: opened by Began, closed by Ended
+abbrev pub calls_by_act : List Standing → Act → List Standing
+calls_by_act calls (Began call) = calls ++ just_begun call ∷ []
+calls_by_act calls (Ended slot) = on_other_slots slot calls
+calls_by_act calls _ = calls
+
+-- outboxes: those of a carrier are emptied by its Up and its Lost
+abbrev pub outboxes_by_event : List (List Pdu) → Event → List (List Pdu)
+outboxes_by_event boxes (Up c) = emptied boxes c
+outboxes_by_event boxes (Lost c) = emptied boxes c
+outboxes_by_event boxes _ = boxes
+
+-- the same: Queue puts behind the last, Send takes the first
+abbrev pub outboxes_by_act : List (List Pdu) → Act → List (List Pdu)
+outboxes_by_act boxes (Queue slot pdu) = queued boxes slot pdu
+outboxes_by_act boxes (Send slot pdu) = sent boxes slot
+outboxes_by_act boxes _ = boxes
 
 -- noise numbers: 32 from Up of the control carrier on, none from its Lost on; its Polls part them
 abbrev pub noise_by_event : Settings → List ℕ → Event → List ℕ
@@ -73,7 +118,10 @@ abbrev pub facts_after : Settings → Facts → List Entry → Facts
 facts_after plan facts journal = record {
   up = since (up_by_event plan) unchanged facts.up journal;
   registered = since unchanged registered_by_act facts.registered journal;
-  outbox = since (outbox_by_event plan) (outbox_by_act plan) facts.outbox journal;
+  asks = since (asks_by_event plan) asks_by_act facts.asks journal;
+  lines = since (lines_by_event plan) lines_by_act facts.lines journal;
+  calls = since calls_by_event calls_by_act facts.calls journal;
+  outboxes = since outboxes_by_event outboxes_by_act facts.outboxes journal;
   noise = since (noise_by_event plan) unchanged facts.noise journal;
 }
 
@@ -82,19 +130,25 @@ abbrev pub noted : Settings → Facts → Event → Facts
 noted plan facts event = record {
   up = up_by_event plan facts.up event;
   registered = facts.registered;
-  outbox = outbox_by_event plan facts.outbox event;
+  asks = asks_by_event plan facts.asks event;
+  lines = lines_by_event plan facts.lines event;
+  calls = calls_by_event facts.calls event;
+  outboxes = outboxes_by_event facts.outboxes event;
   noise = noise_by_event plan facts.noise event;
 }
 
 -- the facts after an act
-abbrev pub done : Settings → Facts → Act → Facts
-done plan facts act = record {
+abbrev pub done : Facts → Act → Facts
+done facts act = record {
   up = facts.up;
   registered = registered_by_act facts.registered act;
-  outbox = outbox_by_act plan facts.outbox act;
+  asks = asks_by_act facts.asks act;
+  lines = lines_by_act facts.lines act;
+  calls = calls_by_act facts.calls act;
+  outboxes = outboxes_by_act facts.outboxes act;
   noise = facts.noise;
 }
 
 -- what stands at first: nothing
 abbrev pub nothing : Facts
-nothing = record { up = replicate 16 false; registered = []; outbox = []; noise = [] }
+nothing = record { up = replicate 16 false; registered = []; asks = []; lines = []; calls = []; outboxes = replicate 32 []; noise = [] }

@@ -1,35 +1,40 @@
--- That a thing stands, by the last act or event that opened or closed it.
+-- What stands, by the last event or act that opened or closed it.
 use Rattle.std.specs.Prelude.{ℕ, List, [], ◌∷◌, Bool, true, false, Option, Some, None, unwrap_or, if◌then◌else◌, ◌==◌, ◌&&◌}
+use Rattle.dmr_pdu.specs.declared.slots.Slot.{Slot}
 use Rattle.dmr_plan.specs.declared.settings.Settings.{Settings}
+use Rattle.dmr_calls.specs.declared.ask.Ask.{Ask}
+use Rattle.dmr_calls.specs.declared.line.Line.{Line}
+use Rattle.dmr_calls.specs.declared.call.Call.{Call}
+use Rattle.dmr_calls.specs.Calls.{is_slot}
 use Rattle.dmr_core.specs.declared.event.Event.{Event}
 use Rattle.dmr_core.specs.declared.event.Event.TheVariants.{Up, Lost}
 use Rattle.dmr_core.specs.declared.act.Act.{Act}
-use Rattle.dmr_core.specs.declared.act.Act.TheVariants.{Joined, Left}
+use Rattle.dmr_core.specs.declared.act.Act.TheVariants.{Joined, Left, Asked, AskOver, Lined, Unlined, Began, Ended}
 use Rattle.dmr_core.specs.declared.entry.Entry.{Entry}
 use Rattle.dmr_core.specs.Facts.{has_carrier}
 
 -- the later word, if there is one
-abbrev pub or_earlier : Option Bool → Option Bool → Option Bool
-or_earlier (Some b) earlier = Some b
+abbrev pub or_earlier : {X : Type 0} → Option X → Option X → Option X
+or_earlier (Some x) earlier = Some x
 or_earlier None earlier = earlier
 
 -- what the last act says that says anything
-abbrev pub last_word : (Act → Option Bool) → List Act → Option Bool
+abbrev pub last_word : {X : Type 0} → (Act → Option X) → List Act → Option X
 last_word says [] = None
 last_word says (act ∷ acts) = or_earlier (last_word says acts) (says act)
 
--- whether a thing stands: the last opener or closer decides, and where there is none it stands where it stood before
-abbrev pub stands : (Event → Option Bool) → (Act → Option Bool) → Bool → List Entry → Bool
+-- what stands: the last opener or closer decides, and where there is none it is what stood before
+abbrev pub stands : {X : Type 0} → (Event → Option X) → (Act → Option X) → X → List Entry → X
 stands by_event by_act before [] = before
 stands by_event by_act before (entry ∷ earlier) =
     unwrap_or (or_earlier (last_word by_act entry.acts.list) (by_event entry.event)) (stands by_event by_act before earlier)
 
 -- no event opens or closes it
-abbrev pub no_event : Event → Option Bool
+abbrev pub no_event : {X : Type 0} → Event → Option X
 no_event event = None
 
 -- no act opens or closes it
-abbrev pub no_act : Act → Option Bool
+abbrev pub no_act : {X : Type 0} → Act → Option X
 no_act act = None
 
 -- a registration is opened by Joined and closed by Left
@@ -43,3 +48,27 @@ abbrev pub of_carrier : Settings → ℕ → Event → Option Bool
 of_carrier plan c (Up d) = if (d == c) && has_carrier plan d then Some true else None
 of_carrier plan c (Lost d) = if d == c then Some false else None
 of_carrier plan c _ = None
+
+-- a carrier's Up and Lost close what stands by it
+abbrev pub closed_with : {X : Type 0} → ℕ → Event → Option (Option X)
+closed_with c (Up d) = if d == c then Some None else None
+closed_with c (Lost d) = if d == c then Some None else None
+closed_with c _ = None
+
+-- the ask of a radio is opened by Asked and closed by AskOver
+abbrev pub of_ask : ℕ → Act → Option (Option Ask)
+of_ask r (Asked ask) = if ask.source == r then Some (Some ask) else None
+of_ask r (AskOver q) = if q == r then Some None else None
+of_ask r _ = None
+
+-- the line of a radio is opened by Lined and closed by Unlined
+abbrev pub of_line : ℕ → Act → Option (Option Line)
+of_line r (Lined line) = if line.source == r then Some (Some line) else None
+of_line r (Unlined q) = if q == r then Some None else None
+of_line r _ = None
+
+-- the call on a slot is opened by Began and closed by Ended
+abbrev pub of_call : Slot → Act → Option (Option Call)
+of_call slot (Began call) = if is_slot call.slot slot then Some (Some call) else None
+of_call slot (Ended other) = if is_slot other slot then Some None else None
+of_call slot _ = None

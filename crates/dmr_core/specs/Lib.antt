@@ -6,8 +6,13 @@ pub mod Sound
 pub mod State
 pub mod Same
 pub mod May
+pub mod Held
+pub mod Laws
+pub mod Counts
 pub mod Last
 pub mod Waiting
 pub mod Down
 pub mod Backoff
 pub mod Cases
+pub mod GroupCases
+pub mod IndividualCases

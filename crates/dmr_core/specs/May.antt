@@ -1,18 +1,68 @@
 -- What an act needs of the facts before it.
-use Rattle.std.specs.Prelude.{◌≡◌, ◌<◌, length, List, [], ◌∷◌, true, false}
+use Rattle.std.specs.Prelude.{◌≡◌, ◌≤◌, ◌<◌, ℕ, ◌+◌, length, List, [], ◌∷◌, Bool, true, false, Some, slice_get}
+use Rattle.dmr_pdu.specs.declared.slots.Slot.{Slot}
+use Rattle.dmr_pdu.specs.declared.pdu.Pdu.{Pdu}
 use Rattle.dmr_plan.specs.declared.settings.Settings.{Settings}
+use Rattle.dmr_plan.specs.Plan.{lists_group}
+use Rattle.dmr_calls.specs.declared.ask.Asking.{Asking}
+use Rattle.dmr_calls.specs.declared.call.Call.{Call}
+use Rattle.dmr_calls.specs.declared.call.Standing.{Standing}
+use Rattle.dmr_calls.specs.Asks.{others_than}
+use Rattle.dmr_calls.specs.Calls.{call_on}
+use Rattle.dmr_pool.specs.Free.{control_slot}
 use Rattle.dmr_core.specs.declared.act.Act.{Act}
-use Rattle.dmr_core.specs.declared.act.Act.TheVariants.{Queue, Joined}
+use Rattle.dmr_core.specs.declared.act.Act.TheVariants.{Asked, Began, Fill, Joined, Left, Lined, Queue, Send}
 use Rattle.dmr_core.specs.Facts.{Facts, done}
-use Rattle.dmr_core.specs.Words.{is_up, is_registered}
+use Rattle.dmr_core.specs.Words.{is_free, is_registered, is_up, outbox, stands_on}
+use Rattle.dmr_core.specs.Rules.{grant_pdu}
+use Rattle.dmr_core.specs.Sound.{engagements, is_grant, party}
 
--- a PDU is queued while the control carrier is up and there is a place; a radio joins that is new, and where there is one
+-- the grant of a call that stands
+pub record IsGrantOf (plan : Settings) (calls : List Standing) (pdu : Pdu) : Type 0 where
+  pub call : Call
+  pub late : Bool
+  pub stands : call_on calls call.slot ≡ Some call
+  pub is : pdu ≡ grant_pdu plan call late
+
+-- where it is a grant, on the control slot, of a call that stands
+abbrev pub MayName : Settings → List Standing → Slot → Pdu → Bool → Type 0
+MayName plan calls slot pdu true = (slot ≡ control_slot plan) × IsGrantOf plan calls pdu
+MayName plan calls slot pdu false = Unit {0}
+
+-- a PDU may be queued: its carrier is up, no call stands on the slot, the outbox has a place, and a grant is that of a call that stands
+pub record MayQueue (plan : Settings) (now : Facts) (slot : Slot) (pdu : Pdu) : Type 0 where
+  pub up : is_up now slot.carrier ≡ true
+  pub small : slot.slot < 2
+  pub none : stands_on now.calls slot ≡ false
+  pub room : length (outbox now slot) < 64
+  pub names : MayName plan now.calls slot pdu (is_grant pdu)
+
+-- a new call or line: its parties are registered and not engaged, its group is listed
+pub record MayEngage (plan : Settings) (now : Facts) (asks : List Asking) (group : Bool) (source target : ℕ) : Type 0 where
+  pub parties : (r : ℕ) → 0 < party r group source target → is_registered now r ≡ true
+  pub once : (r : ℕ) → engagements now.calls asks now.lines r + party r group source target ≤ 1
+  pub listed : group ≡ true → lists_group plan target ≡ true
+
+-- a call may begin: its slot is free, fewer than 31 stand, and its parties may be engaged
+pub record MayBegin (plan : Settings) (now : Facts) (call : Call) : Type 0 where
+  pub free : is_free plan now call.slot ≡ true
+  pub small : call.slot.slot < 2
+  pub few : length now.calls < 31
+  pub engage : MayEngage plan now now.asks call.group call.source call.target
+
+-- what each act needs
 abbrev pub MayDo : Settings → Facts → Act → Type 0
-MayDo plan now (Queue slot pdu) = (is_up now plan.control ≡ true) × (length now.outbox < 64)
+MayDo plan now (Queue slot pdu) = MayQueue plan now slot pdu
+MayDo plan now (Send slot pdu) = (is_up now slot.carrier ≡ true) × (slot.slot < 2) × (slice_get (outbox now slot) 0 ≡ Some pdu)
+MayDo plan now (Fill slot pdu) = MayName plan now.calls slot pdu (is_grant pdu)
 MayDo plan now (Joined r) = (is_registered now r ≡ false) × (length now.registered < 4096)
+MayDo plan now (Left r) = engagements now.calls now.asks now.lines r ≡ 0
+MayDo plan now (Asked ask) = (is_up now plan.control ≡ true) × (length (others_than ask.source now.asks) < 32) × MayEngage plan now (others_than ask.source now.asks) false ask.source ask.target
+MayDo plan now (Lined l) = (is_up now plan.control ≡ true) × (length now.lines < 32) × MayEngage plan now now.asks l.group l.source l.target
+MayDo plan now (Began call) = MayBegin plan now call
 MayDo plan now _ = Unit {0}
 
--- each act, at the facts just before it
+-- each act of a list may be done on the facts that the acts before it leave
 abbrev pub AllMayDo : Settings → Facts → List Act → Type 0
 AllMayDo plan now [] = Unit {0}
-AllMayDo plan now (act ∷ acts) = MayDo plan now act × AllMayDo plan (done plan now act) acts
+AllMayDo plan now (act ∷ acts) = MayDo plan now act × AllMayDo plan (done now act) acts

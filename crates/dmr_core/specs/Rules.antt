@@ -1,25 +1,55 @@
 -- The acts that answer an event.
-use Rattle.std.specs.Prelude.{ℕ, ◌/◌, ◌%◌, ◌^◌, List, [], ◌∷◌, ◌++◌, Bool, false, not, if◌then◌else◌, ◌==◌, ◌&&◌, nat_lt, nat_le, length}
+use Rattle.std.specs.Prelude.{ℕ, ◌+◌, ◌/◌, ◌%◌, ◌^◌, List, [], ◌∷◌, ◌++◌, Bool, true, false, not, if◌then◌else◌, ◌==◌, ◌&&◌, ◌||◌, nat_lt, nat_le, length, replicate}
 use Rattle.std.specs.Option.{option_map_or}
 use Rattle.dmr_pdu.specs.declared.slots.Slot.{Slot}
 use Rattle.dmr_pdu.specs.declared.pdu.Pdu.{Pdu}
-use Rattle.dmr_pdu.specs.declared.pdu.Pdu.TheVariants.{Random, Ackd}
-use Rattle.dmr_pdu.specs.Kinds.{registration as registration_kind}
-use Rattle.dmr_pdu.specs.Reasons.{not_supported, message_accepted, reg_accepted, reg_denied, reg_refused}
+use Rattle.dmr_pdu.specs.declared.pdu.Pdu.TheVariants.{Ahoy, Random, Ackd, Acku, Clear, PvGrant, TvGrant}
+use Rattle.dmr_pdu.specs.Kinds.{registration as registration_kind, cancel as cancel_kind, individual_voice, talkgroup_voice}
+use Rattle.dmr_pdu.specs.Reasons.{not_supported, perm_user_refused, transient_sys_refused, noreg_ms_away, sysbusy_refused, call_cancel_refused, reg_refused, reg_denied, ms_not_registered, called_party_busy, group_not_allowed, ms_accepted, message_accepted, reg_accepted, queued_for_resource, wait}
 use Rattle.dmr_plan.specs.declared.settings.Settings.{Settings}
-use Rattle.dmr_plan.specs.Plan.{lists_radio}
+use Rattle.dmr_plan.specs.Plan.{lists_radio, lists_group}
 use Rattle.dmr_access.specs.Fill.{fill_of}
+use Rattle.dmr_calls.specs.declared.ask.Ask.{Ask}
+use Rattle.dmr_calls.specs.declared.line.Line.{Line}
+use Rattle.dmr_calls.specs.declared.call.Call.{Call}
+use Rattle.dmr_calls.specs.declared.call.Standing.{Standing}
+use Rattle.dmr_calls.specs.Asks.{ask_of, ask_to, has_own_ask}
+use Rattle.dmr_calls.specs.Lines.{first_line, line_of, line_to, has_group_line, has_own_group_line, has_own_line}
+use Rattle.dmr_calls.specs.Calls.{call_on, group_call, own_group_call, own_call}
+use Rattle.dmr_calls.specs.Engaged.{call_of}
+use Rattle.dmr_calls.specs.Due.{due_call, due_ask}
+use Rattle.dmr_pool.specs.Free.{control_slot, is_control}
 use Rattle.dmr_core.specs.declared.request.Request.{Request}
 use Rattle.dmr_core.specs.declared.event.Event.{Event}
-use Rattle.dmr_core.specs.declared.event.Event.TheVariants.{Heard, Poll}
+use Rattle.dmr_core.specs.declared.event.Event.TheVariants.{Heard, Poll, Tick}
 use Rattle.dmr_core.specs.declared.act.Act.{Act}
-use Rattle.dmr_core.specs.declared.act.Act.TheVariants.{Queue, Send, Fill, Joined, Left}
-use Rattle.dmr_core.specs.Facts.{Facts, is_control}
-use Rattle.dmr_core.specs.Words.{is_up, control_slot, waiting, has_room, is_registered}
+use Rattle.dmr_core.specs.declared.act.Act.TheVariants.{Queue, Send, Fill, Joined, Left, Asked, AskOver, Lined, Unlined, Began, Ended}
+use Rattle.dmr_core.specs.Facts.{Facts, asks_by_event, calls_by_event}
+use Rattle.dmr_core.specs.Words.{is_up, outbox, lpcn_of, lowest_free, slot_for_new, has_room, is_registered, is_engaged}
 
--- C_ACKD to a request, for the reason
-abbrev pub ack : Settings → Request → ℕ → List Act
-ack plan q reason = Queue (control_slot plan) (Ackd 0 reason false q.source q.target) ∷ []
+-- C_ACKD to the source, for the reason, with the target besides
+abbrev pub ack : Settings → ℕ → ℕ → ℕ → List Act
+ack plan source target reason = Queue (control_slot plan) (Ackd 0 reason false source target) ∷ []
+
+-- the grant of a call: TV_GRANT to a talkgroup, else PV_GRANT
+abbrev pub grant_pdu : Settings → Call → Bool → Pdu
+grant_pdu plan call late =
+    if call.group
+    then TvGrant (lpcn_of plan call.slot.carrier) call.slot.slot late call.target call.source
+    else PvGrant (lpcn_of plan call.slot.carrier) call.slot.slot call.target call.source
+
+-- as many copies of it as the plan says
+unfoldable pub grant : Settings → Call → Bool → List Act
+grant plan call late = replicate plan.grant_copies (Queue (control_slot plan) (grant_pdu plan call late))
+
+-- a call ends, and its slot is told so by P_CLEAR, as often as the plan says
+unfoldable pub clear : Settings → Call → List Act
+clear plan call =
+    Ended call.slot ∷ replicate plan.clear_copies (Queue call.slot (Clear (lpcn_of plan plan.control) call.group call.target plan.tsi))
+
+-- a call begins, and is granted
+abbrev pub begin : Settings → Call → List Act
+begin plan call = Began call ∷ grant plan call false
 
 -- the option bit k of seven, 0 the last
 abbrev pub option_bit : ℕ → ℕ → Bool
@@ -29,44 +59,131 @@ option_bit options k = nat_lt k 7 && (((options / 2 ^ k) % 2) == 1)
 unfoldable pub is_leaving : Settings → ℕ → Bool
 is_leaving plan options = option_map_or (λ k. not (option_bit options k)) plan.leave_bit false
 
+-- what a radio is engaged by is over: as a source, or as the target of what is individual
+unfoldable pub close : Settings → Facts → ℕ → List Act
+close plan now r =
+    option_map_or (λ (call : Call). clear plan call) (call_of now.calls r)
+    (option_map_or (λ (ask : Ask). AskOver ask.source ∷ []) (ask_of now.asks r)
+    (option_map_or (λ (ask : Ask). AskOver ask.source ∷ ack plan ask.source ask.target noreg_ms_away) (ask_to now.asks r)
+    (option_map_or (λ (line : Line). Unlined line.source ∷ []) (line_of now.lines r)
+    (option_map_or (λ (line : Line). Unlined line.source ∷ ack plan line.source line.target noreg_ms_away) (line_to now.lines r)
+    []))))
+
 -- a radio that leaves is registered no more, if it was, and is told so
 unfoldable pub leaving : Settings → Facts → Request → List Act
-leaving plan now q = (if is_registered now q.source then Left q.source ∷ [] else []) ++ ack plan q message_accepted
+leaving plan now q = close plan now q.source ++ (if is_registered now q.source then Left q.source ∷ [] else []) ++ ack plan q.source q.target message_accepted
 
 -- a radio leaves, or is registered if it is listed and there is a place
 unfoldable pub registration : Settings → Facts → Request → List Act
 registration plan now q =
     if is_leaving plan q.options then leaving plan now q else
-    if not (lists_radio plan q.source) then ack plan q reg_denied else
-    if is_registered now q.source then ack plan q reg_accepted else
-    if nat_le 4096 (length now.registered) then ack plan q reg_refused else
-    (Joined q.source ∷ ack plan q reg_accepted)
+    if not (lists_radio plan q.source) then ack plan q.source q.target reg_denied else
+    if is_registered now q.source then ack plan q.source q.target reg_accepted else
+    if nat_le 4096 (length now.registered) then ack plan q.source q.target reg_refused else
+    (Joined q.source ∷ ack plan q.source q.target reg_accepted)
 
--- a request on the control slot, with room: registration is the only service
+-- a call where a slot is free and no line stands, else a line, else neither
+unfoldable pub new_call : Settings → Facts → Line → List Act
+new_call plan now line =
+    option_map_or (λ (slot : Slot). begin plan (record { slot = slot; source = line.source; target = line.target; group = line.group })) (slot_for_new plan now)
+    (if nat_lt (length now.lines) 32 then Lined line ∷ ack plan line.source line.target queued_for_resource else ack plan line.source line.target sysbusy_refused)
+
+-- a talkgroup request
+unfoldable pub talkgroup : Settings → Facts → Request → List Act
+talkgroup plan now q =
+    if not (lists_group plan q.target) then ack plan q.source q.target group_not_allowed else
+    option_map_or (λ (call : Call). grant plan call false) (own_group_call now.calls q.source q.target)
+    (if has_own_group_line now.lines q.source q.target then ack plan q.source q.target queued_for_resource else
+    if is_engaged now q.source then ack plan q.source q.target transient_sys_refused else
+    option_map_or (λ (call : Call). grant plan call true) (group_call now.calls q.target)
+    (if has_group_line now.lines q.target then ack plan q.source q.target queued_for_resource else
+    new_call plan now (record { source = q.source; target = q.target; group = true })))
+
+-- C_AHOY to the target of an ask
+abbrev pub ahoy : Settings → Ask → List Act
+ahoy plan ask = Queue (control_slot plan) (Ahoy ask.options false individual_voice ask.target ask.source) ∷ []
+
+-- an individual request
+unfoldable pub individual : Settings → Facts → Request → List Act
+individual plan now q =
+    if (q.target == q.source) || not (lists_radio plan q.target) then ack plan q.source q.target perm_user_refused else
+    option_map_or (λ (call : Call). grant plan call false) (own_call now.calls q.source q.target)
+    (if has_own_ask now.asks q.source q.target then ack plan q.source q.target wait else
+    if has_own_line now.lines q.source q.target then ack plan q.source q.target queued_for_resource else
+    if is_engaged now q.source then ack plan q.source q.target transient_sys_refused else
+    if not (is_registered now q.target) then ack plan q.source q.target noreg_ms_away else
+    if is_engaged now q.target then ack plan q.source q.target called_party_busy else
+    if nat_lt (length now.asks) 32
+    then Asked (record { source = q.source; target = q.target; options = q.options; attempt = 1 }) ∷ ack plan q.source q.target wait
+    ++ ahoy plan (record { source = q.source; target = q.target; options = q.options; attempt = 1 })
+    else ack plan q.source q.target sysbusy_refused)
+
+-- the called radio's answer
+unfoldable pub answered : Settings → Facts → ℕ → ℕ → List Act
+answered plan now reason called =
+    option_map_or (λ (ask : Ask). AskOver ask.source ∷ (if reason == ms_accepted then new_call plan now (record { source = ask.source; target = ask.target; group = false }) else ack plan ask.source ask.target called_party_busy))
+    (ask_to now.asks called) []
+
+-- a request is called off
+unfoldable pub cancel : Settings → Facts → Request → List Act
+cancel plan now q =
+    option_map_or (λ (ask : Ask). AskOver ask.source ∷ ack plan q.source q.target message_accepted) (ask_of now.asks q.source)
+    (option_map_or (λ (line : Line). Unlined line.source ∷ ack plan q.source q.target message_accepted) (line_of now.lines q.source)
+    (ack plan q.source q.target call_cancel_refused))
+
+-- a request on the control slot, with room
 unfoldable pub request : Settings → Facts → Request → ℕ → ℕ → List Act
 request plan now q flags kind =
-    if not (flags == 0) then ack plan q not_supported else
-    if not (kind == registration_kind) then ack plan q not_supported else
-    registration plan now q
+    if not (flags == 0) then ack plan q.source q.target not_supported else
+    if kind == registration_kind then registration plan now q else
+    if not (kind == talkgroup_voice) && (not (kind == individual_voice) && not (kind == cancel_kind)) then ack plan q.source q.target not_supported else
+    if not (is_registered now q.source) then ack plan q.source q.target ms_not_registered else
+    if kind == cancel_kind then cancel plan now q else
+    if kind == talkgroup_voice then talkgroup plan now q else individual plan now q
 
--- a PDU on the control slot, with room: only requests are answered
+-- a PDU on the control slot, with room: only requests and answers are answered
 unfoldable pub heard : Settings → Facts → Pdu → List Act
 heard plan now (Random options flags kind target source) = request plan now (record { options = options; source = source; target = target }) flags kind
+heard plan now (Acku info reason spare target additional) = answered plan now reason additional
 heard plan now _ = []
 
--- the first PDU that waits, or what fills the control slot
+-- a slot for the first line
+unfoldable pub serve : Settings → Facts → List Act
+serve plan now =
+    option_map_or (λ (line : Line). option_map_or (λ (slot : Slot). Unlined line.source ∷ begin plan (record { slot = slot; source = line.source; target = line.target; group = line.group })) (lowest_free plan now) [])
+    (first_line now.lines) []
+
+-- the ask with the oldest C_AHOY, once more or given up
+unfoldable pub repeat : Settings → Facts → List Act
+repeat plan now =
+    option_map_or (λ (ask : Ask).
+    if nat_lt ask.attempt plan.ahoy_tries
+    then Asked (record { source = ask.source; target = ask.target; options = ask.options; attempt = ask.attempt + 1 }) ∷ ahoy plan ask
+    else AskOver ask.source ∷ ack plan ask.source ask.target noreg_ms_away)
+    (due_ask plan.ahoy_wait now.asks) []
+
+-- the call on the slot of the first call that is over is cleared
+unfoldable pub ended : Settings → List Standing → List Act
+ended plan calls = option_map_or (λ (slot : Slot). option_map_or (λ (call : Call). clear plan call) (call_on calls slot) []) (due_call plan.hang plan.maximum calls) []
+
+-- a tick, which was counted
+unfoldable pub tick : Settings → Facts → List Act
+tick plan now = ended plan now.calls ++ (if has_room plan now then repeat plan now ++ serve plan now else [])
+
+-- the first PDU that waits for a slot, or what fills the control slot
 abbrev pub sent : Settings → Facts → Slot → List Pdu → List Act
 sent plan now slot [] = if is_control plan slot then Fill slot (fill_of plan now.noise) ∷ [] else []
 sent plan now slot (pdu ∷ pdus) = Send slot pdu ∷ []
 
 -- what a slot of a carrier is sent
 unfoldable pub poll : Settings → Facts → Slot → List Act
-poll plan now slot = sent plan now slot (waiting plan now slot)
+poll plan now slot = sent plan now slot (outbox now slot)
 
--- the acts that answer the event, from what stands when it comes
+-- the acts that answer the event, from what stands when it comes; a tick is counted first
 abbrev pub acts_of : Settings → Facts → Event → List Act
 acts_of plan now (Heard slot pdu) =
-    if is_up now slot.carrier && (is_control plan slot && has_room now) then heard plan now pdu else []
+    if is_up now slot.carrier && (is_control plan slot && has_room plan now) then heard plan now pdu else []
 acts_of plan now (Poll c) =
     if is_up now c then poll plan now (record { carrier = c; slot = 0 }) ++ poll plan now (record { carrier = c; slot = 1 }) else []
+acts_of plan now Tick = tick plan (record now { calls = calls_by_event now.calls Tick; asks = asks_by_event plan now.asks Tick })
 acts_of plan now _ = []

@@ -1,20 +1,104 @@
 -- What stands on a site fits together.
-use Rattle.std.specs.Prelude.{◌≡◌, ◌≤◌, ℕ, length, [], true, false}
+use Rattle.std.specs.Prelude.{◌≡◌, ◌≤◌, ◌<◌, ℕ, ◌+◌, length, List, [], ◌∷◌, Bool, true, false, not, cond, ◌==◌, ◌&&◌, ◌||◌, Some, slice_index_or}
+use Rattle.std.specs.List.{list_any, list_all}
+use Rattle.dmr_pdu.specs.declared.slots.Slot.{Slot}
+use Rattle.dmr_pdu.specs.declared.pdu.Pdu.{Pdu}
+use Rattle.dmr_pdu.specs.declared.pdu.Pdu.TheVariants.{PvGrant, TvGrant}
 use Rattle.dmr_plan.specs.declared.settings.Settings.{Settings}
+use Rattle.dmr_plan.specs.Plan.{lists_group}
 use Rattle.dmr_registry.specs.Radios.{AreDistinct}
+use Rattle.dmr_calls.specs.declared.ask.Asking.{Asking}
+use Rattle.dmr_calls.specs.declared.line.Line.{Line}
+use Rattle.dmr_calls.specs.declared.call.Call.{Call}
+use Rattle.dmr_calls.specs.declared.call.Standing.{Standing}
+use Rattle.dmr_calls.specs.Calls.{call_on}
+use Rattle.dmr_calls.specs.Lines.{has_group_line}
+use Rattle.dmr_pool.specs.Free.{control_slot, is_control}
 use Rattle.dmr_core.specs.Facts.{Facts, has_carrier}
-use Rattle.dmr_core.specs.Words.{is_up}
+use Rattle.dmr_core.specs.Words.{is_up, outbox, lpcn_of, is_registered, stands_on}
+
+-- no two calls stand on one slot
+abbrev pub AreApart : List Standing → Type 0
+AreApart [] = Unit {0}
+AreApart (s ∷ calls) = (stands_on calls s.call.slot ≡ false) × AreApart calls
+
+-- how often a thing is counted in a list
+abbrev pub total : {X : Type 0} → (X → ℕ) → List X → ℕ
+total f [] = 0
+total f (x ∷ xs) = f x + total f xs
+
+-- how often a radio is a party: as the source, and as the target of what is individual
+abbrev pub party : ℕ → Bool → ℕ → ℕ → ℕ
+party r group source target = cond (source == r) 1 0 + cond (not group && (target == r)) 1 0
+
+-- the same of a call, a line, an ask
+abbrev pub in_call : ℕ → Standing → ℕ
+in_call r s = party r s.call.group s.call.source s.call.target
+
+abbrev pub in_line : ℕ → Line → ℕ
+in_line r l = party r l.group l.source l.target
+
+abbrev pub in_ask : ℕ → Asking → ℕ
+in_ask r a = party r false a.ask.source a.ask.target
+
+-- how often a radio is engaged
+abbrev pub engagements : List Standing → List Asking → List Line → ℕ → ℕ
+engagements calls asks lines r = total (in_call r) calls + total (in_ask r) asks + total (in_line r) lines
+
+-- a talkgroup call of the group stands
+abbrev pub has_group_call : List Standing → ℕ → Bool
+has_group_call calls group = list_any (λ s. s.call.group && (s.call.target == group)) calls
+
+-- PV_GRANT or TV_GRANT
+abbrev pub is_grant : Pdu → Bool
+is_grant (PvGrant l s target source) = true
+is_grant (TvGrant l s late target source) = true
+is_grant _ = false
+
+-- a grant of this call, if it is a grant that names the call's slot
+abbrev pub is_own : Settings → Call → Pdu → Bool
+is_own plan call (PvGrant l s target source) =
+    not ((l == lpcn_of plan call.slot.carrier) && (s == call.slot.slot)) || (not call.group && ((source == call.source) && (target == call.target)))
+is_own plan call (TvGrant l s late target source) =
+    not ((l == lpcn_of plan call.slot.carrier) && (s == call.slot.slot)) || (call.group && ((source == call.source) && (target == call.target)))
+is_own plan call _ = true
+
+-- a slot of a carrier that is up, but not the control slot
+pub record IsPayload (plan : Settings) (up : List Bool) (slot : Slot) : Type 0 where
+  pub known : has_carrier plan slot.carrier ≡ true
+  pub is_up : slice_index_or up slot.carrier false ≡ true
+  pub small : slot.slot < 2
+  pub apart : is_control plan slot ≡ false
 
 -- what the facts of a site always keep
 pub record IsSound (plan : Settings) (facts : Facts) : Type 0 where
+  -- there are 16 carrier numbers and 32 slots, and only carriers of the plan are up
   pub carriers : length facts.up ≡ 16
+  pub slots : length facts.outboxes ≡ 32
   pub known : (c : ℕ) → is_up facts c ≡ true → has_carrier plan c ≡ true
-  -- the registered radios are at most 4,096, none twice
+  -- calls stand on distinct payload slots whose outboxes are empty; asks and lines only while the control carrier is up
+  pub apart : AreApart facts.calls
+  pub payload : (slot : Slot) → stands_on facts.calls slot ≡ true → IsPayload plan facts.up slot
+  pub quiet : (slot : Slot) → stands_on facts.calls slot ≡ true → outbox facts slot ≡ []
+  pub asks : is_up facts plan.control ≡ false → facts.asks ≡ []
+  pub lines : is_up facts plan.control ≡ false → facts.lines ≡ []
+  -- no radio is registered twice; parties are registered and groups listed, and each radio is engaged at most once
+  pub distinct : AreDistinct facts.registered
+  pub parties : (r : ℕ) → 0 < engagements facts.calls facts.asks facts.lines r → is_registered facts r ≡ true
+  pub called : (g : ℕ) → has_group_call facts.calls g ≡ true → lists_group plan g ≡ true
+  pub lined : (g : ℕ) → has_group_line facts.lines g ≡ true → lists_group plan g ≡ true
+  pub once : (r : ℕ) → engagements facts.calls facts.asks facts.lines r ≤ 1
+  -- nothing waits for carriers that aren't up
+  pub down : (slot : Slot) → slot.slot < 2 → is_up facts slot.carrier ≡ false → outbox facts slot ≡ []
+  -- grants wait for the control slot alone, and are those of the calls that stand on their slots, if any do
+  pub elsewhere : (slot : Slot) → slot.slot < 2 → is_control plan slot ≡ false → list_any is_grant (outbox facts slot) ≡ false
+  pub own : (slot : Slot) (call : Call) → call_on facts.calls slot ≡ Some call → list_all (is_own plan call) (outbox facts (control_slot plan)) ≡ true
+  -- limits
+  pub few_calls : length facts.calls ≤ 31
+  pub few_asks : length facts.asks ≤ 32
+  pub few_lines : length facts.lines ≤ 32
   pub few_radios : length facts.registered ≤ 4096
-  pub once : AreDistinct facts.registered
-  -- while the control carrier is down nothing waits for its slot
-  pub few_waiting : length facts.outbox ≤ 64
-  pub down : is_up facts plan.control ≡ false → facts.outbox ≡ []
+  pub few_waiting : (slot : Slot) → slot.slot < 2 → length (outbox facts slot) ≤ 64
   -- there are noise numbers exactly while the control carrier is up
-  pub quiet : is_up facts plan.control ≡ false → facts.noise ≡ []
+  pub noiseless : is_up facts plan.control ≡ false → facts.noise ≡ []
   pub window : is_up facts plan.control ≡ true → length facts.noise ≡ 32

@@ -1,27 +1,67 @@
--- Up, room, registered, backoff.
-use Rattle.std.specs.Prelude.{ℕ, List, [], Bool, false, nat_le, length, if◌then◌else◌, slice_index_or}
+-- Up, waiting, room, free, registered.
+use Rattle.std.specs.Prelude.{ℕ, List, Bool, not, ◌&&◌, nat_le, length, if◌then◌else◌, find, Option, None}
+use Rattle.std.specs.List.{list_any}
+use Rattle.std.specs.Option.{option_map_or}
 use Rattle.dmr_pdu.specs.declared.slots.Slot.{Slot}
 use Rattle.dmr_pdu.specs.declared.pdu.Pdu.{Pdu}
 use Rattle.dmr_plan.specs.declared.settings.Settings.{Settings}
+use Rattle.dmr_plan.specs.declared.carriers.CarrierRow.{CarrierRow}
+use Rattle.dmr_plan.specs.Carriers.{row_with}
 use Rattle.dmr_registry.specs.Radios.{is_held}
-use Rattle.dmr_core.specs.Facts.{Facts, is_control}
+use Rattle.dmr_calls.specs.declared.call.Standing.{Standing}
+use Rattle.dmr_calls.specs.Calls.{is_slot}
+use Rattle.dmr_calls.specs.Standings.{Standings}
+use Rattle.dmr_calls.specs.Engaged.{is_engaged as is_engaged_in}
+use Rattle.dmr_pool.specs.Slots.{box, is_up as is_up_in}
+use Rattle.dmr_pool.specs.Free.{all_slots, control_slot, is_control, is_empty, names}
+use Rattle.dmr_core.specs.Facts.{Facts, has_carrier}
 
 -- the carrier is up
 abbrev pub is_up : Facts → ℕ → Bool
-is_up now c = slice_index_or now.up c false
+is_up now c = is_up_in now.up c
 
--- slot 0 of the control carrier
-abbrev pub control_slot : Settings → Slot
-control_slot plan = record { carrier = plan.control; slot = 0 }
-
--- what waits for a slot: only for the control slot anything does
-abbrev pub waiting : Settings → Facts → Slot → List Pdu
-waiting plan now slot = if is_control plan slot then now.outbox else []
+-- what waits for a slot
+abbrev pub outbox : Facts → Slot → List Pdu
+outbox now slot = box now.outboxes slot
 
 -- at most 56 PDUs wait for the control slot
-abbrev pub has_room : Facts → Bool
-has_room now = nat_le (length now.outbox) 56
+abbrev pub has_room : Settings → Facts → Bool
+has_room plan now = nat_le (length (outbox now (control_slot plan))) 56
+
+-- the channel of a carrier, 1 for one that the plan does not have
+abbrev pub lpcn_of : Settings → ℕ → ℕ
+lpcn_of plan c = option_map_or (λ (row : CarrierRow). row.lpcn) (row_with plan.carriers c) 1
+
+-- a call stands on the slot
+abbrev pub stands_on : List Standing → Slot → Bool
+stands_on calls slot = list_any (λ s. is_slot s.call.slot slot) calls
+
+-- a grant that names the slot waits for the control slot
+abbrev pub is_granted : Settings → Facts → Slot → Bool
+is_granted plan now slot = list_any (names (lpcn_of plan slot.carrier) slot.slot) (outbox now (control_slot plan))
+
+-- free for a call: a slot of a carrier that is up, but not the control slot, on which no call stands, for which nothing waits, and of which no grant waits
+abbrev pub is_free : Settings → Facts → Slot → Bool
+is_free plan now slot =
+    has_carrier plan slot.carrier && is_up now slot.carrier && not (is_control plan slot)
+    && not (stands_on now.calls slot) && is_empty (outbox now slot) && not (is_granted plan now slot)
+
+-- the first of all slots that is free, by carrier, then by slot
+unfoldable pub lowest_free : Settings → Facts → Option Slot
+lowest_free plan now = find (is_free plan now) all_slots
+
+-- a slot for a new call: lines come first
+abbrev pub slot_for_new : Settings → Facts → Option Slot
+slot_for_new plan now = if is_empty now.lines then lowest_free plan now else None
 
 -- the radio is registered
 abbrev pub is_registered : Facts → ℕ → Bool
 is_registered now r = is_held now.registered r
+
+-- what engages radios
+abbrev pub standings : Facts → Standings
+standings now = record { asks = now.asks; lines = now.lines; calls = now.calls }
+
+-- the radio is engaged
+abbrev pub is_engaged : Facts → ℕ → Bool
+is_engaged now r = is_engaged_in (standings now) r

@@ -1,5 +1,6 @@
 //! What the site does.
 
+use dmr_calls::{Ask, Call, Line};
 use dmr_pdu::{Address, Blank, BoundedList, Pdu, Slot};
 
 /// One thing that the site does in answer to an event.
@@ -15,6 +16,18 @@ pub enum Act {
     Joined(Address),
     /// A radio is registered no more.
     Left(Address),
+    /// A radio was asked whether it takes a call: an ask stands, in place of one that its source had.
+    Asked(Ask),
+    /// The ask of this source is over.
+    AskOver(Address),
+    /// A request waits for a slot, behind those that wait.
+    Lined(Line),
+    /// The request of this source waits no more.
+    Unlined(Address),
+    /// A call begins on its slot.
+    Began(Call),
+    /// The call on this slot ends.
+    Ended(Slot),
 }
 
 impl Blank for Act {

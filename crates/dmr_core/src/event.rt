@@ -13,6 +13,8 @@ pub enum Event {
     Heard(Slot, Pdu),
     /// Something was received in a slot, and no PDU could be read.
     Noise(Slot),
+    /// There was activity in a slot: the call on it goes on.
+    Active(Slot),
     /// A carrier asks what it is to send in its next two slots.
     Poll(CarrierNo),
     /// The site's clock has gone on by one.

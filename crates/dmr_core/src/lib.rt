@@ -10,7 +10,6 @@ mod entry;
 mod event;
 mod laws;
 mod machine;
-mod outbox;
 mod request;
 mod site;
 
@@ -18,8 +17,8 @@ pub use act::{Act, ActList, Acts};
 pub use entry::Entry;
 pub use event::Event;
 pub use laws::{
-    backoff_counts_noises, decided_by_the_last, facts_stay_sound, no_carrier_no_change,
-    one_legal_journal, sent_in_order,
+    backoff_counts_noises, decided_by_the_last, each_act_is_safe, facts_stay_sound,
+    no_carrier_no_change, one_legal_journal, sent_in_order,
 };
 pub use site::Site;
 

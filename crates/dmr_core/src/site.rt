@@ -13,9 +13,9 @@ use dmr_plan::Plan;
 use std::alloc::{AllocError, Global};
 use std::marker::Model;
 
-/// A trunked site. Contracts see it as its plan and its facts: which carriers are up, which radios are registered, what
-/// waits for the control slot, and how much the control slot was disturbed. The facts of a site fit together always, as
-/// [`keeps`](Site::keeps) tells.
+/// A trunked site. Contracts see it as its plan and its facts: which carriers are up, which radios are registered, the asks,
+/// lines and calls that stand, what waits for each slot, and how much the control slot was disturbed. The facts of a site fit
+/// together always, as [`keeps`](Site::keeps) tells.
 #[derive(Drop)]
 pub struct Site {
     machine: Machine,

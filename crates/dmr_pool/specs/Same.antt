@@ -24,11 +24,15 @@ pub are_same_pdus-equivalence : IsEquivalence are_same_pdus
 are_same_pdus-equivalence = decided are_same_pdus are_same_pdus-Decides
 
 -- equality of truth values is decided
-beq-Decides : (a b : Bool) → Decides (beq a b) (a ≡ b)
+pub beq-Decides : (a b : Bool) → Decides (beq a b) (a ≡ b)
 beq-Decides true true = (λ e. refl, λ e. refl)
 beq-Decides false false = (λ e. refl, λ e. refl)
 beq-Decides true false = (λ e. cc, λ e. cc)
 beq-Decides false true = (λ e. cc, λ e. cc)
+
+-- whether the same carriers are up and the same waits
+abbrev pub are_alike : Slots → Slots → Bool
+are_alike a b = pointwise beq a.up b.up && pointwise are_same_pdus a.outboxes b.outboxes
 
 -- whether the plans say the same and the same stands on the slots
 abbrev pub are_same : Slots → Slots → Bool

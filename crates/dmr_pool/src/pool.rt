@@ -5,7 +5,7 @@ ghost use Rattle.dmr_plan.specs.Carriers.{has_number_in};
 ghost use Rattle.dmr_pool.specs.Slots.{box, is_up, emptied, released, queued, sent, place, nothing_on};
 ghost use Rattle.dmr_pool.specs.Free.{control_slot, is_control, is_granted, is_free, lowest_free, HasNoFreeSlot, IsLowestFree};
 ghost use Rattle.dmr_pool.specs.Kept.{AreKept};
-ghost use Rattle.dmr_pool.specs.Same.{are_same};
+ghost use Rattle.dmr_pool.specs.Same.{are_alike, are_same};
 
 use crate::outbox::{MOST_WAITING, Outbox, copied_outboxes, empty_outboxes};
 use crate::places::{place_of, slot_at};
@@ -94,7 +94,7 @@ impl Pool {
         } }
     {
         self.up[carrier.get() as usize] = true;
-        self.clear(carrier);
+        self.empty(carrier);
     }
 
     /// A carrier is lost, or was not up. Its slots are released, and what waited for them is gone.
@@ -106,11 +106,11 @@ impl Pool {
         } }
     {
         self.up[carrier.get() as usize] = false;
-        self.clear(carrier);
+        self.empty(carrier);
     }
 
-    /// Releases the slots of a carrier, and takes out all that waits for them.
-    fn clear(&mut self, carrier: CarrierNo)
+    /// Releases the slots of a carrier, and takes out all that waits for them. It stays up, or not, as it was.
+    pub fn empty(&mut self, carrier: CarrierNo)
         ensures { self.new ≡ record self.old {
           held = released self.old.held carrier;
           outboxes = emptied self.old.outboxes carrier;
@@ -242,6 +242,13 @@ impl Pool {
             && self.up == other.up
             && self.held == other.held
             && self.outboxes == other.outboxes
+    }
+
+    /// Whether the same carriers are up, and the same PDUs wait for each slot, whatever calls hold.
+    pub fn is_as(&self, other: &Pool) -> bool
+        ensures { result ≡ are_alike self.now other.now }
+    {
+        self.up == other.up && self.outboxes == other.outboxes
     }
 
     /// Does nothing. A proof learns from it what the slots of every site keep.

@@ -130,6 +130,35 @@ fn a_lost_carrier_has_no_free_slot(rt: HostRuntime) -> Result<(), Fail> {
 }
 
 #[test]
+fn an_emptied_carrier_stays_up(rt: HostRuntime) -> Result<(), Fail> {
+    let mut pool = pool(rt.alloc())?;
+    queue(&mut pool, &slot(1, 1), &moving(1))?;
+    assert_eq!(rt; take_lowest(&mut pool), Some(slot(0, 1)));
+    assert_eq!(rt; take_lowest(&mut pool), Some(slot(1, 0)));
+    pool.empty(CarrierNo::new(1));
+    assert!(rt; pool.is_up(CarrierNo::new(1)));
+    assert_eq!(rt; pool.waiting(&slot(1, 1)), 0);
+    assert!(rt; pool.is_free(&slot(1, 0)) && pool.is_free(&slot(1, 1)));
+    assert!(rt; !pool.is_free(&slot(0, 1)));
+    Ok(())
+}
+
+#[test]
+fn alike_whatever_calls_hold(rt: HostRuntime) -> Result<(), Fail> {
+    let mut pool = pool(rt.alloc())?;
+    let copy = pool.try_clone(rt.alloc())?;
+    assert_eq!(rt; take_lowest(&mut pool), Some(slot(0, 1)));
+    assert!(rt; pool.is_as(&copy) && pool != copy);
+    queue(&mut pool, &slot(1, 1), &moving(1))?;
+    assert!(rt; !pool.is_as(&copy));
+    assert_eq!(rt; pool.take(&slot(1, 1)), Some(moving(1)));
+    assert!(rt; pool.is_as(&copy));
+    pool.lost(CarrierNo::new(1));
+    assert!(rt; !pool.is_as(&copy));
+    Ok(())
+}
+
+#[test]
 fn sends_the_oldest_first(rt: HostRuntime) -> Result<(), Fail> {
     let mut pool = pool(rt.alloc())?;
     let control = slot(0, 0);

@@ -38,10 +38,12 @@ sole_frame octets = sole (frames_from (Open []) octets) (rest_from (Open []) oct
 
 -- ---- which inputs are taken
 
+-- the carrier that an input is for
 abbrev pub carrier_of_input : Input → ℕ
 carrier_of_input (Opening carrier) = carrier
 carrier_of_input (Octets carrier octets) = carrier
 
+-- an input opens a connection
 abbrev pub is_opening : Input → Bool
 is_opening (Opening carrier) = true
 is_opening (Octets carrier octets) = false

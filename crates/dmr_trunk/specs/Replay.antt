@@ -57,6 +57,7 @@ plan_in site = if is_utf8 site then plan_of_text site else Err NotToml
 abbrev pub number_at : List Line → ℕ → ℕ
 number_at lines index = option_map_or (λ line. line.number) (slice_get lines index) 0
 
+-- the inputs of lines
 abbrev pub inputs_of : List Line → List Input
 inputs_of lines = map (λ line. line.input) lines
 
@@ -65,14 +66,17 @@ abbrev pub of_inputs : Settings → List Line → Option ℕ → Outcome
 of_inputs plan lines (Some index) = NoLine (number_at lines index)
 of_inputs plan lines None = Prints (printed plan (put_out plan (inputs_of lines)))
 
+-- what lines give, or the number of the one that is none
 abbrev pub of_lines : Settings → Result (List Line) ℕ → Outcome
 of_lines plan (Err number) = NoLine number
 of_lines plan (Ok lines) = of_inputs plan lines (refused plan (inputs_of lines))
 
+-- what a script gives, if it could be read
 abbrev pub of_script : Settings → Option (List ℕ) → Outcome
 of_script plan None = ScriptNotRead
 of_script plan (Some script) = of_lines plan (script_of script)
 
+-- what a plan and a script give, or the fault of the site file
 abbrev pub of_plan : Result Settings PlanFault → Option (List ℕ) → Outcome
 of_plan (Err fault) script = NoPlan fault
 of_plan (Ok plan) script = of_script plan script
@@ -110,3 +114,7 @@ status_of fault = 1
 -- a status that the program ends with: all went through, a file or the output is at fault, the words are refused, no memory
 abbrev pub IsStatus : ℕ → Type 0
 IsStatus status = (status ≡ 0) ⊎ (status ≡ 1) ⊎ (status ≡ 2) ⊎ (status ≡ 4)
+
+-- two files give a text, and the writer got the whole of it
+abbrev pub IsReplayed : Option (List ℕ) → Option (List ℕ) → Type 0
+IsReplayed old new = (site : Option (List ℕ)) × (script : Option (List ℕ)) × IsPrinted (outcome site script) old new

@@ -36,6 +36,7 @@ carrier_words =
 abbrev pub carrier_of : List ℕ → Option ℕ
 carrier_of word = position (bytes_eq word) carrier_words
 
+-- octets, if there are any
 abbrev pub at_least_one : Option (List ℕ) → Option (List ℕ)
 at_least_one (Some (octet ∷ octets)) = Some (octet ∷ octets)
 at_least_one octets = None
@@ -49,6 +50,7 @@ abbrev pub opening : List (List ℕ) → Option Input
 opening (carrier ∷ []) = option_map Opening (carrier_of carrier)
 opening words = None
 
+-- octets for a carrier, where both words are such
 abbrev pub octets_from : Option ℕ → Option (List ℕ) → Option Input
 octets_from (Some carrier) (Some octets) = Some (Octets carrier octets)
 octets_from carrier octets = None
@@ -99,9 +101,11 @@ script_of script = unless_fault (find (λ line. is_fault line.1) (numbered scrip
 
 -- ---- what values of the program stand for
 
+-- an input that was read, as definitions see it
 abbrev pub input_in : ScriptInput → Input
 input_in (input.Open carrier) = Opening carrier
 input_in (input.Bytes carrier octets) = Octets carrier octets.items
 
+-- a line that was read, as definitions see it
 abbrev pub line_in : ScriptLine → Line
 line_in line = record { number = line.number; input = input_in line.input }

@@ -15,7 +15,7 @@ mod status;
 mod words;
 
 ghost use Rattle.std.specs.Prelude.{◌≡◌, IfOk, map, string_bytes};
-ghost use Rattle.dmr_trunk.specs.Replay.{IsStatus};
+ghost use Rattle.dmr_trunk.specs.Replay.{IsReplayed, IsStatus};
 
 use crate::replay::replay;
 use crate::status::{out_of_memory, words_refused};
@@ -58,7 +58,9 @@ fn run_words<R: AllocGlobal + Files, W: Write, E: Write>(
     out: &mut W,
     err: &mut E,
 ) -> Result<u8, AllocError>
-    ensures { IfOk result IsStatus }
+    ensures status { IfOk result IsStatus }
+    // At status 0 some site file and script gave a text, and `out` got the whole of it.
+    ensures ok { IfOk result (λ status. status ≡ 0 → IsReplayed (W.contents out.old) (W.contents out.new)) }
 {
     let texts = texts_of(rt.alloc(), words)?;
     match choose(rt.alloc(), texts.as_slice(), err) {
@@ -85,7 +87,9 @@ fn run_program<R: AllocGlobal + Env + Files, W: Write, E: Write>(
     out: &mut W,
     err: &mut E,
 ) -> u8
-    ensures { IsStatus result }
+    ensures status { IsStatus result }
+    // At status 0 some site file and script gave a text, and `out` got the whole of it.
+    ensures ok { result ≡ 0 → IsReplayed (W.contents out.old) (W.contents out.new) }
 {
     let words = match env::args(rt) {
         Ok(words) => words,

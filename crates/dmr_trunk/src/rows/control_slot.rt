@@ -1,13 +1,11 @@
 //! The control slot: requests and their acknowledgements, what fills it when nothing waits, and its limits.
 
-use crate::rows::{Case, SITE, check_cases, site_with, text_of};
-use dmr_burst::write;
-use dmr_pdu::{Address, Kind, Number, Pdu};
-use std::alloc::{AllocError, Global};
+use crate::rows::{Case, POLL, SITE, check_cases, registers, site_with, text_of};
+use std::alloc::AllocError;
 use std::process::Abort;
 
 /// Whole scripts over the site of `SITE`, and what they print.
-const CASES: [Case<'static>; 8] = [
+const CASES: [Case<'static>; 9] = [
     Case {
         name: "a registration",
         site: SITE,
@@ -56,11 +54,21 @@ const CASES: [Case<'static>; 8] = [
         fault: b"",
         status: 0,
     },
+    // Individual and talkgroup calls and a cancel.
+    Case {
+        name: "not registered",
+        site: SITE,
+        script: b"open 0\nbytes 0 010401000001\nbytes 0 021A0002A380690CB60C642D3853F0BAC018822884DE08D913102200\nbytes 0 0300\nbytes 0 021A0002CB802309A215743869DFF0B4830E043E84D800DD03901230\nbytes 0 0300\nbytes 0 021A00028386A70C0615643F795352A08700805E94AA005142B88050\nbytes 0 0300\n",
+        printed: b"carrier 0 810101821A0050B702984C700C482860D562A9A4208E3294F8283C13D8B0808300821A0050E802984CF80E682690CC229224220E0094F229341190B7408300821A0050E7041C48C80C4021F0C0628DA4260E46949429A81130A5208300\ncarrier 1 -\n",
+        fault: b"",
+        status: 0,
+    },
+    // Kinds that the site does not serve, of a radio that is registered, and of one that is not.
     Case {
         name: "other kinds",
         site: SITE,
-        script: b"open 0\nbytes 0 010401000001\nbytes 0 021A0002CB802309A215743869DFF0B4830E043E84D800DD03901230\nbytes 0 0300\nbytes 0 021A00028386A70C0615643F795352A08700805E94AA005142B88050\nbytes 0 0300\nbytes 0 021A00028680A10DA60E742B59D390B406088E2084E008C952282310\nbytes 0 0300\n",
-        printed: b"carrier 0 810101821A0040A902DE4CF80F6820A0440091A42B021194AC0924102034008300821A0040A6045A48C80D4027C048408E242F025794CA09B8108026608300821A0040F602DE4C700D482E505D40AA2429822394A6082C126833C08300\ncarrier 1 -\n",
+        script: b"open 0\nbytes 0 010401000001\nbytes 0 021A000EB49CDF34F2749CECBA5CB3B7C40E88138C9A38F96248E180\nbytes 0 0300\nbytes 0 021A00028680A10DA60E742B59D390B406088E2084E008C952282310\nbytes 0 0300\nbytes 0 021A000287806B0CB20E442B68D712B14011862A84E8080D12282120\nbytes 0 0300\nbytes 0 021A00028080E90C3A0E642929DBB0BDC618060294C608415330A240\nbytes 0 0300\nbytes 0 021A0002E780B10DA60C642B19D770B4062B8E3284E0085D53282310\nbytes 0 0300\n",
+        printed: b"carrier 0 810101821A0041C3028A48FC8F403DC06F00EDA0F783E497542E405CB83CB08300821A0040F602DE4C700D482E505D40AA2429822394A6082C126833C08300821A0040F602DE4C700D482E505D40AA2429822394A6082C126833C08300821A0040F602DE4C700D482E505D40AA2429822394A6082C126833C08300821A0042F7005848F4077038305300A8A43D022D94F408B0125833A08300\ncarrier 1 -\n",
         fault: b"",
         status: 0,
     },
@@ -106,9 +114,7 @@ const ACCEPTED: &str = "821A0041C3028A48FC8F403DC06F00EDA0F783E497542E405CB83CB0
 /// A burst on the control slot that means nothing.
 const NOISE: &str = "bytes 0 021A0000000000000000000000000000000000000000000000000000\n";
 
-/// A poll, and the answer to it where nothing waits: C_ALOHA with backoff 1, and with backoff 2.
-const POLL: &str = "bytes 0 0300\n";
-
+/// The answer to a poll where nothing waits: C_ALOHA with backoff 1, and with backoff 2.
 const BACKOFF_1: &str = "821A00003C162711600B7815580890050305862280421079005A23108300";
 
 const BACKOFF_2: &str = "821A00007B16A111740B58131804910C83028214803400B5202221F08300";
@@ -157,17 +163,27 @@ fn full_outbox(rt: HostRuntime) -> Result<(), AllocError> {
     )
 }
 
-/// A radio's request to be registered, as a line of a script.
-fn registers(alloc: Global, radio: u32) -> Result<String, AllocError> {
-    let word = write(&Pdu::Random {
-        options: Number::new(1),
-        flags: Number::new(0),
-        kind: Kind::REGISTRATION,
-        target: Address::new(0xFFFEC6),
-        source: Address::try_new(radio).unwrap_or(Address::new(1)),
-    });
-    let digits = hex::encode_upper(alloc, word.to_octets().as_slice())?;
-    format!(in alloc; "bytes 0 021A00{digits}\n")
+/// Radio 1001 calls talkgroup 91, and the grant of slot 1 of carrier 0.
+const CALLS: &str = "bytes 0 021A0002CB802309A215743869DFF0B4830E043E84D800DD03901230\n";
+
+const GRANTED: &str = "821A0012F300E50874154838405BD0B1610A082084B22018036290908300";
+
+/// While 57 PDUs wait a call that is asked for has no effect; when one has been sent it is granted.
+#[test]
+fn call_without_room(rt: HostRuntime) -> Result<(), AllocError> {
+    check_repeated(
+        &rt,
+        "call without room",
+        &[
+            (1, BEGINS),
+            (57, REGISTERS),
+            (1, CALLS),
+            (1, POLL),
+            (1, CALLS),
+            (58, POLL),
+        ],
+        &[(57, ACCEPTED), (1, GRANTED), (1, BACKOFF_1)],
+    )
 }
 
 /// 4,096 radios are registered, and the next is refused.

@@ -1,4 +1,6 @@
 use Rattle.dmr_core.proofs.LastLemmas.{registered_by_last, up_by_last}
+use Rattle.dmr_core.proofs.LastOpened.{ask_by_last, call_by_last, line_by_last}
+use Rattle.dmr_core.proofs.Plans.{plan_known}
 use Rattle.dmr_core.proofs.laws.decided_by_the_last.Goals as goal
 
 pub returns-clause-registered : goal.returns-clause-registered
@@ -6,3 +8,12 @@ returns-clause-registered c = registered_by_last
 
 pub returns-clause-up : goal.returns-clause-up
 returns-clause-up c = up_by_last
+
+pub returns-clause-ask : goal.returns-clause-ask
+returns-clause-ask c = ask_by_last
+
+pub returns-clause-line : goal.returns-clause-line
+returns-clause-line c = λ plan facts journal radio p h legal. line_by_last plan facts journal radio (plan_known plan p) h legal
+
+pub returns-clause-call : goal.returns-clause-call
+returns-clause-call c = λ plan facts journal slot p h legal. call_by_last plan facts journal slot (plan_known plan p) h legal

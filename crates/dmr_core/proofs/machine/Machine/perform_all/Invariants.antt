@@ -7,6 +7,6 @@ use Rattle.dmr_core.proofs.machine.Machine.perform_all.Given as goal
 abbrev pub invariant-loop-act : goal.invariant-loop-act
 invariant-loop-act l = record {
   plan : l.self.plan ≡ l.fn.self.plan;
-  rest : fold (done l.fn.self.plan) l.self.facts (drop l.act-index l.acts) ≡ fold (done l.fn.self.plan) l.fn.self.facts l.acts;
+  rest : fold done l.self.facts (drop l.act-index l.acts) ≡ fold done l.fn.self.facts l.acts;
   may : AllMayDo l.fn.self.plan l.self.facts (drop l.act-index l.acts);
 }

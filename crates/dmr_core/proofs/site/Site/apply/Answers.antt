@@ -1,6 +1,8 @@
 use Rattle.std.proofs.Common.{[], ◌∷◌, sym, subst}
 use Rattle.dmr_core.specs.State.{State, IsSite}
-use Rattle.dmr_core.proofs.LawLemmas.{sound_after, same_saying}
+use Rattle.dmr_core.proofs.SafeLaws.{sound_after, same_saying}
+use Rattle.dmr_core.proofs.Plans.{plan_known}
+use Rattle.dmr_core.proofs.Answers.{acts_may}
 use Rattle.dmr_core.proofs.site.Site.apply.Goals as goal
 
 pub invariant_of-self : goal.invariant_of-self
@@ -9,5 +11,8 @@ invariant_of-self c =
     subst P (sym c.apply.ensures.facts)
     (record {
       plan = c.self.invariant.plan;
-      sound = sound_after c.self.inside.machine.plan c.self.inside.machine.facts (record { actor = 0; event = c.args.event; acts = record { list = c.apply.result } } ∷ []) c.self.invariant.plan c.self.invariant.sound (same_saying _ _ c.apply.ensures.acts, tt);
+      sound = sound_after c.self.inside.machine.plan c.self.inside.machine.facts (record { actor = 0; event = c.args.event; acts = record { list = c.apply.result } } ∷ []) (plan_known c.self.inside.machine.plan c.self.invariant.plan) c.self.invariant.sound (same_saying _ _ c.apply.ensures.acts, tt);
     })
+
+pub apply-requires : goal.apply-requires
+apply-requires c = acts_may c.self.inside.machine.plan c.self.inside.machine.facts c.args.event (plan_known c.self.inside.machine.plan c.self.invariant.plan) c.self.invariant.sound

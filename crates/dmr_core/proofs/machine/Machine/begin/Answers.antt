@@ -1,0 +1,39 @@
+use Rattle.std.proofs.Common.{List, sym, subst, ap, ◌∙◌, refl}
+use Rattle.dmr_calls.specs.declared.call.Standing.{Standing}
+use Rattle.dmr_calls.specs.Standings.{Standings}
+use Rattle.dmr_pool.specs.Slots.{Slots, is_held}
+use Rattle.dmr_core.specs.Facts.{Facts}
+use Rattle.dmr_core.specs.State.{State}
+use Rattle.dmr_core.specs.Words.{stands_on}
+use Rattle.dmr_core.specs.May.{MayBegin}
+use Rattle.dmr_core.proofs.FreeLemmas.{pool_free}
+use Rattle.dmr_core.proofs.HeldLemmas.{begun, with_begun}
+use Rattle.dmr_core.proofs.machine.Machine.begin.Goals as goal
+
+pub hold-requires : goal.hold-requires
+hold-requires c =
+    let may = subst (λ (s : State). MayBegin s.plan s.facts c.args.call.now) (sym c.self.view_is) c.requires in
+    let facts : Facts = record {
+      up = c.self.inside.pool.up;
+      registered = c.self.inside.registry;
+      asks = c.self.inside.calls.asks;
+      lines = c.self.inside.calls.lines;
+      calls = c.self.inside.calls.calls;
+      outboxes = c.self.inside.pool.outboxes;
+      noise = c.self.inside.access.noise;
+    } in
+    pool_free c.self.inside.plan facts c.self.inside.pool c.self.invariant.1 refl refl c.self.invariant.2 c.args.call.now.slot c.numbers_of.ensures ∙ may.free
+
+pub invariant_of-self : goal.invariant_of-self
+invariant_of-self c =
+    let may = subst (λ (s : State). MayBegin s.plan s.facts c.args.call.now) (sym c.self.view_is) c.requires in
+    let calls = c.self.inside.calls.calls in
+    let held = c.self.inside.pool.held in
+    let call = c.args.call.now in (
+      c.self.invariant.0,
+      ap (λ (p : Slots). p.plan) c.hold.ensures ∙ c.self.invariant.1,
+      λ s is.
+          ap (λ (p : Slots). is_held p.held s) c.hold.ensures
+          ∙ begun held calls call c.keeps.ensures.held c.numbers_of.ensures c.self.invariant.2 s is
+          ∙ sym (ap (λ (n : Standings). stands_on n.calls s) c.begin.ensures.calls ∙ ap (λ (cs : List Standing). stands_on cs s) (with_begun calls call may.few)),
+    )

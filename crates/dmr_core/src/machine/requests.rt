@@ -1,0 +1,334 @@
+//! What answers a PDU that was heard on the control slot.
+
+ghost use Rattle.std.specs.Prelude.{◌≡◌, ◌≤◌, ◌+◌, ◌++◌, length};
+ghost use Rattle.dmr_core.specs.Rules.{answered, cancel, close, heard, individual, is_leaving, leaving, new_call, option_bit, registration, request, talkgroup};
+
+use super::Machine;
+use crate::act::{Act, ActList};
+use crate::request::Request;
+use dmr_calls::{Ask, Call, Line};
+use dmr_pdu::{Address, BoundedList, Kind, Number, Options, Pdu, Reason};
+
+/// The most radios that can be registered.
+const MOST_RADIOS: usize = 4096;
+
+/// The most asks, and the most lines, at a time.
+const MOST_WAITING: usize = 32;
+
+/// Whether the option bit is 1, bit 0 being the last of the seven.
+fn has_option(options: Options, bit: u8) -> bool
+    ensures { result ≡ option_bit options bit }
+{
+    bit < 7 && options.get() / (1 << bit) % 2 == 1
+}
+
+impl Machine {
+    /// What answers a PDU.
+    #[tactic(auto, unfolding(crate::specs::Rules::heard))]
+    pub(super) fn heard(&self, pdu: &Pdu) -> ActList
+        ensures { result ≡ heard self.now.plan self.now.facts pdu.now }
+    {
+        match *pdu {
+            Pdu::Random {
+                options,
+                flags,
+                kind,
+                target,
+                source,
+            } => self.request(
+                &Request {
+                    options,
+                    source,
+                    target,
+                },
+                flags,
+                kind,
+            ),
+            Pdu::Acku {
+                reason,
+                additional,
+                ..
+            } => self.answered(reason, additional),
+            _ => BoundedList::new(),
+        }
+    }
+
+    /// What answers a request.
+    #[tactic(auto, unfolding(crate::specs::Rules::request))]
+    fn request(&self, asked: &Request, flags: Number<5>, kind: Kind) -> ActList
+        ensures { result ≡ request self.now.plan self.now.facts asked.now flags kind }
+    {
+        let mut acts = BoundedList::new();
+        if flags.get() != 0 {
+            self.add_ack(&mut acts, asked.source, asked.target, Reason::NOT_SUPPORTED);
+        } else if kind == Kind::REGISTRATION {
+            return self.registration(asked);
+        } else if kind != Kind::TALKGROUP_VOICE
+            && kind != Kind::INDIVIDUAL_VOICE
+            && kind != Kind::CANCEL
+        {
+            self.add_ack(&mut acts, asked.source, asked.target, Reason::NOT_SUPPORTED);
+        } else if !self.registry.has(asked.source) {
+            self.add_ack(
+                &mut acts,
+                asked.source,
+                asked.target,
+                Reason::MS_NOT_REGISTERED,
+            );
+        } else if kind == Kind::CANCEL {
+            return self.cancel(asked);
+        } else if kind == Kind::TALKGROUP_VOICE {
+            return self.talkgroup(asked);
+        } else {
+            return self.individual(asked);
+        }
+        acts
+    }
+
+    #[tactic(auto, unfolding(crate::specs::Rules::is_leaving))]
+    fn is_leaving(&self, options: Options) -> bool
+        ensures { result ≡ is_leaving self.now.plan options }
+    {
+        match self.plan.leave_bit() {
+            Some(bit) => !has_option(options, bit),
+            None => false,
+        }
+    }
+
+    /// What a radio is engaged by is over.
+    #[tactic(auto, unfolding(crate::specs::Rules::close))]
+    fn add_close(&self, acts: &mut ActList, radio: Address)
+        requires { length acts.old + 5 ≤ 16 }
+        ensures acts { acts.new ≡ acts.old ++ close self.now.plan self.now.facts radio }
+        ensures few { length acts.new ≤ length acts.old + 5 }
+    {
+        if let Some(call) = self.calls.call_of(radio) {
+            self.add_clear(acts, &call);
+        } else if let Some(ask) = self.calls.ask_of(radio) {
+            acts.push(Act::AskOver(ask.source));
+        } else if let Some(ask) = self.calls.ask_to(radio) {
+            acts.push(Act::AskOver(ask.source));
+            self.add_ack(acts, ask.source, ask.target, Reason::NOREG_MS_AWAY);
+        } else if let Some(line) = self.calls.line_of(radio) {
+            acts.push(Act::Unlined(line.source));
+        } else if let Some(line) = self.calls.line_to(radio) {
+            acts.push(Act::Unlined(line.source));
+            self.add_ack(acts, line.source, line.target, Reason::NOREG_MS_AWAY);
+        }
+    }
+
+    /// What answers a radio that leaves.
+    #[tactic(auto, unfolding(crate::specs::Rules::leaving))]
+    fn leaving(&self, request: &Request) -> ActList
+        ensures { result ≡ leaving self.now.plan self.now.facts request.now }
+    {
+        let mut acts = BoundedList::new();
+        self.add_close(&mut acts, request.source);
+        if self.registry.has(request.source) {
+            acts.push(Act::Left(request.source));
+        }
+        self.add_ack(
+            &mut acts,
+            request.source,
+            request.target,
+            Reason::MESSAGE_ACCEPTED,
+        );
+        acts
+    }
+
+    /// What answers a registration or a leaving.
+    #[tactic(auto, unfolding(crate::specs::Rules::registration))]
+    fn registration(&self, request: &Request) -> ActList
+        ensures { result ≡ registration self.now.plan self.now.facts request.now }
+    {
+        if self.is_leaving(request.options) {
+            return self.leaving(request);
+        }
+        let mut acts = BoundedList::new();
+        if !self.plan.lists_radio(request.source) {
+            self.add_ack(
+                &mut acts,
+                request.source,
+                request.target,
+                Reason::REG_DENIED,
+            );
+        } else if self.registry.has(request.source) {
+            self.add_ack(
+                &mut acts,
+                request.source,
+                request.target,
+                Reason::REG_ACCEPTED,
+            );
+        } else if self.registry.len() >= MOST_RADIOS {
+            self.add_ack(
+                &mut acts,
+                request.source,
+                request.target,
+                Reason::REG_REFUSED,
+            );
+        } else {
+            acts.push(Act::Joined(request.source));
+            self.add_ack(
+                &mut acts,
+                request.source,
+                request.target,
+                Reason::REG_ACCEPTED,
+            );
+        }
+        acts
+    }
+
+    /// A call where a slot is free and no line stands, else a line, else neither.
+    #[tactic(auto, unfolding(crate::specs::Rules::new_call))]
+    fn add_new_call(&self, acts: &mut ActList, line: &Line)
+        requires { length acts.old + 5 ≤ 16 }
+        ensures acts { acts.new ≡ acts.old ++ new_call self.now.plan self.now.facts line.now }
+    {
+        if let Some(slot) = self.slot_for_new() {
+            self.add_begin(
+                acts,
+                &Call {
+                    slot,
+                    source: line.source,
+                    target: line.target,
+                    group: line.group,
+                },
+            );
+        } else if self.calls.counts().lines < MOST_WAITING {
+            acts.push(Act::Lined(*line));
+            self.add_ack(acts, line.source, line.target, Reason::QUEUED_FOR_RESOURCE);
+        } else {
+            self.add_ack(acts, line.source, line.target, Reason::SYSBUSY_REFUSED);
+        }
+    }
+
+    /// What answers a talkgroup request.
+    #[tactic(auto, unfolding(crate::specs::Rules::talkgroup))]
+    fn talkgroup(&self, asked: &Request) -> ActList
+        ensures { result ≡ talkgroup self.now.plan self.now.facts asked.now }
+    {
+        let mut acts = BoundedList::new();
+        let group = asked.target;
+        if !self.plan.lists_group(group) {
+            self.add_ack(&mut acts, asked.source, group, Reason::GROUP_NOT_ALLOWED);
+        } else if let Some(call) = self.calls.own_group_call(asked.source, group) {
+            self.add_grant(&mut acts, &call, false);
+        } else if self.calls.own_group_line(asked.source, group) {
+            self.add_ack(&mut acts, asked.source, group, Reason::QUEUED_FOR_RESOURCE);
+        } else if self.is_engaged(asked.source) {
+            self.add_ack(
+                &mut acts,
+                asked.source,
+                group,
+                Reason::TRANSIENT_SYS_REFUSED,
+            );
+        } else if let Some(call) = self.calls.group_call(group) {
+            self.add_grant(&mut acts, &call, true);
+        } else if self.calls.group_line(group) {
+            self.add_ack(&mut acts, asked.source, group, Reason::QUEUED_FOR_RESOURCE);
+        } else {
+            self.add_new_call(
+                &mut acts,
+                &Line {
+                    source: asked.source,
+                    target: group,
+                    group: true,
+                },
+            );
+        }
+        acts
+    }
+
+    /// What answers an individual request.
+    #[tactic(auto, unfolding(crate::specs::Rules::individual))]
+    fn individual(&self, asked: &Request) -> ActList
+        ensures { result ≡ individual self.now.plan self.now.facts asked.now }
+    {
+        let mut acts = BoundedList::new();
+        let source = asked.source;
+        let target = asked.target;
+        if target == source || !self.plan.lists_radio(target) {
+            self.add_ack(&mut acts, source, target, Reason::PERM_USER_REFUSED);
+        } else if let Some(call) = self.calls.own_call(source, target) {
+            self.add_grant(&mut acts, &call, false);
+        } else if self.calls.has_own_ask(source, target) {
+            self.add_ack(&mut acts, source, target, Reason::WAIT);
+        } else if self.calls.own_line(source, target) {
+            self.add_ack(&mut acts, source, target, Reason::QUEUED_FOR_RESOURCE);
+        } else if self.is_engaged(source) {
+            self.add_ack(&mut acts, source, target, Reason::TRANSIENT_SYS_REFUSED);
+        } else if !self.registry.has(target) {
+            self.add_ack(&mut acts, source, target, Reason::NOREG_MS_AWAY);
+        } else if self.is_engaged(target) {
+            self.add_ack(&mut acts, source, target, Reason::CALLED_PARTY_BUSY);
+        } else if self.calls.counts().asks < MOST_WAITING {
+            let ask = &Ask {
+                source,
+                target,
+                options: asked.options,
+                attempt: 1,
+            };
+            acts.push(Act::Asked(*ask));
+            self.add_ack(&mut acts, source, target, Reason::WAIT);
+            self.add_ahoy(&mut acts, ask);
+        } else {
+            self.add_ack(&mut acts, source, target, Reason::SYSBUSY_REFUSED);
+        }
+        acts
+    }
+
+    /// What answers the called radio's own answer.
+    #[tactic(auto, unfolding(crate::specs::Rules::answered))]
+    fn answered(&self, reason: Reason, called: Address) -> ActList
+        ensures { result ≡ answered self.now.plan self.now.facts reason called }
+    {
+        let mut acts = BoundedList::new();
+        if let Some(ask) = self.calls.ask_to(called) {
+            acts.push(Act::AskOver(ask.source));
+            if reason == Reason::MS_ACCEPTED {
+                let line = &Line {
+                    source: ask.source,
+                    target: ask.target,
+                    group: false,
+                };
+                self.add_new_call(&mut acts, line);
+            } else {
+                self.add_ack(&mut acts, ask.source, ask.target, Reason::CALLED_PARTY_BUSY);
+            }
+        }
+        acts
+    }
+
+    /// What answers a radio that calls its request off.
+    #[tactic(auto, unfolding(crate::specs::Rules::cancel))]
+    fn cancel(&self, asked: &Request) -> ActList
+        ensures { result ≡ cancel self.now.plan self.now.facts asked.now }
+    {
+        let mut acts = BoundedList::new();
+        if let Some(ask) = self.calls.ask_of(asked.source) {
+            acts.push(Act::AskOver(ask.source));
+            self.add_ack(
+                &mut acts,
+                asked.source,
+                asked.target,
+                Reason::MESSAGE_ACCEPTED,
+            );
+        } else if let Some(line) = self.calls.line_of(asked.source) {
+            acts.push(Act::Unlined(line.source));
+            self.add_ack(
+                &mut acts,
+                asked.source,
+                asked.target,
+                Reason::MESSAGE_ACCEPTED,
+            );
+        } else {
+            self.add_ack(
+                &mut acts,
+                asked.source,
+                asked.target,
+                Reason::CALL_CANCEL_REFUSED,
+            );
+        }
+        acts
+    }
+}

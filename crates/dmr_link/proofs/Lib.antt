@@ -1,0 +1,13 @@
+pub mod Polls
+pub mod Sounds
+pub mod Bridge
+pub mod RecordLemmas
+pub mod Standing
+pub mod Cuts
+pub mod Pushes
+pub mod Endings
+pub mod Journals
+pub mod Sessions
+pub mod OneJournal
+pub mod Runs
+pub mod Values

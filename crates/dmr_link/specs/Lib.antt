@@ -1,0 +1,11 @@
+pub mod Meaning
+pub mod Sound
+pub mod Steps
+pub mod Ended
+pub mod Answering
+pub mod Session
+pub mod Input
+pub mod State
+pub mod Inputs
+pub mod Records
+pub mod Runs

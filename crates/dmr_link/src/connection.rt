@@ -1,0 +1,194 @@
+//! A carrier's connection, and what its octets bring.
+
+ghost use Rattle.std.specs.Prelude.{◌≡◌};
+ghost use Rattle.dmr_burst.specs.Functions.{meaning_of};
+ghost use Rattle.dmr_link.specs.Meaning.{heard as event_heard, is_accepted, refused as notice_refused, first_brings, is_last, event_of as event_of_frame, lost, told};
+ghost use Rattle.dmr_link.specs.Sound.{IsSound};
+ghost use Rattle.dmr_link.specs.Steps.{opened, brought, taken, waiting_brings, waiting_leaves, running_brings, running_leaves};
+
+use dmr_bits::Word196;
+use dmr_burst::read;
+use dmr_core::Event;
+use dmr_frames::{Cutter, FrameIn, Refusal, Step};
+use dmr_pdu::{CarrierNo, Lpcn, Slot, SlotNo};
+
+/// The carrier that a connection is for.
+#[derive(Clone, Copy, Debug, PartialEq, Eq)]
+pub struct Identity {
+    /// The carrier's number within the site.
+    pub carrier: CarrierNo,
+    /// The logical physical channel number of its slots.
+    pub lpcn: Lpcn,
+}
+
+/// What comes of a connection's octets, or of its end.
+#[derive(Clone, Copy, Debug, PartialEq, Eq)]
+pub enum Notice {
+    /// Something happens to the site.
+    Happened(Event),
+    /// This carrier is refused, and is told why. The site doesn't learn of it.
+    Refused(CarrierNo, Refusal),
+}
+
+/// A carrier's connection, with the octets of the frame that has begun on it.
+#[derive(Debug, Drop)]
+pub enum Connection {
+    /// None is open: octets mean nothing.
+    Closed,
+    /// It is open, and its first frame has not come whole.
+    Waiting(Cutter),
+    /// The carrier said HELLO, and is up.
+    Running(Cutter),
+}
+
+/// The event of a word that was received in a slot.
+fn heard(slot: Slot, word: &Word196) -> Event
+    ensures { result ≡ event_heard slot (meaning_of word.now) }
+{
+    match read(word) {
+        Some(pdu) => Event::Heard(slot, pdu),
+        None => Event::Noise(slot),
+    }
+}
+
+/// Whether the first frame of a connection is the HELLO that it should be: of version 1, with the carrier's own number and
+/// channel.
+fn accepts(who: &Identity, frame: &FrameIn) -> bool
+    ensures { result ≡ is_accepted who.now frame.now }
+{
+    match frame {
+        FrameIn::Hello {
+            version,
+            carrier,
+            lpcn,
+        } => {
+            *version == 1
+                && u32::from(*carrier) == who.carrier.get()
+                && u32::from(*lpcn) == who.lpcn.get()
+        }
+        _ => false,
+    }
+}
+
+/// The refusal of a first frame that isn't accepted: a HELLO is refused for its version first. Nothing is told to a carrier
+/// that didn't say HELLO.
+fn refused(who: &Identity, frame: &FrameIn) -> Option<Notice>
+    ensures { result ≡ notice_refused who.now frame.now }
+{
+    match frame {
+        FrameIn::Hello { version, .. } => {
+            let refusal = if *version == 1 {
+                Refusal::WrongCarrier
+            } else {
+                Refusal::BadVersion
+            };
+            Some(Notice::Refused(who.carrier, refusal))
+        }
+        _ => None,
+    }
+}
+
+/// What the first frame brings.
+fn first(who: &Identity, frame: &FrameIn) -> Option<Notice>
+    ensures { result ≡ first_brings who.now frame.now }
+{
+    if accepts(who, frame) {
+        Some(Notice::Happened(Event::Up(who.carrier)))
+    } else {
+        refused(who, frame)
+    }
+}
+
+/// Whether a frame ends a connection whose carrier is up.
+fn ends(frame: &FrameIn) -> bool
+    ensures { result ≡ is_last frame.now }
+{
+    match frame {
+        FrameIn::Hello { .. } => true,
+        FrameIn::Bye => true,
+        _ => false,
+    }
+}
+
+/// The event of a frame of a carrier that is up.
+fn event_of(carrier: CarrierNo, frame: &FrameIn) -> Event
+    ensures { result ≡ event_of_frame carrier frame.now }
+{
+    match frame {
+        FrameIn::Rx { slot, word } => {
+            let slot = Slot {
+                carrier,
+                slot: *slot,
+            };
+            heard(slot, word)
+        }
+        FrameIn::Poll => Event::Poll(carrier),
+        FrameIn::Active { slot } => Event::Active(Slot {
+            carrier,
+            slot: *slot,
+        }),
+        FrameIn::Hello { .. } => Event::Lost(carrier),
+        FrameIn::Bye => Event::Lost(carrier),
+    }
+}
+
+impl Connection {
+    /// A connection that has just begun.
+    pub fn open() -> Connection
+        ensures { result ≡ opened }
+    {
+        Connection::Waiting(Cutter::new())
+    }
+
+    /// Takes the next octet. A frame is taken at its last octet; a fault, and a frame that ends the connection, close it,
+    /// and from then on octets bring nothing.
+    pub fn take(&mut self, who: &Identity, octet: u8) -> Option<Notice>
+        ensures notice { result ≡ brought who.now self.old octet }
+        ensures connection { self.new ≡ taken who.now self.old octet }
+        ensures sound { IsSound self.old → IsSound self.new }
+    {
+        match self {
+            Connection::Closed => None,
+            Connection::Waiting(cutter) => match cutter.feed_byte(octet) {
+                Step::Need => None,
+                Step::Frame(frame) => {
+                    let frame = &frame;
+                    *self = if accepts(who, frame) {
+                        Connection::Running(Cutter::new())
+                    } else {
+                        Connection::Closed
+                    };
+                    first(who, frame)
+                }
+                Step::Fault(_) => {
+                    *self = Connection::Closed;
+                    None
+                }
+            },
+            Connection::Running(cutter) => match cutter.feed_byte(octet) {
+                Step::Need => None,
+                Step::Frame(frame) => {
+                    let frame = &frame;
+                    if ends(frame) {
+                        *self = Connection::Closed;
+                    }
+                    Some(Notice::Happened(event_of(who.carrier, frame)))
+                }
+                Step::Fault(_) => {
+                    *self = Connection::Closed;
+                    Some(Notice::Happened(Event::Lost(who.carrier)))
+                }
+            },
+        }
+    }
+
+    /// What the end of the connection brings: its carrier is lost, if it was up.
+    pub fn end(&self, carrier: CarrierNo) -> Option<Notice>
+        ensures { told result ≡ lost carrier self.now }
+    {
+        match self {
+            Connection::Running(_) => Some(Notice::Happened(Event::Lost(carrier))),
+            _ => None,
+        }
+    }
+}

@@ -1,0 +1,21 @@
+//! The engine of a site: what comes from its carriers, made into events of the site, and what is put out for each carrier.
+//!
+//! An [`Engine`] holds a site and the connections of its carriers. It takes [`Input`]s one by one, in one thread: a
+//! connection begins, octets come on it in pieces of any length, it is cut, the clock ticks. What the octets of a
+//! connection mean, and what is put out for it, is this project's link profile, version 1.
+#![tactic(auto)]
+
+mod connection;
+mod engine;
+mod input;
+mod laws;
+mod outputs;
+mod session;
+
+pub use engine::{Engine, RunFault};
+pub use input::Input;
+pub use laws::{connections_mean, inputs_mean, octets_mean};
+pub use outputs::Outputs;
+
+#[cfg(test)]
+mod tests;

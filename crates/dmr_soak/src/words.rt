@@ -1,0 +1,54 @@
+//! The words of the command line.
+
+/// What the words ask for.
+#[derive(Clone, Copy, Debug, PartialEq, Eq)]
+pub struct Wishes {
+    /// How many events each site is told, from 1 on.
+    pub events: u32,
+    /// What the events are drawn by.
+    pub seed: u64,
+    /// Whether counts are printed.
+    pub counts: bool,
+}
+
+/// What a word says, by the one before it.
+#[derive(Clone, Copy, PartialEq, Eq)]
+enum Awaited {
+    Option,
+    Events,
+    Seed,
+}
+
+/// Reads the words behind the program's own name: `--events N`, `--seed N` and `--counts`, in any order.
+pub fn wishes_of(words: &[String]) -> Option<Wishes> {
+    let mut wishes = Wishes {
+        events: 300,
+        seed: 42,
+        counts: false,
+    };
+    let mut awaited = Awaited::Option;
+    for word in words {
+        let word = word.as_str();
+        match awaited {
+            Awaited::Events => {
+                wishes.events = word.parse::<u32>().ok()?;
+                awaited = Awaited::Option;
+            }
+            Awaited::Seed => {
+                wishes.seed = word.parse::<u64>().ok()?;
+                awaited = Awaited::Option;
+            }
+            Awaited::Option => match word {
+                "--events" => awaited = Awaited::Events,
+                "--seed" => awaited = Awaited::Seed,
+                "--counts" => wishes.counts = true,
+                _ => return None,
+            },
+        }
+    }
+    if awaited == Awaited::Option && wishes.events > 0 {
+        Some(wishes)
+    } else {
+        None
+    }
+}

@@ -1,7 +1,7 @@
-pub mod InputLemmas
-pub mod JournalLemmas
+pub mod EngineLemmas
 pub mod ScriptLemmas
 pub mod ScriptCases
 pub mod WordsLemmas
 pub mod WordsCases
 pub mod ReplayLemmas
+pub mod NumberLemmas

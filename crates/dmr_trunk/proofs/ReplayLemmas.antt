@@ -1,6 +1,6 @@
 -- What a replay prints, one carrier number more; site files that are texts; and the faults that are told.
 use Rattle.std.proofs.Common.{◌≡◌, ℕ, ◌+◌, List, [], ◌∷◌, ◌++◌, Bool, true, false, map, arith, refl, sym, subst, ap, ◌∙◌, ◌⊎◌, inl, inr}
-use Rattle.std.specs.Prelude.{flat_map, IsErrAnd, IsSomeAnd, Option, Some, None, Result, Ok, Err, if◌then◌else◌}
+use Rattle.std.specs.Prelude.{flat_map, IsErrAnd, Option, Result, Ok, Err, if◌then◌else◌}
 use Rattle.std.specs.List.{range_with_len}
 use Rattle.std.proofs.lemmas.Grind.{flat_map-append}
 use Rattle.std.specs.Str.{IsUtf8, is_utf8}
@@ -15,8 +15,8 @@ use Rattle.dmr_plan.specs.declared.fault.PlanFault.TheVariants.{NotToml}
 use Rattle.dmr_plan.specs.Plan.{plan_of_text}
 use Rattle.dmr_trunk.specs.declared.replay.ReplayFault.{ReplayFault}
 use Rattle.dmr_trunk.specs.declared.replay.ReplayFault.TheVariants.{SiteFile, ScriptLine, OutOfMemory}
-use Rattle.dmr_trunk.specs.Script.{Line}
-use Rattle.dmr_trunk.specs.Replay.{Outcome, Prints, SiteNotRead, NoPlan, ScriptNotRead, NoLine, Tells, carrier_line, line_of_number, lines_to, number_at, of_inputs, of_lines, of_plan, plan_in}
+use Rattle.dmr_trunk.specs.Script.{Given}
+use Rattle.dmr_trunk.specs.Replay.{Outcome, Prints, SiteNotRead, NoPlan, ScriptNotRead, NoLine, Tells, carrier_line, line_of_number, lines_to, of_lines, of_plan, plan_in}
 
 lines_more : (plan : Settings) (put_out : ℕ → List ℕ) (number : ℕ) → lines_to plan put_out (number + 1) ≡ lines_to plan put_out number ++ line_of_number plan put_out number
 lines_more plan put_out number =
@@ -68,12 +68,10 @@ module _ (site_name script_name : List ℕ) (fault : ReplayFault) where
   no_plan (Err told) script (inr is) = subst (Tells site_name script_name (NoPlan told)) (sym is) refl
   no_plan (Ok plan) script (inr is) = absurd is
 
-  pub no_lines : (plan : Settings) (read : Result (List Line) ℕ) → (fault ≡ OutOfMemory) ⊎ IsErrAnd read (λ number. fault ≡ ScriptLine number) → Tells site_name script_name (of_lines plan read) fault
+  pub no_lines : (plan : Settings) (read : Result (List Given) ℕ) → (fault ≡ OutOfMemory) ⊎ IsErrAnd read (λ number. fault ≡ ScriptLine number) → Tells site_name script_name (of_lines plan read) fault
   no_lines plan read (inl memory) = subst (Tells site_name script_name (of_lines plan read)) (sym memory) (memory_told (of_lines plan read))
   no_lines plan (Err number) (inr is) = subst (Tells site_name script_name (NoLine number)) (sym is) refl
-  no_lines plan (Ok lines) (inr is) = absurd is
+  no_lines plan (Ok given) (inr is) = absurd is
 
-  pub no_inputs : (plan : Settings) (lines : List Line) (found : Option ℕ) → (fault ≡ OutOfMemory) ⊎ IsSomeAnd found (λ index. fault ≡ ScriptLine (number_at lines index)) → Tells site_name script_name (of_inputs plan lines found) fault
-  no_inputs plan lines found (inl memory) = subst (Tells site_name script_name (of_inputs plan lines found)) (sym memory) (memory_told (of_inputs plan lines found))
-  no_inputs plan lines (Some index) (inr is) = subst (Tells site_name script_name (NoLine (number_at lines index))) (sym is) refl
-  no_inputs plan lines None (inr is) = absurd is
+  pub no_memory : (found : Outcome) → fault ≡ OutOfMemory → Tells site_name script_name found fault
+  no_memory found memory = subst (Tells site_name script_name found) (sym memory) (memory_told found)

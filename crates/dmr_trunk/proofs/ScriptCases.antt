@@ -1,31 +1,28 @@
 -- Worked values of scripts.
-use Rattle.std.proofs.Common.{◌≡◌, ℕ, [], ◌∷◌, Ok, Err, codes, refl}
+use Rattle.std.proofs.Common.{◌≡◌, [], ◌∷◌, Ok, Err, codes, refl}
 use Rattle.hex.specs.Hex.{decode_pairs}
-use Rattle.dmr_trunk.specs.Input.{Input, Opening, Octets}
-use Rattle.dmr_trunk.specs.Script.{Line, script_of}
-
-abbrev line : ℕ → Input → Line
-line number input = record { number = number; input = input }
+use Rattle.dmr_link.specs.Input.{At, Opening, Octets, Cutting, Ticking}
+use Rattle.dmr_trunk.specs.Script.{once, script_of}
 
 -- a carrier's connection begins
-opens_0 : script_of (codes "open 0") ≡ Ok (line 1 (Opening 0) ∷ [])
+opens_0 : script_of (codes "open 0") ≡ Ok (once (At 0 Opening) ∷ [])
 opens_0 = refl
 
 -- octets, in digits of either case
-brings_octets : script_of (codes "bytes 15 0300") ≡ Ok (line 1 (Octets 15 (3 ∷ 0 ∷ [])) ∷ [])
+brings_octets : script_of (codes "bytes 15 0300") ≡ Ok (once (At 15 (Octets (3 ∷ 0 ∷ []))) ∷ [])
 unfolding decode_pairs
 brings_octets = refl
 
-either_case : script_of (codes "bytes 3 aBFf") ≡ Ok (line 1 (Octets 3 (171 ∷ 255 ∷ [])) ∷ [])
+either_case : script_of (codes "bytes 3 aBFf") ≡ Ok (once (At 3 (Octets (171 ∷ 255 ∷ []))) ∷ [])
 unfolding decode_pairs
 either_case = refl
 
 -- empty lines and comments are counted, and give nothing; the last line may end with an LF or without
-two_lines : script_of (codes "# first\nopen 1\n\nbytes 1 00\n") ≡ Ok (line 2 (Opening 1) ∷ line 4 (Octets 1 (0 ∷ [])) ∷ [])
+two_lines : script_of (codes "# first\nopen 1\n\nbytes 1 00\n") ≡ Ok (once (At 1 Opening) ∷ once (At 1 (Octets (0 ∷ []))) ∷ [])
 unfolding decode_pairs
 two_lines = refl
 
-without_the_last : script_of (codes "# first\nopen 1\n\nbytes 1 00") ≡ Ok (line 2 (Opening 1) ∷ line 4 (Octets 1 (0 ∷ [])) ∷ [])
+without_the_last : script_of (codes "# first\nopen 1\n\nbytes 1 00") ≡ Ok (once (At 1 Opening) ∷ once (At 1 (Octets (0 ∷ []))) ∷ [])
 unfolding decode_pairs
 without_the_last = refl
 
@@ -68,3 +65,31 @@ odd_digits = refl
 no_digit : script_of (codes "bytes 0 03G0") ≡ Err 1
 unfolding decode_pairs
 no_digit = refl
+
+-- a cut, a tick, and many
+cuts_1 : script_of (codes "cut 1") ≡ Ok (once (At 1 Cutting) ∷ [])
+cuts_1 = refl
+
+one_tick : script_of (codes "tick") ≡ Ok (once Ticking ∷ [])
+one_tick = refl
+
+many_ticks : script_of (codes "tick 100000\ntick 1\ntick 20") ≡ Ok (record { input = Ticking; times = 100000 } ∷ once Ticking ∷ record { input = Ticking; times = 20 } ∷ [])
+many_ticks = refl
+
+too_many_ticks : script_of (codes "tick 100001") ≡ Err 1
+too_many_ticks = refl
+
+no_ticks : script_of (codes "tick 0") ≡ Err 1
+no_ticks = refl
+
+ticks_from_zero : script_of (codes "tick 01") ≡ Err 1
+ticks_from_zero = refl
+
+ticks_of_a_word : script_of (codes "tick 1x") ≡ Err 1
+ticks_of_a_word = refl
+
+two_numbers : script_of (codes "tick 1 1") ≡ Err 1
+two_numbers = refl
+
+cut_of_no_carrier : script_of (codes "cut") ≡ Err 1
+cut_of_no_carrier = refl

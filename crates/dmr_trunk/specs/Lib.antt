@@ -1,5 +1,3 @@
-pub mod Input
-pub mod Session
 pub mod Inputs
 pub mod Script
 pub mod Words

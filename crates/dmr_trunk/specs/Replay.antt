@@ -1,7 +1,6 @@
 -- What a replay prints, or why it prints nothing.
-use Rattle.std.specs.Prelude.{◌≡◌, ◌⊎◌, ⊤, ℕ, Bool, true, false, List, [], ◌∷◌, ◌++◌, Option, Some, None, Result, Ok, Err, if◌then◌else◌, codes, flat_map, map, slice_get}
+use Rattle.std.specs.Prelude.{◌≡◌, ◌⊎◌, ⊤, ℕ, Bool, true, false, List, [], ◌∷◌, ◌++◌, Option, Some, None, Result, Ok, Err, if◌then◌else◌, codes, flat_map}
 use Rattle.std.specs.List.{range_with_len}
-use Rattle.std.specs.Option.{option_map_or}
 use Rattle.std.specs.Fmt.{decimal}
 use Rattle.std.specs.Io.KnownBytes.{Appends}
 use Rattle.std.specs.Str.{is_utf8}
@@ -13,9 +12,8 @@ use Rattle.dmr_plan.specs.Carriers.{has_number_in}
 use Rattle.dmr_plan.specs.Plan.{plan_of_text}
 use Rattle.dmr_trunk.specs.declared.replay.ReplayFault.{ReplayFault}
 use Rattle.dmr_trunk.specs.declared.replay.ReplayFault.TheVariants as fault
-use Rattle.dmr_trunk.specs.Input.{Input}
-use Rattle.dmr_trunk.specs.Inputs.{refused, put_out}
-use Rattle.dmr_trunk.specs.Script.{Line, script_of}
+use Rattle.dmr_trunk.specs.Inputs.{put_out}
+use Rattle.dmr_trunk.specs.Script.{Given, inputs_of, script_of}
 
 -- ---- the text
 
@@ -53,23 +51,10 @@ pub data Outcome : Type 0 where
 abbrev pub plan_in : List ℕ → Result Settings PlanFault
 plan_in site = if is_utf8 site then plan_of_text site else Err NotToml
 
--- the number of the line that gives the input of this index
-abbrev pub number_at : List Line → ℕ → ℕ
-number_at lines index = option_map_or (λ line. line.number) (slice_get lines index) 0
-
--- the inputs of lines
-abbrev pub inputs_of : List Line → List Input
-inputs_of lines = map (λ line. line.input) lines
-
--- where an input isn't taken its line is at fault; where all are, what they put out is printed
-abbrev pub of_inputs : Settings → List Line → Option ℕ → Outcome
-of_inputs plan lines (Some index) = NoLine (number_at lines index)
-of_inputs plan lines None = Prints (printed plan (put_out plan (inputs_of lines)))
-
--- what lines give, or the number of the one that is none
-abbrev pub of_lines : Settings → Result (List Line) ℕ → Outcome
+-- what the lines of a script put out, or the number of the one that is none
+abbrev pub of_lines : Settings → Result (List Given) ℕ → Outcome
 of_lines plan (Err number) = NoLine number
-of_lines plan (Ok lines) = of_inputs plan lines (refused plan (inputs_of lines))
+of_lines plan (Ok given) = Prints (printed plan (put_out plan (inputs_of given)))
 
 -- what a script gives, if it could be read
 abbrev pub of_script : Settings → Option (List ℕ) → Outcome

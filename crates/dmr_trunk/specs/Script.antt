@@ -1,13 +1,12 @@
 -- What a script is, and what it gives.
-use Rattle.std.specs.Prelude.{ℕ, ◌==◌, ◌&&◌, not, Bool, true, List, [], ◌∷◌, Option, Some, None, is_none, option_map, Result, Ok, Err, if◌then◌else◌, codes, find, position}
-use Rattle.std.specs.List.{slice_split, enumerate_from, filter_map}
+use Rattle.std.specs.Prelude.{ℕ, ◌+◌, ◌-◌, ◌*◌, ◌==◌, ◌&&◌, not, nat_le, Bool, true, false, List, [], ◌∷◌, Option, Some, None, is_none, option_map, Result, Ok, Err, if◌then◌else◌, codes, find, flat_map, fold, position, replicate}
+use Rattle.std.specs.List.{slice_split, enumerate_from, filter_map, list_all}
 use Rattle.std.specs.Result.{result_ok}
 use Rattle.std.specs.Str.{bytes_eq}
 use Rattle.hex.specs.Hex.{decode_of}
-use Rattle.dmr_trunk.specs.Input.{Input, Opening, Octets}
+use Rattle.dmr_link.specs.Input.{Input, At, Opening, Octets, Cutting, Ticking}
 use Rattle.dmr_trunk.specs.declared.script.ScriptInput.{ScriptInput}
 use Rattle.dmr_trunk.specs.declared.script.ScriptInput.TheVariants as input
-use Rattle.dmr_trunk.specs.declared.script.ScriptLine.{ScriptLine}
 
 -- ---- lines and words
 
@@ -45,38 +44,72 @@ at_least_one octets = None
 abbrev pub octets_of : List ℕ → Option (List ℕ)
 octets_of word = at_least_one (result_ok (decode_of word))
 
+-- a decimal digit
+abbrev pub is_digit : ℕ → Bool
+is_digit octet = nat_le 48 octet && nat_le octet 57
+
+-- the number that decimal digits spell
+abbrev pub spelled : List ℕ → ℕ
+spelled digits = fold (λ n digit. 10 * n + (digit - 48)) 0 digits
+
+-- decimal digits, the first of them not 0
+abbrev pub is_number : List ℕ → Bool
+is_number [] = false
+is_number (digit ∷ digits) = not (digit == 48) && list_all is_digit (digit ∷ digits)
+
+-- a number of ticks: 1 to 100000
+abbrev pub times_of : List ℕ → Option ℕ
+times_of word = if is_number word && nat_le (spelled word) 100000 then Some (spelled word) else None
+
+-- an input, and how often it comes
+pub record Given : Type 0 where
+  pub input : Input
+  pub times : ℕ
+
+-- an input that comes once
+abbrev pub once : Input → Given
+once input = record { input = input; times = 1 }
+
 -- `open C`: the words behind the first
-abbrev pub opening : List (List ℕ) → Option Input
-opening (carrier ∷ []) = option_map Opening (carrier_of carrier)
+abbrev pub opening : List (List ℕ) → Option Given
+opening (carrier ∷ []) = option_map (λ c. once (At c Opening)) (carrier_of carrier)
 opening words = None
 
+-- `cut C`: the words behind the first
+abbrev pub cutting : List (List ℕ) → Option Given
+cutting (carrier ∷ []) = option_map (λ c. once (At c Cutting)) (carrier_of carrier)
+cutting words = None
+
 -- octets for a carrier, where both words are such
-abbrev pub octets_from : Option ℕ → Option (List ℕ) → Option Input
-octets_from (Some carrier) (Some octets) = Some (Octets carrier octets)
+abbrev pub octets_from : Option ℕ → Option (List ℕ) → Option Given
+octets_from (Some carrier) (Some octets) = Some (once (At carrier (Octets octets)))
 octets_from carrier octets = None
 
 -- `bytes C HEX`: the words behind the first
-abbrev pub arrival : List (List ℕ) → Option Input
+abbrev pub arrival : List (List ℕ) → Option Given
 arrival (carrier ∷ digits ∷ []) = octets_from (carrier_of carrier) (octets_of digits)
 arrival words = None
 
+-- `tick` and `tick N`: the words behind the first
+abbrev pub ticking : List (List ℕ) → Option Given
+ticking [] = Some (once Ticking)
+ticking (times ∷ []) = option_map (λ n. record { input = Ticking; times = n }) (times_of times)
+ticking words = None
+
 -- the first word says what the others are; None where they are no words of a script
-abbrev pub given_by : List (List ℕ) → Option Input
+abbrev pub given_by : List (List ℕ) → Option Given
 given_by [] = None
 given_by (name ∷ words) =
     if bytes_eq name (codes "open") then opening words else
-    if bytes_eq name (codes "bytes") then arrival words else None
+    if bytes_eq name (codes "bytes") then arrival words else
+    if bytes_eq name (codes "cut") then cutting words else
+    if bytes_eq name (codes "tick") then ticking words else None
 
 -- ---- what a script gives
 
--- a line that gives an input, and its number
-pub record Line : Type 0 where
-  pub number : ℕ
-  pub input : Input
-
--- the input that a line gives, if it gives one
-abbrev pub input_of : List ℕ → Option Input
-input_of line = if is_skipped line then None else given_by (words_of line)
+-- what a line gives, if it gives something
+abbrev pub given_in : List ℕ → Option Given
+given_in line = if is_skipped line then None else given_by (words_of line)
 
 -- a line that is neither empty nor a comment, and gives nothing
 abbrev pub is_fault : List ℕ → Bool
@@ -86,26 +119,28 @@ is_fault line = not (is_skipped line) && is_none (given_by (words_of line))
 abbrev pub numbered : List ℕ → List (ℕ × List ℕ)
 numbered script = enumerate_from 1 (lines_of script)
 
--- a numbered line that gives an input
-abbrev pub line_of : ℕ × List ℕ → Option Line
-line_of line = option_map (λ input. record { number = line.0; input = input }) (input_of line.1)
+-- what a numbered line gives, if it gives something
+abbrev pub given_at : ℕ × List ℕ → Option Given
+given_at line = given_in line.1
 
--- the lines that give inputs, unless a line is at fault
-abbrev pub unless_fault : Option (ℕ × List ℕ) → List Line → Result (List Line) ℕ
-unless_fault None lines = Ok lines
-unless_fault (Some line) lines = Err line.0
+-- what the lines give, unless a line is at fault
+abbrev pub unless_fault : Option (ℕ × List ℕ) → List Given → Result (List Given) ℕ
+unless_fault None given = Ok given
+unless_fault (Some line) given = Err line.0
 
--- the lines that give inputs, in their order, or the number of the first line that is at fault
-abbrev pub script_of : List ℕ → Result (List Line) ℕ
-script_of script = unless_fault (find (λ line. is_fault line.1) (numbered script)) (filter_map line_of (numbered script))
+-- what the lines of a script give, in their order, or the number of the first line that is at fault
+abbrev pub script_of : List ℕ → Result (List Given) ℕ
+script_of script = unless_fault (find (λ line. is_fault line.1) (numbered script)) (filter_map given_at (numbered script))
+
+-- the inputs of a script: what each line gives, as often as it says
+abbrev pub inputs_of : List Given → List Input
+inputs_of given = flat_map (λ (g : Given). replicate g.times g.input) given
 
 -- ---- what values of the program stand for
 
--- an input that was read, as definitions see it
-abbrev pub input_in : ScriptInput → Input
-input_in (input.Open carrier) = Opening carrier
-input_in (input.Bytes carrier octets) = Octets carrier octets.items
-
--- a line that was read, as definitions see it
-abbrev pub line_in : ScriptLine → Line
-line_in line = record { number = line.number; input = input_in line.input }
+-- what a line gives, as definitions see it
+abbrev pub given_as : ScriptInput → Given
+given_as (input.Open carrier) = once (At carrier Opening)
+given_as (input.Bytes carrier octets) = once (At carrier (Octets octets.items))
+given_as (input.Cut carrier) = once (At carrier Cutting)
+given_as (input.Tick times) = record { input = Ticking; times = times }

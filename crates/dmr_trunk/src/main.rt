@@ -1,12 +1,10 @@
 //! The site controller of a DMR Tier III trunked radio site.
 //!
 //! `dmr_trunk --site FILE --script FILE` replays a script over the site of a site file and prints what was put out for
-//! each carrier. The words are read in `words` and scripts in `script`; `first` runs the inputs, and its contract is the
-//! theorem of the path from octets in to octets out; `replay` is the program but for its words and files.
+//! each carrier. The words are read in `words` and scripts in `script`; `replay` runs a script's inputs through the engine of
+//! `dmr_link`, and is the program but for its words and files.
 #![tactic(auto)]
 
-mod first;
-mod outputs;
 mod replay;
 #[cfg(test)]
 mod rows;

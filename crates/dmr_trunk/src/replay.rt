@@ -1,15 +1,16 @@
 //! Replays a script over the site of a site file, and prints what was put out.
 
-ghost use Rattle.std.specs.Prelude.{◌≡◌, ◌⊎◌, ℕ, [], IfErr, IfOk, IsErrAnd, IsSomeAnd, MatchResult, None, Ok, OnOk, false, map, option_map, slice_index_or, string_bytes};
+ghost use Rattle.std.specs.Prelude.{◌≡◌, ◌⊎◌, ℕ, [], IfErr, IfOk, IsErrAnd, MatchResult, Ok, OnOk, false, map, option_map, slice_index_or, string_bytes};
 ghost use Rattle.std.specs.Io.KnownBytes.{Appends};
-ghost use Rattle.dmr_trunk.specs.Inputs.{input_of, put_out, refused};
-ghost use Rattle.dmr_trunk.specs.Script.{line_in, script_of};
-ghost use Rattle.dmr_trunk.specs.Replay.{IsPrinted, Prints, Tells, carrier_line, digits_or_dash, inputs_of, is_printed, number_at, outcome, plan_in, printed, status_of};
+ghost use Rattle.dmr_link.specs.Input.{input_of};
+ghost use Rattle.dmr_trunk.specs.Inputs.{put_out};
+ghost use Rattle.dmr_trunk.specs.Script.{given_as, inputs_of, script_of};
+ghost use Rattle.dmr_trunk.specs.Replay.{IsPrinted, Prints, Tells, carrier_line, digits_or_dash, is_printed, outcome, plan_in, printed, status_of};
 
-use crate::first::{FirstFault, FirstInput, run};
-use crate::outputs::FirstOutputs;
-use crate::script::{ScriptFault, ScriptLine, read_script};
+use crate::script::{ScriptFault, ScriptInput, read_script};
 use crate::status::{FAULT, MEMORY, OK};
+use dmr_core::one_legal_journal;
+use dmr_link::{Engine, Input, Outputs};
 use dmr_pdu::CarrierNo;
 use dmr_plan::{Plan, PlanFault};
 use std::alloc::{AllocError, Global};
@@ -25,7 +26,7 @@ enum ReplayFault<'a> {
     /// The site file is no plan.
     #[error("site file: {0}")]
     SiteFile(PlanFault),
-    /// The line of this number, counted from 1, is no line of a script, or gives an input that is not taken.
+    /// The line of this number, counted from 1, is no line of a script.
     #[error("script line {0}")]
     ScriptLine(usize),
     /// Standard output took not all of what was put out.
@@ -94,7 +95,7 @@ fn print<'a, W: Write>(text: &[u8], out: &mut W) -> Result<(), ReplayFault<'a>>
 }
 
 /// What is to be printed.
-#[tactic(auto, using(crate::proofs::ReplayLemmas::no_plan, crate::proofs::ReplayLemmas::no_lines, crate::proofs::ReplayLemmas::no_inputs))]
+#[tactic(auto, using(crate::proofs::ReplayLemmas::no_plan, crate::proofs::ReplayLemmas::no_lines, crate::proofs::ReplayLemmas::no_memory))]
 fn text_of_replay<'a>(
     alloc: Global,
     site_name: &'a str,
@@ -107,9 +108,8 @@ fn text_of_replay<'a>(
         (Tells site_name.now script_name.now (outcome (option_map (λ o. o.now) site.entry) (option_map (λ o. o.now) script.entry))) }
 {
     let plan = plan_of(alloc, site.ok_or(ReplayFault::CannotRead(site_name))?)?;
-    let lines = lines_of(alloc, script.ok_or(ReplayFault::CannotRead(script_name))?)?;
-    let outputs = outputs_of(alloc, &plan, lines.as_slice())?;
-    match outputs_text(alloc, &plan, &outputs) {
+    let given = given_by(alloc, script.ok_or(ReplayFault::CannotRead(script_name))?)?;
+    match text_of_inputs(alloc, &plan, given.as_slice()) {
         Ok(text) => Ok(text),
         Err(AllocError) => Err(ReplayFault::OutOfMemory),
     }
@@ -132,57 +132,58 @@ fn plan_of<'a>(alloc: Global, site: &[u8]) -> Result<Plan, ReplayFault<'a>>
     }
 }
 
-/// The lines of a script that give inputs.
-fn lines_of<'a>(alloc: Global, script: &[u8]) -> Result<Vec<ScriptLine>, ReplayFault<'a>>
+/// What the lines of a script give.
+fn given_by<'a>(alloc: Global, script: &[u8]) -> Result<Vec<ScriptInput>, ReplayFault<'a>>
     ensures { MatchResult result
-        (λ lines. script_of script.now ≡ Ok (map line_in lines.items))
+        (λ given. script_of script.now ≡ Ok (map given_as given.items))
         (λ fault. (fault ≡ ReplayFault.OutOfMemory) ⊎ IsErrAnd (script_of script.now) (λ number. fault ≡ ReplayFault.ScriptLine number)) }
 {
     match read_script(alloc, script) {
-        Ok(lines) => Ok(lines),
+        Ok(given) => Ok(given),
         Err(ScriptFault::Line(number)) => Err(ReplayFault::ScriptLine(number)),
         Err(ScriptFault::OutOfMemory) => Err(ReplayFault::OutOfMemory),
     }
 }
 
-/// The inputs of lines.
-fn inputs_of<'a>(alloc: Global, lines: &'a [ScriptLine]) -> Result<Vec<FirstInput<'a>>, AllocError>
-    ensures { IfOk result (λ inputs. map input_of inputs.items ≡ inputs_of (map line_in lines.entry.now)) }
+/// The inputs that lines give.
+fn inputs_of<'a>(alloc: Global, given: &'a [ScriptInput]) -> Result<Vec<Input<'a>>, AllocError>
+    ensures { IfOk result (λ inputs. map input_of inputs.items ≡ inputs_of (map given_as given.entry.now)) }
 {
     let mut inputs = Vec::new(alloc);
-    for line in lines {
-        if inputs.push(line.as_input()).is_err() {
-            return Err(AllocError);
+    for line in given {
+        for _ in 0..line.times() {
+            if inputs.push(line.as_input()).is_err() {
+                return Err(AllocError);
+            }
         }
     }
     Ok(inputs)
 }
 
-/// What the lines' inputs put out.
-fn outputs_of<'a>(
-    alloc: Global,
-    plan: &Plan,
-    lines: &[ScriptLine],
-) -> Result<FirstOutputs, ReplayFault<'a>>
-    ensures { MatchResult result
-        (λ outputs. (refused plan.now (inputs_of (map line_in lines.now)) ≡ None) × ((c : ℕ) → slice_index_or outputs c [] ≡ put_out plan.now (inputs_of (map line_in lines.now)) c))
-        (λ fault. (fault ≡ ReplayFault.OutOfMemory) ⊎ IsSomeAnd (refused plan.now (inputs_of (map line_in lines.now))) (λ index. fault ≡ ReplayFault.ScriptLine (number_at (map line_in lines.now) index))) }
+/// What inputs put out, from a site on which nothing stands and with no connection open.
+#[tactic(auto, using(crate::proofs::EngineLemmas::run_text))]
+fn outputs_of(alloc: Global, plan: &Plan, inputs: &[Input<'_>]) -> Result<Outputs, AllocError>
+    ensures { IfOk result (λ outputs. (c : ℕ) → slice_index_or outputs c [] ≡ put_out plan.now (map input_of inputs.now) c) }
 {
-    let Ok(inputs) = inputs_of(alloc, lines) else {
-        return Err(ReplayFault::OutOfMemory);
-    };
-    match run(alloc, *plan, inputs.as_slice()) {
+    one_legal_journal();
+    let mut engine = Engine::new(alloc, *plan)?;
+    match engine.run(alloc, inputs) {
         Ok(outputs) => Ok(outputs),
-        Err(FirstFault::NotFrame(index)) => {
-            let number = lines.get(index).map_or(0, |line| line.number);
-            Err(ReplayFault::ScriptLine(number))
-        }
-        Err(FirstFault::OutOfMemory) => Err(ReplayFault::OutOfMemory),
+        Err(_) => Err(AllocError),
     }
 }
 
+/// What is printed for what lines give.
+fn text_of_inputs(alloc: Global, plan: &Plan, given: &[ScriptInput]) -> Result<Vec<u8>, AllocError>
+    ensures { IfOk result (λ text. text.items ≡ printed plan.now (put_out plan.now (inputs_of (map given_as given.now)))) }
+{
+    let inputs = inputs_of(alloc, given)?;
+    let outputs = outputs_of(alloc, plan, inputs.as_slice())?;
+    outputs_text(alloc, plan, &outputs)
+}
+
 /// A line per carrier of the plan, by number.
-fn outputs_text(alloc: Global, plan: &Plan, outputs: &FirstOutputs) -> Result<Vec<u8>, AllocError>
+fn outputs_text(alloc: Global, plan: &Plan, outputs: &Outputs) -> Result<Vec<u8>, AllocError>
     ensures { IfOk result (λ text. text.items ≡ printed plan.now (λ c. slice_index_or outputs.now c [])) }
 {
     let mut text = Vec::new(alloc);

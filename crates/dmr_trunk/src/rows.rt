@@ -1,6 +1,8 @@
 //! Worked cases, through `replay`: a script, and what is printed for it. They were worked out apart from this program.
 
+mod clock;
 mod control_slot;
+mod cutting;
 mod faults;
 mod individual_calls;
 mod program;

@@ -4,29 +4,28 @@
 //! lines and lines that begin with `#` are skipped. The words of a line are separated by one space.
 
 ghost use Rattle.std.specs.Prelude.{◌≡◌, ℕ, Ok, Err, IfOk, map, option_map};
-ghost use Rattle.dmr_trunk.specs.Script.{arrival, carrier_of as carrier_of_word, given_by, input_in, is_skipped, line_in, octets_of as octets_of_word, opening, script_of, words_of};
-ghost use Rattle.dmr_trunk.specs.Inputs.{input_of};
+ghost use Rattle.std.specs.List.{list_all};
+ghost use Rattle.dmr_link.specs.Input.{input_of};
+ghost use Rattle.dmr_trunk.specs.Script.{arrival, carrier_of as carrier_of_word, cutting, given_as, given_by, is_digit, is_number, is_skipped, octets_of as octets_of_word, opening, script_of, ticking, times_of as times_of_word, words_of};
 
-use crate::first::FirstInput;
+use dmr_link::Input;
 use dmr_pdu::CarrierNo;
 use std::alloc::{AllocError, Global};
 
-/// An input that a line of a script gives.
+/// The most ticks that a line gives.
+const MOST_TICKS: u32 = 100_000;
+
+/// What a line of a script gives.
 #[derive(Drop)]
 pub enum ScriptInput {
     /// `open C`: the connection of carrier C begins.
     Open(CarrierNo),
     /// `bytes C HEX`: octets, at least one, that came from carrier C.
     Bytes(CarrierNo, Vec<u8>),
-}
-
-/// A line of a script that gives an input.
-#[derive(Drop)]
-pub struct ScriptLine {
-    /// The line's number, counted from 1 over all lines.
-    pub number: usize,
-    /// What it gives.
-    pub input: ScriptInput,
+    /// `cut C`: the connection of carrier C is cut.
+    Cut(CarrierNo),
+    /// `tick` and `tick N`: so many ticks of the site's clock, 1 to 100,000.
+    Tick(u32),
 }
 
 /// Why a script was not read.
@@ -38,41 +37,52 @@ pub enum ScriptFault {
     OutOfMemory,
 }
 
-impl ScriptLine {
-    /// The input as the replay takes it.
-    pub fn as_input(&self) -> FirstInput<'_>
-        ensures { input_of result ≡ (line_in self.now).input }
+impl ScriptInput {
+    /// The input that the line gives.
+    pub fn as_input(&self) -> Input<'_>
+        ensures { input_of result ≡ (given_as self.entry.now).input }
     {
-        match &self.input {
-            ScriptInput::Open(carrier) => FirstInput::Open(*carrier),
-            ScriptInput::Bytes(carrier, octets) => FirstInput::Bytes(*carrier, octets.as_slice()),
+        match self {
+            ScriptInput::Open(carrier) => Input::Open(*carrier),
+            ScriptInput::Bytes(carrier, octets) => Input::Bytes(*carrier, octets.as_slice()),
+            ScriptInput::Cut(carrier) => Input::Cut(*carrier),
+            ScriptInput::Tick(_) => Input::Tick,
+        }
+    }
+
+    /// How often it gives it.
+    pub fn times(&self) -> u32
+        ensures { result ≡ (given_as self.now).times }
+    {
+        match self {
+            ScriptInput::Tick(times) => *times,
+            _ => 1,
         }
     }
 }
 
-/// The lines of a script that give inputs, in their order, or the number of the first line that is at fault.
-pub fn read_script(alloc: Global, script: &[u8]) -> Result<Vec<ScriptLine>, ScriptFault>
-    // The lines are all those that give inputs, and none is at fault.
-    ensures lines { IfOk result (λ lines. script_of script.now ≡ Ok (map line_in lines.items)) }
+/// What the lines of a script give, in their order, or the number of the first line that is at fault.
+pub fn read_script(alloc: Global, script: &[u8]) -> Result<Vec<ScriptInput>, ScriptFault>
+    // That is what all lines give, and none is at fault.
+    ensures lines { IfOk result (λ given. script_of script.now ≡ Ok (map given_as given.items)) }
     // A script is refused by the number of its first line that is at fault, unless memory runs out.
     ensures fault { (number : ℕ) → result ≡ Err (ScriptFault.Line number) → script_of script.now ≡ Err number }
 {
-    let mut lines = Vec::new(alloc);
+    let mut given = Vec::new(alloc);
     for (index, line) in script.split(|octet| *octet == b'\n').enumerate() {
         if !is_skipped(line) {
-            let number = index + 1;
-            match input_of(alloc, line) {
+            match given_in(alloc, line) {
                 Ok(Some(input)) => {
-                    if lines.push(ScriptLine { number, input }).is_err() {
+                    if given.push(input).is_err() {
                         return Err(ScriptFault::OutOfMemory);
                     }
                 }
-                Ok(None) => return Err(ScriptFault::Line(number)),
+                Ok(None) => return Err(ScriptFault::Line(index + 1)),
                 Err(AllocError) => return Err(ScriptFault::OutOfMemory),
             }
         }
     }
-    Ok(lines)
+    Ok(given)
 }
 
 /// Whether a line gives nothing and is no fault: an empty line or a comment.
@@ -86,8 +96,8 @@ fn is_skipped(line: &[u8]) -> bool
 }
 
 /// What a line that is not skipped gives; None where it is no line of a script.
-fn input_of(alloc: Global, line: &[u8]) -> Result<Option<ScriptInput>, AllocError>
-    ensures { IfOk result (λ input. option_map input_in input ≡ given_by (words_of line.now)) }
+fn given_in(alloc: Global, line: &[u8]) -> Result<Option<ScriptInput>, AllocError>
+    ensures { IfOk result (λ input. option_map given_as input ≡ given_by (words_of line.now)) }
 {
     let words = words_of(alloc, line)?;
     given_by(alloc, words.as_slice())
@@ -102,7 +112,7 @@ fn words_of(alloc: Global, line: &[u8]) -> Result<Vec<&[u8]>, AllocError>
 
 /// What words give; None where they are no words of a script.
 fn given_by(alloc: Global, words: &[&[u8]]) -> Result<Option<ScriptInput>, AllocError>
-    ensures { IfOk result (λ input. option_map input_in input ≡ given_by (map (λ word. word.now) words.now)) }
+    ensures { IfOk result (λ input. option_map given_as input ≡ given_by (map (λ word. word.now) words.now)) }
 {
     let [name, arguments @ ..] = words else {
         return Ok(None);
@@ -111,6 +121,10 @@ fn given_by(alloc: Global, words: &[&[u8]]) -> Result<Option<ScriptInput>, Alloc
         Ok(opening(arguments))
     } else if *name == b"bytes".as_slice() {
         arrival(alloc, arguments)
+    } else if *name == b"cut".as_slice() {
+        Ok(cutting(arguments))
+    } else if *name == b"tick".as_slice() {
+        Ok(ticking(arguments))
     } else {
         Ok(None)
     }
@@ -118,7 +132,7 @@ fn given_by(alloc: Global, words: &[&[u8]]) -> Result<Option<ScriptInput>, Alloc
 
 /// What the words behind `open` give: one word, C.
 fn opening(words: &[&[u8]]) -> Option<ScriptInput>
-    ensures { option_map input_in result ≡ opening (map (λ word. word.now) words.now) }
+    ensures { option_map given_as result ≡ opening (map (λ word. word.now) words.now) }
 {
     match words {
         [carrier] => carrier_of(carrier).map(|carrier| ScriptInput::Open(carrier)),
@@ -126,9 +140,30 @@ fn opening(words: &[&[u8]]) -> Option<ScriptInput>
     }
 }
 
+/// What the words behind `cut` give: one word, C.
+fn cutting(words: &[&[u8]]) -> Option<ScriptInput>
+    ensures { option_map given_as result ≡ cutting (map (λ word. word.now) words.now) }
+{
+    match words {
+        [carrier] => carrier_of(carrier).map(|carrier| ScriptInput::Cut(carrier)),
+        _ => None,
+    }
+}
+
+/// What the words behind `tick` give: none, or one, N.
+fn ticking(words: &[&[u8]]) -> Option<ScriptInput>
+    ensures { option_map given_as result ≡ ticking (map (λ word. word.now) words.now) }
+{
+    match words {
+        [] => Some(ScriptInput::Tick(1)),
+        [times] => times_of(times).map(|times| ScriptInput::Tick(times)),
+        _ => None,
+    }
+}
+
 /// What the words behind `bytes` give: two words, C and HEX.
 fn arrival(alloc: Global, words: &[&[u8]]) -> Result<Option<ScriptInput>, AllocError>
-    ensures { IfOk result (λ input. option_map input_in input ≡ arrival (map (λ word. word.now) words.now)) }
+    ensures { IfOk result (λ input. option_map given_as input ≡ arrival (map (λ word. word.now) words.now)) }
 {
     let [carrier, digits] = words else {
         return Ok(None);
@@ -160,4 +195,46 @@ fn octets_of(alloc: Global, word: &[u8]) -> Result<Option<Vec<u8>>, AllocError>
         Err(hex::FromHexError::OutOfMemory) => Err(AllocError),
         _ => Ok(None),
     }
+}
+
+/// Whether an octet is a decimal digit.
+fn is_digit(octet: u8) -> bool
+    ensures { result ≡ is_digit octet }
+{
+    b'0' <= octet && octet <= b'9'
+}
+
+/// Whether all octets of a word are decimal digits.
+fn are_digits(word: &[u8]) -> bool
+    ensures { result ≡ list_all is_digit word.now }
+{
+    word.iter().all(|digit| is_digit(*digit))
+}
+
+/// Whether a word is decimal digits, the first of them not 0.
+fn is_number(word: &[u8]) -> bool
+    ensures { result ≡ is_number word.now }
+{
+    match word {
+        [] => false,
+        [first, ..] => *first != b'0' && are_digits(word),
+    }
+}
+
+/// A number of ticks: 1 to 100,000 in decimal digits, with no leading zero.
+#[tactic(auto, using(crate::proofs::NumberLemmas::too_many))]
+fn times_of(word: &[u8]) -> Option<u32>
+    ensures { result ≡ times_of_word word.now }
+{
+    if !is_number(word) {
+        return None;
+    }
+    let mut times = 0;
+    for digit in word {
+        times = 10 * times + u32::from(digit.saturating_sub(b'0'));
+        if times > MOST_TICKS {
+            return None;
+        }
+    }
+    Some(times)
 }

@@ -1,4 +1,4 @@
-//! Scripts that are refused: nothing is run, and nothing printed.
+//! Lines that are no lines of a script, and what ends a connection.
 
 use crate::rows::{Case, SITE, check_cases};
 
@@ -69,9 +69,9 @@ const BAD_LINES: [Case<'static>; 13] = [
         status: 1,
     },
     Case {
-        name: "tick not yet",
+        name: "tick of nothing",
         site: SITE,
-        script: b"open 0\nbytes 0 010401000001\n# third line\ntick\nbytes 0 021A000EB49CDF34F2749CECBA5CB3B7C40E88138C9A38F96248E180\nbytes 0 0300\n",
+        script: b"open 0\nbytes 0 010401000001\n# third line\ntick 0\nbytes 0 021A000EB49CDF34F2749CECBA5CB3B7C40E88138C9A38F96248E180\nbytes 0 0300\n",
         printed: b"",
         fault: b"dmr_trunk: script line 4\n",
         status: 1,
@@ -115,75 +115,182 @@ fn bad_lines(rt: HostRuntime) {
     check_cases(&rt, &BAD_LINES);
 }
 
-/// Inputs that are not taken: told by the line, before any is run.
-const NOT_TAKEN: [Case<'static>; 8] = [
+/// What ends a connection, or means nothing. What is put out is what stood before it.
+const LINKS: [Case<'static>; 21] = [
     Case {
         name: "not open",
         site: SITE,
-        script: b"bytes 0 010401000001\n",
-        printed: b"",
-        fault: b"dmr_trunk: script line 1\n",
-        status: 1,
+        script: b"bytes 0 010401000001\nbytes 0 0300\n",
+        printed: b"carrier 0 -\ncarrier 1 -\n",
+        fault: b"",
+        status: 0,
     },
     Case {
         name: "opened twice",
         site: SITE,
-        script: b"open 0\nopen 0\n",
-        printed: b"",
-        fault: b"dmr_trunk: script line 2\n",
-        status: 1,
+        script: b"open 0\nopen 0\nbytes 0 010401000001\n",
+        printed: b"carrier 0 810101\ncarrier 1 -\n",
+        fault: b"",
+        status: 0,
     },
     Case {
         name: "carrier 2",
         site: SITE,
-        script: b"# not in the plan\nopen 2\n",
-        printed: b"",
-        fault: b"dmr_trunk: script line 2\n",
-        status: 1,
+        script: b"# not in the plan\nopen 2\nbytes 2 010401020003\ncut 2\n",
+        printed: b"carrier 0 -\ncarrier 1 -\n",
+        fault: b"",
+        status: 0,
     },
+    // It is a fault: the carrier is lost, and what follows means nothing.
     Case {
         name: "second hello",
         site: SITE,
-        script: b"open 0\nbytes 0 010401000001\nbytes 0 010401000001\n",
-        printed: b"",
-        fault: b"dmr_trunk: script line 3\n",
-        status: 1,
+        script: b"open 0\nbytes 0 010401000001\nbytes 0 010401000001\nbytes 0 0300\n",
+        printed: b"carrier 0 810101\ncarrier 1 -\n",
+        fault: b"",
+        status: 0,
+    },
+    Case {
+        name: "another version",
+        site: SITE,
+        script: b"open 0\nbytes 0 010402000001\nbytes 0 0300\n",
+        printed: b"carrier 0 840101\ncarrier 1 -\n",
+        fault: b"",
+        status: 0,
     },
     Case {
         name: "hello of another carrier",
         site: SITE,
-        script: b"open 0\nbytes 0 010401010002\n",
-        printed: b"",
-        fault: b"dmr_trunk: script line 2\n",
-        status: 1,
+        script: b"open 0\nbytes 0 010401010002\nbytes 0 0300\n",
+        printed: b"carrier 0 840102\ncarrier 1 -\n",
+        fault: b"",
+        status: 0,
+    },
+    Case {
+        name: "another channel",
+        site: SITE,
+        script: b"open 0\nbytes 0 010401000002\n",
+        printed: b"carrier 0 840102\ncarrier 1 -\n",
+        fault: b"",
+        status: 0,
+    },
+    // The version is judged first.
+    Case {
+        name: "another version and carrier",
+        site: SITE,
+        script: b"open 0\nbytes 0 010402010002\n",
+        printed: b"carrier 0 840101\ncarrier 1 -\n",
+        fault: b"",
+        status: 0,
+    },
+    Case {
+        name: "poll before hello",
+        site: SITE,
+        script: b"open 0\nbytes 0 0300\nbytes 0 010401000001\n",
+        printed: b"carrier 0 -\ncarrier 1 -\n",
+        fault: b"",
+        status: 0,
+    },
+    Case {
+        name: "bye before hello",
+        site: SITE,
+        script: b"open 0\nbytes 0 0500\nbytes 0 010401000001\n",
+        printed: b"carrier 0 -\ncarrier 1 -\n",
+        fault: b"",
+        status: 0,
+    },
+    Case {
+        name: "unknown type",
+        site: SITE,
+        script: b"open 0\nbytes 0 06\nbytes 0 010401000001\n",
+        printed: b"carrier 0 -\ncarrier 1 -\n",
+        fault: b"",
+        status: 0,
+    },
+    Case {
+        name: "another length",
+        site: SITE,
+        script: b"open 0\nbytes 0 0101\nbytes 0 010401000001\n",
+        printed: b"carrier 0 -\ncarrier 1 -\n",
+        fault: b"",
+        status: 0,
     },
     Case {
         name: "part of a frame",
         site: SITE,
         script: b"open 0\nbytes 0 010401000001\nbytes 0 03\n",
-        printed: b"",
-        fault: b"dmr_trunk: script line 3\n",
-        status: 1,
+        printed: b"carrier 0 810101\ncarrier 1 -\n",
+        fault: b"",
+        status: 0,
+    },
+    Case {
+        name: "a frame in two pieces",
+        site: SITE,
+        script: b"open 0\nbytes 0 010401000001\nbytes 0 03\nbytes 0 00\n",
+        printed: b"carrier 0 810101821A00003C162711600B7815580890050305862280421079005A23108300\ncarrier 1 -\n",
+        fault: b"",
+        status: 0,
     },
     Case {
         name: "two frames in one piece",
         site: SITE,
         script: b"open 0\nbytes 0 0104010000010300\n",
-        printed: b"",
-        fault: b"dmr_trunk: script line 2\n",
-        status: 1,
+        printed: b"carrier 0 810101821A00003C162711600B7815580890050305862280421079005A23108300\ncarrier 1 -\n",
+        fault: b"",
+        status: 0,
+    },
+    // All that stands before it is taken.
+    Case {
+        name: "frames before a fault",
+        site: SITE,
+        script: b"open 0\nbytes 0 0104010000010300060300\n",
+        printed: b"carrier 0 810101821A00003C162711600B7815580890050305862280421079005A23108300\ncarrier 1 -\n",
+        fault: b"",
+        status: 0,
+    },
+    Case {
+        name: "slot 2",
+        site: SITE,
+        script: b"open 0\nbytes 0 010401000001\nbytes 0 040102\nbytes 0 0300\n",
+        printed: b"carrier 0 810101\ncarrier 1 -\n",
+        fault: b"",
+        status: 0,
     },
     Case {
         name: "pad not zero",
         site: SITE,
-        script: b"open 0\nbytes 0 010401000001\nbytes 0 021A000EB49CDF34F2749CECBA5CB3B7C40E88138C9A38F96248E181\n",
-        printed: b"",
-        fault: b"dmr_trunk: script line 3\n",
-        status: 1,
+        script: b"open 0\nbytes 0 010401000001\nbytes 0 021A000EB49CDF34F2749CECBA5CB3B7C40E88138C9A38F96248E181\nbytes 0 0300\n",
+        printed: b"carrier 0 810101\ncarrier 1 -\n",
+        fault: b"",
+        status: 0,
+    },
+    Case {
+        name: "bye",
+        site: SITE,
+        script: b"open 0\nbytes 0 010401000001\nbytes 0 05000300\n",
+        printed: b"carrier 0 810101\ncarrier 1 -\n",
+        fault: b"",
+        status: 0,
+    },
+    Case {
+        name: "open again",
+        site: SITE,
+        script: b"open 0\nbytes 0 010401000001\nbytes 0 05000300\nopen 0\nbytes 0 0104010000010300\n",
+        printed: b"carrier 0 810101810101821A00003C162711600B7815580890050305862280421079005A23108300\ncarrier 1 -\n",
+        fault: b"",
+        status: 0,
+    },
+    Case {
+        name: "cut",
+        site: SITE,
+        script: b"open 0\nbytes 0 010401000001\ncut 0\nbytes 0 0300\ncut 0\n",
+        printed: b"carrier 0 810101\ncarrier 1 -\n",
+        fault: b"",
+        status: 0,
     },
 ];
 
 #[test]
-fn not_taken(rt: HostRuntime) {
-    check_cases(&rt, &NOT_TAKEN);
+fn links(rt: HostRuntime) {
+    check_cases(&rt, &LINKS);
 }

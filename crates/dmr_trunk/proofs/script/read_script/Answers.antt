@@ -1,11 +1,11 @@
 -- At each turn of the loop the line is the next of the script's lines.
-use Rattle.std.proofs.Common.{◌≡◌, ℕ, ◌+◌, ◌∷◌, [], ◌++◌, true, Some, None, is_ok, not, map, length, sym, ap, ◌∙◌, eqb, option_map, arith, rules}
+use Rattle.std.proofs.Common.{◌≡◌, ◌∷◌, [], ◌++◌, true, Some, None, is_ok, not, map, length, sym, ap, ◌∙◌, eqb, option_map, arith, rules}
 use Rattle.std.proofs.lemmas.Iterator.Consumers.{YieldsList-at, YieldsList-from_enumerate, YieldsList-turn, YieldsList-end}
 use Rattle.std.proofs.lemmas.Iterator.Splits.{YieldsList-from_slice_split}
 use Rattle.std.proofs.lemmas.List.FromFn.{length-enumerate_from}
 use Rattle.std.proofs.lemmas.List.{length_push, map-append}
 use borrow.Author.Tests.{tests}
-use Rattle.dmr_trunk.specs.Script.{given_by, input_in, line_in, lines_of, script_of, words_of}
+use Rattle.dmr_trunk.specs.Script.{given_as, given_by, lines_of, script_of, words_of}
 use Rattle.dmr_trunk.proofs.ScriptLemmas.{skips, gives, faults, ends, line_at}
 use Rattle.dmr_trunk.proofs.script.read_script.Goals as goal
 
@@ -18,14 +18,13 @@ loop-index-preserved-else-is_err c =
     (YieldsList-from_slice_split _ (λ o. eqb o 10) c.args.script.now c.split.ensures.rest c.split.ensures.done c.split.ensures.closure (λ x b q k. search (rules, tests))))
     c.enumerate-index-items.ensures.count))
     c.loop-index.yielded _ c.loop-index.yielded_by _ _ (c.in-Some.index, c.in-Some.line) c.in-Some.is c.next.ensures.steps) in
-    let given = map line_in c.loop-index.lines.items in
-    let input = input_in c.in-Ok-Some.input in
+    let given = map given_as c.loop-index.given.items in
+    let input = given_as c.in-Ok-Some.input in
     let taken : is_ok c.push.result ≡ true = c.is_err.ensures.negation ∙ ap not c.if-is_err.false in
     let items = rw taken at c.push.ensures.items in
-    let more : map line_in c.push.new.self.items ≡ given ++ record { number = length c.loop-index.yielded + 1; input = input } ∷ [] =
-    ap (map line_in) items ∙ map-append line_in c.loop-index.lines.items _ ∙ ap (λ (n : ℕ). given ++ record { number = n + 1; input = input } ∷ []) at.0 in
-    let some : given_by (words_of c.in-Some.line.now) ≡ Some input = sym c.in-Ok-Some.ensures ∙ ap (option_map input_in) c.in-Ok-Some.field-0-is in
-    gives (map line_in c.loop-index.lines.items) (length c.loop-index.yielded) c.in-Some.line.now (lines_of c.args.script.now) at.1 (script_of c.args.script.now) c.loop-index.invariant
+    let more : map given_as c.push.new.self.items ≡ given ++ input ∷ [] = ap (map given_as) items ∙ map-append given_as c.loop-index.given.items _ in
+    let some : given_by (words_of c.in-Some.line.now) ≡ Some input = sym c.in-Ok-Some.ensures ∙ ap (option_map given_as) c.in-Ok-Some.field-0-is in
+    gives (map given_as c.loop-index.given.items) (length c.loop-index.yielded) c.in-Some.line.now (lines_of c.args.script.now) at.1 (script_of c.args.script.now) c.loop-index.invariant
     _ (length_push c.loop-index.yielded (c.in-Some.index, c.in-Some.line)) input _ more (sym c.is_skipped.ensures ∙ c.if-not-is_skipped.true) some
 
 pub returns-in-Ok-None-clause-fault : goal.returns-in-Ok-None-clause-fault
@@ -37,8 +36,8 @@ returns-in-Ok-None-clause-fault c =
     (YieldsList-from_slice_split _ (λ o. eqb o 10) c.args.script.now c.split.ensures.rest c.split.ensures.done c.split.ensures.closure (λ x b q k. search (rules, tests))))
     c.enumerate-index-items.ensures.count))
     c.loop-index.yielded _ c.loop-index.yielded_by _ _ (c.in-Some.index, c.in-Some.line) c.in-Some.is c.next.ensures.steps) in
-    let none : given_by (words_of c.in-Some.line.now) ≡ None = sym c.in-Ok-None.ensures ∙ ap (option_map input_in) c.in-Ok-None.field-0-is in
-    let fault = faults (map line_in c.loop-index.lines.items) (length c.loop-index.yielded) c.in-Some.line.now (lines_of c.args.script.now) at.1 (script_of c.args.script.now) c.loop-index.invariant
+    let none : given_by (words_of c.in-Some.line.now) ≡ None = sym c.in-Ok-None.ensures ∙ ap (option_map given_as) c.in-Ok-None.field-0-is in
+    let fault = faults (map given_as c.loop-index.given.items) (length c.loop-index.yielded) c.in-Some.line.now (lines_of c.args.script.now) at.1 (script_of c.args.script.now) c.loop-index.invariant
     (sym c.is_skipped.ensures ∙ c.if-not-is_skipped.true) none in
     λ number same. cc (fault, at.0)
 
@@ -51,7 +50,7 @@ loop-index-preserved c =
     (YieldsList-from_slice_split _ (λ o. eqb o 10) c.args.script.now c.split.ensures.rest c.split.ensures.done c.split.ensures.closure (λ x b q k. search (rules, tests))))
     c.enumerate-index-items.ensures.count))
     c.loop-index.yielded _ c.loop-index.yielded_by _ _ (c.in-Some.index, c.in-Some.line) c.in-Some.is c.next.ensures.steps) in
-    skips (map line_in c.loop-index.lines.items) (length c.loop-index.yielded) c.in-Some.line.now (lines_of c.args.script.now) at.1 (script_of c.args.script.now) c.loop-index.invariant
+    skips (map given_as c.loop-index.given.items) (length c.loop-index.yielded) c.in-Some.line.now (lines_of c.args.script.now) at.1 (script_of c.args.script.now) c.loop-index.invariant
     _ (length_push c.loop-index.yielded (c.in-Some.index, c.in-Some.line)) (sym c.is_skipped.ensures ∙ c.if-not-is_skipped.false)
 
 pub returns-clause-lines : goal.returns-clause-lines
@@ -62,5 +61,5 @@ returns-clause-lines c =
     (YieldsList-from_slice_split _ (λ o. eqb o 10) c.args.script.now c.split.ensures.rest c.split.ensures.done c.split.ensures.closure (λ x b q k. search (rules, tests))))
     c.enumerate-index-items.ensures.count))
     c.loop-index.yielded _ c.loop-index.yielded_by _ _ c.in-None.is c.next.ensures.steps in
-    ends (map line_in c.loop-index.lines.items) (length c.loop-index.yielded) (lines_of c.args.script.now) (script_of c.args.script.now)
+    ends (map given_as c.loop-index.given.items) (length c.loop-index.yielded) (lines_of c.args.script.now) (script_of c.args.script.now)
     (omega (arith, end.1, length-enumerate_from 0 (lines_of c.args.script.now))) c.loop-index.invariant

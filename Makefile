@@ -2,7 +2,7 @@
 # make build   the proved program, at build/dmr_trunk
 # make test    the whole gate: every proof, must-fail edit and test, and each program's stored run
 # make bench   words decoded per second, beside a baseline, on this machine
-# make soak    200,000 random events on each of two sites, every answer tested, by the proved program (seconds, once it is proved)
+# make soak    a million random inputs through the engine, on two sites, all that is put out tested, by the proved program (half a minute, once it is proved)
 .PHONY: demo build test bench soak
 
 demo:
@@ -21,4 +21,4 @@ bench:
 	@cd crates/dmr_bench && rt run -- --time
 
 soak:
-	@cd crates/dmr_soak && rt run -- --events 200000 --counts
+	@cd crates/dmr_soak && rt run -- --inputs 500000 --counts

@@ -2,15 +2,18 @@
 
 ghost use Rattle.std.specs.Prelude.{◌≡◌, ◌+◌, ◌≤◌, ◌↔◌, [], length, sum, IsTrue, IfOk};
 ghost use Rattle.dmr_access.specs.Noise.{AreNoiseNumbers, noise_at_up, with_noise, with_poll, backoff_of};
-ghost use Rattle.dmr_access.specs.Fill.{fill_of};
+ghost use Rattle.dmr_access.specs.Fill.{aloha_of, fill_of, move_to};
 
-use dmr_pdu::{Address, Number, Pdu};
+use dmr_pdu::{Address, Lpcn, Number, Pdu};
 use dmr_plan::Plan;
 use std::alloc::{AllocError, Global};
 use std::marker::Model;
 
 /// How many noise numbers there are. A Noise counts until as many Polls came after it.
 const POLLS: usize = 32;
+
+/// Radios must register, here and on the channel to which they are moved.
+const MUST_REGISTER: bool = true;
 
 /// How often nothing could be read on the control slot of a plan's site of late. Contracts see it as the plan and the
 /// noise numbers: the Noises since the last Poll of the control carrier, then those between that Poll and the one before,
@@ -121,10 +124,21 @@ impl Access {
         raised.min(u32::from(self.plan.backoff_high())) as u8
     }
 
-    /// What fills the control slot: C_ALOHA with the plan's fields and the backoff. All radios are invited (mask and
-    /// address 0), for all services (function 0), and must register.
-    pub fn fill(&self) -> Pdu
-        ensures { result ≡ fill_of self.now.plan self.now.noise }
+    /// What fills the control slot: C_MOVE to the channel on which radios are to seek the control channel, else C_ALOHA
+    /// (TS 102 361-4, clause 7.1.1; their layouts are this project's profile).
+    pub fn fill(&self, moving: Option<Lpcn>) -> Pdu
+        ensures { result ≡ fill_of self.now.plan moving self.now.noise }
+    {
+        match moving {
+            None => self.aloha(),
+            Some(lpcn) => self.move_to(lpcn),
+        }
+    }
+
+    /// C_ALOHA with the plan's fields and the backoff. All radios are invited (mask and address 0), for all services
+    /// (function 0), and must register.
+    fn aloha(&self) -> Pdu
+        ensures { result ≡ aloha_of self.now.plan self.now.noise }
     {
         self.plan.keeps();
         Pdu::Aloha {
@@ -135,10 +149,21 @@ impl Access {
             mask: Number::new(0),
             function: Number::new(0),
             nrand_wait: Number::new(u32::from(self.plan.nrand_wait())),
-            register: true,
+            register: MUST_REGISTER,
             backoff: Number::new(u32::from(self.backoff())),
             system: Number::new(u32::from(self.plan.system())),
             address: Address::new(0),
+        }
+    }
+
+    /// C_MOVE to a channel, with the backoff. Radios must register there.
+    fn move_to(&self, lpcn: Lpcn) -> Pdu
+        ensures { result ≡ move_to self.now.plan self.now.noise lpcn }
+    {
+        Pdu::Move {
+            register: MUST_REGISTER,
+            backoff: Number::new(u32::from(self.backoff())),
+            lpcn,
         }
     }
 }

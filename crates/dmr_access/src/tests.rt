@@ -1,7 +1,7 @@
 //! Worked cases, on a site file of two carriers.
 
 use super::*;
-use dmr_pdu::Pdu;
+use dmr_pdu::{Lpcn, Pdu};
 use dmr_plan::Plan;
 use std::alloc::Global;
 use std::test::Fail;
@@ -22,11 +22,22 @@ fn access(alloc: Global) -> Result<Access, Fail> {
 fn fills_by_the_site_file(rt: HostRuntime) -> Result<(), Fail> {
     let mut access = access(rt.alloc())?;
     let quiet = [0x99, 0, 0, 0, 0x11, 0x12, 0x34, 0, 0, 0];
-    assert_eq!(rt; access.fill(), Pdu::from_octets(&quiet));
-    assert_eq!(rt; access.fill().to_octets(), quiet);
+    assert_eq!(rt; access.fill(None), Pdu::from_octets(&quiet));
+    assert_eq!(rt; access.fill(None).to_octets(), quiet);
     access.noise();
     let disturbed = [0x99, 0, 0, 0, 0x12, 0x12, 0x34, 0, 0, 0];
-    assert_eq!(rt; access.fill().to_octets(), disturbed);
+    assert_eq!(rt; access.fill(None).to_octets(), disturbed);
+    Ok(())
+}
+
+#[test]
+fn fills_while_moving(rt: HostRuntime) -> Result<(), Fail> {
+    let mut access = access(rt.alloc())?;
+    let quiet = [0xB9, 0, 0, 0, 0x11, 0, 0x07, 0, 0, 0];
+    assert_eq!(rt; access.fill(Some(Lpcn::new(7))).to_octets(), quiet);
+    access.noise();
+    let disturbed = [0xB9, 0, 0, 0, 0x12, 0, 0x07, 0, 0, 0];
+    assert_eq!(rt; access.fill(Some(Lpcn::new(7))).to_octets(), disturbed);
     Ok(())
 }
 

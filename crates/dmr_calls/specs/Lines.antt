@@ -1,5 +1,5 @@
 -- Lines: a list in the order of lining.
-use Rattle.std.specs.Prelude.{ℕ, List, [], ◌∷◌, ◌++◌, Bool, not, ◌==◌, ◌&&◌, nat_le, nat_lt, length, filter, find, Option, slice_get, if◌then◌else◌}
+use Rattle.std.specs.Prelude.{ℕ, List, [], ◌∷◌, ◌++◌, Bool, not, ◌==◌, ◌&&◌, nat_le, nat_lt, length, filter, find, take, drop, Option, slice_get, if◌then◌else◌}
 use Rattle.std.specs.List.{list_any}
 use Rattle.dmr_calls.specs.declared.line.Line.{Line}
 
@@ -14,6 +14,10 @@ without_line source lines = filter (λ l. not (l.source == source)) lines
 -- the line that waits longest
 abbrev pub first_line : List Line → Option Line
 first_line lines = slice_get lines 0
+
+-- the lines from a place on, counted from 0, 16 at most
+abbrev pub lines_from : List Line → ℕ → List Line
+lines_from lines place = take 16 (drop place lines)
 
 -- whether any line stands
 abbrev pub has_lines : List Line → Bool

@@ -1,6 +1,6 @@
 //! Calls.
 
-use dmr_pdu::{Address, Slot};
+use dmr_pdu::{Address, Blank, Slot};
 
 /// A call.
 #[derive(Clone, Copy, Debug, PartialEq, Eq)]
@@ -13,6 +13,21 @@ pub struct Call {
     pub target: Address,
     /// Whether a talkgroup is called.
     pub group: bool,
+}
+
+impl Blank for Call {
+    ghost use Rattle.std.specs.Prelude.{false};
+
+    ghost blank = { record { slot = record { carrier = 0; slot = 0 }; source = 0; target = 0; group = false } };
+
+    fn blank() -> Self {
+        Call {
+            slot: Slot::blank(),
+            source: Address::blank(),
+            target: Address::blank(),
+            group: false,
+        }
+    }
 }
 
 /// A call that stands.

@@ -1,6 +1,6 @@
 //! Lines.
 
-use dmr_pdu::Address;
+use dmr_pdu::{Address, Blank};
 
 /// A line: a request for a call that waits for a free slot.
 #[derive(Clone, Copy, Debug, PartialEq, Eq)]
@@ -11,4 +11,18 @@ pub struct Line {
     pub target: Address,
     /// Whether a talkgroup is called.
     pub group: bool,
+}
+
+impl Blank for Line {
+    ghost use Rattle.std.specs.Prelude.{false};
+
+    ghost blank = { record { source = 0; target = 0; group = false } };
+
+    fn blank() -> Self {
+        Line {
+            source: Address::blank(),
+            target: Address::blank(),
+            group: false,
+        }
+    }
 }

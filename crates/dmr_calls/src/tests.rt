@@ -216,6 +216,23 @@ fn finds_calls(rt: HostRuntime) -> Result<(), Fail> {
 }
 
 #[test]
+fn shows_lines(rt: HostRuntime) -> Result<(), Fail> {
+    let mut calls = Calls::new(rt.alloc())?;
+    for number in 1..=20u32 {
+        assert_eq!(rt; calls.line(&line(number, true)), Ok(()));
+    }
+    assert_eq!(rt; calls.lines_from(0).len(), 16);
+    assert_eq!(rt; calls.lines_from(0).as_slice()[15], line(16, true));
+    assert_eq!(rt;
+        calls.lines_from(18).as_slice(),
+        [line(19, true), line(20, true)].as_slice()
+    );
+    assert!(rt; calls.lines_from(20).is_empty());
+    assert!(rt; calls.lines_from(21).is_empty());
+    Ok(())
+}
+
+#[test]
 fn finds_lines(rt: HostRuntime) -> Result<(), Fail> {
     let mut calls = Calls::new(rt.alloc())?;
     let target = Address::new(2003);

@@ -1,6 +1,6 @@
 -- The acts of each rule may be done.
 use Rattle.std.proofs.Common.{◌≡◌, ◌<◌, ◌≤◌, ◌+◌, ℕ, List, [], ◌∷◌, ◌++◌, Bool, true, false, refl, sym, ◌∙◌, ap, subst, arith, map, filter, length, drop}
-use Rattle.std.specs.Prelude.{fold, Some, None, if◌then◌else◌, ◌&&◌, not, find, ◌==◌, slice_get, nat_le, nat_lt}
+use Rattle.std.specs.Prelude.{fold, Option, Some, None, if◌then◌else◌, ◌&&◌, not, find, ◌==◌, slice_get, nat_le, nat_lt}
 use Rattle.std.specs.List.{list_any}
 use Rattle.std.specs.Option.{option_map_or}
 use Rattle.std.proofs.lemmas.Bool.Decides.{nat_tests}
@@ -23,12 +23,14 @@ use Rattle.dmr_pool.specs.Slots.{box, place}
 use Rattle.dmr_pool.specs.Free.{control_slot, names}
 use Rattle.dmr_core.specs.declared.request.Request.{Request}
 use Rattle.dmr_core.specs.declared.event.Event.{Event}
-use Rattle.dmr_core.specs.declared.event.Event.TheVariants.{Heard, Poll, Tick}
+use Rattle.dmr_core.specs.declared.event.Event.TheVariants.{Heard, Poll, Say, Tick}
+use Rattle.dmr_core.specs.declared.command.Command.{Command}
+use Rattle.dmr_core.specs.declared.command.Command.TheVariants.{Drop, End}
 use Rattle.dmr_core.specs.declared.act.Act.{Act}
 use Rattle.dmr_core.specs.declared.act.Act.TheVariants.{AskOver, Asked, Fill, Joined, Left, Queue, Unlined}
-use Rattle.dmr_core.specs.Facts.{Facts, done, noted}
+use Rattle.dmr_core.specs.Facts.{Facts, done, noted, has_carrier}
 use Rattle.dmr_core.specs.Words.{has_room, is_engaged, is_free, is_registered, is_up, lowest_free, lpcn_of, outbox, stands_on}
-use Rattle.dmr_core.specs.Rules.{ack, acts_of, ahoy, answered, begin, cancel, clear, close, ended, grant, heard, individual, leaving, new_call, poll, registration, repeat, request, sent, serve, talkgroup, tick}
+use Rattle.dmr_core.specs.Rules.{ack, acts_of, ahoy, answered, begin, cancel, clear, close, commanded, ended, grant, heard, individual, leaving, new_call, poll, registration, repeat, request, sent, serve, talkgroup, tick}
 use Rattle.dmr_core.specs.Sound.{IsSound, engagements, in_ask, in_line, is_grant, total}
 use Rattle.dmr_core.specs.May.{AllMayDo, MayDo, MayEngage}
 use Rattle.dmr_core.proofs.PlanLemmas.{KnowsPlan}
@@ -423,14 +425,18 @@ tick_may plan now p h =
     (λ k. both_may plan now (fold done now due) p (sound-acts plan now due p h c.may) c.ready c.asks (room_is plan now k)))
 
 -- polls
+fill_may : (plan : Settings) (later : Facts) (slot : Slot) (noise : List ℕ) (moving : Option ℕ) → MayDo plan later (Fill slot (fill_of plan moving noise))
+fill_may plan later slot noise None = tt
+fill_may plan later slot noise (Some lpcn) = tt
+
 sent_may : (plan : Settings) (now later : Facts) (slot : Slot) (xs : List Pdu) → outbox later slot ≡ xs → is_up later slot.carrier ≡ true → slot.slot < 2 → AllMayDo plan later (sent plan now slot xs)
-sent_may plan now later slot [] e up small = if_may plan later (is_slot slot (control_slot plan)) (Fill slot (fill_of plan now.noise) ∷ []) (λ k. (tt, tt))
+sent_may plan now later slot [] e up small = if_may plan later (is_slot slot (control_slot plan)) (Fill slot (fill_of plan now.moving now.noise) ∷ []) (λ k. (fill_may plan later slot now.noise now.moving, tt))
 sent_may plan now later slot (pdu ∷ pdus) e up small = ((up, small, rw e refl), tt)
 
 sent_up : (plan : Settings) (now later : Facts) (slot : Slot) (xs : List Pdu) → (fold done later (sent plan now slot xs)).up ≡ later.up
 sent_up plan now later slot [] = either (is_slot slot (control_slot plan))
   where
-    either : (b : Bool) → (fold done later (if b then Fill slot (fill_of plan now.noise) ∷ [] else [])).up ≡ later.up
+    either : (b : Bool) → (fold done later (if b then Fill slot (fill_of plan now.moving now.noise) ∷ [] else [])).up ≡ later.up
     either true = refl
     either false = refl
 sent_up plan now later slot (pdu ∷ pdus) = refl
@@ -438,7 +444,7 @@ sent_up plan now later slot (pdu ∷ pdus) = refl
 sent_elsewhere : (plan : Settings) (now later : Facts) (slot other : Slot) (xs : List Pdu) → slot.slot < 2 → other.slot < 2 → is_slot other slot ≡ false → outbox (fold done later (sent plan now slot xs)) other ≡ outbox later other
 sent_elsewhere plan now later slot other [] small also apart = either (is_slot slot (control_slot plan))
   where
-    either : (b : Bool) → outbox (fold done later (if b then Fill slot (fill_of plan now.noise) ∷ [] else [])) other ≡ outbox later other
+    either : (b : Bool) → outbox (fold done later (if b then Fill slot (fill_of plan now.moving now.noise) ∷ [] else [])) other ≡ outbox later other
     either true = refl
     either false = refl
 sent_elsewhere plan now later slot other (pdu ∷ pdus) small also apart =
@@ -456,9 +462,29 @@ polls_may plan now later c same boxes up =
     (sent_elsewhere plan now later first second (outbox now first) (omega arith) (omega arith) (grind (arith, nat_tests)) ∙ rw boxes refl)
     (rw (sent_up plan now later first (outbox now first)) still) (omega arith))
 
+-- commands
+dropped_may : (plan : Settings) (now : Facts) (r : ℕ) → KnowsPlan plan → IsSound plan now → length (outbox now (control_slot plan)) ≤ 56 → AllMayDo plan now (close plan now r ++ Left r ∷ [])
+dropped_may plan now r p h room =
+    let c : Closes plan now r (close plan now r) = close_closes plan now r p h room in
+    may-append plan (close plan now r) (Left r ∷ []) now c.may (c.closed.gone, tt)
+
+ended_may : (plan : Settings) (now : Facts) (slot : Slot) → KnowsPlan plan → IsSound plan now → AllMayDo plan now (option_map_or (λ (call : Call). clear plan call) (call_on now.calls slot) [])
+ended_may plan now slot p h =
+    by_option (AllMayDo plan now) (λ (call : Call). clear plan call) (call_on now.calls slot) []
+    (λ call k. clear_may plan now call p h (found_stands (λ s. is_slot s.call.slot slot) now.calls call h.apart k)) tt
+
+commanded_may : (plan : Settings) (now : Facts) (command : Command) → KnowsPlan plan → IsSound plan now → AllMayDo plan (noted plan now (Say command)) (commanded plan now command)
+unfolding commanded
+commanded_may plan now (Drop r) p h =
+    if_may plan now (is_registered now r && has_room plan now) (close plan now r ++ Left r ∷ [])
+    (λ k. dropped_may plan now r p h (room_is plan now (and_true (is_registered now r) (has_room plan now) k).1))
+commanded_may plan now (End c s) p h = if_may plan now (has_carrier plan c) _ (λ k. ended_may plan now (record { carrier = c; slot = s }) p h)
+commanded_may plan now _ p h = tt
+
 -- each event's acts may be done
 pub acts_may : (plan : Settings) (now : Facts) (event : Event) → KnowsPlan plan → IsSound plan now → AllMayDo plan (noted plan now event) (acts_of plan now event)
 acts_may plan now (Heard slot pdu) p h = if_may plan now (is_up now slot.carrier && (is_slot slot (control_slot plan) && has_room plan now)) (heard plan now pdu) (λ k. heard_at plan now slot pdu p h k)
 acts_may plan now (Poll c) p h = if_may plan (noted plan now (Poll c)) (is_up now c) _ (λ k. polls_may plan now (noted plan now (Poll c)) c refl refl k)
 acts_may plan now Tick p h = tick_may plan (record now { calls = map counted now.calls; asks = map waited_more now.asks }) p (sound-noted plan now Tick p h)
+acts_may plan now (Say command) p h = commanded_may plan now command p h
 acts_may plan now _ p h = tt

@@ -11,7 +11,7 @@ use Rattle.dmr_calls.specs.Calls.{is_slot, marked}
 use Rattle.dmr_pool.specs.Slots.{box, emptied}
 use Rattle.dmr_pool.specs.Free.{is_control}
 use Rattle.dmr_core.specs.declared.event.Event.{Event}
-use Rattle.dmr_core.specs.declared.event.Event.TheVariants.{Up, Lost, Heard, Noise, Active, Poll, Tick}
+use Rattle.dmr_core.specs.declared.event.Event.TheVariants.{Up, Lost, Heard, Noise, Active, Poll, Tick, Say}
 use Rattle.dmr_core.specs.Facts.{Facts, noted, has_carrier}
 use Rattle.dmr_core.specs.Words.{is_up, stands_on}
 use Rattle.dmr_core.specs.Rules.{acts_of}
@@ -88,9 +88,9 @@ unknown_down plan now c h none = either (is_up now c) refl
     either false e = refl
 
 -- facts, field by field
-same_facts : (a b : Facts) → a.up ≡ b.up → a.registered ≡ b.registered → a.asks ≡ b.asks → a.lines ≡ b.lines → a.calls ≡ b.calls → a.outboxes ≡ b.outboxes → a.noise ≡ b.noise → a ≡ b
-same_facts a b up registered asks lines calls outboxes noise =
-    λ i. record { up = up i; registered = registered i; asks = asks i; lines = lines i; calls = calls i; outboxes = outboxes i; noise = noise i }
+same_facts : (a b : Facts) → a.up ≡ b.up → a.registered ≡ b.registered → a.asks ≡ b.asks → a.lines ≡ b.lines → a.calls ≡ b.calls → a.outboxes ≡ b.outboxes → a.noise ≡ b.noise → a.moving ≡ b.moving → a ≡ b
+same_facts a b up registered asks lines calls outboxes noise moving =
+    λ i. record { up = up i; registered = registered i; asks = asks i; lines = lines i; calls = calls i; outboxes = outboxes i; noise = noise i; moving = moving i }
 
 none_or : {X : Type 0} (b : Bool) (xs : List X) → (b ≡ true → xs ≡ []) → (if b then [] else xs) ≡ xs
 none_or true xs h = sym (h refl)
@@ -117,22 +117,23 @@ same_noted plan now (Up c) p h none =
     let down : is_up now c ≡ false = unknown_down plan now c h none in
     same_facts (noted plan now (Up c)) now (rw none refl) refl (rw other refl) (rw other refl)
     (same_calls now.calls c (λ slot k. not_there plan now c slot h down k))
-    (both_boxes now.outboxes c (λ n small. h.down (record { carrier = c; slot = n }) small down)) (rw other refl)
+    (both_boxes now.outboxes c (λ n small. h.down (record { carrier = c; slot = n }) small down)) (rw other refl) refl
 same_noted plan now (Lost c) p h none =
     same_facts (noted plan now (Lost c)) now (same_up now.up c none) refl
     (none_or (c == plan.control) now.asks (λ e. h.asks (down_too plan now c none e)))
     (none_or (c == plan.control) now.lines (λ e. h.lines (down_too plan now c none e)))
     (same_calls now.calls c (λ slot k. not_there plan now c slot h none k))
     (both_boxes now.outboxes c (λ n small. h.down (record { carrier = c; slot = n }) small none))
-    (none_or (c == plan.control) now.noise (λ e. h.noiseless (down_too plan now c none e)))
+    (none_or (c == plan.control) now.noise (λ e. h.noiseless (down_too plan now c none e))) refl
 same_noted plan now (Noise slot) p h none =
-    same_facts (noted plan now (Noise slot)) now refl refl refl refl refl refl (noise_or (is_control plan slot) now.noise (λ e. h.noiseless (slot_down plan now slot none e)))
+    same_facts (noted plan now (Noise slot)) now refl refl refl refl refl refl (noise_or (is_control plan slot) now.noise (λ e. h.noiseless (slot_down plan now slot none e))) refl
 same_noted plan now (Active slot) p h none =
-    same_facts (noted plan now (Active slot)) now refl refl refl refl (same_marked now.calls slot (none_there plan now slot h none)) refl refl
+    same_facts (noted plan now (Active slot)) now refl refl refl refl (same_marked now.calls slot (none_there plan now slot h none)) refl refl refl
 same_noted plan now (Poll c) p h none =
-    same_facts (noted plan now (Poll c)) now refl refl refl refl refl refl (poll_or (c == plan.control) now.noise (λ e. h.noiseless (down_too plan now c none e)))
+    same_facts (noted plan now (Poll c)) now refl refl refl refl refl refl (poll_or (c == plan.control) now.noise (λ e. h.noiseless (down_too plan now c none e))) refl
 same_noted plan now (Heard slot pdu) p h none = refl
 same_noted plan now Tick p h none = elim none [ ]
+same_noted plan now (Say command) p h none = elim none [ ]
 
 pub no_acts : (plan : Settings) (now : Facts) (event : Event) → IsOfNoCarrier plan now event → acts_of plan now event ≡ []
 no_acts plan now (Heard slot pdu) none = rw none refl
@@ -142,3 +143,4 @@ no_acts plan now (Lost c) none = refl
 no_acts plan now (Noise slot) none = refl
 no_acts plan now (Active slot) none = refl
 no_acts plan now Tick none = elim none [ ]
+no_acts plan now (Say command) none = elim none [ ]

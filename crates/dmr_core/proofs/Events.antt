@@ -17,8 +17,8 @@ use Rattle.dmr_access.specs.Noise.{noise_at_up, with_noise, with_poll}
 use Rattle.dmr_pool.specs.Slots.{box, emptied, place}
 use Rattle.dmr_pool.specs.Free.{control_slot, is_control}
 use Rattle.dmr_core.specs.declared.event.Event.{Event}
-use Rattle.dmr_core.specs.declared.event.Event.TheVariants.{Active, Lost, Noise, Poll, Tick, Up}
-use Rattle.dmr_core.specs.Facts.{Facts, has_carrier, noted}
+use Rattle.dmr_core.specs.declared.event.Event.TheVariants.{Active, Lost, Noise, Poll, Say, Tick, Up}
+use Rattle.dmr_core.specs.Facts.{Facts, has_carrier, noted, moving_by_event}
 use Rattle.dmr_core.specs.Words.{is_up, stands_on}
 use Rattle.dmr_core.specs.Sound.{IsPayload, IsSound, engagements, in_ask, in_call, in_line, is_grant, is_own, party, total}
 use Rattle.dmr_core.proofs.PlanLemmas.{KnowsPlan}
@@ -126,6 +126,34 @@ sound-noise plan now noise h none all = record {
   window = λ k. all (h.window k);
 }
 
+-- only the move of the control channel changed
+sound-moving : (plan : Settings) (now : Facts) (moving : Option ℕ) → IsSound plan now → IsSound plan (record now { moving = moving })
+sound-moving plan now moving h = record {
+  carriers = h.carriers;
+  slots = h.slots;
+  known = h.known;
+  apart = h.apart;
+  payload = h.payload;
+  quiet = h.quiet;
+  asks = h.asks;
+  lines = h.lines;
+  distinct = h.distinct;
+  parties = h.parties;
+  called = h.called;
+  lined = h.lined;
+  once = h.once;
+  down = h.down;
+  elsewhere = h.elsewhere;
+  own = h.own;
+  few_calls = h.few_calls;
+  few_asks = h.few_asks;
+  few_lines = h.few_lines;
+  few_radios = h.few_radios;
+  few_waiting = h.few_waiting;
+  noiseless = h.noiseless;
+  window = h.window;
+}
+
 length-with_noise : (noise : List ℕ) → length (with_noise noise) ≡ length noise
 length-with_noise [] = refl
 length-with_noise (n ∷ noise) = omega arith
@@ -215,6 +243,7 @@ reset plan now c up noise = record {
   calls = filter (λ s. not (s.call.slot.carrier == c)) now.calls;
   outboxes = emptied now.outboxes c;
   noise = noise;
+  moving = now.moving;
 }
 
 sound-reset : (plan : Settings) (now : Facts) (c : ℕ) (up : List Bool) (noise : List ℕ) → length up ≡ 16 → ((x : ℕ) → slice_index_or up x false ≡ true → has_carrier plan x ≡ true) → ((x : ℕ) → (x == c) ≡ false → slice_index_or up x false ≡ is_up now x) → (slice_index_or up plan.control false ≡ false → noise ≡ []) → (slice_index_or up plan.control false ≡ true → length noise ≡ 32) → IsSound plan now → IsSound plan (reset plan now c up noise)
@@ -347,4 +376,5 @@ sound-noted plan now (Active slot) p h = sound-mapped plan now (marked slot) (ma
 sound-noted plan now Tick p h = sound-waited plan (record now { calls = map counted now.calls }) (sound-mapped plan now counted (λ s. refl) h)
 sound-noted plan now (Noise slot) p h = sound-noise plan now (if is_control plan slot then with_noise now.noise else now.noise) h (with_noise_none (is_control plan slot) now.noise) (with_noise_all (is_control plan slot) now.noise)
 sound-noted plan now (Poll c) p h = sound-noise plan now (if c == plan.control then with_poll now.noise else now.noise) h (with_poll_none (c == plan.control) now.noise) (with_poll_all (c == plan.control) now.noise)
+sound-noted plan now (Say command) p h = sound-moving plan now (moving_by_event now.moving (Say command)) h
 sound-noted plan now event p h = h

@@ -19,12 +19,14 @@ use Rattle.dmr_access.specs.Fill.{fill_of}
 use Rattle.dmr_pool.specs.Free.{control_slot}
 use Rattle.dmr_core.specs.declared.request.Request.{Request}
 use Rattle.dmr_core.specs.declared.event.Event.{Event}
-use Rattle.dmr_core.specs.declared.event.Event.TheVariants.{Heard, Poll, Tick}
+use Rattle.dmr_core.specs.declared.event.Event.TheVariants.{Heard, Poll, Say, Tick}
+use Rattle.dmr_core.specs.declared.command.Command.{Command}
+use Rattle.dmr_core.specs.declared.command.Command.TheVariants.{Drop, End}
 use Rattle.dmr_core.specs.declared.act.Act.{Act}
 use Rattle.dmr_core.specs.declared.act.Act.TheVariants.{AskOver, Asked, Began, Ended, Fill, Joined, Left, Lined, Queue, Send, Unlined}
-use Rattle.dmr_core.specs.Facts.{Facts}
+use Rattle.dmr_core.specs.Facts.{Facts, has_carrier}
 use Rattle.dmr_core.specs.Words.{has_room, is_registered, is_up, lowest_free, lpcn_of, outbox}
-use Rattle.dmr_core.specs.Rules.{ack, acts_of, ahoy, answered, begin, cancel, clear, close, ended, grant, grant_pdu, heard, individual, leaving, new_call, poll, registration, repeat, request, sent, serve, talkgroup, tick}
+use Rattle.dmr_core.specs.Rules.{ack, acts_of, ahoy, answered, begin, cancel, clear, close, commanded, ended, grant, grant_pdu, heard, individual, leaving, new_call, poll, registration, repeat, request, sent, serve, talkgroup, tick}
 use Rattle.dmr_core.specs.Sound.{IsSound, total}
 use Rattle.dmr_core.specs.Counts.{AreFew, elsewhere, on_control}
 use Rattle.dmr_core.proofs.PlanLemmas.{KnowsPlan}
@@ -216,7 +218,7 @@ tick_few plan now p h =
     (if_few plan (has_room plan now) (repeat plan now ++ serve plan now) 8 5 0 (few-append plan (repeat plan now) (serve plan now) 2 1 0 6 4 0 (repeat_few plan now) (serve_few plan now p)))
 
 sent_few : (plan : Settings) (now : Facts) (slot : Slot) (xs : List Pdu) → AreFew plan (sent plan now slot xs) 1 0 0
-sent_few plan now slot [] = if_few plan (is_slot slot (control_slot plan)) (Fill slot (fill_of plan now.noise) ∷ []) 1 0 0 (plain_few plan _ [] 0 0 0 refl refl (none_few plan 0 0 0))
+sent_few plan now slot [] = if_few plan (is_slot slot (control_slot plan)) (Fill slot (fill_of plan now.moving now.noise) ∷ []) 1 0 0 (plain_few plan _ [] 0 0 0 refl refl (none_few plan 0 0 0))
 sent_few plan now slot (pdu ∷ pdus) = plain_few plan (Send slot pdu) [] 0 0 0 refl refl (none_few plan 0 0 0)
 
 polls_few : (plan : Settings) (now : Facts) (c : ℕ) → AreFew plan (poll plan now (record { carrier = c; slot = 0 }) ++ poll plan now (record { carrier = c; slot = 1 })) 2 0 0
@@ -226,9 +228,26 @@ polls_few plan now c =
     let b : Slot = record { carrier = c; slot = 1 } in
     few-append plan (sent plan now a (outbox now a)) (sent plan now b (outbox now b)) 1 0 0 1 0 0 (sent_few plan now a (outbox now a)) (sent_few plan now b (outbox now b))
 
+-- so it is with each command
+commanded_few : (plan : Settings) (now : Facts) (command : Command) → KnowsPlan plan → IsSound plan now → AreFew plan (commanded plan now command) 13 5 4
+unfolding commanded
+commanded_few plan now (Drop r) p h =
+    if_few plan (is_registered now r && has_room plan now) (close plan now r ++ Left r ∷ []) 13 5 4
+    (few-within plan (close plan now r ++ Left r ∷ []) 6 1 4 13 5 4
+    (few-append plan (close plan now r) (Left r ∷ []) 5 1 4 1 0 0 (close_few plan now r p h) (plain_few plan (Left r) [] 0 0 0 refl refl (none_few plan 0 0 0)))
+    (omega arith) (omega arith) (omega arith))
+commanded_few plan now (End c s) p h =
+    let slot : Slot = record { carrier = c; slot = s } in
+    if_few plan (has_carrier plan c) _ 13 5 4
+    (by_option (λ acts. AreFew plan acts 13 5 4) (λ (call : Call). clear plan call) (call_on now.calls slot) []
+    (λ call k. few-within plan (clear plan call) 5 0 4 13 5 4 (clear_few plan now call p h (found_stands (λ s. is_slot s.call.slot slot) now.calls call h.apart k)) (omega arith) (omega arith) (omega arith))
+    (none_few plan 13 5 4))
+commanded_few plan now _ p h = none_few plan 13 5 4
+
 -- so it is with each event
 pub acts_few : (plan : Settings) (now : Facts) (event : Event) → KnowsPlan plan → IsSound plan now → AreFew plan (acts_of plan now event) 13 5 4
 acts_few plan now (Heard slot pdu) p h = if_few plan (is_up now slot.carrier && (is_slot slot (control_slot plan) && has_room plan now)) (heard plan now pdu) 13 5 4 (few-within plan (heard plan now pdu) 7 5 4 13 5 4 (heard_few plan now pdu p h) (omega arith) (omega arith) (omega arith))
 acts_few plan now (Poll c) p h = if_few plan (is_up now c) _ 13 5 4 (few-within plan _ 2 0 0 13 5 4 (polls_few plan now c) (omega arith) (omega arith) (omega arith))
 acts_few plan now Tick p h = tick_few plan (record now { calls = map counted now.calls; asks = map waited_more now.asks }) p (sound-noted plan now Tick p h)
+acts_few plan now (Say command) p h = commanded_few plan now command p h
 acts_few plan now _ p h = none_few plan 13 5 4

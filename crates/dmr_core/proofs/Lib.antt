@@ -27,3 +27,4 @@ mod DownLemmas
 mod WaitingLemmas
 mod HeldLemmas
 mod FreeLemmas
+pub mod ConsoleLemmas

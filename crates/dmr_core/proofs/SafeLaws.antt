@@ -1,6 +1,6 @@
 -- The safety laws.
 use Rattle.std.proofs.Common.{◌≡◌, ◌<◌, ◌≤◌, ℕ, List, [], ◌∷◌, ◌++◌, Bool, true, false, refl, sym, ◌∙◌, ap, subst, arith, filter}
-use Rattle.std.specs.Prelude.{fold, Some, cond, ◌&&◌, not, find, ◌==◌, ◌||◌, slice_get}
+use Rattle.std.specs.Prelude.{fold, Option, Some, cond, ◌&&◌, not, find, ◌==◌, ◌||◌, slice_get}
 use Rattle.std.specs.List.{list_any, list_all}
 use Rattle.dmr_pdu.specs.declared.slots.Slot.{Slot}
 use Rattle.dmr_pdu.specs.declared.pdu.Pdu.{Pdu}
@@ -16,6 +16,7 @@ use Rattle.dmr_core.specs.declared.event.Event.TheVariants.{Active, Lost, Tick, 
 use Rattle.dmr_core.specs.declared.act.Act.{Act}
 use Rattle.dmr_core.specs.declared.act.Act.TheVariants.{Began, Ended, Fill, Queue, Send}
 use Rattle.dmr_core.specs.declared.act.Acts.{Acts}
+use Rattle.dmr_core.specs.declared.reply.Reply.{Reply}
 use Rattle.dmr_core.specs.declared.entry.Entry.{Entry}
 use Rattle.dmr_core.specs.Facts.{Facts, done, facts_after, has_carrier, noted}
 use Rattle.dmr_core.specs.Words.{is_registered, lpcn_of, outbox}
@@ -249,8 +250,8 @@ quiet_after_reset plan facts c (entry ∷ earlier) p there h legal =
     )
 
 -- answers of the same acts are the same
-abbrev pub saying : List Act → Acts
-saying acts = record { list = acts }
+abbrev pub saying : Option Reply → List Act → Acts
+saying said acts = record { list = acts; said = said }
 
-pub same_saying : (xs ys : List Act) → xs ≡ ys → saying xs ≡ saying ys
-same_saying xs ys h = ap saying h
+pub same_saying : (said : Option Reply) (xs ys : List Act) → xs ≡ ys → saying said xs ≡ saying said ys
+same_saying said xs ys h = ap (saying said) h

@@ -15,6 +15,7 @@ each f acts = record {
   calls = fold calls_by_act f.calls acts;
   outboxes = fold outboxes_by_act f.outboxes acts;
   noise = fold unchanged f.noise acts;
+  moving = fold unchanged f.moving acts;
 }
 
 each_is : (f : Facts) (acts : List Act) → each f acts ≡ fold done f acts

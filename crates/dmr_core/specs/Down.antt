@@ -2,7 +2,7 @@
 use Rattle.std.specs.Prelude.{◌≡◌, false}
 use Rattle.dmr_plan.specs.declared.settings.Settings.{Settings}
 use Rattle.dmr_core.specs.declared.event.Event.{Event}
-use Rattle.dmr_core.specs.declared.event.Event.TheVariants.{Up, Lost, Heard, Noise, Active, Poll, Tick}
+use Rattle.dmr_core.specs.declared.event.Event.TheVariants.{Up, Lost, Heard, Noise, Active, Poll, Tick, Say}
 use Rattle.dmr_core.specs.Facts.{Facts, has_carrier}
 use Rattle.dmr_core.specs.Words.{is_up}
 
@@ -15,3 +15,4 @@ IsOfNoCarrier plan now (Noise slot) = is_up now slot.carrier ≡ false
 IsOfNoCarrier plan now (Active slot) = is_up now slot.carrier ≡ false
 IsOfNoCarrier plan now (Poll c) = is_up now c ≡ false
 IsOfNoCarrier plan now Tick = ⊥
+IsOfNoCarrier plan now (Say command) = ⊥

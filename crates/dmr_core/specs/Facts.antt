@@ -1,5 +1,5 @@
 -- What stands after a journal. Each question goes through the entries, the newest first, down to what stood before them.
-use Rattle.std.specs.Prelude.{ℕ, List, [], ◌∷◌, ◌++◌, Bool, true, false, if◌then◌else◌, ◌==◌, fold, map, slice_set, replicate}
+use Rattle.std.specs.Prelude.{ℕ, List, [], ◌∷◌, ◌++◌, Bool, true, false, if◌then◌else◌, ◌==◌, fold, map, slice_set, replicate, Option, Some, None}
 use Rattle.dmr_pdu.specs.declared.pdu.Pdu.{Pdu}
 use Rattle.dmr_plan.specs.declared.settings.Settings.{Settings}
 use Rattle.dmr_plan.specs.Carriers.{has_number_in}
@@ -14,7 +14,8 @@ use Rattle.dmr_calls.specs.Calls.{just_begun, counted, marked, on_other_slots, o
 use Rattle.dmr_pool.specs.Slots.{emptied, queued, sent}
 use Rattle.dmr_pool.specs.Free.{is_control}
 use Rattle.dmr_core.specs.declared.event.Event.{Event}
-use Rattle.dmr_core.specs.declared.event.Event.TheVariants.{Up, Lost, Noise, Active, Poll, Tick}
+use Rattle.dmr_core.specs.declared.event.Event.TheVariants.{Up, Lost, Noise, Active, Poll, Tick, Say}
+use Rattle.dmr_core.specs.declared.command.Command.TheVariants.{Move, Stay}
 use Rattle.dmr_core.specs.declared.act.Act.{Act}
 use Rattle.dmr_core.specs.declared.act.Act.TheVariants.{Queue, Send, Joined, Left, Asked, AskOver, Lined, Unlined, Began, Ended}
 use Rattle.dmr_core.specs.declared.entry.Entry.{Entry}
@@ -28,6 +29,7 @@ pub record Facts : Type 0 where
   pub calls : List Standing  -- the calls in the order of beginning
   pub outboxes : List (List Pdu)  -- for each slot, at its place, what waits for it, the oldest first
   pub noise : List ℕ  -- the Noises on the control slot since the last Poll, between that and the one before, and so on
+  pub moving : Option ℕ  -- the channel on which radios are to seek the control channel, if it is to be moved
 
 -- what is found after the entries: what was found before, as each event and each act opened or closed it
 abbrev pub since : {X : Type 0} → (X → Event → X) → (X → Act → X) → X → List Entry → X
@@ -113,6 +115,12 @@ noise_by_event plan noise (Noise slot) = if is_control plan slot then with_noise
 noise_by_event plan noise (Poll c) = if c == plan.control then with_poll noise else noise
 noise_by_event plan noise _ = noise
 
+-- the move of the control channel: opened by an operator's `move`, closed by `stay`
+abbrev pub moving_by_event : Option ℕ → Event → Option ℕ
+moving_by_event moving (Say (Move lpcn)) = Some lpcn
+moving_by_event moving (Say Stay) = None
+moving_by_event moving _ = moving
+
 -- the facts after the entries, the newest first
 abbrev pub facts_after : Settings → Facts → List Entry → Facts
 facts_after plan facts journal = record {
@@ -123,6 +131,7 @@ facts_after plan facts journal = record {
   calls = since calls_by_event calls_by_act facts.calls journal;
   outboxes = since outboxes_by_event outboxes_by_act facts.outboxes journal;
   noise = since (noise_by_event plan) unchanged facts.noise journal;
+  moving = since moving_by_event unchanged facts.moving journal;
 }
 
 -- the facts after an event
@@ -135,6 +144,7 @@ noted plan facts event = record {
   calls = calls_by_event facts.calls event;
   outboxes = outboxes_by_event facts.outboxes event;
   noise = noise_by_event plan facts.noise event;
+  moving = moving_by_event facts.moving event;
 }
 
 -- the facts after an act
@@ -147,8 +157,9 @@ done facts act = record {
   calls = calls_by_act facts.calls act;
   outboxes = outboxes_by_act facts.outboxes act;
   noise = facts.noise;
+  moving = facts.moving;
 }
 
 -- what stands at first: nothing
 abbrev pub nothing : Facts
-nothing = record { up = replicate 16 false; registered = []; asks = []; lines = []; calls = []; outboxes = replicate 32 []; noise = [] }
+nothing = record { up = replicate 16 false; registered = []; asks = []; lines = []; calls = []; outboxes = replicate 32 []; noise = []; moving = None }

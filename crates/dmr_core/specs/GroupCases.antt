@@ -1,5 +1,5 @@
 -- Worked cases of talkgroup calls, requests that wait, and lost carriers, computed from what stands.
-use Rattle.std.specs.Prelude.{◌≡◌, ℕ, ◌+◌, List, [], ◌∷◌, true, false, refl, map, fold, replicate}
+use Rattle.std.specs.Prelude.{◌≡◌, ℕ, ◌+◌, List, [], ◌∷◌, true, false, refl, map, fold, replicate, None}
 use Rattle.std.specs.List.{range_with_len}
 use Rattle.dmr_pdu.specs.declared.pdu.Pdu.{Pdu}
 use Rattle.dmr_pdu.specs.declared.pdu.Pdu.TheVariants.{Random, TvGrant, Clear}
@@ -62,6 +62,7 @@ standing calls lines asks = record {
   calls = calls;
   outboxes = replicate 32 [];
   noise = noise_at_up;
+  moving = None;
 }
 
 -- P_CLEAR of a talkgroup call
@@ -259,6 +260,7 @@ many_calls count = record {
   calls = map (λ k. aged 0 (call (slot_at k) (1000 + k) (90 + k))) (range_with_len 1 count);
   outboxes = replicate 32 [];
   noise = noise_at_up;
+  moving = None;
 }
 
 -- the 31st call is on the last slot, and the 32nd request waits

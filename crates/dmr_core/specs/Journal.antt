@@ -6,10 +6,14 @@ use Rattle.dmr_core.specs.declared.act.Acts.{Acts}
 use Rattle.dmr_core.specs.declared.entry.Entry.{Entry}
 use Rattle.dmr_core.specs.Facts.{Facts, facts_after}
 use Rattle.dmr_core.specs.Rules.{acts_of}
+use Rattle.dmr_core.specs.Replies.{reply_to}
 
 -- the answer to an event after the facts and the entries
 abbrev pub answer : Settings → Facts → List Entry → Event → Acts
-answer plan facts journal event = record { list = acts_of plan (facts_after plan facts journal) event }
+answer plan facts journal event = record {
+  list = acts_of plan (facts_after plan facts journal) event;
+  said = reply_to plan (facts_after plan facts journal) event;
+}
 
 -- each entry's acts are the answer of the entries before it
 abbrev pub IsLegal : Settings → Facts → List Entry → Type 0

@@ -1,6 +1,7 @@
 pub mod Facts
 pub mod Words
 pub mod Rules
+pub mod Replies
 pub mod Journal
 pub mod Sound
 pub mod State

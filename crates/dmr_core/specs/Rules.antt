@@ -21,10 +21,12 @@ use Rattle.dmr_calls.specs.Due.{due_call, due_ask}
 use Rattle.dmr_pool.specs.Free.{control_slot, is_control}
 use Rattle.dmr_core.specs.declared.request.Request.{Request}
 use Rattle.dmr_core.specs.declared.event.Event.{Event}
-use Rattle.dmr_core.specs.declared.event.Event.TheVariants.{Heard, Poll, Tick}
+use Rattle.dmr_core.specs.declared.event.Event.TheVariants.{Heard, Poll, Tick, Say}
+use Rattle.dmr_core.specs.declared.command.Command.{Command}
+use Rattle.dmr_core.specs.declared.command.Command.TheVariants.{Drop, End}
 use Rattle.dmr_core.specs.declared.act.Act.{Act}
 use Rattle.dmr_core.specs.declared.act.Act.TheVariants.{Queue, Send, Fill, Joined, Left, Asked, AskOver, Lined, Unlined, Began, Ended}
-use Rattle.dmr_core.specs.Facts.{Facts, asks_by_event, calls_by_event}
+use Rattle.dmr_core.specs.Facts.{Facts, asks_by_event, calls_by_event, has_carrier}
 use Rattle.dmr_core.specs.Words.{is_up, outbox, lpcn_of, lowest_free, slot_for_new, has_room, is_registered, is_engaged}
 
 -- C_ACKD to the source, for the reason, with the target besides
@@ -172,12 +174,19 @@ tick plan now = ended plan now.calls ++ (if has_room plan now then repeat plan n
 
 -- the first PDU that waits for a slot, or what fills the control slot
 abbrev pub sent : Settings → Facts → Slot → List Pdu → List Act
-sent plan now slot [] = if is_control plan slot then Fill slot (fill_of plan now.noise) ∷ [] else []
+sent plan now slot [] = if is_control plan slot then Fill slot (fill_of plan now.moving now.noise) ∷ [] else []
 sent plan now slot (pdu ∷ pdus) = Send slot pdu ∷ []
 
 -- what a slot of a carrier is sent
 unfoldable pub poll : Settings → Facts → Slot → List Act
 poll plan now slot = sent plan now slot (outbox now slot)
+
+-- an operator's command: a registered radio is dropped, where there is room for what that brings about; the call on a slot ends
+unfoldable pub commanded : Settings → Facts → Command → List Act
+commanded plan now (Drop r) = if is_registered now r && has_room plan now then close plan now r ++ Left r ∷ [] else []
+commanded plan now (End c s) =
+    if has_carrier plan c then option_map_or (λ (call : Call). clear plan call) (call_on now.calls (record { carrier = c; slot = s })) [] else []
+commanded plan now _ = []
 
 -- the acts that answer the event, from what stands when it comes; a tick is counted first
 abbrev pub acts_of : Settings → Facts → Event → List Act
@@ -186,4 +195,5 @@ acts_of plan now (Heard slot pdu) =
 acts_of plan now (Poll c) =
     if is_up now c then poll plan now (record { carrier = c; slot = 0 }) ++ poll plan now (record { carrier = c; slot = 1 }) else []
 acts_of plan now Tick = tick plan (record now { calls = calls_by_event now.calls Tick; asks = asks_by_event plan now.asks Tick })
+acts_of plan now (Say command) = commanded plan now command
 acts_of plan now _ = []

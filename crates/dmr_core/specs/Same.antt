@@ -1,9 +1,10 @@
 -- Whether two sites have the same plan and facts, as a test.
-use Rattle.std.specs.Prelude.{◌≡◌, ◌&&◌, Bool, nat_eq}
+use Rattle.std.specs.Prelude.{◌≡◌, ◌&&◌, ℕ, Bool, true, false, nat_eq, Option, Some, None}
 use Rattle.std.specs.Bool.{Decides, beq}
 use Rattle.std.specs.Cmp.{decided, IsEquivalence}
 use Rattle.std.specs.Cmp.Lexicographic.{pointwise, pointwise_decides, bytes_decides}
-use Rattle.std.proofs.Common.{ap}
+use Rattle.std.proofs.Common.{ap, refl, eqb-true}
+use Rattle.std.proofs.lemmas.Bool.{eq-eqb}
 use Rattle.std.proofs.lemmas.Bool.Decides.{Decides-and}
 use Rattle.dmr_plan.specs.Same.{are_same as are_same_plans, are_same-Decides as are_same_plans-Decides}
 use Rattle.dmr_calls.specs.Same.{are_same as are_same_standings, are_same-Decides as are_same_standings-Decides}
@@ -11,17 +12,36 @@ use Rattle.dmr_pool.specs.Same.{beq-Decides, are_same_pdus, are_same_pdus-Decide
 use Rattle.dmr_core.specs.State.{State}
 use Rattle.dmr_core.specs.Words.{standings}
 
+-- whether two numbers that may be missing are the same
+abbrev pub is_same_option : Option ℕ → Option ℕ → Bool
+is_same_option None None = true
+is_same_option (Some a) (Some b) = nat_eq a b
+is_same_option a b = false
+
 -- whether the plans say the same and the same stands
 abbrev pub are_same : State → State → Bool
 are_same a b =
     are_same_plans a.plan b.plan && pointwise beq a.facts.up b.facts.up && pointwise nat_eq a.facts.registered b.facts.registered
     && are_same_standings (standings a.facts) (standings b.facts) && pointwise are_same_pdus a.facts.outboxes b.facts.outboxes && pointwise nat_eq a.facts.noise b.facts.noise
+    && is_same_option a.facts.moving b.facts.moving
+
+-- the number of one that is there
+abbrev number_of : Option ℕ → ℕ
+number_of None = 0
+number_of (Some a) = a
+
+-- the test decides whether they are the same
+is_same_option-Decides : (a b : Option ℕ) → Decides (is_same_option a b) (a ≡ b)
+is_same_option-Decides None None = (λ h. refl, λ e. refl)
+is_same_option-Decides (Some a) (Some b) = (λ h. ap (λ (n : ℕ). Some n) (eqb-true a b h), λ e. eq-eqb a b (ap number_of e))
+is_same_option-Decides None (Some b) = (λ h. cc, λ e. cc)
+is_same_option-Decides (Some a) None = (λ h. cc, λ e. cc)
 
 -- a site, field by field
-same_parts : (a b : State) → a.plan ≡ b.plan → a.facts.up ≡ b.facts.up → a.facts.registered ≡ b.facts.registered → standings a.facts ≡ standings b.facts → a.facts.outboxes ≡ b.facts.outboxes → a.facts.noise ≡ b.facts.noise → a ≡ b
-same_parts a b plan up registered stands outboxes noise = λ i. record {
+same_parts : (a b : State) → a.plan ≡ b.plan → a.facts.up ≡ b.facts.up → a.facts.registered ≡ b.facts.registered → standings a.facts ≡ standings b.facts → a.facts.outboxes ≡ b.facts.outboxes → a.facts.noise ≡ b.facts.noise → a.facts.moving ≡ b.facts.moving → a ≡ b
+same_parts a b plan up registered stands outboxes noise moving = λ i. record {
   plan = plan i;
-  facts = record { up = up i; registered = registered i; asks = (stands i).asks; lines = (stands i).lines; calls = (stands i).calls; outboxes = outboxes i; noise = noise i };
+  facts = record { up = up i; registered = registered i; asks = (stands i).asks; lines = (stands i).lines; calls = (stands i).calls; outboxes = outboxes i; noise = noise i; moving = moving i };
 }
 
 -- the test decides whether they are the same
@@ -33,9 +53,10 @@ are_same-Decides a b =
     let stands = are_same_standings-Decides (standings a.facts) (standings b.facts) in
     let outboxes = pointwise_decides are_same_pdus-Decides a.facts.outboxes b.facts.outboxes in
     let noise = bytes_decides a.facts.noise b.facts.noise in
-    let d = Decides-and _ _ (Decides-and _ _ (Decides-and _ _ (Decides-and _ _ (Decides-and _ _ plan up) registered) stands) outboxes) noise in (
-      λ h. let e = d.0 h in same_parts a b e.0.0.0.0.0 e.0.0.0.0.1 e.0.0.0.1 e.0.0.1 e.0.1 e.1,
-      λ e. d.1 (((((ap (λ (s : State). s.plan) e, ap (λ (s : State). s.facts.up) e), ap (λ (s : State). s.facts.registered) e), ap (λ (s : State). standings s.facts) e), ap (λ (s : State). s.facts.outboxes) e), ap (λ (s : State). s.facts.noise) e),
+    let moving = is_same_option-Decides a.facts.moving b.facts.moving in
+    let d = Decides-and _ _ (Decides-and _ _ (Decides-and _ _ (Decides-and _ _ (Decides-and _ _ (Decides-and _ _ plan up) registered) stands) outboxes) noise) moving in (
+      λ h. let e = d.0 h in same_parts a b e.0.0.0.0.0.0 e.0.0.0.0.0.1 e.0.0.0.0.1 e.0.0.0.1 e.0.0.1 e.0.1 e.1,
+      λ e. d.1 ((((((ap (λ (s : State). s.plan) e, ap (λ (s : State). s.facts.up) e), ap (λ (s : State). s.facts.registered) e), ap (λ (s : State). standings s.facts) e), ap (λ (s : State). s.facts.outboxes) e), ap (λ (s : State). s.facts.noise) e), ap (λ (s : State). s.facts.moving) e),
     )
 
 -- so it is an equivalence

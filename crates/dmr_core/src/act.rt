@@ -1,5 +1,6 @@
 //! What the site does.
 
+use crate::reply::Reply;
 use dmr_calls::{Ask, Call, Line};
 use dmr_pdu::{Address, Blank, BoundedList, Pdu, Slot};
 
@@ -48,4 +49,6 @@ pub type ActList = BoundedList<Act, 16>;
 pub struct Acts {
     /// What it does, in order.
     pub list: ActList,
+    /// What it replies to an operator; None for an event that is no command.
+    pub said: Option<Reply>,
 }

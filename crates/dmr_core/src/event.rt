@@ -1,5 +1,6 @@
 //! What the site is told.
 
+use crate::command::Command;
 use dmr_pdu::{CarrierNo, Pdu, Slot};
 
 /// What happens to the site.
@@ -19,4 +20,6 @@ pub enum Event {
     Poll(CarrierNo),
     /// The site's clock has gone on by one.
     Tick,
+    /// An operator asks something of the site.
+    Say(Command),
 }

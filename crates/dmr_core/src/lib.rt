@@ -1,25 +1,29 @@
 //! The site machine: what stands on a trunked site, and how the site answers each event.
 //!
-//! An [`Event`] is what a carrier or the clock tells the site; it is answered by [`Acts`], which say what the site sends
+//! An [`Event`] is what a carrier, the clock or an operator tells the site; it is answered by [`Acts`], which say what the site sends
 //! and what changes. The facts of a site are found from its events and acts alone: each is what was opened and not yet
 //! closed. The rules are this project's profile over TS 102 361-4.
 #![tactic(auto)]
 
 mod act;
+mod command;
 mod entry;
 mod event;
 mod laws;
 mod machine;
+mod reply;
 mod request;
 mod site;
 
 pub use act::{Act, ActList, Acts};
+pub use command::{Command, LineNo};
 pub use entry::Entry;
 pub use event::Event;
 pub use laws::{
     backoff_counts_noises, decided_by_the_last, each_act_is_safe, facts_stay_sound,
     no_carrier_no_change, one_legal_journal, sent_in_order,
 };
+pub use reply::{Reply, SlotState, State};
 pub use site::Site;
 
 #[cfg(test)]

@@ -1,6 +1,6 @@
 //! The parts of a site, and what each event and act does to them.
 
-ghost use Rattle.std.specs.Prelude.{◌≡◌, ◌≢◌, [], ◌∷◌, fold, IfOk};
+ghost use Rattle.std.specs.Prelude.{◌≡◌, [], ◌∷◌, fold, IfOk, None};
 ghost use Rattle.dmr_core.specs.declared.event.Event.TheVariants.{Up, Lost};
 ghost use Rattle.dmr_core.specs.Facts.{facts_after, noted, done, nothing};
 ghost use Rattle.dmr_core.specs.Rules.{acts_of};
@@ -10,14 +10,16 @@ ghost use Rattle.dmr_core.specs.May.{MayBegin, MayDo, AllMayDo};
 ghost use Rattle.dmr_core.specs.Same.{are_same};
 
 mod answers;
+mod console;
 mod requests;
 mod words;
 
 use crate::act::{Act, ActList};
+use crate::command::Command;
 use crate::event::Event;
 use dmr_access::Access;
 use dmr_calls::{Call, Calls};
-use dmr_pdu::{CarrierNo, Slot};
+use dmr_pdu::{CarrierNo, Lpcn, Slot};
 use dmr_plan::Plan;
 use dmr_pool::Pool;
 use dmr_registry::Registry;
@@ -32,6 +34,7 @@ pub struct Machine {
     pool: Pool,
     calls: Calls,
     access: Access,
+    moving: Option<Lpcn>,
 }
 
 impl Model for Machine {
@@ -43,7 +46,7 @@ impl Model for Machine {
 
     ghost view = { λ m. record {
       plan = m.plan;
-      facts = record { up = m.pool.up; registered = m.registry; asks = m.calls.asks; lines = m.calls.lines; calls = m.calls.calls; outboxes = m.pool.outboxes; noise = m.access.noise };
+      facts = record { up = m.pool.up; registered = m.registry; asks = m.calls.asks; lines = m.calls.lines; calls = m.calls.calls; outboxes = m.pool.outboxes; noise = m.access.noise; moving = m.moving };
     } };
 
     ghost invariant = { λ m. (m.access.plan ≡ m.plan) × (m.pool.plan ≡ m.plan) × HoldsCalls m.pool.held m.calls.calls };
@@ -72,6 +75,7 @@ impl Machine {
             pool,
             calls,
             access,
+            moving: None,
         })
     }
 
@@ -89,6 +93,7 @@ impl Machine {
             pool,
             calls,
             access,
+            moving: self.moving,
         })
     }
 
@@ -152,7 +157,9 @@ impl Machine {
                 }
             }
             Event::Tick => self.calls.count(),
-            Event::Heard(_, _) => {}
+            Event::Say(Command::Move(lpcn)) => self.moving = Some(*lpcn),
+            Event::Say(Command::Stay) => self.moving = None,
+            Event::Heard(_, _) | Event::Say(_) => {}
         }
     }
 
@@ -238,7 +245,7 @@ impl Machine {
     pub fn apply(&mut self, event: &Event) -> ActList
         requires { AllMayDo self.old.plan (noted self.old.plan self.old.facts event.now) (acts_of self.old.plan self.old.facts event.now) }
         ensures acts { result ≡ acts_of self.old.plan self.old.facts event.now }
-        ensures facts { self.new ≡ record { plan = self.old.plan; facts = facts_after self.old.plan self.old.facts (record { actor = 0; event = event.now; acts = record { list = result } } ∷ []) } }
+        ensures facts { self.new ≡ record { plan = self.old.plan; facts = facts_after self.old.plan self.old.facts (record { actor = 0; event = event.now; acts = record { list = result; said = None } } ∷ []) } }
     {
         let acts = self.noted(event);
         self.perform_all(acts.as_slice());
@@ -254,5 +261,6 @@ impl Machine {
             && self.pool.is_as(&other.pool)
             && self.calls == other.calls
             && self.access == other.access
+            && self.moving == other.moving
     }
 }

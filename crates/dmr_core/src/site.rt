@@ -2,6 +2,7 @@
 
 ghost use Rattle.std.specs.Prelude.{◌≡◌, ◌↔◌, [], ◌∷◌, IfOk, IsTrue};
 ghost use Rattle.dmr_core.specs.Facts.{facts_after, nothing};
+ghost use Rattle.dmr_core.specs.Replies.{reply_to};
 ghost use Rattle.dmr_core.specs.Rules.{acts_of};
 ghost use Rattle.dmr_core.specs.Same.{are_same};
 ghost use Rattle.dmr_core.specs.State.{IsSite};
@@ -14,7 +15,8 @@ use std::alloc::{AllocError, Global};
 use std::marker::Model;
 
 /// A trunked site. Contracts see it as its plan and its facts: which carriers are up, which radios are registered, the asks,
-/// lines and calls that stand, what waits for each slot, and how much the control slot was disturbed. The facts of a site fit
+/// lines and calls that stand, what waits for each slot, how much the control slot was disturbed, and whether the control
+/// channel is to be moved. The facts of a site fit
 /// together always, as [`keeps`](Site::keeps) tells.
 #[derive(Drop)]
 pub struct Site {
@@ -50,15 +52,18 @@ impl Site {
         self.machine.plan()
     }
 
-    /// Answers an event. The acts are those that the rules give for the event and what stands when it comes; after it the
+    /// Answers an event. The acts, and the reply to a command, are those that the rules give for the event and what stands when it comes; after it the
     /// facts are those that the event and the acts leave. No event is refused, and no memory is taken.
     pub fn apply(&mut self, event: Event) -> Acts
         ensures acts { result.list ≡ acts_of self.old.plan self.old.facts event }
+        ensures said { result.said ≡ reply_to self.old.plan self.old.facts event }
         ensures facts { self.new ≡ record { plan = self.old.plan; facts = facts_after self.old.plan self.old.facts (record { actor = 0; event = event; acts = result } ∷ []) } }
     {
         let event = &event;
+        let said = self.machine.reply_to(event);
         Acts {
             list: self.machine.apply(event),
+            said,
         }
     }
 

@@ -4,10 +4,12 @@ pub mod Bridge
 pub mod RecordLemmas
 pub mod Standing
 pub mod Cuts
+pub mod Listens
 pub mod Pushes
 pub mod Endings
 pub mod Journals
 pub mod Sessions
+pub mod Consoles
 pub mod OneJournal
 pub mod Runs
 pub mod Values

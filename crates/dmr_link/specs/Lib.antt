@@ -4,8 +4,10 @@ pub mod Steps
 pub mod Ended
 pub mod Answering
 pub mod Session
+pub mod Console
 pub mod Input
 pub mod State
+pub mod Texts
 pub mod Inputs
 pub mod Records
 pub mod Runs

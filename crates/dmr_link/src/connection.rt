@@ -4,7 +4,7 @@ ghost use Rattle.std.specs.Prelude.{◌≡◌};
 ghost use Rattle.dmr_burst.specs.Functions.{meaning_of};
 ghost use Rattle.dmr_link.specs.Meaning.{heard as event_heard, is_accepted, refused as notice_refused, first_brings, is_last, event_of as event_of_frame, lost, told};
 ghost use Rattle.dmr_link.specs.Sound.{IsSound};
-ghost use Rattle.dmr_link.specs.Steps.{opened, brought, taken, waiting_brings, waiting_leaves, running_brings, running_leaves};
+ghost use Rattle.dmr_link.specs.Steps.{opened, brought, taken};
 
 use dmr_bits::Word196;
 use dmr_burst::read;
@@ -21,13 +21,24 @@ pub struct Identity {
     pub lpcn: Lpcn,
 }
 
-/// What comes of a connection's octets, or of its end.
+/// What is wrong with an operator's line (this project's profile).
+#[derive(Clone, Copy, Debug, PartialEq, Eq)]
+pub enum LineFault {
+    /// It is no command.
+    UnknownCommand,
+    /// It has more than 80 octets before its LF.
+    TooLong,
+}
+
+/// What comes of a connection's octets, of its end, or of an operator's octets.
 #[derive(Clone, Copy, Debug, PartialEq, Eq)]
 pub enum Notice {
     /// Something happens to the site.
     Happened(Event),
     /// This carrier is refused, and is told why. The site doesn't learn of it.
     Refused(CarrierNo, Refusal),
+    /// A line of an operator is no command, and the operator is told why. The site doesn't learn of it.
+    Unheeded(LineFault),
 }
 
 /// A carrier's connection, with the octets of the frame that has begun on it.

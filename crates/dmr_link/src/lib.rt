@@ -1,11 +1,14 @@
-//! The engine of a site: what comes from its carriers, made into events of the site, and what is put out for each carrier.
+//! The engine of a site: what comes from its carriers and operators, made into events of the site, and what is put out for
+//! each carrier and for the operators.
 //!
-//! An [`Engine`] holds a site and the connections of its carriers. It takes [`Input`]s one by one, in one thread: a
-//! connection begins, octets come on it in pieces of any length, it is cut, the clock ticks. What the octets of a
-//! connection mean, and what is put out for it, is this project's link profile, version 1.
+//! An [`Engine`] holds a site, the connections of its carriers, and an operator's open line. It takes [`Input`]s one by one,
+//! in one thread: a connection begins, octets come on it in pieces of any length, it is cut, an operator's octets come, also
+//! in pieces of any length, the clock ticks. What the octets of a connection mean, and what is put out for it, is this
+//! project's link profile, version 1; what an operator's octets mean is its console profile.
 #![tactic(auto)]
 
 mod connection;
+mod console;
 mod engine;
 mod input;
 mod laws;

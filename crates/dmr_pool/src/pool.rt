@@ -1,6 +1,6 @@
 //! The carriers that are up, the slots that calls hold, and what waits to be sent on each slot.
 
-ghost use Rattle.std.specs.Prelude.{◌≡◌, ◌≤◌, ◌↔◌, length, slice_get, slice_set, true, false, IsTrue, IsErr, IfOk, OnOk, OnErr, MatchOption};
+ghost use Rattle.std.specs.Prelude.{◌≡◌, ◌≤◌, ◌↔◌, length, filter, slice_get, slice_set, true, false, IsTrue, IsErr, IfOk, OnOk, OnErr, MatchOption};
 ghost use Rattle.dmr_plan.specs.Carriers.{has_number_in};
 ghost use Rattle.dmr_pool.specs.Slots.{box, is_up, emptied, released, queued, sent, place, nothing_on};
 ghost use Rattle.dmr_pool.specs.Free.{control_slot, is_control, is_granted, is_free, lowest_free, HasNoFreeSlot, IsLowestFree};
@@ -82,6 +82,13 @@ impl Pool {
     {
         let number = carrier.get() as usize;
         self.up[number]
+    }
+
+    /// How many carriers are up: 0 to 16.
+    pub fn carriers_up(&self) -> usize
+        ensures { result ≡ length (filter (λ up. up) self.now.up) }
+    {
+        self.up.iter().filter(|up| **up).count()
     }
 
     /// A carrier of the plan comes up. Its slots are released, and what waited for them is gone.

@@ -122,7 +122,9 @@ fn a_lost_carrier_has_no_free_slot(rt: HostRuntime) -> Result<(), Fail> {
     queue(&mut pool, &slot(1, 1), &moving(1))?;
     assert_eq!(rt; take_lowest(&mut pool), Some(slot(0, 1)));
     assert_eq!(rt; take_lowest(&mut pool), Some(slot(1, 0)));
+    assert_eq!(rt; pool.carriers_up(), 2);
     pool.lost(CarrierNo::new(1));
+    assert_eq!(rt; pool.carriers_up(), 1);
     assert!(rt; !pool.is_up(CarrierNo::new(1)) && pool.is_up(CarrierNo::new(0)));
     assert_eq!(rt; pool.waiting(&slot(1, 1)), 0);
     assert_eq!(rt; pool.free_slot(), None);

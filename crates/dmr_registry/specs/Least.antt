@@ -1,5 +1,6 @@
 -- The least registered radios from a number on.
-use Rattle.std.specs.Prelude.{◌≡◌, ℕ, ◌<◌, ◌≤◌, List, length, ◌⊎◌, filter, nat_le}
+use Rattle.std.specs.Prelude.{◌≡◌, ℕ, zero, suc, ◌+◌, ◌<◌, ◌≤◌, List, [], ◌∷◌, length, ◌⊎◌, filter, min, nat_le, Option, Some, None}
+use Rattle.std.specs.Option.{option_map_or}
 use Rattle.std.specs.List.{All, AllPairs, Contains}
 
 -- the registered radios from the number on, in the order of joining
@@ -16,3 +17,17 @@ pub record AreLeast (radios : List ℕ) (from : ℕ) (least : List ℕ) : Type 0
   pub few : length least ≤ 16
   pub held : All (IsHeldFrom radios from) least
   pub others : (radio : ℕ) → IsHeldFrom radios from radio → Contains least radio ⊎ ((length least ≡ 16) × All (λ r. r < radio) least)
+
+-- the least of some numbers
+abbrev pub least_of : List ℕ → Option ℕ
+least_of [] = None
+least_of (n ∷ ns) = Some (option_map_or (λ (m : ℕ). min n m) (least_of ns) n)
+
+-- so many registered radios at most: the least from the number on, then the least above it, and so on
+abbrev pub next_from : ℕ → List ℕ → ℕ → List ℕ
+next_from zero radios from = []
+next_from (suc count) radios from = option_map_or (λ (radio : ℕ). radio ∷ next_from count radios (radio + 1)) (least_of (held_from radios from)) []
+
+-- the 16 least from the number on, or all where there are fewer
+unfoldable pub least_from : List ℕ → ℕ → List ℕ
+least_from radios from = next_from 16 radios from

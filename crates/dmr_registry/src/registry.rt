@@ -1,9 +1,9 @@
 //! The set of registered radios, in the order of joining.
 
-ghost use Rattle.std.specs.Prelude.{◌≡◌, ℕ, ◌≤◌, ◌⊎◌, ◌↔◌, [], length, IsTrue, IfOk, MatchOption, nat_eq};
+ghost use Rattle.std.specs.Prelude.{◌≡◌, ℕ, ◌≤◌, ◌↔◌, [], length, IsTrue, IfOk, MatchOption, nat_eq};
 ghost use Rattle.std.specs.List.{All, Contains};
 ghost use Rattle.dmr_registry.specs.Radios.{AreDistinct, is_held, answer_to_join, joined, without};
-ghost use Rattle.dmr_registry.specs.Least.{held_from, AreLeast};
+ghost use Rattle.dmr_registry.specs.Least.{held_from, least_from, AreLeast};
 
 use dmr_pdu::{Address, BoundedList};
 use std::alloc::{AllocError, Global};
@@ -113,12 +113,13 @@ impl Registry {
 
     /// The 16 least registered radios from a number on, in ascending order; all of them where there are fewer.
     pub fn from_number(&self, from: Address) -> BoundedList<Address, 16>
-        ensures { AreLeast self.now from result }
+        ensures gives { result ≡ least_from self.now from }
+        ensures least { AreLeast self.now from result }
     {
         let mut listed = BoundedList::new();
         let mut next = from.get();
         while !listed.is_full() {
-            let Some(radio) = self.least_from(next) else {
+            let Some(radio) = self.lowest_from(next) else {
                 return listed;
             };
             listed.push(radio);
@@ -128,7 +129,7 @@ impl Registry {
     }
 
     /// The least registered radio from a number on.
-    fn least_from(&self, from: u32) -> Option<Address>
+    fn lowest_from(&self, from: u32) -> Option<Address>
         ensures { MatchOption result (length (held_from self.now from) ≡ 0) (λ least. Contains (held_from self.now from) least × All (λ radio. least ≤ radio) (held_from self.now from)) }
     {
         self.radios

@@ -1,9 +1,9 @@
 //! Tests of an answer: how much it does, and whether each act may be done where it is done.
 
 use crate::shadow::Shadow;
-use crate::sound::{Grant, grant_in, is_payload, names, want};
+use crate::sound::{Grant, grant_in, is_free, want};
 use crate::unsound::Unsound;
-use dmr_core::{Act, Acts};
+use dmr_core::{Act, Acts, Event};
 use dmr_pdu::{Address, Pdu, Slot};
 
 /// The most acts of an answer, and the most PDUs that it queues: on the control slot, elsewhere, and in all.
@@ -38,6 +38,19 @@ pub fn test_size(shadow: &Shadow, acts: &Acts) -> Result<(), Unsound> {
     )
 }
 
+/// Only a poll is answered by what is sent, on slots of its carrier, the lower first, at most once each.
+pub fn test_sent(event: &Event, acts: &Acts) -> Result<(), Unsound> {
+    let mut next = 0;
+    for act in acts.list.as_slice() {
+        if let Act::Send(slot, _) | Act::Fill(slot, _) = act {
+            let is_asked = *event == Event::Poll(slot.carrier);
+            want(is_asked && slot.slot.get() >= next, Unsound::SentUnasked)?;
+            next = slot.slot.get() + 1;
+        }
+    }
+    Ok(())
+}
+
 /// Whether a grant names a carrier that came up or was lost, and on which no call began since.
 fn is_stale(shadow: &Shadow, grant: &Grant) -> bool {
     shadow.plan().carriers().iter().any(|row| row.lpcn == grant.lpcn && shadow.is_reset(row.number))
@@ -69,12 +82,20 @@ fn test_send(shadow: &Shadow, slot: &Slot, pdu: &Pdu) -> Result<(), Unsound> {
     want(is_first, Unsound::SentNotFirst)
 }
 
-/// The control slot alone is filled, where nothing waits for it, with C_ALOHA.
+/// The control slot alone is filled, where nothing waits for it: with C_MOVE while the control channel is to be moved, and
+/// else with C_ALOHA, and with the backoff of the noise that was heard.
 fn test_fill(shadow: &Shadow, slot: &Slot, pdu: &Pdu) -> Result<(), Unsound> {
-    let is_aloha = matches!(pdu, Pdu::Aloha { .. });
+    let wanted = shadow.backoff();
+    let is_right = match (pdu, shadow.moving()) {
+        (Pdu::Aloha { backoff, .. }, None) => backoff.get() == wanted,
+        (Pdu::Move { backoff, lpcn, .. }, Some(channel)) => {
+            backoff.get() == wanted && *lpcn == channel
+        }
+        _ => false,
+    };
     let is_idle = shadow.is_up(slot.carrier) && shadow.waiting(slot).is_empty();
     want(
-        is_aloha && is_idle && shadow.is_control(slot),
+        is_right && is_idle && shadow.is_control(slot),
         Unsound::FilledWrongly,
     )
 }
@@ -87,18 +108,7 @@ fn test_joined(shadow: &Shadow, radio: Address) -> Result<(), Unsound> {
 
 /// A call begins on a payload slot without a call, for which nothing waits and of which no grant waits.
 fn test_began(shadow: &Shadow, slot: &Slot) -> Result<(), Unsound> {
-    let granted = shadow
-        .waiting(&shadow.control_slot())
-        .iter()
-        .any(|pdu| match grant_in(pdu) {
-            Some(grant) => names(shadow, &grant, slot),
-            None => false,
-        });
-    let is_free = is_payload(shadow, slot) && shadow.call_on(slot).is_none();
-    want(
-        is_free && shadow.waiting(slot).is_empty() && !granted,
-        Unsound::BeganNotFree,
-    )
+    want(is_free(shadow, slot), Unsound::BeganNotFree)
 }
 
 /// Whether an act may be done on the facts before it.

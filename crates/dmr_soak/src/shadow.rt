@@ -3,7 +3,7 @@
 ghost use Rattle.std.specs.Prelude.{◌≡◌, ◌<◌};
 
 use dmr_calls::{Ask, Asking, Call, Line, Standing};
-use dmr_core::{Act, Event};
+use dmr_core::{Act, Command, Event};
 use dmr_pdu::{Address, CarrierNo, Lpcn, Pdu, Slot, SlotNo};
 use dmr_plan::Plan;
 use std::alloc::{AllocError, Global};
@@ -15,6 +15,8 @@ const SLOTS: usize = 32;
 #[derive(Drop)]
 pub struct Shadow {
     plan: Plan,
+    moving: Option<Lpcn>,
+    noise: [u32; 33],
     up: [bool; 16],
     reset: [bool; 16],
     registered: Vec<Address>,
@@ -66,6 +68,8 @@ impl Shadow {
         }
         Ok(Shadow {
             plan: *plan,
+            moving: None,
+            noise: [0; 33],
             up: [false; 16],
             reset: [false; 16],
             registered: Vec::new(alloc),
@@ -79,6 +83,11 @@ impl Shadow {
     /// The site's plan.
     pub fn plan(&self) -> &Plan {
         &self.plan
+    }
+
+    /// The channel to which the control channel is to be moved.
+    pub fn moving(&self) -> Option<Lpcn> {
+        self.moving
     }
 
     /// The slot on which requests are heard.
@@ -208,6 +217,7 @@ impl Shadow {
         if carrier == self.plan.control() {
             self.asks.clear();
             self.lines.clear();
+            self.noise = [0; 33];
         }
     }
 
@@ -234,6 +244,32 @@ impl Shadow {
         }
     }
 
+    /// Nothing could be read on a slot.
+    fn disturbed(&mut self, slot: &Slot) {
+        if self.is_control(slot) && self.is_up(slot.carrier) {
+            self.noise[0] = self.noise[0].saturating_add(1).min(15);
+        }
+    }
+
+    /// A carrier was polled: noise on the control slot counts until 32 more polls have come.
+    fn polled(&mut self, carrier: CarrierNo) {
+        if carrier == self.plan.control() && self.is_up(carrier) {
+            for place in 1..33 {
+                self.noise[33 - place] = self.noise[32 - place];
+            }
+            self.noise[0] = 0;
+        }
+    }
+
+    /// The backoff at the last poll of the control carrier.
+    pub fn backoff(&self) -> u32 {
+        let mut backoff = u32::from(self.plan.backoff_low());
+        for count in &self.noise[1..] {
+            backoff = backoff.saturating_add(*count);
+        }
+        backoff.min(u32::from(self.plan.backoff_high()))
+    }
+
     /// What an event closes or counts.
     pub fn note(&mut self, event: &Event) {
         match event {
@@ -248,8 +284,12 @@ impl Shadow {
                 self.up[carrier.get() as usize] = false;
             }
             Event::Active(slot) => self.active(slot),
+            Event::Noise(slot) => self.disturbed(slot),
+            Event::Poll(carrier) => self.polled(*carrier),
             Event::Tick => self.tick(),
-            Event::Heard(_, _) | Event::Noise(_) | Event::Poll(_) => {}
+            Event::Say(Command::Move(channel)) => self.moving = Some(*channel),
+            Event::Say(Command::Stay) => self.moving = None,
+            Event::Heard(_, _) | Event::Say(_) => {}
         }
     }
 

@@ -90,6 +90,21 @@ pub fn is_payload(shadow: &Shadow, slot: &Slot) -> bool {
         && !shadow.is_control(slot)
 }
 
+/// Whether a call can begin on a slot: a payload slot without a call, for which nothing waits and of which no grant waits.
+pub fn is_free(shadow: &Shadow, slot: &Slot) -> bool {
+    let granted = shadow
+        .waiting(&shadow.control_slot())
+        .iter()
+        .any(|pdu| match grant_in(pdu) {
+            Some(grant) => names(shadow, &grant, slot),
+            None => false,
+        });
+    is_payload(shadow, slot)
+        && shadow.call_on(slot).is_none()
+        && shadow.waiting(slot).is_empty()
+        && !granted
+}
+
 /// How many calls stand on a slot.
 fn calls_on(shadow: &Shadow, slot: Slot) -> usize {
     shadow

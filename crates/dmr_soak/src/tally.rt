@@ -1,6 +1,7 @@
 //! How often each thing happened.
 
 use crate::shadow::Shadow;
+use crate::traffic::add;
 use dmr_core::{Act, Acts, Event};
 use dmr_pdu::{Pdu, Reason};
 use std::io;
@@ -37,11 +38,6 @@ pub struct Tally {
     pub most_radios: usize,
     pub most_waiting: usize,
     reasons: [u32; 256],
-}
-
-/// One more.
-fn add(count: &mut u32) {
-    *count = count.saturating_add(1);
 }
 
 /// The larger of both.
@@ -104,7 +100,7 @@ impl Tally {
                     add(&mut self.without_room);
                 }
             }
-            Event::Noise(_) | Event::Active(_) | Event::Poll(_) | Event::Tick => {}
+            Event::Noise(_) | Event::Active(_) | Event::Poll(_) | Event::Tick | Event::Say(_) => {}
         }
     }
 

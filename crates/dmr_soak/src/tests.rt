@@ -1,12 +1,12 @@
 //! Journals of answers that no site may give, each refused by the test that is for it.
 
-use crate::may::{test_act, test_size};
+use crate::may::{test_act, test_sent, test_size};
 use crate::scene::TWO_CARRIERS;
 use crate::shadow::Shadow;
 use crate::sound::test_facts;
 use crate::unsound::Unsound;
 use dmr_calls::{Ask, Call, Line};
-use dmr_core::{Act, Acts, Event};
+use dmr_core::{Act, Acts, Command, Event};
 use dmr_pdu::{
     Address, Blank, BoundedList, CarrierNo, Lpcn, Number, Options, Pdu, Reason, Slot, SlotNo,
 };
@@ -219,6 +219,40 @@ fn outboxes(rt: HostRuntime) -> Result<(), Fail> {
     refuses(&rt, &[], fill, Err(Unsound::FilledWrongly))
 }
 
+/// C_MOVE to a channel, with a backoff, fills the control slot.
+fn filled(channel: u32, backoff: u32) -> Act {
+    Act::Fill(
+        slot(0, 0),
+        Pdu::Move {
+            register: true,
+            backoff: Number::new(backoff % 16),
+            lpcn: Lpcn::try_new(channel).unwrap_or(Lpcn::new(1)),
+        },
+    )
+}
+
+/// While the control channel is to be moved, C_MOVE fills its slot, with the backoff of the noise there.
+#[test]
+fn fills(rt: HostRuntime) -> Result<(), Fail> {
+    refuses(&rt, &[], &filled(7, 1), Err(Unsound::FilledWrongly))?;
+    let mut shadow = shadow(rt.alloc())?;
+    shadow.note(&Event::Say(Command::Move(Lpcn::new(7))));
+    shadow.note(&Event::Noise(slot(0, 0)));
+    shadow.note(&Event::Noise(slot(0, 1)));
+    shadow.note(&Event::Poll(CarrierNo::new(0)));
+    assert_eq!(rt; test_act(&shadow, &filled(7, 2)), Ok(()));
+    let wrong = Err(Unsound::FilledWrongly);
+    assert_eq!(rt; test_act(&shadow, &filled(7, 1)), wrong);
+    assert_eq!(rt; test_act(&shadow, &filled(8, 2)), wrong);
+    for _ in 0..32 {
+        shadow.note(&Event::Poll(CarrierNo::new(0)));
+    }
+    assert_eq!(rt; test_act(&shadow, &filled(7, 1)), Ok(()));
+    shadow.note(&Event::Say(Command::Stay));
+    assert_eq!(rt; test_act(&shadow, &filled(7, 1)), wrong);
+    Ok(())
+}
+
 /// An answer of the same act so many times, at most 16.
 fn times(count: u32, act: &Act) -> Acts {
     let mut list = BoundedList::new();
@@ -227,7 +261,7 @@ fn times(count: u32, act: &Act) -> Acts {
             list.push(*act);
         }
     }
-    Acts { list }
+    Acts { list, said: None }
 }
 
 /// How much an answer may do.
@@ -247,6 +281,19 @@ fn answers(rt: HostRuntime) -> Result<(), Fail> {
     let queued = test_size(&shadow, &times(5, elsewhere));
     assert_eq!(rt; queued, Err(Unsound::TooManyQueued));
     Ok(())
+}
+
+/// Only a poll is answered by what is sent, on each slot of its carrier once.
+#[test]
+fn sent(rt: HostRuntime) {
+    let poll = &Event::Poll(CarrierNo::new(0));
+    let sent = &Act::Send(slot(0, 0), grant(1000, 1001));
+    let unasked = Err(Unsound::SentUnasked);
+    assert_eq!(rt; test_sent(poll, &times(1, sent)), Ok(()));
+    assert_eq!(rt; test_sent(poll, &times(2, sent)), unasked);
+    let other = &Event::Poll(CarrierNo::new(1));
+    assert_eq!(rt; test_sent(other, &times(1, sent)), unasked);
+    assert_eq!(rt; test_sent(&Event::Tick, &times(1, sent)), unasked);
 }
 
 /// What an event closes: a lost carrier's calls and outboxes, and with the control carrier all that waits.

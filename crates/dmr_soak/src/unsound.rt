@@ -30,6 +30,13 @@ pub enum Unsound {
     EndedNothing,
     NoSuchAsk,
     NoSuchLine,
+    SentUnasked,
+    ReplyUnlikeFacts,
+    PutOutForAnother,
+    WrongFrames,
+    WrongReply,
+    TooManyOctets,
+    TooManyRows,
 }
 
 impl Unsound {
@@ -63,6 +70,13 @@ impl Unsound {
             Unsound::EndedNothing => "no call stood on the slot where one ended",
             Unsound::NoSuchAsk => "no ask stood where one was over",
             Unsound::NoSuchLine => "no line stood where one was taken out",
+            Unsound::SentUnasked => "something was sent for which no poll of its carrier asked",
+            Unsound::ReplyUnlikeFacts => "a reply is not what stands",
+            Unsound::PutOutForAnother => "octets were put out for another",
+            Unsound::WrongFrames => "what was put out for a carrier is not the answer",
+            Unsound::WrongReply => "what was put out for operators is not the reply",
+            Unsound::TooManyOctets => "more octets were put out than may be",
+            Unsound::TooManyRows => "a reply has more lines than may be",
         }
     }
 }

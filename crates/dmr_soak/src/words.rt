@@ -3,9 +3,9 @@
 /// What the words ask for.
 #[derive(Clone, Copy, Debug, PartialEq, Eq)]
 pub struct Wishes {
-    /// How many events each site is told, from 1 on.
-    pub events: u32,
-    /// What the events are drawn by.
+    /// How many inputs come to each engine, from 1 on.
+    pub inputs: u32,
+    /// What the inputs are drawn by.
     pub seed: u64,
     /// Whether counts are printed.
     pub counts: bool,
@@ -15,14 +15,14 @@ pub struct Wishes {
 #[derive(Clone, Copy, PartialEq, Eq)]
 enum Awaited {
     Option,
-    Events,
+    Inputs,
     Seed,
 }
 
-/// Reads the words behind the program's own name: `--events N`, `--seed N` and `--counts`, in any order.
+/// Reads the words behind the program's own name: `--inputs N`, `--seed N` and `--counts`, in any order.
 pub fn wishes_of(words: &[String]) -> Option<Wishes> {
     let mut wishes = Wishes {
-        events: 300,
+        inputs: 300,
         seed: 42,
         counts: false,
     };
@@ -30,8 +30,8 @@ pub fn wishes_of(words: &[String]) -> Option<Wishes> {
     for word in words {
         let word = word.as_str();
         match awaited {
-            Awaited::Events => {
-                wishes.events = word.parse::<u32>().ok()?;
+            Awaited::Inputs => {
+                wishes.inputs = word.parse::<u32>().ok()?;
                 awaited = Awaited::Option;
             }
             Awaited::Seed => {
@@ -39,14 +39,14 @@ pub fn wishes_of(words: &[String]) -> Option<Wishes> {
                 awaited = Awaited::Option;
             }
             Awaited::Option => match word {
-                "--events" => awaited = Awaited::Events,
+                "--inputs" => awaited = Awaited::Inputs,
                 "--seed" => awaited = Awaited::Seed,
                 "--counts" => wishes.counts = true,
                 _ => return None,
             },
         }
     }
-    if awaited == Awaited::Option && wishes.events > 0 {
+    if awaited == Awaited::Option && wishes.inputs > 0 {
         Some(wishes)
     } else {
         None

@@ -1,7 +1,7 @@
 -- Worked values of scripts.
 use Rattle.std.proofs.Common.{◌≡◌, [], ◌∷◌, Ok, Err, codes, refl}
 use Rattle.hex.specs.Hex.{decode_pairs}
-use Rattle.dmr_link.specs.Input.{At, Opening, Octets, Cutting, Ticking}
+use Rattle.dmr_link.specs.Input.{At, Opening, Octets, Cutting, Saying, Ticking}
 use Rattle.dmr_trunk.specs.Script.{once, script_of}
 
 -- a carrier's connection begins
@@ -93,3 +93,34 @@ two_numbers = refl
 
 cut_of_no_carrier : script_of (codes "cut") ≡ Err 1
 cut_of_no_carrier = refl
+
+-- an operator's line: all that stands behind the one space, and an LF
+says_stay : script_of (codes "say stay") ≡ Ok (once (Saying (codes "stay\n")) ∷ [])
+says_stay = refl
+
+says_nothing : script_of (codes "say ") ≡ Ok (once (Saying (codes "\n")) ∷ [])
+says_nothing = refl
+
+says_spaces : script_of (codes "say   # 1 ") ≡ Ok (once (Saying (codes "  # 1 \n")) ∷ [])
+says_spaces = refl
+
+no_space : script_of (codes "say") ≡ Err 1
+no_space = refl
+
+another_say : script_of (codes "says stay") ≡ Err 1
+another_say = refl
+
+-- an operator's octets as they are
+tells_octets : script_of (codes "text 73746179") ≡ Ok (once (Saying (codes "stay")) ∷ [])
+unfolding decode_pairs
+tells_octets = refl
+
+tells_nothing : script_of (codes "text") ≡ Err 1
+tells_nothing = refl
+
+tells_no_octets : script_of (codes "text ") ≡ Err 1
+unfolding decode_pairs
+tells_no_octets = refl
+
+tells_two_words : script_of (codes "text 0A 0A") ≡ Err 1
+tells_two_words = refl

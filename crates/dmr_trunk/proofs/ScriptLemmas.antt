@@ -4,7 +4,7 @@ use Rattle.std.specs.Prelude.{find}
 use Rattle.std.specs.List.{enumerate_from, filter_map}
 use Rattle.std.proofs.lemmas.List.FromFn.{length-enumerate_from, get_or-enumerate_from}
 use Rattle.std.proofs.lemmas.List.{append-nil, drop_more, drop_all}
-use Rattle.dmr_trunk.specs.Script.{Given, given_at, given_by, is_fault, is_skipped, unless_fault, words_of}
+use Rattle.dmr_trunk.specs.Script.{Given, given_at, given_by_line, is_fault, is_skipped, unless_fault}
 
 -- what a script gives of which the last lines, from number n on, are still to be read, and the earlier ones gave these
 abbrev pub answer : List Given → ℕ → List (List ℕ) → Result (List Given) ℕ
@@ -14,11 +14,11 @@ answer given n lines =
 skipped-cons : (given : List Given) (n : ℕ) (line : List ℕ) (lines : List (List ℕ)) → is_skipped line ≡ true → answer given n (line ∷ lines) ≡ answer given (n + 1) lines
 skipped-cons given n line lines skipped = rw skipped refl
 
-gives-cons : (given : List Given) (n : ℕ) (line : List ℕ) (lines : List (List ℕ)) (input : Given) → is_skipped line ≡ false → given_by (words_of line) ≡ Some input
+gives-cons : (given : List Given) (n : ℕ) (line : List ℕ) (lines : List (List ℕ)) (input : Given) → is_skipped line ≡ false → given_by_line line ≡ Some input
     → answer given n (line ∷ lines) ≡ answer (given ++ input ∷ []) (n + 1) lines
 gives-cons given n line lines input skipped gives = rw (skipped, gives, append_assoc) refl
 
-fault-cons : (given : List Given) (n : ℕ) (line : List ℕ) (lines : List (List ℕ)) → is_skipped line ≡ false → given_by (words_of line) ≡ None → answer given n (line ∷ lines) ≡ Err n
+fault-cons : (given : List Given) (n : ℕ) (line : List ℕ) (lines : List (List ℕ)) → is_skipped line ≡ false → given_by_line line ≡ None → answer given n (line ∷ lines) ≡ Err n
 fault-cons given n line lines skipped gives = rw (skipped, gives) refl
 
 module _ (given : List Given) (k : ℕ) (line : List ℕ) (lines : List (List ℕ)) (here : (k < length lines) × (line ≡ slice_index_or lines k line)) (whole : Result (List Given) ℕ) (before : answer given (k + 1) (drop k lines) ≡ whole) where
@@ -35,14 +35,14 @@ module _ (given : List Given) (k : ℕ) (line : List ℕ) (lines : List (List �
 
   -- a line that gives an input
   pub gives : (more : ℕ) → more ≡ k + 1 → (input : Given) (given_more : List Given) → given_more ≡ given ++ input ∷ []
-      → is_skipped line ≡ false → given_by (words_of line) ≡ Some input → answer given_more (more + 1) (drop more lines) ≡ whole
+      → is_skipped line ≡ false → given_by_line line ≡ Some input → answer given_more (more + 1) (drop more lines) ≡ whole
   gives more is input given_more given_is skipped some =
       ap (λ (m : ℕ). answer given_more (m + 1) (drop m lines)) is
       ∙ ap (λ (g : List Given). answer g (k + 1 + 1) (drop (k + 1) lines)) given_is
       ∙ sym (gives-cons given (k + 1) line (drop (k + 1) lines) input skipped some) ∙ same
 
   -- a line at fault
-  pub faults : is_skipped line ≡ false → given_by (words_of line) ≡ None → whole ≡ Err (k + 1)
+  pub faults : is_skipped line ≡ false → given_by_line line ≡ None → whole ≡ Err (k + 1)
   faults skipped none = sym same ∙ fault-cons given (k + 1) line (drop (k + 1) lines) skipped none
 
 -- no line is left

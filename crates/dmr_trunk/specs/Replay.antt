@@ -12,7 +12,7 @@ use Rattle.dmr_plan.specs.Carriers.{has_number_in}
 use Rattle.dmr_plan.specs.Plan.{plan_of_text}
 use Rattle.dmr_trunk.specs.declared.replay.ReplayFault.{ReplayFault}
 use Rattle.dmr_trunk.specs.declared.replay.ReplayFault.TheVariants as fault
-use Rattle.dmr_trunk.specs.Inputs.{put_out}
+use Rattle.dmr_trunk.specs.Inputs.{put_out, told}
 use Rattle.dmr_trunk.specs.Script.{Given, inputs_of, script_of}
 
 -- ---- the text
@@ -34,8 +34,9 @@ line_of_number plan put_out number = if has_number_in plan.carriers number then 
 abbrev pub lines_to : Settings → (ℕ → List ℕ) → ℕ → List ℕ
 lines_to plan put_out numbers = flat_map (line_of_number plan put_out) (range_with_len 0 numbers)
 
-abbrev pub printed : Settings → (ℕ → List ℕ) → List ℕ
-printed plan put_out = lines_to plan put_out 16
+-- behind them the operators' text as it is
+abbrev pub printed : Settings → (ℕ → List ℕ) → List ℕ → List ℕ
+printed plan put_out told = lines_to plan put_out 16 ++ told
 
 -- ---- what the files give
 
@@ -54,7 +55,7 @@ plan_in site = if is_utf8 site then plan_of_text site else Err NotToml
 -- what the lines of a script put out, or the number of the one that is none
 abbrev pub of_lines : Settings → Result (List Given) ℕ → Outcome
 of_lines plan (Err number) = NoLine number
-of_lines plan (Ok given) = Prints (printed plan (put_out plan (inputs_of given)))
+of_lines plan (Ok given) = Prints (printed plan (put_out plan (inputs_of given)) (told plan (inputs_of given)))
 
 -- what a script gives, if it could be read
 abbrev pub of_script : Settings → Option (List ℕ) → Outcome

@@ -1,10 +1,10 @@
 -- What a script is, and what it gives.
-use Rattle.std.specs.Prelude.{ℕ, ◌+◌, ◌-◌, ◌*◌, ◌==◌, ◌&&◌, not, nat_le, Bool, true, false, List, [], ◌∷◌, Option, Some, None, is_none, option_map, Result, Ok, Err, if◌then◌else◌, codes, find, flat_map, fold, position, replicate}
+use Rattle.std.specs.Prelude.{ℕ, ◌+◌, ◌-◌, ◌*◌, ◌==◌, ◌&&◌, not, nat_le, Bool, true, false, List, [], ◌∷◌, ◌++◌, take, drop, Option, Some, None, is_none, option_map, Result, Ok, Err, if◌then◌else◌, codes, find, flat_map, fold, position, replicate}
 use Rattle.std.specs.List.{slice_split, enumerate_from, filter_map, list_all}
 use Rattle.std.specs.Result.{result_ok}
 use Rattle.std.specs.Str.{bytes_eq}
 use Rattle.hex.specs.Hex.{decode_of}
-use Rattle.dmr_link.specs.Input.{Input, At, Opening, Octets, Cutting, Ticking}
+use Rattle.dmr_link.specs.Input.{Input, At, Opening, Octets, Cutting, Saying, Ticking}
 use Rattle.dmr_trunk.specs.declared.script.ScriptInput.{ScriptInput}
 use Rattle.dmr_trunk.specs.declared.script.ScriptInput.TheVariants as input
 
@@ -96,6 +96,11 @@ ticking [] = Some (once Ticking)
 ticking (times ∷ []) = option_map (λ n. record { input = Ticking; times = n }) (times_of times)
 ticking words = None
 
+-- `text HEX`: the words behind the first
+abbrev pub telling : List (List ℕ) → Option Given
+telling (digits ∷ []) = option_map (λ octets. once (Saying octets)) (octets_of digits)
+telling words = None
+
 -- the first word says what the others are; None where they are no words of a script
 abbrev pub given_by : List (List ℕ) → Option Given
 given_by [] = None
@@ -103,17 +108,30 @@ given_by (name ∷ words) =
     if bytes_eq name (codes "open") then opening words else
     if bytes_eq name (codes "bytes") then arrival words else
     if bytes_eq name (codes "cut") then cutting words else
-    if bytes_eq name (codes "tick") then ticking words else None
+    if bytes_eq name (codes "tick") then ticking words else
+    if bytes_eq name (codes "text") then telling words else None
+
+-- `say TEXT`: the text is all that stands behind the one space; it may be empty
+abbrev pub text_of : List ℕ → Option (List ℕ)
+text_of line = if bytes_eq (take 4 line) (codes "say ") then Some (drop 4 line) else None
+
+-- a text comes as an operator's line, ended by an LF; with no text, the words of the line say what it gives
+abbrev pub said_or : Option (List ℕ) → List (List ℕ) → Option Given
+said_or (Some text) words = Some (once (Saying (text ++ 10 ∷ [])))
+said_or None words = given_by words
+
+abbrev pub given_by_line : List ℕ → Option Given
+given_by_line line = said_or (text_of line) (words_of line)
 
 -- ---- what a script gives
 
 -- what a line gives, if it gives something
 abbrev pub given_in : List ℕ → Option Given
-given_in line = if is_skipped line then None else given_by (words_of line)
+given_in line = if is_skipped line then None else given_by_line line
 
 -- a line that is neither empty nor a comment, and gives nothing
 abbrev pub is_fault : List ℕ → Bool
-is_fault line = not (is_skipped line) && is_none (given_by (words_of line))
+is_fault line = not (is_skipped line) && is_none (given_by_line line)
 
 -- all lines, with their numbers from 1
 abbrev pub numbered : List ℕ → List (ℕ × List ℕ)
@@ -144,3 +162,4 @@ given_as (input.Open carrier) = once (At carrier Opening)
 given_as (input.Bytes carrier octets) = once (At carrier (Octets octets.items))
 given_as (input.Cut carrier) = once (At carrier Cutting)
 given_as (input.Tick times) = record { input = Ticking; times = times }
+given_as (input.Text octets) = once (Saying octets.items)

@@ -1,9 +1,9 @@
-//! Replays a script over the site of a site file, and prints what was put out.
+//! Replays a script over the site of a site file, and prints what was put out for carriers and operators.
 
 ghost use Rattle.std.specs.Prelude.{◌≡◌, ◌⊎◌, ℕ, [], IfErr, IfOk, IsErrAnd, MatchResult, Ok, OnOk, false, map, option_map, slice_index_or, string_bytes};
 ghost use Rattle.std.specs.Io.KnownBytes.{Appends};
 ghost use Rattle.dmr_link.specs.Input.{input_of};
-ghost use Rattle.dmr_trunk.specs.Inputs.{put_out};
+ghost use Rattle.dmr_trunk.specs.Inputs.{put_out, told};
 ghost use Rattle.dmr_trunk.specs.Script.{given_as, inputs_of, script_of};
 ghost use Rattle.dmr_trunk.specs.Replay.{IsPrinted, Prints, Tells, carrier_line, digits_or_dash, is_printed, outcome, plan_in, printed, status_of};
 
@@ -49,8 +49,8 @@ impl ReplayFault<'_> {
     }
 }
 
-/// Runs a script over the site of a site file, prints what was put out for each carrier of the plan to `out`, and answers
-/// the exit status.
+/// Runs a script over the site of a site file, prints to `out` what was put out for each carrier of the plan and behind it
+/// what operators were told, and answers the exit status.
 ///
 /// The two files come as their octets, or None where one could not be read, beside the names that faults call them by.
 /// Faults are found in this order: the site file, then the script; nothing is printed to `out` then. A fault goes to `err`
@@ -161,9 +161,10 @@ fn inputs_of<'a>(alloc: Global, given: &'a [ScriptInput]) -> Result<Vec<Input<'a
 }
 
 /// What inputs put out, from a site on which nothing stands and with no connection open.
-#[tactic(auto, using(crate::proofs::EngineLemmas::run_text))]
+#[tactic(auto, using(crate::proofs::EngineLemmas::run_text, crate::proofs::EngineLemmas::run_told))]
 fn outputs_of(alloc: Global, plan: &Plan, inputs: &[Input<'_>]) -> Result<Outputs, AllocError>
-    ensures { IfOk result (λ outputs. (c : ℕ) → slice_index_or outputs c [] ≡ put_out plan.now (map input_of inputs.now) c) }
+    ensures carriers { IfOk result (λ outputs. (c : ℕ) → slice_index_or outputs.carriers c [] ≡ put_out plan.now (map input_of inputs.now) c) }
+    ensures console { IfOk result (λ outputs. outputs.console ≡ told plan.now (map input_of inputs.now)) }
 {
     one_legal_journal();
     let mut engine = Engine::new(alloc, *plan)?;
@@ -175,16 +176,16 @@ fn outputs_of(alloc: Global, plan: &Plan, inputs: &[Input<'_>]) -> Result<Output
 
 /// What is printed for what lines give.
 fn text_of_inputs(alloc: Global, plan: &Plan, given: &[ScriptInput]) -> Result<Vec<u8>, AllocError>
-    ensures { IfOk result (λ text. text.items ≡ printed plan.now (put_out plan.now (inputs_of (map given_as given.now)))) }
+    ensures { IfOk result (λ text. text.items ≡ printed plan.now (put_out plan.now (inputs_of (map given_as given.now))) (told plan.now (inputs_of (map given_as given.now)))) }
 {
     let inputs = inputs_of(alloc, given)?;
     let outputs = outputs_of(alloc, plan, inputs.as_slice())?;
     outputs_text(alloc, plan, &outputs)
 }
 
-/// A line per carrier of the plan, by number.
+/// A line per carrier of the plan, by number, and what operators were told.
 fn outputs_text(alloc: Global, plan: &Plan, outputs: &Outputs) -> Result<Vec<u8>, AllocError>
-    ensures { IfOk result (λ text. text.items ≡ printed plan.now (λ c. slice_index_or outputs.now c [])) }
+    ensures { IfOk result (λ text. text.items ≡ printed plan.now (λ c. slice_index_or outputs.now.carriers c []) outputs.now.console) }
 {
     let mut text = Vec::new(alloc);
     for number in 0..16u32 {
@@ -194,6 +195,7 @@ fn outputs_text(alloc: Global, plan: &Plan, outputs: &Outputs) -> Result<Vec<u8>
             text.extend_from_slice(line.as_bytes())?;
         }
     }
+    text.extend_from_slice(outputs.console())?;
     Ok(text)
 }
 

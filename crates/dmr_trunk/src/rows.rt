@@ -1,6 +1,7 @@
 //! Worked cases, through `replay`: a script, and what is printed for it. They were worked out apart from this program.
 
 mod clock;
+mod console;
 mod control_slot;
 mod cutting;
 mod faults;

@@ -1,12 +1,13 @@
 //! Scripts: what comes to a site, line by line.
 //!
 //! A script is octets. Its lines are what stands between its LFs, so the last line may end with an LF or without; empty
-//! lines and lines that begin with `#` are skipped. The words of a line are separated by one space.
+//! lines and lines that begin with `#` are skipped. The words of a line are separated by one space, but a line that begins
+//! with `say ` has all that stands behind that space as its text.
 
-ghost use Rattle.std.specs.Prelude.{◌≡◌, ℕ, Ok, Err, IfOk, map, option_map};
+ghost use Rattle.std.specs.Prelude.{◌≡◌, ◌++◌, ◌∷◌, [], ℕ, Ok, Err, IfOk, map, option_map};
 ghost use Rattle.std.specs.List.{list_all};
 ghost use Rattle.dmr_link.specs.Input.{input_of};
-ghost use Rattle.dmr_trunk.specs.Script.{arrival, carrier_of as carrier_of_word, cutting, given_as, given_by, is_digit, is_number, is_skipped, octets_of as octets_of_word, opening, script_of, ticking, times_of as times_of_word, words_of};
+ghost use Rattle.dmr_trunk.specs.Script.{arrival, carrier_of as carrier_of_word, cutting, given_as, given_by, given_by_line, is_digit, is_number, is_skipped, octets_of as octets_of_word, opening, script_of, telling, ticking, times_of as times_of_word, words_of};
 
 use dmr_link::Input;
 use dmr_pdu::CarrierNo;
@@ -26,6 +27,8 @@ pub enum ScriptInput {
     Cut(CarrierNo),
     /// `tick` and `tick N`: so many ticks of the site's clock, 1 to 100,000.
     Tick(u32),
+    /// `say TEXT` and `text HEX`: octets that came from an operator; those of TEXT end with an LF.
+    Text(Vec<u8>),
 }
 
 /// Why a script was not read.
@@ -47,6 +50,7 @@ impl ScriptInput {
             ScriptInput::Bytes(carrier, octets) => Input::Bytes(*carrier, octets.as_slice()),
             ScriptInput::Cut(carrier) => Input::Cut(*carrier),
             ScriptInput::Tick(_) => Input::Tick,
+            ScriptInput::Text(octets) => Input::Text(octets.as_slice()),
         }
     }
 
@@ -97,10 +101,25 @@ fn is_skipped(line: &[u8]) -> bool
 
 /// What a line that is not skipped gives; None where it is no line of a script.
 fn given_in(alloc: Global, line: &[u8]) -> Result<Option<ScriptInput>, AllocError>
-    ensures { IfOk result (λ input. option_map given_as input ≡ given_by (words_of line.now)) }
+    ensures { IfOk result (λ input. option_map given_as input ≡ given_by_line line.now) }
 {
-    let words = words_of(alloc, line)?;
-    given_by(alloc, words.as_slice())
+    match line.strip_prefix(b"say ") {
+        Some(text) => Ok(Some(ScriptInput::Text(ended(alloc, text)?))),
+        None => {
+            let words = words_of(alloc, line)?;
+            given_by(alloc, words.as_slice())
+        }
+    }
+}
+
+/// A text and an LF.
+fn ended(alloc: Global, text: &[u8]) -> Result<Vec<u8>, AllocError>
+    ensures { IfOk result (λ line. line.items ≡ text.now ++ 10 ∷ []) }
+{
+    let mut line = Vec::new(alloc);
+    line.extend_from_slice(text)?;
+    line.push(b'\n')?;
+    Ok(line)
 }
 
 /// The words of a line.
@@ -125,6 +144,8 @@ fn given_by(alloc: Global, words: &[&[u8]]) -> Result<Option<ScriptInput>, Alloc
         Ok(cutting(arguments))
     } else if *name == b"tick".as_slice() {
         Ok(ticking(arguments))
+    } else if *name == b"text".as_slice() {
+        telling(alloc, arguments)
     } else {
         Ok(None)
     }
@@ -173,6 +194,17 @@ fn arrival(alloc: Global, words: &[&[u8]]) -> Result<Option<ScriptInput>, AllocE
     };
     let octets = octets_of(alloc, digits)?;
     Ok(octets.map(|octets| ScriptInput::Bytes(carrier, octets)))
+}
+
+/// What the words behind `text` give: one word, HEX.
+fn telling(alloc: Global, words: &[&[u8]]) -> Result<Option<ScriptInput>, AllocError>
+    ensures { IfOk result (λ input. option_map given_as input ≡ telling (map (λ word. word.now) words.now)) }
+{
+    let [digits] = words else {
+        return Ok(None);
+    };
+    let octets = octets_of(alloc, digits)?;
+    Ok(octets.map(|octets| ScriptInput::Text(octets)))
 }
 
 /// A carrier's number: 0 to 15 in decimal digits, with no leading zero.

@@ -1,14 +1,23 @@
 //! The lines among what stands.
 
-ghost use Rattle.std.specs.Prelude.{◌≡◌, nat_le, length, is_err};
-ghost use Rattle.dmr_calls.specs.Lines.{with_line, without_line, first_line, has_lines, line_of, line_to, has_group_line, has_own_group_line, has_own_line};
+ghost use Rattle.std.specs.Prelude.{◌≡◌, ◌≤◌, nat_le, length, is_err};
+ghost use Rattle.dmr_calls.specs.Lines.{with_line, without_line, first_line, lines_from, has_lines, line_of, line_to, has_group_line, has_own_group_line, has_own_line};
 ghost use Rattle.dmr_calls.specs.Engaged.{line_with};
 
 use super::{Calls, MOST_LINES};
 use crate::answer::Full;
 use crate::line::Line;
 use crate::party::is_party;
-use dmr_pdu::Address;
+use dmr_pdu::{Address, BoundedList};
+
+/// At most 16 of the lines, from a place on.
+fn from_place(lines: &[Line], place: usize) -> &[Line]
+    ensures rows { result.now ≡ lines_from lines.now place }
+    ensures few { length result.now ≤ 16 }
+{
+    let rest = lines.get(place..).unwrap_or_default();
+    rest.get(..16).unwrap_or(rest)
+}
 
 impl Calls {
     /// Puts a line behind the others. `Err` where 32 lines stand; then nothing changes.
@@ -35,6 +44,17 @@ impl Calls {
         ensures { result ≡ first_line self.now.lines }
     {
         self.lines.first().copied()
+    }
+
+    /// The lines from a place on, 16 at most, in their order. Places are counted from 0.
+    pub fn lines_from(&self, place: usize) -> BoundedList<Line, 16>
+        ensures { result ≡ lines_from self.now.lines place }
+    {
+        let mut rows = BoundedList::new();
+        for line in from_place(self.lines.as_slice(), place) {
+            rows.push(*line);
+        }
+        rows
     }
 
     /// Whether any line stands.

@@ -23,7 +23,7 @@ impl Machine {
         if let Some(pdu) = self.pool.first(slot) {
             acts.push(Act::Send(*slot, pdu));
         } else if self.is_control(slot) {
-            acts.push(Act::Fill(*slot, self.access.fill()));
+            acts.push(Act::Fill(*slot, self.access.fill(self.moving)));
         }
     }
 
@@ -141,6 +141,7 @@ impl Machine {
                 }
                 acts
             }
+            Event::Say(command) => self.commanded(command),
             _ => BoundedList::new(),
         }
     }

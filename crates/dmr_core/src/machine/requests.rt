@@ -97,7 +97,7 @@ impl Machine {
 
     /// What a radio is engaged by is over.
     #[tactic(auto, unfolding(crate::specs::Rules::close))]
-    fn add_close(&self, acts: &mut ActList, radio: Address)
+    pub(super) fn add_close(&self, acts: &mut ActList, radio: Address)
         requires { length acts.old + 5 ≤ 16 }
         ensures acts { acts.new ≡ acts.old ++ close self.now.plan self.now.facts radio }
         ensures few { length acts.new ≤ length acts.old + 5 }

@@ -23,7 +23,7 @@ poll 0 => send 0.0 B100001800005B0003E9
 heard 0.0 9F000001.91.1002 => queue 0.0 B100001C00005B0003E9
 poll 0 => send 0.0 B100001C00005B0003E9
 ";
-    // Two calls more, a request that waits, and the tick that serves it.
+    // Two calls more, a request that waits, an operator who ends the first call, and the tick that serves the request.
     const TWO_CALLS_AND_A_LINE: &str = "\
 heard 0.0 9F000001.92.1002 => began 1.0 1002 g92; queue 0.0 B100002000005C0003EA
 poll 0 => send 0.0 B100002000005C0003EA
@@ -31,10 +31,10 @@ heard 0.0 9F000001.93.1003 => began 1.1 1003 g93; queue 0.0 B100002800005D0003EB
 poll 0 => send 0.0 B100002800005D0003EB
 heard 0.0 9F00000100005E0003EC => lined 1004 g94; queue 0.0 A00001400003EC00005E
 poll 0 => send 0.0 A00001400003EC00005E
-99 tick =>
-tick => ended 0.1; queue 0.1 AE00001100005BFFFECA
+say end 0 1 => reply ok; ended 0.1; queue 0.1 AE00001100005BFFFECA
+tick =>
 poll 0 => fill 0.0 99000000111234000000; send 0.1 AE00001100005BFFFECA
-tick => ended 1.0; queue 1.0 AE00001100005CFFFECA; unlined 1004; began 0.1 1004 g94; queue 0.0 B100001800005E0003EC
+tick => unlined 1004; began 0.1 1004 g94; queue 0.0 B100001800005E0003EC
 poll 0 => send 0.0 B100001800005E0003EC
 ";
     let site = &mut site_with(&rt, &SMALL, 1004);

@@ -9,7 +9,7 @@
 //! ```
 //!
 //! Events are `up C`, `lost C`, `poll C`, `tick`, `active C.S`, `noise C.S` and `heard C.S PDU`, where C is a carrier and
-//! S a slot of it. A number before an event says how often it comes; each time it is answered by these acts. Lines that
+//! S a slot of it; and `say` with a command of an operator, whose reply stands before the acts (see `replies`). A number before an event says how often it comes; each time it is answered by these acts. Lines that
 //! begin with `#`, and empty ones, say nothing.
 //!
 //! Acts are `queue C.S PDU`, `send C.S PDU`, `fill C.S PDU`, `joined R`, `left R`, `asked R T OPTIONS ATTEMPT`, `over R`,
@@ -21,7 +21,8 @@
 //! A part of a story that begins with a line `rounds A to B`, and ends with an empty line, is told once in each round from A
 //! to B. There a number with a `+` behind it, as `1000+`, is raised by the number of the round.
 
-use crate::{Act, Event, Site};
+use super::replies::{command_of, is_reply};
+use crate::{Act, Acts, Event, Site};
 use dmr_calls::{Ask, Call, Line};
 use dmr_pdu::{Address, CarrierNo, Pdu, Slot, SlotNo};
 use std::process::Abort;
@@ -77,11 +78,27 @@ fn is_so(site: &mut Site, round: u32, line: &str) -> bool {
 fn answers(site: &mut Site, times: u32, event: &Event, round: u32, answer: &str) -> bool {
     for _ in 0..times {
         let acts = site.apply(*event);
-        if !are_acts(acts.list.as_slice(), round, answer) {
+        if !is_answer(&acts, round, answer) {
             return false;
         }
     }
     true
+}
+
+/// Whether a reply, if there is one, and acts are just those that an answer tells, in its order.
+fn is_answer(acts: &Acts, round: u32, answer: &str) -> bool {
+    match &acts.said {
+        Some(reply) => {
+            let (wanted, rest) = answer.split_once(';').unwrap_or((answer, ""));
+            match wanted.strip_prefix(" reply ") {
+                Some(wanted) => {
+                    is_reply(reply, wanted) && are_acts(acts.list.as_slice(), round, rest)
+                }
+                None => false,
+            }
+        }
+        None => are_acts(acts.list.as_slice(), round, answer),
+    }
 }
 
 /// How often an event comes, and the event.
@@ -94,7 +111,7 @@ fn times_of(told: &str) -> (u32, &str) {
 }
 
 /// The first word, and what stands behind it.
-fn cut(words: &str) -> (&str, &str) {
+pub fn cut(words: &str) -> (&str, &str) {
     words.split_once(' ').unwrap_or((words, ""))
 }
 
@@ -108,6 +125,7 @@ fn event_of(round: u32, told: &str) -> Option<Event> {
         "active" => Some(Event::Active(slot_of(round, rest)?)),
         "noise" => Some(Event::Noise(slot_of(round, rest)?)),
         "heard" => heard(round, rest),
+        "say" => Some(Event::Say(command_of(rest)?)),
         "tick" if rest.is_empty() => Some(Event::Tick),
         _ => None,
     }
@@ -129,7 +147,7 @@ fn raised(round: u32, digits: &str) -> (&str, u32) {
 }
 
 /// The number of decimal digits.
-fn number_of(round: u32, digits: &str) -> Option<u32> {
+pub fn number_of(round: u32, digits: &str) -> Option<u32> {
     let (digits, more) = raised(round, digits);
     digits.parse::<u32>().ok()?.checked_add(more)
 }
@@ -141,12 +159,12 @@ fn hexadecimal(round: u32, digits: &str) -> Option<u32> {
 }
 
 /// A carrier.
-fn carrier_of(round: u32, digits: &str) -> Option<CarrierNo> {
+pub fn carrier_of(round: u32, digits: &str) -> Option<CarrierNo> {
     CarrierNo::try_new(number_of(round, digits)?)
 }
 
 /// A slot of a carrier.
-fn slot_of(round: u32, place: &str) -> Option<Slot> {
+pub fn slot_of(round: u32, place: &str) -> Option<Slot> {
     let (carrier, slot) = place.split_once('.')?;
     Some(Slot {
         carrier: carrier_of(round, carrier)?,
@@ -222,17 +240,17 @@ fn is_act(act: &Act, round: u32, wanted: &str) -> bool {
 }
 
 /// Whether this is the number that digits tell.
-fn is_number(number: u32, round: u32, digits: &str) -> bool {
+pub fn is_number(number: u32, round: u32, digits: &str) -> bool {
     number_of(round, digits) == Some(number)
 }
 
 /// Whether this is the radio or talkgroup that digits tell.
-fn is_address(address: &Address, round: u32, digits: &str) -> bool {
+pub fn is_address(address: &Address, round: u32, digits: &str) -> bool {
     is_number(address.get(), round, digits)
 }
 
 /// Whether this is the slot that a word tells.
-fn is_slot(slot: &Slot, round: u32, place: &str) -> bool {
+pub fn is_slot(slot: &Slot, round: u32, place: &str) -> bool {
     match place.split_once('.') {
         Some((carrier, number)) => {
             is_number(slot.carrier.get(), round, carrier)
@@ -257,13 +275,13 @@ fn is_target(target: &Address, group: bool, round: u32, word: &str) -> bool {
 }
 
 /// Whether a request that waits is the one that words tell.
-fn is_line(line: &Line, round: u32, words: &str) -> bool {
+pub fn is_line(line: &Line, round: u32, words: &str) -> bool {
     let (source, target) = cut(words);
     is_address(&line.source, round, source) && is_target(&line.target, line.group, round, target)
 }
 
 /// Whether a call is the one that words tell.
-fn is_call(call: &Call, round: u32, words: &str) -> bool {
+pub fn is_call(call: &Call, round: u32, words: &str) -> bool {
     let (place, parties) = cut(words);
     let (source, target) = cut(parties);
     is_slot(&call.slot, round, place)

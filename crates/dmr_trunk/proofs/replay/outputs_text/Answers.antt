@@ -8,7 +8,7 @@ use Rattle.dmr_trunk.proofs.replay.outputs_text.Goals.{then-is_some+in_ok-line+i
 pub loop-number-preserved : goal.loop-number-preserved
 loop-number-preserved c =
     let plan = c.args.plan.now in
-    let put_out : ℕ → List ℕ = λ number. slice_index_or c.args.outputs.now number [] in
+    let put_out : ℕ → List ℕ = λ number. slice_index_or c.args.outputs.now.carriers number [] in
     let number = c.loop-number.number in
     let found = c.is_some.ensures ∙ c.carrier.ensures.found ∙ ap (has_number_in plan.carriers) c.new-carrier.ensures in
     elim c.if-is_some.branch [

@@ -3,4 +3,4 @@ use Rattle.dmr_trunk.specs.Replay.{lines_to}
 use Rattle.dmr_trunk.proofs.replay.outputs_text.Given as goal
 
 abbrev pub invariant-loop-number : goal.invariant-loop-number
-invariant-loop-number l = l.text.items ≡ lines_to l.plan (λ c. slice_index_or l.outputs c []) l.number
+invariant-loop-number l = l.text.items ≡ lines_to l.plan (λ c. slice_index_or l.outputs.carriers c []) l.number

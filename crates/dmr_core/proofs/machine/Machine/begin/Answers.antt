@@ -21,6 +21,7 @@ hold-requires c =
       calls = c.self.inside.calls.calls;
       outboxes = c.self.inside.pool.outboxes;
       noise = c.self.inside.access.noise;
+      moving = c.self.inside.moving;
     } in
     pool_free c.self.inside.plan facts c.self.inside.pool c.self.invariant.1 refl refl c.self.invariant.2 c.args.call.now.slot c.numbers_of.ensures ∙ may.free
 

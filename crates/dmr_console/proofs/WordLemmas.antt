@@ -1,0 +1,161 @@
+-- The first word of a line.
+use Rattle.std.proofs.Common.{◌≡◌, ℕ, ◌+◌, ◌-◌, ◌<◌, ◌≤◌, Bool, true, false, cond, not, List, [], ◌∷◌, length, take, drop, eqb, ltb, refl, sym, ap, ◌∙◌, arith, suc, zero, filter, Option, Some, None, unwrap_or, length-drop, subst}
+use Rattle.std.proofs.lemmas.Bool.{ltb-true, ltb-false}
+use Rattle.std.proofs.lemmas.List.{take_all}
+use Rattle.std.specs.List.{slice_split, onto_first, position_or_len}
+use Rattle.std.proofs.lemmas.List.Recursion.{is_position_or_len}
+use Rattle.dmr_console.specs.Words.{is_word, words_of}
+
+abbrev space : ℕ → Bool
+space octet = eqb octet 32
+
+-- where the first octet stands that is no space, and where the first space stands
+abbrev begin_of : List ℕ → ℕ
+begin_of [] = zero
+begin_of (x ∷ xs) = cond (eqb x 32) (suc (begin_of xs)) zero
+
+abbrev end_of : List ℕ → ℕ
+end_of [] = zero
+end_of (x ∷ xs) = cond (eqb x 32) zero (suc (end_of xs))
+
+one_more : (n : ℕ) → suc n ≡ 1 + n
+one_more n = omega arith
+
+begin_at : (x : ℕ) (n : ℕ) (b : Bool) → cond b (suc n) zero ≡ cond (not b) 0 (1 + n)
+begin_at x n true = one_more n
+begin_at x n false = refl
+
+end_at : (x : ℕ) (n : ℕ) (b : Bool) → cond b zero (suc n) ≡ cond b 0 (1 + n)
+end_at x n true = refl
+end_at x n false = one_more n
+
+begin_is : (xs : List ℕ) → begin_of xs ≡ position_or_len (λ o. not (eqb o 32)) xs
+begin_is xs = is_position_or_len begin_of (λ o. not (eqb o 32)) refl (λ y ys. begin_at y (begin_of ys) (eqb y 32)) xs
+
+end_is : (xs : List ℕ) → end_of xs ≡ position_or_len (λ o. eqb o 32) xs
+end_is xs = is_position_or_len end_of (λ o. eqb o 32) refl (λ y ys. end_at y (end_of ys) (eqb y 32)) xs
+
+-- the parts behind the first
+abbrev after : List ℕ → List (List ℕ)
+after [] = []
+after (x ∷ xs) = slice_split space xs
+
+split_cons : (x : ℕ) (xs : List ℕ) (b : Bool) → eqb x 32 ≡ b → slice_split space xs ≡ take (end_of xs) xs ∷ after (drop (end_of xs) xs) →
+    slice_split space (x ∷ xs) ≡ take (end_of (x ∷ xs)) (x ∷ xs) ∷ after (drop (end_of (x ∷ xs)) (x ∷ xs))
+split_cons x xs true e h = rw e refl
+split_cons x xs false e h = rw e (ap (onto_first x) h)
+
+split_at_end : (xs : List ℕ) → slice_split space xs ≡ take (end_of xs) xs ∷ after (drop (end_of xs) xs)
+split_at_end [] = refl
+split_at_end (x ∷ xs) = split_cons x xs (eqb x 32) refl (split_at_end xs)
+
+after_cons : (x : ℕ) (xs : List ℕ) (b : Bool) → eqb x 32 ≡ b → filter is_word (after (drop (end_of xs) xs)) ≡ words_of (drop (end_of xs) xs) →
+    filter is_word (after (drop (end_of (x ∷ xs)) (x ∷ xs))) ≡ words_of (drop (end_of (x ∷ xs)) (x ∷ xs))
+after_cons x xs true e h =
+    let at : end_of (x ∷ xs) ≡ zero = ap (λ (b : Bool). cond b zero (suc (end_of xs))) e in
+    let P : ℕ → Type 0 = λ n. filter is_word (after (drop n (x ∷ xs))) ≡ words_of (drop n (x ∷ xs)) in
+    let same : filter is_word (slice_split space xs) ≡ words_of (x ∷ xs) = rw e refl in
+    subst P (sym at) same
+after_cons x xs false e h =
+    let at : end_of (x ∷ xs) ≡ suc (end_of xs) = ap (λ (b : Bool). cond b zero (suc (end_of xs))) e in
+    let P : ℕ → Type 0 = λ n. filter is_word (after (drop n (x ∷ xs))) ≡ words_of (drop n (x ∷ xs)) in
+    subst P (sym at) h
+
+words_after : (xs : List ℕ) → filter is_word (after (drop (end_of xs) xs)) ≡ words_of (drop (end_of xs) xs)
+words_after [] = refl
+words_after (x ∷ xs) = after_cons x xs (eqb x 32) refl (words_after xs)
+
+first_and_more : (x : ℕ) (xs : List ℕ) (parts : List (List ℕ)) → filter is_word ((x ∷ xs) ∷ parts) ≡ (x ∷ xs) ∷ filter is_word parts
+first_and_more x xs parts = refl
+
+-- the words of a line, by the first word of it
+abbrev Parted : List ℕ → List ℕ → Type 0
+Parted line rest = words_of line ≡ take (end_of rest) rest ∷ words_of (drop (end_of rest) rest)
+
+word_first : (x : ℕ) (xs : List ℕ) → eqb x 32 ≡ false → Parted (x ∷ xs) (x ∷ xs)
+word_first x xs e =
+    let at : end_of (x ∷ xs) ≡ suc (end_of xs) = ap (λ (b : Bool). cond b zero (suc (end_of xs))) e in
+    let P : ℕ → Type 0 = λ n. filter is_word (slice_split space (x ∷ xs)) ≡ take n (x ∷ xs) ∷ words_of (drop n (x ∷ xs)) in
+    let parts : slice_split space (x ∷ xs) ≡ (x ∷ take (end_of xs) xs) ∷ after (drop (end_of xs) xs) = rw e (ap (onto_first x) (split_at_end xs)) in
+    subst P (sym at)
+    (ap (filter is_word) parts ∙ first_and_more x (take (end_of xs) xs) (after (drop (end_of xs) xs))
+    ∙ ap (λ (ws : List (List ℕ)). (x ∷ take (end_of xs) xs) ∷ ws) (words_after xs))
+
+parted_cons : (x : ℕ) (xs : List ℕ) (b : Bool) → eqb x 32 ≡ b → begin_of (x ∷ xs) < length (x ∷ xs) →
+    (begin_of xs < length xs → Parted xs (drop (begin_of xs) xs)) → Parted (x ∷ xs) (drop (begin_of (x ∷ xs)) (x ∷ xs))
+parted_cons x xs true e h more =
+    let at : begin_of (x ∷ xs) ≡ suc (begin_of xs) = ap (λ (b : Bool). cond b (suc (begin_of xs)) zero) e in
+    let P : ℕ → Type 0 = λ n. Parted (x ∷ xs) (drop n (x ∷ xs)) in
+    let same : words_of (x ∷ xs) ≡ words_of xs = rw e refl in
+    subst P (sym at) (same ∙ more (omega (arith, h, at)))
+parted_cons x xs false e h more =
+    let at : begin_of (x ∷ xs) ≡ zero = ap (λ (b : Bool). cond b (suc (begin_of xs)) zero) e in
+    let P : ℕ → Type 0 = λ n. Parted (x ∷ xs) (drop n (x ∷ xs)) in
+    subst P (sym at) (word_first x xs e)
+
+parted : (line : List ℕ) → begin_of line < length line → Parted line (drop (begin_of line) line)
+parted [] h = absurd (omega (arith, h))
+parted (x ∷ xs) h = parted_cons x xs (eqb x 32) refl h (parted xs)
+
+none_cons : (x : ℕ) (xs : List ℕ) (b : Bool) → eqb x 32 ≡ b → length (x ∷ xs) ≤ begin_of (x ∷ xs) → (length xs ≤ begin_of xs → words_of xs ≡ []) → words_of (x ∷ xs) ≡ []
+none_cons x xs true e h more =
+    let at : begin_of (x ∷ xs) ≡ suc (begin_of xs) = ap (λ (b : Bool). cond b (suc (begin_of xs)) zero) e in
+    let same : words_of (x ∷ xs) ≡ words_of xs = rw e refl in
+    same ∙ more (omega (arith, h, at))
+none_cons x xs false e h more =
+    let at : begin_of (x ∷ xs) ≡ zero = ap (λ (b : Bool). cond b (suc (begin_of xs)) zero) e in
+    absurd (omega (arith, h, at))
+
+none : (line : List ℕ) → length line ≤ begin_of line → words_of line ≡ []
+none [] h = refl
+none (x ∷ xs) h = none_cons x xs (eqb x 32) refl h (none xs)
+
+end_within_cons : (x : ℕ) (xs : List ℕ) (b : Bool) → eqb x 32 ≡ b → end_of xs ≤ length xs → end_of (x ∷ xs) ≤ length (x ∷ xs)
+end_within_cons x xs true e h =
+    let at : end_of (x ∷ xs) ≡ zero = ap (λ (b : Bool). cond b zero (suc (end_of xs))) e in omega (arith, at)
+end_within_cons x xs false e h =
+    let at : end_of (x ∷ xs) ≡ suc (end_of xs) = ap (λ (b : Bool). cond b zero (suc (end_of xs))) e in omega (arith, at, h)
+
+end_within : (xs : List ℕ) → end_of xs ≤ length xs
+end_within [] = omega arith
+end_within (x ∷ xs) = end_within_cons x xs (eqb x 32) refl (end_within xs)
+
+-- the answer of `position`
+abbrev pub found : (ℕ → Bool) → List ℕ → Option ℕ
+found test xs = cond (ltb (position_or_len test xs) (length xs)) (Some (position_or_len test xs)) None
+
+some_at : (m n k : ℕ) (b : Bool) → ltb m n ≡ b → Some k ≡ cond b (Some m) None → (k ≡ m) × (m < n)
+some_at m n k true l e = (cc, ltb-true m n l)
+some_at m n k false l e = absurd cc
+
+none_at : (m n : ℕ) (b : Bool) → ltb m n ≡ b → None ≡ cond b (Some m) None → n ≤ m
+none_at m n true l e = absurd cc
+none_at m n false l e = ltb-false m n l
+
+or_len : (m n : ℕ) (b : Bool) → ltb m n ≡ b → m ≤ n → unwrap_or (cond b (Some m) None) n ≡ m
+or_len m n true l h = refl
+or_len m n false l h = omega (arith, h, ltb-false m n l)
+
+pub no_word : (line : List ℕ) (r : Option ℕ) → r ≡ found (λ o. not (eqb o 32)) line → r ≡ None → words_of line ≡ []
+no_word line r f e =
+    let past : length line ≤ position_or_len (λ o. not (eqb o 32)) line =
+    none_at (position_or_len (λ o. not (eqb o 32)) line) (length line) (ltb (position_or_len (λ o. not (eqb o 32)) line) (length line)) refl (sym e ∙ f) in
+    none line (omega (arith, past, begin_is line))
+
+-- the first word is what stands from the first other octet to the next space
+pub word_and_rest : (line rest front back : List ℕ) (b e : ℕ) (r q : Option ℕ) → r ≡ found (λ o. not (eqb o 32)) line → r ≡ Some b →
+    rest ≡ take (length line - b) (drop b line) → q ≡ found (λ o. eqb o 32) rest → e ≡ unwrap_or q (length rest) →
+    front ≡ take e rest → back ≡ drop e rest → words_of line ≡ front ∷ words_of back
+word_and_rest line rest front back b e r q f is cut g at p n =
+    let begin : (b ≡ position_or_len (λ o. not (eqb o 32)) line) × (position_or_len (λ o. not (eqb o 32)) line < length line) =
+    some_at (position_or_len (λ o. not (eqb o 32)) line) (length line) b (ltb (position_or_len (λ o. not (eqb o 32)) line) (length line)) refl (sym is ∙ f) in
+    let here : b ≡ begin_of line = begin.0 ∙ sym (begin_is line) in
+    let whole : rest ≡ drop (begin_of line) line =
+    cut ∙ take_all (length line - b) (drop b line) (omega (arith, length-drop b line)) ∙ ap (λ (k : ℕ). drop k line) here in
+    let end : e ≡ end_of rest =
+    at ∙ ap (λ (o : Option ℕ). unwrap_or o (length rest)) g
+    ∙ or_len (position_or_len (λ o. eqb o 32) rest) (length rest) (ltb (position_or_len (λ o. eqb o 32) rest) (length rest)) refl (omega (arith, end_is rest, end_within rest))
+    ∙ sym (end_is rest) in
+    let P : List ℕ → Type 0 = λ xs. Parted line xs in
+    let both : Parted line rest = subst P (sym whole) (parted line (omega (arith, begin.0, begin.1, here))) in
+    both ∙ (λ i. (take (sym end i) rest) ∷ words_of (drop (sym end i) rest)) ∙ (λ i. (sym p i) ∷ words_of (sym n i))

@@ -1,0 +1,5 @@
+pub mod Lines
+pub mod Steps
+pub mod Words
+pub mod Commands
+pub mod Texts

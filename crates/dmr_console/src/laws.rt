@@ -1,0 +1,41 @@
+//! What holds of lines, and of the texts of whole lists. These functions do nothing: their contracts are the laws.
+
+ghost use Rattle.std.specs.Prelude.{◌≡◌, ◌≤◌, ◌≢◌, ℕ, List, [], ◌∷◌, ◌++◌, All, length};
+ghost use Rattle.std.specs.List.{enumerate_from};
+ghost use Rattle.dmr_calls.specs.declared.call.Call.{Call};
+ghost use Rattle.dmr_calls.specs.declared.line.Line.{Line as WaitingLine};
+ghost use Rattle.dmr_core.specs.declared.reply.SlotState.{SlotState};
+ghost use Rattle.dmr_core.specs.declared.reply.Reply.{Reply};
+ghost use Rattle.dmr_console.specs.Lines.{kept, line_of, lines_in, open_in};
+ghost use Rattle.dmr_console.specs.Steps.{lines_from, rest_from};
+ghost use Rattle.dmr_console.specs.Texts.{call_row, line_row, radio_row, rows_text, slot_row, text_of};
+
+/// A line is what stands before an LF and holds none itself, and what no LF follows is still open.
+pub fn lines_stand_before_their_ends()
+    ensures line { (octets more : List ℕ) → All (λ octet. octet ≢ 10) octets →
+        (lines_in (octets ++ 10 ∷ more) ≡ line_of octets ∷ lines_in more) × (open_in (octets ++ 10 ∷ more) ≡ open_in more) }
+    ensures rest { (octets : List ℕ) → All (λ octet. octet ≢ 10) octets →
+        (lines_in octets ≡ []) × (open_in octets ≡ octets) }
+{}
+
+/// The octets of a stream, one by one, bring just its lines, in whatever pieces they come: those of two pieces are the
+/// lines of the first, and those of the second behind what the first leaves open.
+pub fn lines_in_any_cutting()
+    ensures whole { (octets : List ℕ) → (lines_from [] octets ≡ lines_in octets) × (rest_from [] octets ≡ kept (open_in octets)) }
+    ensures cut { (begun a b : List ℕ) →
+        (lines_from begun (a ++ b) ≡ lines_from begun a ++ lines_from (rest_from begun a) b)
+        × (rest_from begun (a ++ b) ≡ rest_from (rest_from begun a) b) }
+    ensures pieces { (a b : List ℕ) →
+        (lines_in (a ++ b) ≡ lines_in a ++ lines_in (open_in a ++ b))
+        × (open_in (a ++ b) ≡ open_in (open_in a ++ b)) }
+{}
+
+/// The text of a reply has all its rows, where its lists are within their bounds: 16 radios, two calls, 16 lines and
+/// 32 slots.
+pub fn texts_of_whole_lists()
+    ensures radios { (radios : List ℕ) → length radios ≤ 16 → text_of (Reply.Radios radios) ≡ rows_text radio_row radios }
+    ensures calls { (calls : List Call) → length calls ≤ 2 → text_of (Reply.Calls calls) ≡ rows_text call_row calls }
+    ensures lines { (from : ℕ) (rows : List WaitingLine) → length rows ≤ 16 →
+        text_of (Reply.Lines from rows) ≡ rows_text line_row (enumerate_from from rows) }
+    ensures slots { (slots : List SlotState) → length slots ≤ 32 → text_of (Reply.Slots slots) ≡ rows_text slot_row slots }
+{}

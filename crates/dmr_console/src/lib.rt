@@ -1,0 +1,22 @@
+//! The console: an operator's lines, the commands that they are, and the texts of the replies (this project's profile).
+//!
+//! A `LineCutter` takes an operator's octets one by one, so it does not matter in which pieces they come, and answers
+//! each line at its LF; `parse` reads a line as a command, and `print` writes a reply as lines. Nothing here takes
+//! memory from an allocator.
+#![tactic(auto)]
+
+mod laws;
+mod line_cutter;
+mod number_text;
+mod parsing;
+mod printing;
+mod rows;
+mod words;
+
+pub use laws::{lines_in_any_cutting, lines_stand_before_their_ends, texts_of_whole_lists};
+pub use line_cutter::{LineCutter, LineStep};
+pub use parsing::parse;
+pub use printing::{line_too_long, print, unknown_command};
+
+#[cfg(test)]
+mod tests;

@@ -1,0 +1,131 @@
+//! Cuts an operator's octets into lines.
+
+ghost use Rattle.std.specs.Prelude.{◌≡◌, ℕ, List, [], ◌∷◌, ◌++◌};
+ghost use Rattle.dmr_console.specs.Lines.{IsKept, kept, line_of as line_of_octets, lines_in, open_in, without_cr as without_cr_of};
+ghost use Rattle.dmr_console.specs.Steps.{left_by, line_brought, step_at};
+
+use arrayvec::ArrayVec;
+use std::marker::Model;
+
+/// The octet that ends a line.
+const LF: u8 = b'\n';
+
+/// The octet of which one may stand before an LF.
+const CR: u8 = b'\r';
+
+/// How many octets a line has at most before its LF, a CR among them.
+const LONGEST: usize = 80;
+
+/// What an octet brings (this project's profile).
+#[derive(Debug, Drop, PartialEq, Eq)]
+pub enum LineStep {
+    /// No line yet: its LF must still come.
+    Need,
+    /// The octet is the LF of this line: the octets before it, without the CR that stands before the LF, if one does.
+    Line(ArrayVec<u8, 80>),
+    /// The octet is the LF of a line of more than 80 octets, a CR counted among them. The line's octets are gone, and
+    /// the next octet begins a new line.
+    TooLong,
+}
+
+/// Cuts the octets of one connection into lines (this project's profile). It holds what stands behind the last LF, of
+/// which the first 81 octets are kept: with 81 the line is too long, whatever follows. Contracts see it as those
+/// octets.
+#[derive(Debug, Drop)]
+pub struct LineCutter {
+    begun: ArrayVec<u8, 81>,
+}
+
+impl Model for LineCutter {
+    ghost use Rattle.std.specs.Prelude.{ℕ, List};
+    ghost use Rattle.dmr_console.specs.Lines.{IsKept};
+
+    ghost Value = { List ℕ };
+
+    ghost view = { λ c. c.begun.items };
+
+    ghost invariant = { λ c. IsKept c.begun.items };
+}
+
+impl LineCutter {
+    /// The cutter of a connection that has begun: no octets yet.
+    pub fn new() -> Self
+        ensures { result ≡ [] }
+    {
+        LineCutter {
+            begun: ArrayVec::new(),
+        }
+    }
+
+    /// Takes the next octet, and says what it brings: a line, or that a line was too long, at each LF, and else
+    /// nothing yet. After an LF nothing is left of the line.
+    pub fn feed_byte(&mut self, octet: u8) -> LineStep
+        // Where the cutter holds what the octets so far leave open, it does so with this octet too, which adds to
+        // their lines the one that it brings, if it brings one.
+        ensures stream { (octets : List ℕ) → self.old ≡ kept (open_in octets) →
+            (lines_in (octets ++ octet ∷ []) ≡ lines_in octets ++ line_brought result)
+            × (self.new ≡ kept (open_in (octets ++ octet ∷ []))) }
+        ensures step { result ≡ step_at self.old octet }
+        ensures rest { self.new ≡ left_by self.old octet }
+    {
+        self.take(octet)
+    }
+
+    /// Does nothing. A proof learns from it what every cutter holds: no LF, and at most 81 octets.
+    pub fn keeps(&self)
+        ensures { IsKept self.now }
+    {
+        let _ = &self.begun;
+    }
+
+    /// Takes the next octet.
+    fn take(&mut self, octet: u8) -> LineStep
+        ensures step { result ≡ step_at self.old octet }
+        ensures rest { self.new ≡ left_by self.old octet }
+    {
+        if octet == LF {
+            let line = line_of(self.begun.as_slice());
+            self.begun.clear();
+            line
+        } else {
+            // A line of 81 octets is too long already: there is no need for more of it.
+            let _ = self.begun.try_push(octet);
+            LineStep::Need
+        }
+    }
+}
+
+/// The cutter of a connection that has begun.
+impl Default for LineCutter {
+    ghost use Rattle.std.specs.Prelude.{◌≡◌, []};
+
+    ghost is_default = { λ c. c ≡ [] };
+
+    fn default() -> Self {
+        LineCutter::new()
+    }
+}
+
+/// What the LF behind these octets brings.
+fn line_of(octets: &[u8]) -> LineStep
+    ensures { result ≡ line_of_octets octets.now }
+{
+    if octets.len() > LONGEST {
+        return LineStep::TooLong;
+    }
+    let mut line = ArrayVec::new();
+    for octet in without_cr(octets) {
+        line.push(*octet);
+    }
+    LineStep::Line(line)
+}
+
+/// The octets without the CR at their end, if one stands there.
+fn without_cr(octets: &[u8]) -> &[u8]
+    ensures { result.now ≡ without_cr_of octets.now }
+{
+    match octets {
+        [line @ .., last] if *last == CR => line,
+        _ => octets,
+    }
+}

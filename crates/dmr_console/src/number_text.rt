@@ -1,0 +1,55 @@
+//! Writes decimal numbers.
+
+ghost use Rattle.std.specs.Prelude.{◌≡◌, ◌+◌, ◌<◌, ◌≤◌, ◌++◌, ◌∷◌, [], decimal, length};
+ghost use Rattle.arrayvec.specs.ArrayString.{array_string_len};
+
+use arrayvec::ArrayString;
+use dmr_pdu::Address;
+
+/// Appends a number in decimal digits, at most 20. There must be room for them.
+pub fn push_number(text: &mut ArrayString<1024>, number: u64)
+    requires { array_string_len text.old + length (decimal number) ≤ 1024 }
+    ensures { text.new.bytes ≡ text.old.bytes ++ decimal number }
+{
+    if number >= 10 {
+        push_number(text, number / 10);
+    }
+    push_digit(text, (number % 10) as u8);
+}
+
+/// Appends a digit.
+fn push_digit(text: &mut ArrayString<1024>, digit: u8)
+    requires room { array_string_len text.old + 1 ≤ 1024 }
+    requires digit { digit < 10 }
+    ensures { text.new.bytes ≡ text.old.bytes ++ (48 + digit) ∷ [] }
+{
+    text.push(char::from(b'0' + digit));
+}
+
+/// Appends a count.
+pub fn push_count(text: &mut ArrayString<1024>, count: usize)
+    requires { array_string_len text.old + 20 ≤ 1024 }
+    ensures bytes { text.new.bytes ≡ text.old.bytes ++ decimal count }
+    ensures len { array_string_len text.new ≤ array_string_len text.old + 20 }
+{
+    push_number(text, count as u64);
+}
+
+/// Appends an address, which has at most eight digits.
+pub fn push_address(text: &mut ArrayString<1024>, address: Address)
+    requires { array_string_len text.old + 8 ≤ 1024 }
+    ensures bytes { text.new.bytes ≡ text.old.bytes ++ decimal address }
+    ensures len { array_string_len text.new ≤ array_string_len text.old + 8 }
+{
+    push_number(text, u64::from(address.get()));
+}
+
+/// Appends a number of at most two digits.
+pub fn push_small(text: &mut ArrayString<1024>, number: u32)
+    requires room { array_string_len text.old + 2 ≤ 1024 }
+    requires small { number < 100 }
+    ensures bytes { text.new.bytes ≡ text.old.bytes ++ decimal number }
+    ensures len { array_string_len text.new ≤ array_string_len text.old + 2 }
+{
+    push_number(text, u64::from(number));
+}

@@ -1,0 +1,105 @@
+//! Writes a reply as lines.
+
+ghost use Rattle.std.specs.Prelude.{◌≡◌, ◌+◌, ◌≤◌, ◌++◌, length, take, codes};
+ghost use Rattle.arrayvec.specs.ArrayString.{array_string_len};
+ghost use Rattle.dmr_console.specs.Texts.{fill_text, text_of};
+
+use crate::number_text::push_count;
+use crate::rows::{push_calls, push_lines, push_radios, push_slots};
+use arrayvec::ArrayString;
+use dmr_core::Reply;
+use dmr_pdu::Lpcn;
+
+/// The text of a line that is no command (this project's profile).
+pub fn unknown_command() -> &'static str
+    ensures { result.now ≡ codes "error unknown command\n" }
+{
+    "error unknown command\n"
+}
+
+/// The text of a line of more than 80 octets (this project's profile).
+pub fn line_too_long() -> &'static str
+    ensures { result.now ≡ codes "error line too long\n" }
+{
+    "error line too long\n"
+}
+
+/// The text of a reply: one or more lines, each with its LF (this project's profile). Rows are followed by the line
+/// `end`. Every text fits, with all its rows.
+pub fn print(reply: &Reply) -> ArrayString<1024>
+    ensures { result.bytes ≡ text_of reply.now }
+{
+    let mut text = ArrayString::new();
+    match reply {
+        Reply::Status {
+            carriers,
+            radios,
+            asks,
+            lines,
+            calls,
+            moving,
+        } => {
+            text.push_str("status carriers ");
+            push_count(&mut text, *carriers);
+            text.push_str(" radios ");
+            push_count(&mut text, *radios);
+            text.push_str(" asks ");
+            push_count(&mut text, *asks);
+            text.push_str(" lines ");
+            push_count(&mut text, *lines);
+            text.push_str(" calls ");
+            push_count(&mut text, *calls);
+            text.push_str(" fill ");
+            push_fill(&mut text, *moving);
+            text.push_str("\n");
+        }
+        Reply::Radios(radios) => {
+            push_radios(&mut text, first_of(radios.as_slice(), 16));
+            text.push_str("end\n");
+        }
+        Reply::Calls(calls) => {
+            push_calls(&mut text, first_of(calls.as_slice(), 2));
+            text.push_str("end\n");
+        }
+        Reply::Lines { from, rows } => {
+            push_lines(&mut text, *from, first_of(rows.as_slice(), 16));
+            text.push_str("end\n");
+        }
+        Reply::Slots(slots) => {
+            push_slots(&mut text, first_of(slots.as_slice(), 32));
+            text.push_str("end\n");
+        }
+        Reply::Done => text.push_str("ok\n"),
+        Reply::NotRegistered => text.push_str("error not registered\n"),
+        Reply::Busy => text.push_str("error busy\n"),
+        Reply::NoCall => text.push_str("error no call\n"),
+        Reply::NoCarrier => text.push_str("error no carrier\n"),
+    }
+    text
+}
+
+/// At most so many of a list's entries. No list of a reply has more, but contracts do not see that.
+fn first_of<T>(entries: &[T], most: usize) -> &[T]
+    ensures entries { result.now ≡ take most entries.now }
+    ensures len { length result.now ≤ most }
+{
+    match entries.get(..most) {
+        Some(first) => first,
+        None => entries,
+    }
+}
+
+/// Appends what fills the control slot.
+fn push_fill(text: &mut ArrayString<1024>, moving: Option<Lpcn>)
+    requires { array_string_len text.old + 25 ≤ 1024 }
+    ensures bytes { text.new.bytes ≡ text.old.bytes ++ fill_text moving }
+    ensures len { array_string_len text.new ≤ array_string_len text.old + 25 }
+{
+    match moving {
+        Some(channel) => {
+            text.push_str("move ");
+            push_count(text, channel.get() as usize);
+        }
+        None => text.push_str("aloha"),
+    }
+}

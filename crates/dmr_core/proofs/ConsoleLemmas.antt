@@ -1,0 +1,40 @@
+-- What the replies show.
+use Rattle.std.proofs.Common.{◌≡◌, ℕ, ◌+◌, List, [], ◌∷◌, ◌++◌, Bool, true, false, refl, ap, ◌∙◌, arith, map}
+use Rattle.std.specs.Prelude.{Some, cond, flat_map, find, is_some, option_map, ◌||◌}
+use Rattle.std.specs.List.{range_with_len}
+use Rattle.std.proofs.lemmas.Grind.{flat_map-append}
+use Rattle.std.proofs.lemmas.List.{append-nil}
+use Rattle.std.proofs.lemmas.List.FromFn.{map-range_with_len_more}
+use Rattle.dmr_pdu.specs.declared.slots.Slot.{Slot}
+use Rattle.dmr_plan.specs.declared.settings.Settings.{Settings}
+use Rattle.dmr_calls.specs.declared.call.Standing.{Standing}
+use Rattle.dmr_calls.specs.Calls.{call_on, is_slot}
+use Rattle.dmr_pool.specs.Slots.{slot_at}
+use Rattle.dmr_core.specs.declared.reply.SlotState.{SlotState}
+use Rattle.dmr_core.specs.Facts.{Facts}
+use Rattle.dmr_core.specs.Words.{stands_on}
+use Rattle.dmr_core.specs.Replies.{all_shown, shown}
+
+-- a call is found on a slot exactly where one stands there
+pub called : (calls : List Standing) (slot : Slot) → is_some (call_on calls slot) ≡ stands_on calls slot
+called [] slot = refl
+called (s ∷ calls) slot = either (is_slot s.call.slot slot) (called calls slot)
+  where
+    either : (b : Bool) → is_some (call_on calls slot) ≡ stands_on calls slot
+        → is_some (option_map (λ (t : Standing). t.call) (cond b (Some s) (find (λ t. is_slot t.call.slot slot) calls))) ≡ (b || stands_on calls slot)
+    either true h = refl
+    either false h = h
+
+-- the slots up to a place
+abbrev pub shown_to : Settings → Facts → ℕ → List SlotState
+shown_to plan now places = flat_map (shown plan now) (map slot_at (range_with_len 0 places))
+
+pub shown_more : (plan : Settings) (now : Facts) (place : ℕ) → shown_to plan now (place + 1) ≡ shown_to plan now place ++ shown plan now (slot_at place)
+shown_more plan now place =
+    ap (flat_map (shown plan now)) (map-range_with_len_more slot_at 0 place place (omega arith))
+    ∙ flat_map-append (shown plan now) (map slot_at (range_with_len 0 place)) (slot_at place ∷ [])
+    ∙ ap (λ (rest : List SlotState). shown_to plan now place ++ rest) (append-nil (shown plan now (slot_at place)))
+
+pub all_are_shown : (plan : Settings) (now : Facts) (places : ℕ) → places ≡ 32 → shown_to plan now places ≡ all_shown plan now
+unfolding all_shown
+all_are_shown plan now places all = ap (λ (n : ℕ). shown_to plan now n) all

@@ -1,0 +1,137 @@
+//! An operator's commands.
+
+use super::start::{LINE_BEHIND_CALLS, ONE_ASK, SMALL, THREE_CALLS, play};
+
+/// A radio that is dropped is registered no more, and its call ends.
+#[test]
+fn dropped_caller(rt: HostRuntime) {
+    const STORY: &str = "\
+say drop 1001 => reply ok; ended 0.1; queue 0.1 AE00001100005BFFFECA; left 1001
+poll 0 => fill 0.0 99000000111234000000; send 0.1 AE00001100005BFFFECA
+say drop 1001 => reply not registered
+say radios 1000 => reply radios 1002, 1003, 1004
+say calls 0 => reply calls
+";
+    play(&rt, &SMALL, 1004, &[THREE_CALLS, STORY]);
+}
+
+/// A called radio that is dropped is away to the one who calls it; the ask of one that calls is over, untold.
+#[test]
+fn dropped_in_an_ask(rt: HostRuntime) {
+    const CALLED: &str = "\
+say drop 1002 => reply ok; over 1001; queue 0.0 A00000480003E90003EA; left 1002
+poll 0 => send 0.0 A00000480003E90003EA
+say status => reply status 2 1 0 0 0 aloha
+";
+    const CALLING: &str = "\
+say drop 1001 => reply ok; over 1001; left 1001
+say status => reply status 2 1 0 0 0 aloha
+";
+    play(&rt, &SMALL, 1002, &[ONE_ASK, CALLED]);
+    play(&rt, &SMALL, 1002, &[ONE_ASK, CALLING]);
+}
+
+/// The request of a radio that is dropped waits no more.
+#[test]
+fn dropped_in_line(rt: HostRuntime) {
+    const STORY: &str = "\
+say lines 1 => reply lines 1 1004 g94
+say lines 2 => reply lines 2
+say drop 1004 => reply ok; unlined 1004; left 1004
+say lines 1 => reply lines 1
+";
+    play(&rt, &SMALL, 1004, &[THREE_CALLS, LINE_BEHIND_CALLS, STORY]);
+}
+
+/// Without room nobody is dropped: 57 PDUs wait for the control slot.
+#[test]
+fn no_room_to_drop(rt: HostRuntime) {
+    const STORY: &str = "\
+57 heard 0.0 9F00020E.16776902.1001 => queue 0.0 A00000C4.1001.16776902
+heard 0.0 9F00020E.16776902.1001 =>
+say drop 1001 => reply busy
+say drop 1002 => reply not registered
+poll 0 => send 0.0 A00000C4.1001.16776902
+say drop 1001 => reply ok; left 1001
+";
+    play(&rt, &SMALL, 1001, &[STORY]);
+}
+
+/// A call that is ended is cleared; its slot waits until its P_CLEAR has gone out, and then the request in line is served.
+#[test]
+fn ended_call(rt: HostRuntime) {
+    const STORY: &str = "\
+say end 0.1 => reply ok; ended 0.1; queue 0.1 AE00001100005BFFFECA
+say slots => reply slots 0.0 control, 0.1 waiting, 1.0 call, 1.1 call
+tick =>
+poll 0 => fill 0.0 99000000111234000000; send 0.1 AE00001100005BFFFECA
+tick => unlined 1004; began 0.1 1004 g94; queue 0.0 B100001800005E0003EC
+poll 0 => send 0.0 B100001800005E0003EC
+say calls 0 => reply calls 0.1 1004 g94
+say end 0.0 => reply no call
+say end 2.0 => reply no carrier
+say calls 2 => reply no carrier
+";
+    play(&rt, &SMALL, 1004, &[THREE_CALLS, LINE_BEHIND_CALLS, STORY]);
+}
+
+/// What is told of a carrier that is lost, and comes back.
+#[test]
+fn shown_while_a_carrier_is_lost(rt: HostRuntime) {
+    const STORY: &str = "\
+say calls 1 => reply calls 1.0 1002 g92, 1.1 1003 g93
+say status => reply status 2 4 0 0 3 aloha
+lost 1 =>
+say calls 1 => reply calls
+say slots => reply slots 0.0 control, 0.1 call, 1.0 down, 1.1 down
+up 1 =>
+say slots => reply slots 0.0 control, 0.1 call, 1.0 free, 1.1 free
+lost 0 =>
+say slots => reply slots 0.0 control, 0.1 down, 1.0 free, 1.1 free
+say status => reply status 1 4 0 0 0 aloha
+";
+    play(&rt, &SMALL, 1004, &[THREE_CALLS, STORY]);
+}
+
+/// With the control carrier go the requests in line; calls on the other carrier stand.
+#[test]
+fn shown_while_the_control_carrier_is_lost(rt: HostRuntime) {
+    const STORY: &str = "\
+lost 0 =>
+say status => reply status 1 4 0 0 2 aloha
+say drop 1002 => reply ok; ended 1.0; queue 1.0 AE00001100005CFFFECA; left 1002
+poll 1 => send 1.0 AE00001100005CFFFECA
+";
+    play(&rt, &SMALL, 1004, &[THREE_CALLS, LINE_BEHIND_CALLS, STORY]);
+}
+
+/// While the control channel is to be moved C_MOVE fills its slot, with the same backoff, whether its carrier is lost or not.
+#[test]
+fn moved_control_channel(rt: HostRuntime) {
+    const STORY: &str = "\
+say move 7 => reply ok
+poll 0 => fill 0.0 B9000000110007000000
+noise 0.0 =>
+poll 0 => fill 0.0 B9000000120007000000
+say status => reply status 2 1 0 0 0 move 7
+lost 0 =>
+up 0 =>
+poll 0 => fill 0.0 B9000000110007000000
+say stay => reply ok
+poll 0 => fill 0.0 99000000111234000000
+say status => reply status 2 1 0 0 0 aloha
+";
+    play(&rt, &SMALL, 1001, &[STORY]);
+}
+
+/// Sixteen radios at most are shown, from the number that is named.
+#[test]
+fn shown_radios(rt: HostRuntime) {
+    const STORY: &str = "\
+say radios 1000 => reply radios 1001, 1002, 1003, 1004, 1005, 1006, 1007, 1008, 1009, 1010, 1011, 1012, 1013, 1014, 1015, 1016
+say radios 1016 => reply radios 1016, 1017
+say radios 1018 => reply radios
+say radios 16777215 => reply radios
+";
+    play(&rt, &SMALL, 1017, &[STORY]);
+}

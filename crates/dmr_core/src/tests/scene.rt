@@ -9,7 +9,8 @@
 //! ```
 //!
 //! Events are `up C`, `lost C`, `poll C`, `tick`, `active C.S`, `noise C.S` and `heard C.S PDU`, where C is a carrier and
-//! S a slot of it; and `say` with a command of an operator, whose reply stands before the acts (see `replies`). A number before an event says how often it comes; each time it is answered by these acts. Lines that
+//! S a slot of it; and `say` with a command of an operator, whose slot is written `C.S` too, and whose reply stands before the
+//! acts (see `replies`). A number before an event says how often it comes; each time it is answered by these acts. Lines that
 //! begin with `#`, and empty ones, say nothing.
 //!
 //! Acts are `queue C.S PDU`, `send C.S PDU`, `fill C.S PDU`, `joined R`, `left R`, `asked R T OPTIONS ATTEMPT`, `over R`,

@@ -16,8 +16,7 @@ use std::marker::Model;
 
 /// A trunked site. Contracts see it as its plan and its facts: which carriers are up, which radios are registered, the asks,
 /// lines and calls that stand, what waits for each slot, how much the control slot was disturbed, and whether the control
-/// channel is to be moved. The facts of a site fit
-/// together always, as [`keeps`](Site::keeps) tells.
+/// channel is to be moved. The facts of a site fit together always, as [`keeps`](Site::keeps) tells.
 #[derive(Drop)]
 pub struct Site {
     machine: Machine,
@@ -52,8 +51,9 @@ impl Site {
         self.machine.plan()
     }
 
-    /// Answers an event. The acts, and the reply to a command, are those that the rules give for the event and what stands when it comes; after it the
-    /// facts are those that the event and the acts leave. No event is refused, and no memory is taken.
+    /// Answers an event. The acts, and the reply to a command, are those that the rules give for the event and what stands
+    /// when it comes; after it the facts are those that the event and the acts leave. No event is refused, and no memory is
+    /// taken.
     pub fn apply(&mut self, event: Event) -> Acts
         ensures acts { result.list ≡ acts_of self.old.plan self.old.facts event }
         ensures said { result.said ≡ reply_to self.old.plan self.old.facts event }

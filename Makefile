@@ -1,9 +1,10 @@
 # make demo    builds the program without its proofs and replays one registration (about a minute)
 # make build   the proved program, at build/dmr_trunk
-# make test    the whole gate: every proof, must-fail edit and test, and each program's stored run
+# make test    the whole gate: every proof, the must-fail edits and the tests, and each program's stored run (docs/GATE.md)
+# make wrong-bodies [CRATE=name]   every wrong body that must be refused, those outside the gate too
 # make bench   words decoded per second, beside a baseline, on this machine
 # make soak    a million random inputs through the engine, on two sites, all that is put out tested, by the proved program (half a minute, once it is proved)
-.PHONY: demo build test bench soak
+.PHONY: demo build test wrong-bodies bench soak
 
 demo:
 	@cd crates/dmr_trunk && rt try -- --site data/site.toml --script data/registration.txt
@@ -13,7 +14,10 @@ build:
 	mkdir -p build && cp crates/dmr_trunk/out/dmr_trunk build/dmr_trunk
 
 test:
-	rt ci
+	@tools/gate
+
+wrong-bodies:
+	@tools/wrong-bodies $(CRATE)
 
 bench:
 	@date -u +%Y-%m-%d

@@ -4,4 +4,5 @@ pub mod ScriptCases
 pub mod WordsLemmas
 pub mod WordsCases
 pub mod ReplayLemmas
+pub mod RunLemmas
 pub mod NumberLemmas

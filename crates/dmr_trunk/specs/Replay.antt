@@ -14,6 +14,10 @@ use Rattle.dmr_trunk.specs.declared.replay.ReplayFault.{ReplayFault}
 use Rattle.dmr_trunk.specs.declared.replay.ReplayFault.TheVariants as fault
 use Rattle.dmr_trunk.specs.Inputs.{put_out, told}
 use Rattle.dmr_trunk.specs.Script.{Given, inputs_of, script_of}
+use Rattle.dmr_trunk.specs.declared.words.Job.{Job}
+use Rattle.dmr_trunk.specs.declared.words.Job.TheVariants.{Script}
+use Rattle.dmr_trunk.specs.Words.{AskFor}
+use Rattle.clap.specs.Words.{Text}
 
 -- ---- the text
 
@@ -101,6 +105,24 @@ status_of fault = 1
 abbrev pub IsStatus : ℕ → Type 0
 IsStatus status = (status ≡ 0) ⊎ (status ≡ 1) ⊎ (status ≡ 2) ⊎ (status ≡ 4)
 
--- two files give a text, and the writer got the whole of it
-abbrev pub IsReplayed : Option (List ℕ) → Option (List ℕ) → Type 0
-IsReplayed old new = (site : Option (List ℕ)) × (script : Option (List ℕ)) × IsPrinted (outcome site script) old new
+-- the files of two paths, as they were given for these, give a text, and the writer got the whole of it
+pub record AreReplayed (gave : Text → Option (List ℕ) → Type 0) (site_path script_path : Text) (old new : Option (List ℕ)) : Type 0 where
+  pub site : Option (List ℕ)
+  pub script : Option (List ℕ)
+  pub site_given : gave site_path site
+  pub script_given : gave script_path script
+  pub printed : IsPrinted (outcome site script) old new
+
+-- a job was done: its two files were replayed
+abbrev pub IsDone : (Text → Option (List ℕ) → Type 0) → Job → Option (List ℕ) → Option (List ℕ) → Type 0
+IsDone gave (Script site script) old new = AreReplayed gave site.now script.now old new
+
+-- the words are taken, and what they ask for was done
+pub record IsReplayed (gave : Text → Option (List ℕ) → Type 0) (words : List Text) (old new : Option (List ℕ)) : Type 0 where
+  pub job : Job
+  pub asked : AskFor words job
+  pub done : IsDone gave job old new
+
+-- the same, of some words
+abbrev pub IsReplayedBySome : (Text → Option (List ℕ) → Type 0) → Option (List ℕ) → Option (List ℕ) → Type 0
+IsReplayedBySome gave old new = (words : List Text) × IsReplayed gave words old new

@@ -1,10 +1,11 @@
 //! The site controller of a DMR Tier III trunked radio site.
 //!
 //! `dmr_trunk --site FILE --script FILE` replays a script over the site of a site file and prints what was put out for
-//! each carrier. The words are read in `words` and scripts in `script`; `replay` runs a script's inputs through the engine of
+//! each carrier. The words are read in `words`, files come from `files`, and scripts are read in `script`; `replay` runs a script's inputs through the engine of
 //! `dmr_link`, and is the program but for its words and files.
 #![tactic(auto)]
 
+mod files;
 mod replay;
 #[cfg(test)]
 mod rows;
@@ -12,17 +13,18 @@ mod script;
 mod status;
 mod words;
 
-ghost use Rattle.std.specs.Prelude.{◌≡◌, IfOk, map, string_bytes};
-ghost use Rattle.dmr_trunk.specs.Replay.{IsReplayed, IsStatus};
+ghost use Rattle.std.specs.Prelude.{◌≡◌, IfOk, map, option_map, string_bytes};
+ghost use Rattle.dmr_trunk.specs.Replay.{AreReplayed, IsDone, IsReplayed, IsReplayedBySome, IsStatus};
 
+use crate::files::{FileSource, SystemFiles};
 use crate::replay::replay;
 use crate::status::{out_of_memory, words_refused};
 use crate::words::{Job, choose};
 use std::alloc::{AllocError, Global};
 use std::io::Write;
 use std::process::ExitCode;
-use std::rt::{Env, Files};
-use std::{env, fs, io};
+use std::rt::Env;
+use std::{env, io};
 
 /// The words as texts.
 fn texts_of(alloc: Global, words: &[String]) -> Result<Vec<&str>, AllocError>
@@ -35,59 +37,87 @@ fn texts_of(alloc: Global, words: &[String]) -> Result<Vec<&str>, AllocError>
     Ok(texts)
 }
 
-/// The octets of a file; None where it cannot be read.
-fn octets_of<R: AllocGlobal + Files>(rt: &R, path: &str) -> Result<Option<Vec<u8>>, AllocError> {
-    match fs::read(rt, path) {
-        Ok(octets) => Ok(Some(octets)),
-        Err(error) => {
-            if error.kind() == io::ErrorKind::OutOfMemory {
-                Err(AllocError)
-            } else {
-                Ok(None)
-            }
-        }
+/// The octets of a file that could be read.
+fn slice_of(octets: &Option<Vec<u8>>) -> Option<&[u8]>
+    ensures { option_map (λ o. o.now) result ≡ option_map (λ o. o.items) octets.now }
+{
+    match octets {
+        Some(octets) => Some(octets.as_slice()),
+        None => None,
     }
 }
 
-/// Does what the words ask for, and answers the exit status.
-fn run_words<R: AllocGlobal + Files, W: Write, E: Write>(
-    rt: &R,
+/// Replays the script of one path over the site file of another, and answers the exit status.
+fn replay_files<S: FileSource, W: Write, E: Write>(
+    alloc: Global,
+    files: &S,
+    site: &str,
+    script: &str,
+    out: &mut W,
+    err: &mut E,
+) -> Result<u8, AllocError>
+    ensures status { IfOk result IsStatus }
+    // At status 0 the files of the two paths, as the source gave them, give a text, and `out` got the whole of it.
+    ensures ok { IfOk result (λ status. status ≡ 0 → AreReplayed (S.gave files.now) site.now script.now (W.contents out.old) (W.contents out.new)) }
+{
+    let site_octets = files.octets_of(site)?;
+    let script_octets = files.octets_of(script)?;
+    Ok(replay(
+        alloc,
+        site,
+        slice_of(&site_octets),
+        script,
+        slice_of(&script_octets),
+        out,
+        err,
+    ))
+}
+
+/// Does a job with the files of a source, and answers the exit status.
+fn do_job<S: FileSource, W: Write, E: Write>(
+    alloc: Global,
+    files: &S,
+    job: Job<'_>,
+    out: &mut W,
+    err: &mut E,
+) -> Result<u8, AllocError>
+    ensures status { IfOk result IsStatus }
+    ensures ok { IfOk result (λ status. status ≡ 0 → IsDone (S.gave files.now) job.entry (W.contents out.old) (W.contents out.new)) }
+{
+    match job {
+        Job::Script { site, script } => replay_files(alloc, files, site, script, out, err),
+    }
+}
+
+/// Does what the words ask for with the files of a source, and answers the exit status.
+fn run_words<S: FileSource, W: Write, E: Write>(
+    alloc: Global,
+    files: &S,
     words: &[String],
     out: &mut W,
     err: &mut E,
 ) -> Result<u8, AllocError>
     ensures status { IfOk result IsStatus }
-    // At status 0 some site file and script gave a text, and `out` got the whole of it.
-    ensures ok { IfOk result (λ status. status ≡ 0 → IsReplayed (W.contents out.old) (W.contents out.new)) }
+    // At status 0 the words name two files, and these were replayed.
+    ensures ok { IfOk result (λ status. status ≡ 0 → IsReplayed (S.gave files.now) (map string_bytes words.now) (W.contents out.old) (W.contents out.new)) }
 {
-    let texts = texts_of(rt.alloc(), words)?;
-    match choose(rt.alloc(), texts.as_slice(), err) {
-        Ok(Job::Script { site, script }) => {
-            let site_octets = octets_of(rt, site)?;
-            let script_octets = octets_of(rt, script)?;
-            Ok(replay(
-                rt.alloc(),
-                site,
-                site_octets.as_ref().map(|octets| octets.as_slice()),
-                script,
-                script_octets.as_ref().map(|octets| octets.as_slice()),
-                out,
-                err,
-            ))
-        }
+    let texts = texts_of(alloc, words)?;
+    match choose(alloc, texts.as_slice(), err) {
+        Ok(job) => do_job(alloc, files, job, out, err),
         Err(status) => Ok(status),
     }
 }
 
 /// Reads the words and does what they ask for; answers the exit status.
-fn run_program<R: AllocGlobal + Env + Files, W: Write, E: Write>(
+fn run_program<R: AllocGlobal + Env, S: FileSource, W: Write, E: Write>(
     rt: &R,
+    files: &S,
     out: &mut W,
     err: &mut E,
 ) -> u8
     ensures status { IsStatus result }
-    // At status 0 some site file and script gave a text, and `out` got the whole of it.
-    ensures ok { result ≡ 0 → IsReplayed (W.contents out.old) (W.contents out.new) }
+    // At status 0 there were words that name two files, these gave a text, and `out` got the whole of it.
+    ensures ok { result ≡ 0 → IsReplayedBySome (S.gave files.now) (W.contents out.old) (W.contents out.new) }
 {
     let words = match env::args(rt) {
         Ok(words) => words,
@@ -104,7 +134,7 @@ fn run_program<R: AllocGlobal + Env + Files, W: Write, E: Write>(
     let Ok(words) = words.collect::<Vec<String>>(rt.alloc()) else {
         return out_of_memory(err);
     };
-    match run_words(rt, words.as_slice(), out, err) {
+    match run_words(rt.alloc(), files, words.as_slice(), out, err) {
         Ok(status) => status,
         Err(AllocError) => out_of_memory(err),
     }
@@ -113,5 +143,5 @@ fn run_program<R: AllocGlobal + Env + Files, W: Write, E: Write>(
 fn main(rt: HostRuntime) -> ExitCode {
     let mut out = rt.stdout();
     let mut err = rt.stderr();
-    ExitCode::from(run_program(&rt, &mut out, &mut err))
+    ExitCode::from(run_program(&rt, &SystemFiles::new(&rt), &mut out, &mut err))
 }

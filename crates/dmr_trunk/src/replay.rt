@@ -68,6 +68,9 @@ pub fn replay<'a, W: Write, E: Write>(
     ensures ok { result ≡ OK → IsPrinted (outcome (option_map (λ o. o.now) site.entry) (option_map (λ o. o.now) script.entry)) (W.contents out.old) (W.contents out.new) }
     // Where they give none, `out` is left as it was, and the status says so.
     ensures quiet { is_printed (outcome (option_map (λ o. o.now) site.entry) (option_map (λ o. o.now) script.entry)) ≡ false → out.new ≡ out.old }
+    // At want of memory nothing was printed, and at status 0 no fault was told.
+    ensures memory { result ≡ MEMORY → out.new ≡ out.old }
+    ensures silent { result ≡ OK → err.new ≡ err.old }
     ensures status { (result ≡ OK) ⊎ (result ≡ FAULT) ⊎ (result ≡ MEMORY) }
 {
     let printed = match text_of_replay(alloc, site_name, site, script_name, script) {
@@ -145,11 +148,22 @@ fn given_by<'a>(alloc: Global, script: &[u8]) -> Result<Vec<ScriptInput>, Replay
     }
 }
 
-/// The inputs that lines give.
+/// How many inputs lines give; None where that is more than can be counted.
+fn inputs_in(given: &[ScriptInput]) -> Option<usize> {
+    let mut count = 0usize;
+    for line in given {
+        count = count.checked_add(line.times() as usize)?;
+    }
+    Some(count)
+}
+
+/// The inputs that lines give. Their room is taken at once, so that a script of more ticks than memory holds is refused
+/// before the first of them is stored.
 fn inputs_of<'a>(alloc: Global, given: &'a [ScriptInput]) -> Result<Vec<Input<'a>>, AllocError>
     ensures { IfOk result (λ inputs. map input_of inputs.items ≡ inputs_of (map given_as given.entry.now)) }
 {
-    let mut inputs = Vec::new(alloc);
+    let count = inputs_in(given).ok_or(AllocError)?;
+    let mut inputs = Vec::with_capacity(alloc, count)?;
     for line in given {
         for _ in 0..line.times() {
             if inputs.push(line.as_input()).is_err() {

@@ -6,6 +6,7 @@ mod control_slot;
 mod cutting;
 mod faults;
 mod individual_calls;
+mod memory;
 mod program;
 mod registration;
 mod sites;

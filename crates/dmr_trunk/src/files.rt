@@ -1,0 +1,48 @@
+//! Where the program's files come from.
+
+ghost use Rattle.std.specs.Prelude.{List, Option, IfOk, option_map, ℕ, ⊤};
+
+use std::alloc::AllocError;
+use std::rt::Files;
+use std::{fs, io};
+
+/// What gives the octets of files by their paths. What it gave is a member of its own, so that a function over any source is
+/// proved to have used what this source gave for this path, and nothing else.
+pub trait FileSource {
+    // It may give this for this path: the octets of the file, or none where it cannot be read.
+    ghost gave: { Self → List ℕ → Option (List ℕ) → Type 0 };
+
+    /// The octets of the file of a path; None where it cannot be read. At want of memory nothing is known of the file.
+    fn octets_of(&self, path: &str) -> Result<Option<Vec<u8>>, AllocError>
+        ensures { IfOk result (λ octets. gave self.now path.now (option_map (λ o. o.items) octets)) };
+}
+
+/// The files of the system. What these hold no contract can say, so it may give anything.
+#[derive(Drop)]
+pub struct SystemFiles<'a, R> {
+    rt: &'a R,
+}
+
+impl<'a, R> SystemFiles<'a, R> {
+    /// The files that the program's host lets it read.
+    pub fn new(rt: &'a R) -> SystemFiles<'a, R> {
+        SystemFiles { rt }
+    }
+}
+
+impl<R: AllocGlobal + Files> FileSource for SystemFiles<'_, R> {
+    ghost gave = { λ _ _ _. ⊤ };
+
+    fn octets_of(&self, path: &str) -> Result<Option<Vec<u8>>, AllocError> {
+        match fs::read(self.rt, path) {
+            Ok(octets) => Ok(Some(octets)),
+            Err(error) => {
+                if error.kind() == io::ErrorKind::OutOfMemory {
+                    Err(AllocError)
+                } else {
+                    Ok(None)
+                }
+            }
+        }
+    }
+}

@@ -11,14 +11,13 @@ use Rattle.dmr_core.specs.declared.event.Event.{Event}
 use Rattle.dmr_core.specs.declared.event.Event.TheVariants.{Up, Lost, Noise, Poll}
 use Rattle.dmr_core.specs.declared.act.Act.{Act}
 use Rattle.dmr_core.specs.declared.entry.Entry.{Entry}
-use Rattle.dmr_core.specs.Facts.{Facts, facts_after, unchanged, up_by_event, noise_by_event, has_carrier, nothing}
+use Rattle.dmr_core.specs.Facts.{Facts, facts_after, unchanged, up_by_event, noise_by_event, has_carrier}
 use Rattle.dmr_core.specs.Words.{is_up}
 use Rattle.dmr_core.specs.Journal.{IsLegal}
 use Rattle.dmr_core.specs.Sound.{IsSound}
 use Rattle.dmr_core.specs.Backoff.{counted, noises_within, recent_noises}
 use Rattle.dmr_core.proofs.ListLemmas.{equal_numbers, flipped, other_number}
 use Rattle.dmr_core.proofs.Events.{cleared}
-use Rattle.dmr_core.proofs.Empty.{none_up}
 use Rattle.dmr_core.proofs.Plans.{plan_known}
 use Rattle.dmr_core.proofs.SafeLaws.{sound_after}
 
@@ -100,14 +99,14 @@ same_after : {X : Type 0} (acts : List Act) (x : X) → fold unchanged x acts �
 same_after [] x = refl
 same_after (act ∷ acts) x = same_after acts x
 
-counts : (plan : Settings) (journal : List Entry) → IsPlan plan → IsSound plan nothing → IsLegal plan nothing journal → is_up (facts_after plan nothing journal) plan.control ≡ true → (k : ℕ) → k ≤ 31 → min 15 (sum (take (k + 1) (facts_after plan nothing journal).noise)) ≡ min 15 (noises_within plan journal k)
-counts plan [] p h legal up k small = let no : is_up nothing plan.control ≡ false = none_up 16 plan.control in cc
-counts plan (entry ∷ earlier) p h legal up k small =
-    let now : Facts = facts_after plan nothing earlier in
-    let sound : IsSound plan now = sound_after plan nothing earlier (plan_known plan p) h legal.1 in
+counts : (plan : Settings) (facts : Facts) (journal : List Entry) → IsPlan plan → IsSound plan facts → IsLegal plan facts journal → is_up (facts_after plan facts journal) plan.control ≡ true → (k : ℕ) → k ≤ 31 → min 15 (sum (take (k + 1) (facts_after plan facts journal).noise)) ≡ min 15 (noises_within plan facts.noise journal k)
+counts plan facts [] p h legal up k small = refl
+counts plan facts (entry ∷ earlier) p h legal up k small =
+    let now : Facts = facts_after plan facts earlier in
+    let sound : IsSound plan now = sound_after plan facts earlier (plan_known plan p) h legal.1 in
     let up_then : slice_index_or (up_by_event plan now.up entry.event) plan.control false ≡ true = ap (λ (xs : List Bool). slice_index_or xs plan.control false) (sym (same_after entry.acts.list (up_by_event plan now.up entry.event))) ∙ up in
     ap (λ (xs : List ℕ). min 15 (sum (take (k + 1) xs))) (same_after entry.acts.list (noise_by_event plan now.noise entry.event))
-    ∙ one_event plan now entry.event (noises_within plan earlier) sound.window (λ was j few. counts plan earlier p h legal.1 was j few) k small up_then
+    ∙ one_event plan now entry.event (noises_within plan facts.noise earlier) sound.window (λ was j few. counts plan facts earlier p h legal.1 was j few) k small up_then
 
 whole : (xs : List ℕ) (n : ℕ) → length xs ≤ n → take n xs ≡ xs
 whole [] zero h = refl
@@ -115,12 +114,12 @@ whole [] (suc n) h = refl
 whole (x ∷ xs) zero h = absurd (omega arith)
 whole (x ∷ xs) (suc n) h = ap (λ ys. x ∷ ys) (whole xs n (omega arith))
 
-pub backoff_counts : (plan : Settings) (journal : List Entry) → IsPlan plan → IsSound plan nothing → IsLegal plan nothing journal → is_up (facts_after plan nothing journal) plan.control ≡ true → backoff_of plan (facts_after plan nothing journal).noise ≡ min plan.backoff_high (plan.backoff_low + recent_noises plan journal)
-backoff_counts plan journal p h legal up =
-    let noise : List ℕ = (facts_after plan nothing journal).noise in
-    let sound : IsSound plan (facts_after plan nothing journal) = sound_after plan nothing journal (plan_known plan p) h legal in
+pub backoff_counts : (plan : Settings) (facts : Facts) (journal : List Entry) → IsPlan plan → IsSound plan facts → IsLegal plan facts journal → is_up (facts_after plan facts journal) plan.control ≡ true → backoff_of plan (facts_after plan facts journal).noise ≡ min plan.backoff_high (plan.backoff_low + recent_noises plan facts.noise journal)
+backoff_counts plan facts journal p h legal up =
+    let noise : List ℕ = (facts_after plan facts journal).noise in
+    let sound : IsSound plan (facts_after plan facts journal) = sound_after plan facts journal (plan_known plan p) h legal in
     let all : length noise ≡ 32 = sound.window up in
     let same : sum (take 32 noise) ≡ sum noise = ap (λ (xs : List ℕ). sum xs) (whole noise 32 (omega arith)) in
-    let kept : min 15 (sum (take 32 noise)) ≡ min 15 (recent_noises plan journal) = counts plan journal p h legal up 31 (omega arith) in
+    let kept : min 15 (sum (take 32 noise)) ≡ min 15 (recent_noises plan facts.noise journal) = counts plan facts journal p h legal up 31 (omega arith) in
     let high : plan.backoff_high ≤ 15 = p.backoff_high.1 in
     omega arith

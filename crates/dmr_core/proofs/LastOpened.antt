@@ -13,17 +13,18 @@ use Rattle.dmr_calls.specs.Asks.{ask_of, just_asked, others_than, waited_more}
 use Rattle.dmr_calls.specs.Lines.{line_of, without_line}
 use Rattle.dmr_calls.specs.Calls.{call_on, counted, is_slot, just_begun, marked, on_other_carriers}
 use Rattle.dmr_core.specs.declared.event.Event.{Event}
-use Rattle.dmr_core.specs.declared.event.Event.TheVariants.{Active, Lost, Tick, Up}
+use Rattle.dmr_core.specs.declared.event.Event.TheVariants.{Active, Lost, Say, Tick, Up}
+use Rattle.dmr_core.specs.declared.command.Command.TheVariants.{Move, Stay}
 use Rattle.dmr_core.specs.declared.act.Act.{Act}
 use Rattle.dmr_core.specs.declared.act.Act.TheVariants.{AskOver, Asked, Began, Ended, Lined, Unlined}
 use Rattle.dmr_core.specs.declared.entry.Entry.{Entry}
-use Rattle.dmr_core.specs.Facts.{Facts, asks_by_event, calls_by_event, done, facts_after, lines_by_event, noted}
+use Rattle.dmr_core.specs.Facts.{Facts, asks_by_event, calls_by_event, done, facts_after, lines_by_event, moving_by_event, noted}
 use Rattle.dmr_core.specs.Words.{stands_on}
 use Rattle.dmr_core.specs.Journal.{IsLegal}
 use Rattle.dmr_core.specs.Sound.{IsSound, in_line, total}
 use Rattle.dmr_core.specs.May.{MayDo}
 use Rattle.dmr_core.specs.Laws.{EachAct, Throughout}
-use Rattle.dmr_core.specs.Last.{closed_with, last_word, of_ask, of_call, of_line, stands}
+use Rattle.dmr_core.specs.Last.{closed_with, last_word, no_act, of_ask, of_call, of_line, of_move, stands}
 use Rattle.dmr_core.proofs.PlanLemmas.{KnowsPlan}
 use Rattle.dmr_core.proofs.ListLemmas.{equal_numbers}
 use Rattle.dmr_core.proofs.Apart.{marked_call}
@@ -59,12 +60,23 @@ each_of : (P : Facts → Act → Type 0) → ((now : Facts) (act : Act) → P no
 each_of P always now [] = tt
 each_of P always now (act ∷ acts) = (always now act, each_of P always (done now act) acts)
 
-everywhere : (plan : Settings) (facts : Facts) (P : Facts → Act → Type 0) → ((now : Facts) (act : Act) → P now act) → (journal : List Entry) → Throughout plan facts P journal
+pub everywhere : (plan : Settings) (facts : Facts) (P : Facts → Act → Type 0) → ((now : Facts) (act : Act) → P now act) → (journal : List Entry) → Throughout plan facts P journal
 everywhere plan facts P always [] = tt
 everywhere plan facts P always (entry ∷ earlier) = (each_of P always (noted plan (facts_after plan facts earlier) entry.event) entry.acts.list, everywhere plan facts P always earlier)
 
+-- the move
+move_noted : (moving : Option ℕ) (event : Event) → moving_by_event moving event ≡ unwrap_or (of_move event) moving
+move_noted moving (Say (Move lpcn)) = refl
+move_noted moving (Say Stay) = refl
+move_noted moving _ = refl
+
+pub move_by_last : (plan : Settings) (facts : Facts) (journal : List Entry) → (facts_after plan facts journal).moving ≡ stands of_move no_act facts.moving journal
+move_by_last plan facts journal =
+    decided plan facts (λ (f : Facts). f.moving) of_move no_act (λ now event. move_noted now.moving event) journal
+    (everywhere plan facts (Leaves (λ (f : Facts). f.moving) no_act) (λ now act. refl) journal)
+
 -- what is found, after some were taken out
-find_gone : {X : Type 0} (p g : X → Bool) → ((x : X) → p x ≡ true → g x ≡ true) → (xs : List X) → find p (filter (λ x. not (g x)) xs) ≡ None
+pub find_gone : {X : Type 0} (p g : X → Bool) → ((x : X) → p x ≡ true → g x ≡ true) → (xs : List X) → find p (filter (λ x. not (g x)) xs) ≡ None
 find_gone p g h [] = refl
 find_gone p g h (x ∷ xs) = either (g x) (p x) refl refl (find_gone p g h xs)
   where
@@ -73,7 +85,7 @@ find_gone p g h (x ∷ xs) = either (g x) (p x) refl refl (find_gone p g h xs)
     either false false e d more = rw (e, d) more
     either false true e d more = let no : g x ≡ true = h x d in cc
 
-find_kept : {X : Type 0} (p g : X → Bool) → ((x : X) → p x ≡ true → g x ≡ false) → (xs : List X) → find p (filter (λ x. not (g x)) xs) ≡ find p xs
+pub find_kept : {X : Type 0} (p g : X → Bool) → ((x : X) → p x ≡ true → g x ≡ false) → (xs : List X) → find p (filter (λ x. not (g x)) xs) ≡ find p xs
 find_kept p g h [] = refl
 find_kept p g h (x ∷ xs) = either (g x) (p x) refl refl (find_kept p g h xs)
   where
@@ -84,7 +96,7 @@ find_kept p g h (x ∷ xs) = either (g x) (p x) refl refl (find_kept p g h xs)
     either true true e d more = let no : g x ≡ false = h x d in cc
 
 -- after one was put behind
-find_new : {X : Type 0} (p : X → Bool) (xs : List X) (x : X) → find p xs ≡ None → p x ≡ true → find p (xs ++ x ∷ []) ≡ Some x
+pub find_new : {X : Type 0} (p : X → Bool) (xs : List X) (x : X) → find p xs ≡ None → p x ≡ true → find p (xs ++ x ∷ []) ≡ Some x
 find_new p [] x h k = rw k refl
 find_new p (y ∷ ys) x h k = either (p y) refl h (find_new p ys x)
   where
@@ -92,7 +104,7 @@ find_new p (y ∷ ys) x h k = either (p y) refl h (find_new p ys x)
     either true e h more = cc
     either false e h more = rw e (more h k)
 
-find_same : {X : Type 0} (p : X → Bool) (xs : List X) (x : X) → p x ≡ false → find p (xs ++ x ∷ []) ≡ find p xs
+pub find_same : {X : Type 0} (p : X → Bool) (xs : List X) (x : X) → p x ≡ false → find p (xs ++ x ∷ []) ≡ find p xs
 find_same p [] x k = rw k refl
 find_same p (y ∷ ys) x k = ap (λ (rest : Option _). cond (p y) (Some y) rest) (find_same p ys x k)
 
@@ -163,7 +175,7 @@ none_found f p h (x ∷ xs) few = either (p x) refl (none_found f p h xs (omega 
 line_counts : (r : ℕ) (line : Line) → (line.source == r) ≡ true → 0 < in_line r line
 line_counts r line e = subst (λ (n : ℕ). 0 < in_line n line) (equal_numbers line.source r e) (source_counts line.group line.source line.target)
 
-no_line : (plan : Settings) (now : Facts) (line : Line) → MayDo plan now (Lined line) → find (λ l. l.source == line.source) now.lines ≡ None
+pub no_line : (plan : Settings) (now : Facts) (line : Line) → MayDo plan now (Lined line) → find (λ l. l.source == line.source) now.lines ≡ None
 no_line plan now line may =
     let once = may.2.once line.source in
     let counts = source_counts line.group line.source line.target in

@@ -23,8 +23,11 @@ mod SafeLaws
 mod LastLemmas
 mod LastOpened
 mod BackoffLemmas
+mod AgeLemmas
+mod OrderLemmas
 mod DownLemmas
 mod WaitingLemmas
 mod HeldLemmas
 mod FreeLemmas
 pub mod ConsoleLemmas
+pub mod Polls

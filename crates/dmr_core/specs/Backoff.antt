@@ -1,5 +1,5 @@
--- How many Noises the backoff counts, said of the events.
-use Rattle.std.specs.Prelude.{ℕ, ◌+◌, ◌-◌, List, [], ◌∷◌, Bool, false, ◌==◌, if◌then◌else◌}
+-- How many Noises the backoff counts, said of the events and the noise numbers that stood before them.
+use Rattle.std.specs.Prelude.{ℕ, ◌+◌, ◌-◌, List, [], ◌∷◌, Bool, false, ◌==◌, if◌then◌else◌, take, sum}
 use Rattle.dmr_plan.specs.declared.settings.Settings.{Settings}
 use Rattle.dmr_pool.specs.Free.{is_control}
 use Rattle.dmr_core.specs.declared.event.Event.{Event}
@@ -28,11 +28,12 @@ counted plan polls event before =
     if is_poll plan event then (if polls == 0 then 0 else before (polls - 1)) else
     noise_in plan event + before polls
 
--- the Noises on the control slot since its carrier's last Up, and since the first Poll that is one too many
-abbrev pub noises_within : Settings → List Entry → ℕ → ℕ
-noises_within plan [] polls = 0
-noises_within plan (entry ∷ earlier) polls = counted plan polls entry.event (noises_within plan earlier)
+-- the Noises on the control slot since its carrier's last Up, and since the first Poll that is one too many; where neither
+-- comes, also those of the numbers before that the Polls left have not pushed out
+abbrev pub noises_within : Settings → List ℕ → List Entry → ℕ → ℕ
+noises_within plan before [] polls = sum (take (polls + 1) before)
+noises_within plan before (entry ∷ earlier) polls = counted plan polls entry.event (noises_within plan before earlier)
 
 -- the Noises on the control slot after the later of its carrier's last Up and the 32nd last of its Polls
-abbrev pub recent_noises : Settings → List Entry → ℕ
-recent_noises plan journal = noises_within plan journal 31
+abbrev pub recent_noises : Settings → List ℕ → List Entry → ℕ
+recent_noises plan before journal = noises_within plan before journal 31

@@ -7,7 +7,8 @@ use Rattle.dmr_calls.specs.declared.line.Line.{Line}
 use Rattle.dmr_calls.specs.declared.call.Call.{Call}
 use Rattle.dmr_calls.specs.Calls.{is_slot}
 use Rattle.dmr_core.specs.declared.event.Event.{Event}
-use Rattle.dmr_core.specs.declared.event.Event.TheVariants.{Up, Lost}
+use Rattle.dmr_core.specs.declared.event.Event.TheVariants.{Up, Lost, Say}
+use Rattle.dmr_core.specs.declared.command.Command.TheVariants.{Move, Stay}
 use Rattle.dmr_core.specs.declared.act.Act.{Act}
 use Rattle.dmr_core.specs.declared.act.Act.TheVariants.{Joined, Left, Asked, AskOver, Lined, Unlined, Began, Ended}
 use Rattle.dmr_core.specs.declared.entry.Entry.{Entry}
@@ -48,6 +49,12 @@ abbrev pub of_carrier : Settings → ℕ → Event → Option Bool
 of_carrier plan c (Up d) = if (d == c) && has_carrier plan d then Some true else None
 of_carrier plan c (Lost d) = if d == c then Some false else None
 of_carrier plan c _ = None
+
+-- the move of the control channel is opened by an operator's `move` and closed by `stay`
+abbrev pub of_move : Event → Option (Option ℕ)
+of_move (Say (Move lpcn)) = Some (Some lpcn)
+of_move (Say Stay) = Some None
+of_move _ = None
 
 -- a carrier's Up and Lost close what stands by it
 abbrev pub closed_with : {X : Type 0} → ℕ → Event → Option (Option X)

@@ -14,6 +14,8 @@ pub mod Last
 pub mod Waiting
 pub mod Down
 pub mod Backoff
+pub mod Ages
+pub mod Orders
 pub mod Cases
 pub mod GroupCases
 pub mod IndividualCases

@@ -1,12 +1,14 @@
 //! What is so of the definitions alone, whatever a site is told.
 
-ghost use Rattle.std.specs.Prelude.{◌≡◌, ◌+◌, ◌++◌, ◌<◌, ℕ, List, [], length, min, true};
+ghost use Rattle.std.specs.Prelude.{◌≡◌, ◌==◌, ◌+◌, ◌++◌, ◌<◌, ◌≤◌, ℕ, List, [], length, min, true, Some};
 ghost use Rattle.dmr_plan.specs.declared.settings.Settings.{Settings};
 ghost use Rattle.dmr_plan.specs.IsPlan.{IsPlan};
 ghost use Rattle.dmr_pdu.specs.declared.slots.Slot.{Slot};
+ghost use Rattle.dmr_calls.specs.declared.ask.Ask.{Ask};
+ghost use Rattle.dmr_calls.specs.declared.call.Call.{Call};
 ghost use Rattle.dmr_calls.specs.Asks.{ask_of};
 ghost use Rattle.dmr_calls.specs.Lines.{line_of};
-ghost use Rattle.dmr_calls.specs.Calls.{call_on};
+ghost use Rattle.dmr_calls.specs.Calls.{call_on, is_slot};
 ghost use Rattle.dmr_core.specs.declared.event.Event.{Event};
 ghost use Rattle.dmr_core.specs.declared.entry.Entry.{Entry};
 ghost use Rattle.dmr_core.specs.Facts.{Facts, facts_after, has_carrier, noted, nothing};
@@ -19,9 +21,11 @@ ghost use Rattle.dmr_core.specs.Counts.{AreFew};
 ghost use Rattle.dmr_core.specs.Laws.{BeginsOnFree, GrantsKnown, QuietAfterReset, SendsOwn, Throughout};
 ghost use Rattle.dmr_access.specs.Noise.{backoff_of};
 ghost use Rattle.dmr_core.specs.Backoff.{recent_noises};
+ghost use Rattle.dmr_core.specs.Ages.{age_on, quiet_on, waited_of, begins_on, stirs_on, asked_in, ticks_since};
+ghost use Rattle.dmr_core.specs.Orders.{IsInOrder, opened, joined_by, asked_by, lined_by, begun_by, sources_of_asks, sources_of_lines, slots_of_calls};
 ghost use Rattle.dmr_core.specs.Down.{IsOfNoCarrier};
 ghost use Rattle.dmr_core.specs.Waiting.{queued_by, sent_by, since_turn};
-ghost use Rattle.dmr_core.specs.Last.{stands, closed_with, no_event, no_act, of_ask, of_call, of_carrier, of_line, of_registration};
+ghost use Rattle.dmr_core.specs.Last.{stands, closed_with, no_event, no_act, of_ask, of_call, of_carrier, of_line, of_move, of_registration};
 
 /// The journal of some events is legal, and each legal journal with these events has its answers.
 pub fn one_legal_journal()
@@ -30,12 +34,14 @@ pub fn one_legal_journal()
 {}
 
 /// Facts stay sound in every legal journal, from nothing on. Each event is answered by at most 13 acts, of which at most five
-/// queue a PDU on the control slot and at most four elsewhere, and each act may be done on the facts just before it.
+/// queue a PDU on the control slot and at most four elsewhere, and each act may be done on the facts just before it. A Poll is
+/// answered by at most two acts, whatever the facts.
 pub fn facts_stay_sound()
     ensures sound { (plan : Settings) (facts : Facts) (journal : List Entry) → IsPlan plan → IsSound plan facts → IsLegal plan facts journal → IsSound plan (facts_after plan facts journal) }
     ensures nothing { (plan : Settings) → IsSound plan nothing }
     ensures few { (plan : Settings) (facts : Facts) (event : Event) → IsPlan plan → IsSound plan facts → AreFew plan (acts_of plan facts event) 13 5 4 }
     ensures may { (plan : Settings) (facts : Facts) (event : Event) → IsPlan plan → IsSound plan facts → AllMayDo plan (noted plan facts event) (acts_of plan facts event) }
+    ensures polled { (plan : Settings) (facts : Facts) (carrier : ℕ) → length (acts_of plan facts (Event.Poll carrier)) ≤ 2 }
 {}
 
 /// In every legal journal, at each act and the facts just before it: a call begins on a slot on which none stands, of a
@@ -50,12 +56,14 @@ pub fn each_act_is_safe()
 {}
 
 /// What stands is what the last event or act left that opened or closed it; where there is none, what stood before: whether
-/// a radio is registered, by Joined and Left; whether a carrier is up, by its Up and Lost; the ask of a radio, by Asked and
-/// AskOver and the control carrier's Up and Lost; the line of a radio, by Lined and Unlined and the same; the call on a slot,
-/// by Began and Ended and its carrier's Up and Lost. The first three are so in every journal, legal or not.
+/// a radio is registered, by Joined and Left; whether a carrier is up, by its Up and Lost; the move of the control channel, by
+/// an operator's `move` and `stay`; the ask of a radio, by Asked and AskOver and the control carrier's Up and Lost; the line of
+/// a radio, by Lined and Unlined and the same; the call on a slot, by Began and Ended and its carrier's Up and Lost. The first
+/// four are so in every journal, legal or not.
 pub fn decided_by_the_last()
     ensures registered { (plan : Settings) (facts : Facts) (journal : List Entry) (radio : ℕ) → is_registered (facts_after plan facts journal) radio ≡ stands no_event (of_registration radio) (is_registered facts radio) journal }
     ensures up { (plan : Settings) (facts : Facts) (journal : List Entry) (carrier : ℕ) → carrier < length facts.up → is_up (facts_after plan facts journal) carrier ≡ stands (of_carrier plan carrier) no_act (is_up facts carrier) journal }
+    ensures moving { (plan : Settings) (facts : Facts) (journal : List Entry) → (facts_after plan facts journal).moving ≡ stands of_move no_act facts.moving journal }
     ensures ask { (plan : Settings) (facts : Facts) (journal : List Entry) (radio : ℕ) → ask_of (facts_after plan facts journal).asks radio ≡ stands (closed_with plan.control) (of_ask radio) (ask_of facts.asks radio) journal }
     ensures line { (plan : Settings) (facts : Facts) (journal : List Entry) (radio : ℕ) → IsPlan plan → IsSound plan facts → IsLegal plan facts journal → line_of (facts_after plan facts journal).lines radio ≡ stands (closed_with plan.control) (of_line radio) (line_of facts.lines radio) journal }
     ensures call { (plan : Settings) (facts : Facts) (journal : List Entry) (slot : Slot) → IsPlan plan → IsSound plan facts → IsLegal plan facts journal → call_on (facts_after plan facts journal).calls slot ≡ stands (closed_with slot.carrier) (of_call slot) (call_on facts.calls slot) journal }
@@ -69,12 +77,34 @@ pub fn sent_in_order()
 {}
 
 /// While the control carrier is up, the backoff is the plan's lowest and one for each Noise on the control slot after the
-/// later of the control carrier's last Up and the 32nd last of its Polls, but at most the plan's highest.
+/// later of the control carrier's last Up and the 32nd last of its Polls, but at most the plan's highest. Where the journal has
+/// no such Up and n Polls, fewer than 32, the first 32 - n of the noise numbers that stood before count too; from nothing there
+/// are none.
 pub fn backoff_counts_noises()
-    ensures { (plan : Settings) (journal : List Entry) → IsPlan plan → IsLegal plan nothing journal → is_up (facts_after plan nothing journal) plan.control ≡ true → backoff_of plan (facts_after plan nothing journal).noise ≡ min plan.backoff_high (plan.backoff_low + recent_noises plan journal) }
+    ensures counts { (plan : Settings) (facts : Facts) (journal : List Entry) → IsPlan plan → IsSound plan facts → IsLegal plan facts journal → is_up (facts_after plan facts journal) plan.control ≡ true → backoff_of plan (facts_after plan facts journal).noise ≡ min plan.backoff_high (plan.backoff_low + recent_noises plan facts.noise journal) }
+    ensures from_nothing { (plan : Settings) (journal : List Entry) → IsPlan plan → IsLegal plan nothing journal → is_up (facts_after plan nothing journal) plan.control ≡ true → backoff_of plan (facts_after plan nothing journal).noise ≡ min plan.backoff_high (plan.backoff_low + recent_noises plan [] journal) }
 {
     facts_stay_sound();
 }
+
+/// The age of a call is the ticks since it began, its quiet time those since it began or there last was activity on its slot,
+/// whichever came later, and the waiting time of an ask those since its last C_AHOY; for what stood before, what it was then
+/// and all ticks since. Each is kept to 65,535. The last is so in every journal, legal or not.
+pub fn ages_count_ticks()
+    ensures age { (plan : Settings) (facts : Facts) (journal : List Entry) (slot : Slot) (call : Call) → IsPlan plan → IsSound plan facts → IsLegal plan facts journal → age_on facts.calls slot ≤ 65535 → call_on (facts_after plan facts journal).calls slot ≡ Some call → age_on (facts_after plan facts journal).calls slot ≡ min 65535 (ticks_since (begins_on slot) (age_on facts.calls slot) journal) }
+    ensures quiet { (plan : Settings) (facts : Facts) (journal : List Entry) (slot : Slot) (call : Call) → IsPlan plan → IsSound plan facts → IsLegal plan facts journal → quiet_on facts.calls slot ≤ 65535 → call_on (facts_after plan facts journal).calls slot ≡ Some call → quiet_on (facts_after plan facts journal).calls slot ≡ min 65535 (ticks_since (stirs_on slot) (quiet_on facts.calls slot) journal) }
+    ensures waited { (plan : Settings) (facts : Facts) (journal : List Entry) (radio : ℕ) (ask : Ask) → waited_of facts.asks radio ≤ 65535 → ask_of (facts_after plan facts journal).asks radio ≡ Some ask → waited_of (facts_after plan facts journal).asks radio ≡ min 65535 (ticks_since (asked_in radio) (waited_of facts.asks radio) journal) }
+{}
+
+/// Registered radios stand in the order of joining, asks in that of their last C_AHOY, lines in that of lining, and calls in
+/// that of beginning; what stood before stands in front of these, in its own order. For asks it is so in every journal, legal
+/// or not.
+pub fn stand_in_order()
+    ensures registered { (plan : Settings) (facts : Facts) (journal : List Entry) → IsPlan plan → IsSound plan facts → IsLegal plan facts journal → IsInOrder ◌==◌ (opened joined_by facts.registered journal) (facts_after plan facts journal).registered }
+    ensures asks { (plan : Settings) (facts : Facts) (journal : List Entry) → IsSound plan facts → IsInOrder ◌==◌ (opened asked_by (sources_of_asks facts.asks) journal) (sources_of_asks (facts_after plan facts journal).asks) }
+    ensures lines { (plan : Settings) (facts : Facts) (journal : List Entry) → IsPlan plan → IsSound plan facts → IsLegal plan facts journal → IsInOrder ◌==◌ (opened lined_by (sources_of_lines facts.lines) journal) (sources_of_lines (facts_after plan facts journal).lines) }
+    ensures calls { (plan : Settings) (facts : Facts) (journal : List Entry) → IsPlan plan → IsSound plan facts → IsLegal plan facts journal → IsInOrder is_slot (opened begun_by (slots_of_calls facts.calls) journal) (slots_of_calls (facts_after plan facts journal).calls) }
+{}
 
 /// An event of a carrier that isn't up, other than its Up, is answered by nothing and changes nothing; nor does the Up of a
 /// carrier that the plan doesn't have.

@@ -1,5 +1,5 @@
 use Rattle.dmr_core.proofs.LastLemmas.{registered_by_last, up_by_last}
-use Rattle.dmr_core.proofs.LastOpened.{ask_by_last, call_by_last, line_by_last}
+use Rattle.dmr_core.proofs.LastOpened.{ask_by_last, call_by_last, line_by_last, move_by_last}
 use Rattle.dmr_core.proofs.Plans.{plan_known}
 use Rattle.dmr_core.proofs.laws.decided_by_the_last.Goals as goal
 
@@ -8,6 +8,9 @@ returns-clause-registered c = registered_by_last
 
 pub returns-clause-up : goal.returns-clause-up
 returns-clause-up c = up_by_last
+
+pub returns-clause-moving : goal.returns-clause-moving
+returns-clause-moving c = move_by_last
 
 pub returns-clause-ask : goal.returns-clause-ask
 returns-clause-ask c = ask_by_last

@@ -3,6 +3,7 @@ use Rattle.dmr_core.proofs.SafeLaws.{sound_after}
 use Rattle.dmr_core.proofs.Empty.{nothing_is_sound}
 use Rattle.dmr_core.proofs.Few.{acts_few}
 use Rattle.dmr_core.proofs.Answers.{acts_may}
+use Rattle.dmr_core.proofs.Polls.{two_at_a_poll}
 use Rattle.dmr_core.proofs.laws.facts_stay_sound.Goals as goal
 
 pub returns-clause-sound : goal.returns-clause-sound
@@ -16,3 +17,6 @@ returns-clause-few c = λ plan facts event p h. acts_few plan facts event (plan_
 
 pub returns-clause-may : goal.returns-clause-may
 returns-clause-may c = λ plan facts event p h. acts_may plan facts event (plan_known plan p) h
+
+pub returns-clause-polled : goal.returns-clause-polled
+returns-clause-polled c = two_at_a_poll

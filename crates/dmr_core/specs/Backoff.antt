@@ -29,7 +29,7 @@ counted plan polls event before =
     noise_in plan event + before polls
 
 -- the Noises on the control slot since its carrier's last Up, and since the first Poll that is one too many; where neither
--- comes, also those of the numbers before that the Polls left have not pushed out
+-- comes, those of what stood before too, one number more than Polls are left
 abbrev pub noises_within : Settings → List ℕ → List Entry → ℕ → ℕ
 noises_within plan before [] polls = sum (take (polls + 1) before)
 noises_within plan before (entry ∷ earlier) polls = counted plan polls entry.event (noises_within plan before earlier)

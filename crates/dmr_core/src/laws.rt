@@ -88,8 +88,8 @@ pub fn backoff_counts_noises()
 }
 
 /// The age of a call is the ticks since it began, its quiet time those since it began or there last was activity on its slot,
-/// whichever came later, and the waiting time of an ask those since its last C_AHOY; for what stood before, what it was then
-/// and all ticks since. Each is kept to 65,535. The last is so in every journal, legal or not.
+/// whichever came later, and the waiting time of an ask those since its last C_AHOY; for what stood before, what it was then,
+/// at most 65,535, and all ticks since. Each is kept to 65,535. The last is so in every journal, legal or not.
 pub fn ages_count_ticks()
     ensures age { (plan : Settings) (facts : Facts) (journal : List Entry) (slot : Slot) (call : Call) → IsPlan plan → IsSound plan facts → IsLegal plan facts journal → age_on facts.calls slot ≤ 65535 → call_on (facts_after plan facts journal).calls slot ≡ Some call → age_on (facts_after plan facts journal).calls slot ≡ min 65535 (ticks_since (begins_on slot) (age_on facts.calls slot) journal) }
     ensures quiet { (plan : Settings) (facts : Facts) (journal : List Entry) (slot : Slot) (call : Call) → IsPlan plan → IsSound plan facts → IsLegal plan facts journal → quiet_on facts.calls slot ≤ 65535 → call_on (facts_after plan facts journal).calls slot ≡ Some call → quiet_on (facts_after plan facts journal).calls slot ≡ min 65535 (ticks_since (stirs_on slot) (quiet_on facts.calls slot) journal) }
@@ -97,8 +97,8 @@ pub fn ages_count_ticks()
 {}
 
 /// Registered radios stand in the order of joining, asks in that of their last C_AHOY, lines in that of lining, and calls in
-/// that of beginning; what stood before stands in front of these, in its own order. For asks it is so in every journal, legal
-/// or not.
+/// that of beginning; what stood before stands in front of these, in its own order. For asks it is so in every journal from sound
+/// facts, legal or not.
 pub fn stand_in_order()
     ensures registered { (plan : Settings) (facts : Facts) (journal : List Entry) → IsPlan plan → IsSound plan facts → IsLegal plan facts journal → IsInOrder ◌==◌ (opened joined_by facts.registered journal) (facts_after plan facts journal).registered }
     ensures asks { (plan : Settings) (facts : Facts) (journal : List Entry) → IsSound plan facts → IsInOrder ◌==◌ (opened asked_by (sources_of_asks facts.asks) journal) (sources_of_asks (facts_after plan facts journal).asks) }

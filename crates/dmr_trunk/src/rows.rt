@@ -1,5 +1,9 @@
 //! Worked cases, through `replay`: a script, and what is printed for it. They were worked out apart from this program.
+//!
+//! Both are written as `plain` reads them: what a frame means is noted behind it, and the frames of a carrier's line stand below
+//! one another. In what is printed `8300`, DONE, ends each answer to a poll.
 
+mod asks;
 mod clock;
 mod console;
 mod control_slot;
@@ -20,30 +24,59 @@ use std::alloc::{AllocError, Global};
 use std::process::Abort;
 
 /// The site of the cases: carriers 0 and 1, the first of them the control carrier, radios 1000 to 1999.
-pub const SITE: &[u8] =
-    b"system = 0x1234\nregi = 0xFFFEC6\ntsi = 0xFFFECA\nleave_bit = 0\nhang = 100\nmaximum = 3000\nahoy_wait = 8\nahoy_tries = 3\ngrant_copies = 1\nclear_copies = 1\nbackoff_low = 1\nbackoff_high = 8\ntick_ms = 60\nsilence = 100\nconsole_port = 7100\nradios = [[1000, 1999]]\ngroups = [91, 92, 93, 94]\ncontrol = 0\n[[carrier]]\nnumber = 0\nlpcn = 1\nport = 7101\n[[carrier]]\nnumber = 1\nlpcn = 2\nport = 7102\n";
+pub const SITE: &str = "\
+system = 0x1234
+regi = 0xFFFEC6
+tsi = 0xFFFECA
+leave_bit = 0
+hang = 100
+maximum = 3000
+ahoy_wait = 8
+ahoy_tries = 3
+grant_copies = 1
+clear_copies = 1
+backoff_low = 1
+backoff_high = 8
+tick_ms = 60
+silence = 100
+console_port = 7100
+radios = [[1000, 1999]]
+groups = [91, 92, 93, 94]
+control = 0
+[[carrier]]
+number = 0
+lpcn = 1
+port = 7101
+[[carrier]]
+number = 1
+lpcn = 2
+port = 7102
+";
 
-/// A poll of carrier 0, as a line of a script.
-pub const POLL: &str = "bytes 0 0300\n";
+/// The connection of carrier 0 begins, with its HELLO, as lines of a script.
+pub const BEGINS: &str = "open 0\nbytes 0 010401000001\n";
 
 /// Both connections begin, with their HELLO.
 const BOTH_BEGIN: &str = "open 0\nbytes 0 010401000001\nopen 1\nbytes 1 010401010002\n";
 
-/// A replay, and what it gives.
+/// What is printed for carrier 0 begins so: with the answer to its HELLO.
+pub const BEGUN: &str = "carrier 0 810101";
+
+/// Radio 1001 registers, as a line of a script.
+pub const REGISTERS: &str = "bytes 0 021A000EB49CDF34F2749CECBA5CB3B7C40E88138C9A38F96248E180\n";
+
+/// A poll of carrier 0, as a line of a script.
+pub const POLL: &str = "bytes 0 0300\n";
+
+/// A script, and what is printed for it, both as texts that `plain` reads.
 #[derive(Clone, Copy)]
 pub struct Case<'a> {
     /// What the case is about.
     pub name: &'a str,
-    /// The site file.
-    pub site: &'a [u8],
     /// The script.
-    pub script: &'a [u8],
+    pub script: &'a str,
     /// Standard output.
-    pub printed: &'a [u8],
-    /// Standard error.
-    pub fault: &'a [u8],
-    /// The exit status.
-    pub status: u8,
+    pub printed: &'a str,
 }
 
 /// What a replay gave.
@@ -57,59 +90,106 @@ pub struct Answer {
     pub status: u8,
 }
 
-impl Case<'_> {
-    /// Replays the script.
-    pub fn answer(&self, rt: &impl AllocGlobal) -> Answer {
-        let mut printed = Vec::new(rt.alloc());
-        let mut fault = Vec::new(rt.alloc());
-        let status = replay(
-            rt.alloc(),
-            "site.toml",
-            Some(self.site),
-            "script.txt",
-            Some(self.script),
-            &mut printed,
-            &mut fault,
-        );
-        Answer {
-            printed,
-            fault,
-            status,
-        }
-    }
-
-    /// Wants the replay to give what the case says.
-    pub fn check(&self, rt: &(impl Abort + AllocGlobal)) {
-        let answer = self.answer(rt);
-        let name = self.name;
-        assert_eq!(rt; answer.printed.as_slice(), self.printed, "printed: {name}");
-        assert_eq!(rt; answer.fault.as_slice(), self.fault, "fault: {name}");
-        assert_eq!(rt; answer.status, self.status, "status: {name}");
+impl Answer {
+    /// Wants it to be these octets on standard output and on standard error, and this exit status.
+    pub fn check(&self, rt: &impl Abort, name: &str, printed: &[u8], fault: &[u8], status: u8) {
+        assert_eq!(rt; self.printed.as_slice(), printed, "printed: {name}");
+        assert_eq!(rt; self.fault.as_slice(), fault, "fault: {name}");
+        assert_eq!(rt; self.status, status, "status: {name}");
     }
 }
 
-/// Wants each case to give what it says.
-pub fn check_cases(rt: &(impl Abort + AllocGlobal), cases: &[Case<'_>]) {
-    for case in cases {
-        case.check(rt);
+/// Replays a script over the site of a site file.
+pub fn replayed(alloc: Global, site: &str, script: &str) -> Answer {
+    let mut printed = Vec::new(alloc);
+    let mut fault = Vec::new(alloc);
+    let status = replay(
+        alloc,
+        "site.toml",
+        Some(site.as_bytes()),
+        "script.txt",
+        Some(script.as_bytes()),
+        &mut printed,
+        &mut fault,
+    );
+    Answer {
+        printed,
+        fault,
+        status,
     }
+}
+
+/// A line without the note behind it, which two spaces and a `#` begin.
+pub fn without_note(line: &str) -> &str {
+    match line.split_once("  # ") {
+        Some((words, _)) => words,
+        None => line,
+    }
+}
+
+/// A text without what stands in it for a reader's sake.
+///
+/// A line that begins with two spaces carries on the line before it: the first such is set off by one space, and its
+/// words stand with nothing between them. A note behind a line is left out. All else is as it stands.
+pub fn plain(alloc: Global, text: &str) -> Result<String, AllocError> {
+    let mut plain = String::new(alloc);
+    let mut carried = false;
+    for (index, line) in text.split('\n').enumerate() {
+        match line.strip_prefix("  ") {
+            Some(words) => {
+                if !carried {
+                    plain.push(' ')?;
+                }
+                for word in without_note(words).split(' ') {
+                    plain.push_str(word)?;
+                }
+                carried = true;
+            }
+            None => {
+                if index > 0 {
+                    plain.push('\n')?;
+                }
+                plain.push_str(without_note(line))?;
+                carried = false;
+            }
+        }
+    }
+    Ok(plain)
+}
+
+impl Case<'_> {
+    /// Wants a replay over the site of a site file to print exactly what the case says, and to tell no fault.
+    pub fn check(&self, rt: &(impl Abort + AllocGlobal), site: &str) -> Result<(), AllocError> {
+        let script = plain(rt.alloc(), self.script)?;
+        let printed = plain(rt.alloc(), self.printed)?;
+        let answer = replayed(rt.alloc(), site, script.as_str());
+        answer.check(rt, self.name, printed.as_bytes(), b"", 0);
+        Ok(())
+    }
+}
+
+/// Wants each case to be so over the site of `SITE`.
+pub fn check_cases(rt: &(impl Abort + AllocGlobal), cases: &[Case<'_>]) -> Result<(), AllocError> {
+    for case in cases {
+        case.check(rt, SITE)?;
+    }
+    Ok(())
+}
+
+/// What a text is read as: notes go, lines are carried on, and all else stays, an empty line and other spaces too.
+#[test]
+fn plain_texts(rt: HostRuntime) -> Result<(), AllocError> {
+    let text = "# a\n\nopen 0  # b\ncarrier 0\n  81 01  # c\n  82\ncarrier 1 -\nsay  a \r\n b";
+    let wanted = "# a\n\nopen 0\ncarrier 0 810182\ncarrier 1 -\nsay  a \r\n b";
+    let plain = plain(rt.alloc(), text)?;
+    assert_eq!(rt; plain.as_str(), wanted);
+    Ok(())
 }
 
 /// The site of the cases with a piece of its text written otherwise.
-pub fn site_with(alloc: Global, old: &[u8], new: &[u8]) -> Result<Vec<u8>, AllocError> {
-    let mut text = Vec::new(alloc);
-    let at = (0..SITE.len())
-        .position(|at| SITE[at..].starts_with(old))
-        .unwrap_or(SITE.len());
-    for (index, octet) in SITE.iter().enumerate() {
-        if index == at {
-            text.extend_from_slice(new)?;
-        }
-        if index < at || index - at >= old.len() {
-            text.push(*octet)?;
-        }
-    }
-    Ok(text)
+pub fn site_with(alloc: Global, old: &str, new: &str) -> Result<String, AllocError> {
+    let (before, behind) = SITE.split_once(old).unwrap_or((SITE, ""));
+    text_of(alloc, &[(1, before), (1, new), (1, behind)])
 }
 
 /// A text of pieces that stand so many times each.
@@ -177,28 +257,21 @@ pub fn registered(alloc: Global, last: u32) -> Result<String, AllocError> {
     Ok(script)
 }
 
-/// Wants a script to answer so many polls of carrier 0, each by one burst on the control slot, the last of them these.
+/// Wants a script to answer so many polls of carrier 0, each by one burst on the control slot. `printed` is what is printed,
+/// with the answers to its first polls left out.
 pub fn check_last(
     rt: &(impl Abort + AllocGlobal),
-    site: &[u8],
+    site: &str,
     script: &str,
     polls: u8,
-    bursts: &[&[&str]],
+    printed: &str,
 ) -> Result<(), AllocError> {
-    let mut last = String::new(rt.alloc());
-    for burst in bursts.iter().copied().flatten() {
-        last.push_str(format!(in rt.alloc(); "821A00{burst}8300")?.as_str())?;
-    }
-    last.push_str("\ncarrier 1 810101\n")?;
-    let answer = Case {
-        name: "",
-        site,
-        script: script.as_bytes(),
-        printed: b"",
-        fault: b"",
-        status: 0,
-    }
-    .answer(rt);
+    let printed = plain(rt.alloc(), printed)?;
+    let last = printed
+        .as_str()
+        .strip_prefix(BEGUN)
+        .unwrap_or(printed.as_str());
+    let answer = replayed(rt.alloc(), site, script);
     assert_eq!(rt; answer.status, 0);
     assert!(rt;
         answer

@@ -1,100 +1,83 @@
 //! The octets of a carrier, handed in as one piece, octet by octet, and split at every place: what is put out is the same.
 
-use crate::rows::{Case, SITE};
+use crate::rows::{Case, SITE, plain};
 use std::alloc::{AllocError, Global};
 use std::process::Abort;
-
-/// A line of a script.
-#[derive(Clone, Copy)]
-struct Line {
-    /// All that stands before the octets.
-    words: &'static str,
-    /// The octets of a connection, in hexadecimal digits; none where the line has none.
-    digits: &'static str,
-}
-
-/// Whole connections, and what they put out.
-#[derive(Clone, Copy)]
-struct Connections {
-    name: &'static str,
-    lines: &'static [Line],
-    printed: &'static [u8],
-}
 
 /// More octets than one of the connections has.
 const OCTETS: u8 = 240;
 
-/// Each connection as one piece.
-const CONNECTIONS: [Connections; 3] = [
-    Connections {
+/// Whole connections, each as one piece, and what they put out.
+static CONNECTIONS: [Case<'static>; 3] = [
+    Case {
         name: "a registration",
-        lines: &[
-            Line {
-                words: "open 0",
-                digits: "",
-            },
-            Line {
-                words: "bytes 0 ",
-                digits: "010401000001021A000EB49CDF34F2749CECBA5CB3B7C40E88138C9A38F96248E1800300",
-            },
-        ],
-        printed: b"carrier 0 810101821A0041C3028A48FC8F403DC06F00EDA0F783E497542E405CB83CB08300\ncarrier 1 -\n",
+        script: "\
+open 0
+bytes 0
+  010401000001  # HELLO
+  021A000EB49CDF34F2749CECBA5CB3B7C40E88138C9A38F96248E180 0300  # 1001 registers; POLL
+",
+        printed: "\
+carrier 0
+  810101  # WELCOME
+  821A0041C3028A48FC8F403DC06F00EDA0F783E497542E405CB83CB0 8300  # slot 0: C_ACKD Reg_Accepted to 1001
+carrier 1 -
+",
     },
-    Connections {
+    Case {
         name: "two calls of one talkgroup",
-        lines: &[
-            Line {
-                words: "open 1",
-                digits: "",
-            },
-            Line {
-                words: "bytes 1 ",
-                digits: "010401010002",
-            },
-            Line {
-                words: "open 0",
-                digits: "",
-            },
-            Line {
-                words: "bytes 0 ",
-                digits: "010401000001021A000EB49CDF34F2749CECBA5CB3B7C40E88138C9A38F96248E1800300021A000E9C9CCF35FA7684EECA5853A6442E88118C90386D63C8E2800300021A0002CB802309A215743869DFF0B4830E043E84D800DD039012300300021A0002E3803308AA176C3A19DB10A5032E043C84D20049021011300300",
-            },
-        ],
-        printed: b"carrier 0 810101821A0041C3028A48FC8F403DC06F00EDA0F783E497542E405CB83CB08300821A0043C1004A496C8E483CC06140E760E603D397582E445C382CD08300821A0012F300E50874154838405BD0B1610A082084B22018036290908300821A00129600AF087815403C1057F0B8A519002684B6205442CA92E08300\ncarrier 1 810101\n",
+        script: "\
+open 1
+bytes 1 010401010002  # HELLO
+open 0
+bytes 0
+  010401000001  # HELLO
+  021A000EB49CDF34F2749CECBA5CB3B7C40E88138C9A38F96248E180 0300  # 1001 registers; POLL
+  021A000E9C9CCF35FA7684EECA5853A6442E88118C90386D63C8E280 0300  # 1002 registers; POLL
+  021A0002CB802309A215743869DFF0B4830E043E84D800DD03901230 0300  # 1001 calls talkgroup 91; POLL
+  021A0002E3803308AA176C3A19DB10A5032E043C84D2004902101130 0300  # 1002 calls talkgroup 91; POLL
+",
+        printed: "\
+carrier 0
+  810101  # WELCOME
+  821A0041C3028A48FC8F403DC06F00EDA0F783E497542E405CB83CB0 8300  # slot 0: C_ACKD Reg_Accepted to 1001
+  821A0043C1004A496C8E483CC06140E760E603D397582E445C382CD0 8300  # slot 0: C_ACKD Reg_Accepted to 1002
+  821A0012F300E50874154838405BD0B1610A082084B2201803629090 8300  # slot 0: TV_GRANT to 91 from 1001, channel 1 slot 1
+  821A00129600AF087815403C1057F0B8A519002684B6205442CA92E0 8300  # slot 0: TV_GRANT late to 91 from 1001, channel 1 slot 1
+carrier 1 810101  # WELCOME
+",
     },
-    Connections {
+    Case {
         name: "a lost carrier",
-        lines: &[
-            Line {
-                words: "open 1",
-                digits: "",
-            },
-            Line {
-                words: "bytes 1 ",
-                digits: "010401010002021A0000000000000000000000",
-            },
-            Line {
-                words: "open 0",
-                digits: "",
-            },
-            Line {
-                words: "bytes 0 ",
-                digits: "010401000001021A000EB49CDF34F2749CECBA5CB3B7C40E88138C9A38F96248E1800300021A000E9C9CCF35FA7684EECA5853A6442E88118C90386D63C8E2800300021A000ED59CCF34F2768CECFA5853B7C42D88018C9A386D6348E1800300021A000EFD9C9D35D27484EAEA5CB3AF040D88418CB4387962E0E0800300021A0002CB802309A215743869DFF0B4830E043E84D800DD039012300300021A0000A48473093E1F642D49D910A0C33D842684C800C9022802300300021A0000EE84350D22145C3819D910B9033B840F849C0051021811300300",
-            },
-            Line {
-                words: "cut 1",
-                digits: "",
-            },
-            Line {
-                words: "open 1",
-                digits: "",
-            },
-            Line {
-                words: "bytes 1 ",
-                digits: "010401010002",
-            },
-        ],
-        printed: b"carrier 0 810101821A0041C3028A48FC8F403DC06F00EDA0F783E497542E405CB83CB08300821A0043C1004A496C8E483CC06140E760E603D397582E445C382CD08300821A0043C2000C4C7885782BA06140EF20E303EA97062EDC5C883CD08300821A004185044C4DEC8D703CF06340EAE0F083F0971C2E5C5CB02FD08300821A0012F300E50874154838405BD0B1610A082084B22018036290908300821A0000DE243708F41F482B605550A4E53A080E848820D402CA02D08300821A00009224390D7414603C405D70B4E52C800594FA20C403E290808300\ncarrier 1 810101810101\n",
+        script: "\
+open 1
+bytes 1 010401010002021A0000000000000000000000  # HELLO; part of a frame
+open 0
+bytes 0
+  010401000001  # HELLO
+  021A000EB49CDF34F2749CECBA5CB3B7C40E88138C9A38F96248E180 0300  # 1001 registers; POLL
+  021A000E9C9CCF35FA7684EECA5853A6442E88118C90386D63C8E280 0300  # 1002 registers; POLL
+  021A000ED59CCF34F2768CECFA5853B7C42D88018C9A386D6348E180 0300  # 1003 registers; POLL
+  021A000EFD9C9D35D27484EAEA5CB3AF040D88418CB4387962E0E080 0300  # 1004 registers; POLL
+  021A0002CB802309A215743869DFF0B4830E043E84D800DD03901230 0300  # 1001 calls talkgroup 91; POLL
+  021A0000A48473093E1F642D49D910A0C33D842684C800C902280230 0300  # 1002 calls talkgroup 92; POLL
+  021A0000EE84350D22145C3819D910B9033B840F849C005102181130 0300  # 1003 calls talkgroup 93; POLL
+cut 1
+open 1
+bytes 1 010401010002  # HELLO
+",
+        printed: "\
+carrier 0
+  810101  # WELCOME
+  821A0041C3028A48FC8F403DC06F00EDA0F783E497542E405CB83CB0 8300  # slot 0: C_ACKD Reg_Accepted to 1001
+  821A0043C1004A496C8E483CC06140E760E603D397582E445C382CD0 8300  # slot 0: C_ACKD Reg_Accepted to 1002
+  821A0043C2000C4C7885782BA06140EF20E303EA97062EDC5C883CD0 8300  # slot 0: C_ACKD Reg_Accepted to 1003
+  821A004185044C4DEC8D703CF06340EAE0F083F0971C2E5C5CB02FD0 8300  # slot 0: C_ACKD Reg_Accepted to 1004
+  821A0012F300E50874154838405BD0B1610A082084B2201803629090 8300  # slot 0: TV_GRANT to 91 from 1001, channel 1 slot 1
+  821A0000DE243708F41F482B605550A4E53A080E848820D402CA02D0 8300  # slot 0: TV_GRANT to 92 from 1002, channel 2 slot 0
+  821A00009224390D7414603C405D70B4E52C800594FA20C403E29080 8300  # slot 0: TV_GRANT to 93 from 1003, channel 2 slot 1
+carrier 1 810101810101  # WELCOME; WELCOME
+",
     },
 ];
 
@@ -109,6 +92,16 @@ enum Cutting {
     At(u8),
 }
 
+/// A line of a script: all that stands before the octets of a connection, and the octets in hexadecimal digits, none where
+/// the line has none.
+fn parts(line: &str) -> (&str, &str) {
+    if line.starts_with("bytes ") {
+        line.split_at_checked(8).unwrap_or((line, ""))
+    } else {
+        (line, "")
+    }
+}
+
 /// Adds a line to a script: its words, and a piece of octets behind them.
 fn add_line(script: &mut String, words: &str, digits: &str) -> Result<(), AllocError> {
     script.push_str(words)?;
@@ -116,68 +109,68 @@ fn add_line(script: &mut String, words: &str, digits: &str) -> Result<(), AllocE
     script.push_str("\n")
 }
 
-impl Line {
-    /// Adds the line to a script, its octets octet by octet.
-    fn add_octets(&self, script: &mut String) -> Result<(), AllocError> {
-        let mut rest = self.digits;
-        for _ in 0..OCTETS {
-            let Some((octet, others)) = rest.split_at_checked(2) else {
-                return Ok(());
-            };
-            add_line(script, self.words, octet)?;
-            rest = others;
-        }
-        Ok(())
+/// Adds lines to a script, one for each octet.
+fn add_octets(script: &mut String, words: &str, digits: &str) -> Result<(), AllocError> {
+    let mut rest = digits;
+    for _ in 0..OCTETS {
+        let Some((octet, others)) = rest.split_at_checked(2) else {
+            return Ok(());
+        };
+        add_line(script, words, octet)?;
+        rest = others;
     }
+    Ok(())
+}
 
-    /// Adds the line to a script, its octets as they are cut.
-    fn add_to(&self, script: &mut String, cutting: Cutting) -> Result<(), AllocError> {
-        let first = match cutting {
-            Cutting::Octets if !self.digits.is_empty() => return self.add_octets(script),
+impl Cutting {
+    /// Adds a line to a script, its octets as they are cut.
+    fn add(self, script: &mut String, line: &str) -> Result<(), AllocError> {
+        let (words, digits) = parts(line);
+        let first = match self {
+            Cutting::Octets if !digits.is_empty() => return add_octets(script, words, digits),
             Cutting::At(octets) => 2 * usize::from(octets),
             _ => 0,
         };
-        match self.digits.split_at_checked(first) {
+        match digits.split_at_checked(first) {
             Some((piece, rest)) if !piece.is_empty() && !rest.is_empty() => {
-                add_line(script, self.words, piece)?;
-                add_line(script, self.words, rest)
+                add_line(script, words, piece)?;
+                add_line(script, words, rest)
             }
-            _ => add_line(script, self.words, self.digits),
+            _ => add_line(script, words, digits),
         }
     }
-}
 
-impl Connections {
-    /// The script in which they are handed in so.
-    fn script(&self, alloc: Global, cutting: Cutting) -> Result<String, AllocError> {
+    /// A script with its octets cut so.
+    fn script(self, alloc: Global, whole: &str) -> Result<String, AllocError> {
         let mut script = String::new(alloc);
-        for line in self.lines {
-            line.add_to(&mut script, cutting)?;
+        for line in whole.lines() {
+            self.add(&mut script, line)?;
         }
         Ok(script)
     }
 
-    /// Wants them to put out what they say, handed in so.
-    fn check(&self, rt: &(impl Abort + AllocGlobal), cutting: Cutting) -> Result<(), AllocError> {
-        let script = self.script(rt.alloc(), cutting)?;
-        Case {
-            name: self.name,
-            site: SITE,
-            script: script.as_bytes(),
-            printed: self.printed,
-            fault: b"",
-            status: 0,
-        }
-        .check(rt);
-        Ok(())
+    /// Wants connections to put out what they say, handed in so.
+    fn check(
+        self,
+        rt: &(impl Abort + AllocGlobal),
+        connections: &Case<'_>,
+    ) -> Result<(), AllocError> {
+        let whole = plain(rt.alloc(), connections.script)?;
+        let script = self.script(rt.alloc(), whole.as_str())?;
+        let case = Case {
+            name: connections.name,
+            script: script.as_str(),
+            printed: connections.printed,
+        };
+        case.check(rt, SITE)
     }
 }
 
 #[test]
 fn pieces(rt: HostRuntime) -> Result<(), AllocError> {
     for connections in &CONNECTIONS {
-        connections.check(&rt, Cutting::Whole)?;
-        connections.check(&rt, Cutting::Octets)?;
+        Cutting::Whole.check(&rt, connections)?;
+        Cutting::Octets.check(&rt, connections)?;
     }
     Ok(())
 }
@@ -186,7 +179,7 @@ fn pieces(rt: HostRuntime) -> Result<(), AllocError> {
 fn two_pieces(rt: HostRuntime) -> Result<(), AllocError> {
     for connections in &CONNECTIONS {
         for octets in 1..OCTETS {
-            connections.check(&rt, Cutting::At(octets))?;
+            Cutting::At(octets).check(&rt, connections)?;
         }
     }
     Ok(())

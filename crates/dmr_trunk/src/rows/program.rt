@@ -1,7 +1,7 @@
 //! What the program says to files that cannot be read, to site files and to words.
 
 use crate::replay::replay;
-use crate::rows::{SITE, site_with};
+use crate::rows::{Answer, SITE, site_with};
 use crate::words::{Job, choose};
 use std::alloc::AllocError;
 use std::io;
@@ -32,7 +32,7 @@ fn check_fault(
 ) {
     let mut out = Vec::new(rt.alloc());
     let mut err = Vec::new(rt.alloc());
-    let answer = replay(
+    let ended = replay(
         rt.alloc(),
         "the.toml",
         site,
@@ -41,9 +41,12 @@ fn check_fault(
         &mut out,
         &mut err,
     );
-    assert_eq!(rt; err.as_slice(), said);
-    assert_eq!(rt; out.len(), 0);
-    assert_eq!(rt; answer, status);
+    let answer = Answer {
+        printed: out,
+        fault: err,
+        status: ended,
+    };
+    answer.check(rt, "a fault", b"", said, status);
 }
 
 #[test]
@@ -57,7 +60,7 @@ fn files_that_cannot_be_read(rt: HostRuntime) {
     );
     check_fault(
         &rt,
-        Some(SITE),
+        Some(SITE.as_bytes()),
         None,
         b"dmr_trunk: cannot read the.txt\n",
         1,
@@ -118,12 +121,12 @@ fn site_files(rt: HostRuntime) {
 /// Wants the site with that piece of its text written otherwise to be refused so.
 fn check_site(
     rt: &(impl Abort + AllocGlobal),
-    old: &[u8],
-    new: &[u8],
+    old: &str,
+    new: &str,
     said: &[u8],
 ) -> Result<(), AllocError> {
     let site = site_with(rt.alloc(), old, new)?;
-    check_fault(rt, Some(site.as_slice()), Some(b"open 0\n"), said, 1);
+    check_fault(rt, Some(site.as_bytes()), Some(b"open 0\n"), said, 1);
     Ok(())
 }
 
@@ -131,20 +134,20 @@ fn check_site(
 fn faults_of_a_site(rt: HostRuntime) -> Result<(), AllocError> {
     check_site(
         &rt,
-        b"lpcn = 2",
-        b"lpcn = 4095",
+        "lpcn = 2",
+        "lpcn = 4095",
         b"dmr_trunk: site file: out of range lpcn\n",
     )?;
     check_site(
         &rt,
-        b"number = 1",
-        b"number = 0",
+        "number = 1",
+        "number = 0",
         b"dmr_trunk: site file: repeated number\n",
     )?;
     check_site(
         &rt,
-        b"regi = 0xFFFEC6\n",
-        b"",
+        "regi = 0xFFFEC6\n",
+        "",
         b"dmr_trunk: site file: missing regi\n",
     )
 }
@@ -155,7 +158,7 @@ fn output_that_is_not_taken(rt: HostRuntime) {
     let status = replay(
         rt.alloc(),
         "the.toml",
-        Some(SITE),
+        Some(SITE.as_bytes()),
         "the.txt",
         Some(b"open 0\n"),
         &mut Refusing,

@@ -19,6 +19,3 @@ pub use ask::{Ask, Asking};
 pub use call::{Call, Standing};
 pub use calls::Calls;
 pub use line::Line;
-
-#[cfg(test)]
-mod tests;

@@ -25,6 +25,3 @@ pub use laws::{
 };
 pub use reply::{Reply, SlotState, State};
 pub use site::Site;
-
-#[cfg(test)]
-mod tests;

@@ -19,6 +19,3 @@ pub use engine::{Engine, RunFault};
 pub use input::Input;
 pub use laws::{connections_mean, inputs_mean, octets_mean, steps_make_runs};
 pub use outputs::Outputs;
-
-#[cfg(test)]
-mod tests;

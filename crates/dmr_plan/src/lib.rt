@@ -20,6 +20,3 @@ pub use fault::PlanFault;
 pub use key::Key;
 pub use lists::RadioRange;
 pub use plan::Plan;
-
-#[cfg(test)]
-mod tests;

@@ -1,6 +1,9 @@
 //! Carriers that come up and are lost while calls, lines and asks stand.
 
-use super::start::{LINE_BEHIND_CALLS, ONE_ASK, SMALL, THREE_CALLS, play};
+use super::stage::{Story, tell_all};
+use super::starts::{LINE_BEHIND_CALLS, ONE_ASK, THREE_CALLS};
+use crate::site_file::SMALL;
+use std::test::Fail;
 
 /// The calls on carrier 1 end with the 100th and the 101st tick, and a poll of carrier 1 sends each its P_CLEAR.
 const CALLS_OF_CARRIER_1_END: &str = "\
@@ -11,10 +14,16 @@ tick => ended 1.1; queue 1.1 AE00001100005DFFFECA
 poll 1 => send 1.1 AE00001100005DFFFECA
 ";
 
-/// With a carrier its calls are gone, and nothing more is sent on it; once it is up again its slots are free at once.
-#[test]
-fn lost_carrier_takes_its_calls(rt: HostRuntime) {
-    const STORY: &str = "\
+static STORIES: [Story; 6] = [
+    // With a carrier its calls are gone, and nothing more is sent on it; once it is up again its slots are free at
+    // once.
+    Story {
+        name: "lost carrier takes its calls",
+        site: SMALL,
+        radios: Some(1004),
+        told: &[
+            THREE_CALLS,
+            "\
 lost 1 =>
 active 1.0 =>
 poll 1 =>
@@ -26,14 +35,18 @@ heard 0.0 9F000001.94.1004 => began 1.1 1004 g94; queue 0.0 B100002800005E0003EC
 poll 0 => send 0.0 B100002800005E0003EC
 99 tick =>
 tick => ended 0.1; queue 0.1 AE00001100005BFFFECA
-";
-    play(&rt, &SMALL, 1004, &[THREE_CALLS, STORY]);
-}
-
-/// While a carrier is down its slots aren't free: a request waits, and the first tick after the carrier is up serves it.
-#[test]
-fn request_waits_for_the_carrier(rt: HostRuntime) {
-    const STORY: &str = "\
+",
+        ],
+    },
+    // While a carrier is down its slots aren't free: a request waits, and the first tick after the carrier is up serves
+    // it.
+    Story {
+        name: "request waits for the carrier",
+        site: SMALL,
+        radios: Some(1004),
+        told: &[
+            THREE_CALLS,
+            "\
 lost 1 =>
 heard 0.0 9F000001.92.1004 => lined 1004 g92; queue 0.0 A00001400003EC00005C
 poll 0 => send 0.0 A00001400003EC00005C
@@ -42,14 +55,17 @@ up 1 =>
 tick => unlined 1004; began 1.0 1004 g92; queue 0.0 B100002000005C0003EC
 97 tick =>
 tick => ended 0.1; queue 0.1 AE00001100005BFFFECA
-";
-    play(&rt, &SMALL, 1004, &[THREE_CALLS, STORY]);
-}
-
-/// A carrier that comes up twice loses its calls and what waited for it, as if it had been lost in between.
-#[test]
-fn carrier_comes_up_twice(rt: HostRuntime) {
-    const STORY: &str = "\
+",
+        ],
+    },
+    // A carrier that comes up twice loses its calls and what waited for it, as if it had been lost in between.
+    Story {
+        name: "carrier comes up twice",
+        site: SMALL,
+        radios: Some(1004),
+        told: &[
+            THREE_CALLS,
+            "\
 99 tick =>
 tick => ended 0.1; queue 0.1 AE00001100005BFFFECA
 tick => ended 1.0; queue 1.0 AE00001100005CFFFECA
@@ -63,22 +79,27 @@ up 0 =>
 poll 0 => fill 0.0 99000000111234000000
 heard 0.0 9F00000F.94.1004 => queue 0.0 A00000520003EC00005E
 heard 0.0 9F000001.92.1002 => queue 0.0 B100002000005C0003EA
-";
-    play(&rt, &SMALL, 1004, &[THREE_CALLS, STORY]);
-}
-
-/// With the control carrier its calls, all lines and all asks are gone. The calls of the other carrier stay and end after
-/// their hang time; registrations stay.
-#[test]
-fn lost_control_carrier_takes_what_waits(rt: HostRuntime) {
-    const BEFORE: &str = "\
+",
+        ],
+    },
+    // With the control carrier its calls, all lines and all asks are gone. The calls of the other carrier stay and end
+    // after their hang time; registrations stay.
+    Story {
+        name: "lost control carrier takes what waits",
+        site: SMALL,
+        radios: Some(1006),
+        told: &[
+            THREE_CALLS,
+            LINE_BEHIND_CALLS,
+            "\
 heard 0.0 9F000000.1006.1005 => asked 1005 1006 0 1; queue 0.0 A00001C00003ED0003EE; queue 0.0 9C0000000003EE0003ED
 lost 0 =>
 poll 0 =>
 heard 0.0 9F000001.91.1001 =>
 heard 0.0 9F00020E.16776902.1005 =>
-";
-    const AFTER: &str = "\
+",
+            CALLS_OF_CARRIER_1_END,
+            "\
 10 tick =>
 up 0 =>
 poll 0 => fill 0.0 99000000111234000000
@@ -87,25 +108,18 @@ heard 0.0 9F00000F.1006.1005 => queue 0.0 A00000520003ED0003EE
 heard 0.0 9F00000F.94.1004 => queue 0.0 A00000520003EC00005E
 heard 0.0 9F000001.91.1001 => began 0.1 1001 g91; queue 0.0 B100001800005B0003E9
 90 tick =>
-";
-    play(
-        &rt,
-        &SMALL,
-        1006,
-        &[
+",
+        ],
+    },
+    // The control carrier comes back while calls of the other one stand: those go on, and can be joined late.
+    Story {
+        name: "control carrier comes back",
+        site: SMALL,
+        radios: Some(1005),
+        told: &[
             THREE_CALLS,
             LINE_BEHIND_CALLS,
-            BEFORE,
-            CALLS_OF_CARRIER_1_END,
-            AFTER,
-        ],
-    );
-}
-
-/// The control carrier comes back while calls of the other one stand: those go on, and can be joined late.
-#[test]
-fn control_carrier_comes_back(rt: HostRuntime) {
-    const STORY: &str = "\
+            "\
 noise 0.0 =>
 lost 0 =>
 noise 0.0 =>
@@ -118,14 +132,17 @@ heard 0.0 9F000001.92.1005 => queue 0.0 B100002400005C0003EA
 heard 0.0 9F000001.92.1002 => queue 0.0 B100002000005C0003EA
 heard 0.0 9F000001.91.1001 => began 0.1 1001 g91; queue 0.0 B100001800005B0003E9
 heard 0.0 9F000001.94.1004 => lined 1004 g94; queue 0.0 A00001400003EC00005E
-";
-    play(&rt, &SMALL, 1005, &[THREE_CALLS, LINE_BEHIND_CALLS, STORY]);
-}
-
-/// An ask isn't repeated, nor answered, after the control carrier was away.
-#[test]
-fn ask_is_gone_with_the_control_carrier(rt: HostRuntime) {
-    const STORY: &str = "\
+",
+        ],
+    },
+    // An ask isn't repeated, nor answered, after the control carrier was away.
+    Story {
+        name: "ask is gone with the control carrier",
+        site: SMALL,
+        radios: Some(1002),
+        told: &[
+            ONE_ASK,
+            "\
 lost 1 =>
 up 1 =>
 7 tick =>
@@ -135,6 +152,12 @@ up 0 =>
 heard 0.0 A1000088.1001.1002 =>
 20 tick =>
 heard 0.0 9F000000.1001.1002 => asked 1002 1001 0 1; queue 0.0 A00001C00003EA0003E9; queue 0.0 9C0000000003E90003EA
-";
-    play(&rt, &SMALL, 1002, &[ONE_ASK, STORY]);
+",
+        ],
+    },
+];
+
+#[test]
+fn carriers(rt: HostRuntime) -> Result<(), Fail> {
+    tell_all(&rt, &STORIES)
 }

@@ -1,6 +1,9 @@
 //! Individual requests and calls.
 
-use super::start::{LINE_BEHIND_CALLS, ONE_ASK, SMALL, THREE_CALLS, play};
+use super::stage::{Story, tell_all};
+use super::starts::{LINE_BEHIND_CALLS, ONE_ASK, THREE_CALLS};
+use crate::site_file::SMALL;
+use std::test::Fail;
 
 /// After the ask of radio 1002: it took radio 1001's call, which stands on slot 1 of carrier 0.
 const ONE_CALL: &str = "\
@@ -17,23 +20,33 @@ heard 0.0 A1000088.1004.1005 => over 1004; lined 1004 1005; queue 0.0 A000014000
 poll 0 => send 0.0 A00001400003EC0003ED
 ";
 
-/// A call that was taken ends with the 100th quiet tick, and its slot is told so by a P_CLEAR that isn't a talkgroup's.
-#[test]
-fn taken_call_hangs(rt: HostRuntime) {
-    const STORY: &str = "\
+static STORIES: [Story; 24] = [
+    // A call that was taken ends with the 100th quiet tick, and its slot is told so by a P_CLEAR that isn't a
+    // talkgroup's.
+    Story {
+        name: "taken call hangs",
+        site: SMALL,
+        radios: Some(1002),
+        told: &[
+            ONE_ASK,
+            ONE_CALL,
+            "\
 99 tick =>
 tick => ended 0.1; queue 0.1 AE0000100003EAFFFECA
 poll 0 => fill 0.0 99000000111234000000; send 0.1 AE0000100003EAFFFECA
 tick =>
 heard 0.0 9F000000.1001.1002 => asked 1002 1001 0 1; queue 0.0 A00001C00003EA0003E9; queue 0.0 9C0000000003E90003EA
-";
-    play(&rt, &SMALL, 1002, &[ONE_ASK, ONE_CALL, STORY]);
-}
-
-/// The called radio is asked three times, each 8 ticks after the one before, and then the call is given up.
-#[test]
-fn silent_radio_is_given_up(rt: HostRuntime) {
-    const STORY: &str = "\
+",
+        ],
+    },
+    // The called radio is asked three times, each 8 ticks after the one before, and then the call is given up.
+    Story {
+        name: "silent radio is given up",
+        site: SMALL,
+        radios: Some(1002),
+        told: &[
+            ONE_ASK,
+            "\
 7 tick =>
 tick => asked 1001 1002 0 2; queue 0.0 9C0000000003EA0003E9
 poll 0 => send 0.0 9C0000000003EA0003E9
@@ -45,80 +58,98 @@ tick => over 1001; queue 0.0 A00000480003E90003EA
 poll 0 => send 0.0 A00000480003E90003EA
 heard 0.0 A1000088.1001.1002 =>
 100 tick =>
-";
-    play(&rt, &SMALL, 1002, &[ONE_ASK, STORY]);
-}
-
-/// The called radio leaves: the ask is over and its source is told that the radio is away, then the leaving is accepted.
-#[test]
-fn asked_radio_leaves(rt: HostRuntime) {
-    const STORY: &str = "\
+",
+        ],
+    },
+    // The called radio leaves: the ask is over and its source is told that the radio is away, then the leaving is
+    // accepted.
+    Story {
+        name: "asked radio leaves",
+        site: SMALL,
+        radios: Some(1002),
+        told: &[
+            ONE_ASK,
+            "\
 heard 0.0 9F00000EFFFEC60003EA => over 1001; queue 0.0 A00000480003E90003EA; left 1002; queue 0.0 A00000C00003EAFFFEC6
 poll 0 => send 0.0 A00000480003E90003EA
 poll 0 => send 0.0 A00000C00003EAFFFEC6
 heard 0.0 A1000088.1001.1002 =>
 10 tick =>
-";
-    play(&rt, &SMALL, 1002, &[ONE_ASK, STORY]);
-}
-
-/// The called radio refuses, by any reason but MS_Accepted: the source is told that it is busy.
-#[test]
-fn asked_radio_refuses(rt: HostRuntime) {
-    const STORY: &str = "\
+",
+        ],
+    },
+    // The called radio refuses, by any reason but MS_Accepted: the source is told that it is busy.
+    Story {
+        name: "asked radio refuses",
+        site: SMALL,
+        radios: Some(1002),
+        told: &[
+            ONE_ASK,
+            "\
 heard 0.0 A100005C0003E90003EA => over 1001; queue 0.0 A000005C0003E90003EA
 poll 0 => send 0.0 A000005C0003E90003EA
 heard 0.0 A10000880003E90003EA =>
 heard 0.0 9F000000.1002.1001 => asked 1001 1002 0 1; queue 0.0 A00001C00003E90003EA; queue 0.0 9C0000000003EA0003E9
 heard 0.0 A10000C00003E90003EA => over 1001; queue 0.0 A000005C0003E90003EA
-";
-    play(&rt, &SMALL, 1002, &[ONE_ASK, STORY]);
-}
-
-/// Only the asked radio's answer counts, and only on the control slot; whom it names as its target doesn't matter.
-#[test]
-fn answer_of_a_radio_that_was_not_asked(rt: HostRuntime) {
-    const STORY: &str = "\
+",
+        ],
+    },
+    // Only the asked radio's answer counts, and only on the control slot; whom it names as its target doesn't matter.
+    Story {
+        name: "answer of a radio that was not asked",
+        site: SMALL,
+        radios: Some(1003),
+        told: &[
+            ONE_ASK,
+            "\
 heard 0.0 A10000880003E90003EB =>
 heard 0.0 A10000880003EA0003E9 =>
 heard 0.0 A100005C0003E90003EB =>
 heard 0.1 A10000880003E90003EA =>
 heard 0.0 A10056890000070003EA => over 1001; began 0.1 1001 1002; queue 0.0 B00000180003EA0003E9
-";
-    play(&rt, &SMALL, 1003, &[ONE_ASK, STORY]);
-}
-
-/// The service options of the request stand in each C_AHOY.
-#[test]
-fn options_are_mirrored(rt: HostRuntime) {
-    const STORY: &str = "\
+",
+        ],
+    },
+    // The service options of the request stand in each C_AHOY.
+    Story {
+        name: "options are mirrored",
+        site: SMALL,
+        radios: Some(1002),
+        told: &[
+            "\
 heard 0.0 9F00AC000003EA0003E9 => asked 1001 1002 86 1; queue 0.0 A00001C00003E90003EA; queue 0.0 9C00AC000003EA0003E9
 poll 0 => send 0.0 A00001C00003E90003EA
 poll 0 => send 0.0 9C00AC000003EA0003E9
 7 tick =>
 tick => asked 1001 1002 86 2; queue 0.0 9C00AC000003EA0003E9
-";
-    play(&rt, &SMALL, 1002, &[STORY]);
-}
-
-/// No radio calls itself, a radio that isn't listed, or one that isn't registered.
-#[test]
-fn radios_that_cannot_be_called(rt: HostRuntime) {
-    const STORY: &str = "\
+",
+        ],
+    },
+    // No radio calls itself, a radio that isn't listed, or one that isn't registered.
+    Story {
+        name: "radios that cannot be called",
+        site: SMALL,
+        radios: Some(1002),
+        told: &[
+            "\
 heard 0.0 9F0000000003E90003E9 => queue 0.0 A00000420003E90003E9
 heard 0.0 9F0000000007D00003E9 => queue 0.0 A00000420003E90007D0
 heard 0.0 9F00000000005B0003E9 => queue 0.0 A00000420003E900005B
 heard 0.0 9F0000000003EB0003E9 => queue 0.0 A00000480003E90003EB
 heard 0.0 9F00000E.16776902.1002 => left 1002; queue 0.0 A00000C00003EAFFFEC6
 heard 0.0 9F000000.1002.1001 => queue 0.0 A00000480003E90003EA
-";
-    play(&rt, &SMALL, 1002, &[STORY]);
-}
-
-/// A radio is busy while it talks to a talkgroup, asks, is asked, or is in a call of its own; not where it came late.
-#[test]
-fn engaged_radios_are_busy(rt: HostRuntime) {
-    const STORY: &str = "\
+",
+        ],
+    },
+    // A radio is busy while it talks to a talkgroup, asks, is asked, or is in a call of its own; not where it came
+    // late.
+    Story {
+        name: "engaged radios are busy",
+        site: SMALL,
+        radios: Some(1005),
+        told: &[
+            ONE_ASK,
+            "\
 heard 0.0 9F000001.91.1003 => began 0.1 1003 g91; queue 0.0 B100001800005B0003EB
 heard 0.0 9F000001.91.1005 => queue 0.0 B100001C00005B0003EB
 heard 0.0 9F000000.1001.1004 => queue 0.0 A000005C0003EC0003E9
@@ -128,132 +159,227 @@ heard 0.0 A1000088.1001.1002 => over 1001; began 1.0 1001 1002; queue 0.0 B00000
 heard 0.0 9F000000.1001.1004 => queue 0.0 A000005C0003EC0003E9
 heard 0.0 9F000000.1002.1004 => queue 0.0 A000005C0003EC0003EA
 heard 0.0 9F000000.1005.1004 => asked 1004 1005 0 1; queue 0.0 A00001C00003EC0003ED; queue 0.0 9C0000000003ED0003EC
-";
-    play(&rt, &SMALL, 1005, &[ONE_ASK, STORY]);
-}
-
-/// A repeated request is answered by how the first one stands: wait, queued, or the grant again.
-#[test]
-fn caller_asks_again(rt: HostRuntime) {
-    const ASK: &str = "\
+",
+        ],
+    },
+    // A repeated request is answered by how the first one stands: wait, queued, or the grant again.
+    Story {
+        name: "caller asks again, ask",
+        site: SMALL,
+        radios: Some(1002),
+        told: &[
+            ONE_ASK,
+            "\
 heard 0.0 9F000000.1002.1001 => queue 0.0 A00001C00003E90003EA
 poll 0 => send 0.0 A00001C00003E90003EA
 heard 0.0 A1000088.1001.1002 => over 1001; began 0.1 1001 1002; queue 0.0 B00000180003EA0003E9
 heard 0.0 9F000000.1002.1001 => queue 0.0 B00000180003EA0003E9
-";
-    const LINE: &str = "\
+",
+        ],
+    },
+    Story {
+        name: "caller asks again, line",
+        site: SMALL,
+        radios: Some(1006),
+        told: &[
+            THREE_CALLS,
+            ONE_LINE,
+            "\
 heard 0.0 9F000000.1005.1004 => queue 0.0 A00001400003EC0003ED
-";
-    play(&rt, &SMALL, 1002, &[ONE_ASK, ASK]);
-    play(&rt, &SMALL, 1006, &[THREE_CALLS, ONE_LINE, LINE]);
-}
-
-/// Whoever is a party to an ask, a call or a line is refused for now when it calls someone else.
-#[test]
-fn parties_call_someone_else(rt: HostRuntime) {
-    const ASK: &str = "\
+",
+        ],
+    },
+    // Whoever is a party to an ask, a call or a line is refused for now when it calls someone else.
+    Story {
+        name: "parties call someone else, ask",
+        site: SMALL,
+        radios: Some(1003),
+        told: &[
+            ONE_ASK,
+            "\
 heard 0.0 9F000000.1003.1001 => queue 0.0 A00000460003E90003EB
 heard 0.0 9F000000.1003.1002 => queue 0.0 A00000460003EA0003EB
 heard 0.0 9F000000.1001.1002 => queue 0.0 A00000460003EA0003E9
-";
-    const CALL: &str = "\
+",
+        ],
+    },
+    Story {
+        name: "parties call someone else, call",
+        site: SMALL,
+        radios: Some(1003),
+        told: &[
+            ONE_ASK,
+            ONE_CALL,
+            "\
 heard 0.0 9F000000.1003.1001 => queue 0.0 A00000460003E90003EB
 heard 0.0 9F000000.1001.1002 => queue 0.0 A00000460003EA0003E9
 heard 0.0 9F000001.91.1002 => queue 0.0 A00000460003EA00005B
-";
-    const LINE: &str = "\
+",
+        ],
+    },
+    Story {
+        name: "parties call someone else, line",
+        site: SMALL,
+        radios: Some(1006),
+        told: &[
+            THREE_CALLS,
+            ONE_LINE,
+            "\
 heard 0.0 9F000000.1006.1004 => queue 0.0 A00000460003EC0003EE
 heard 0.0 9F000000.1004.1005 => queue 0.0 A00000460003ED0003EC
 heard 0.0 9F000001.91.1005 => queue 0.0 A00000460003ED00005B
 heard 0.0 9F000000.1005.1006 => queue 0.0 A000005C0003EE0003ED
-";
-    play(&rt, &SMALL, 1003, &[ONE_ASK, ASK]);
-    play(&rt, &SMALL, 1003, &[ONE_ASK, ONE_CALL, CALL]);
-    play(&rt, &SMALL, 1006, &[THREE_CALLS, ONE_LINE, LINE]);
-}
-
-/// A call that was taken while no slot was free waits for one, and is granted when one is.
-#[test]
-fn taken_call_waits_for_a_slot(rt: HostRuntime) {
-    const STORY: &str = "\
+",
+        ],
+    },
+    // A call that was taken while no slot was free waits for one, and is granted when one is.
+    Story {
+        name: "taken call waits for a slot",
+        site: SMALL,
+        radios: Some(1006),
+        told: &[
+            THREE_CALLS,
+            ONE_LINE,
+            "\
 99 tick =>
 tick => ended 0.1; queue 0.1 AE00001100005BFFFECA
 poll 0 => fill 0.0 99000000111234000000; send 0.1 AE00001100005BFFFECA
 tick => ended 1.0; queue 1.0 AE00001100005CFFFECA; unlined 1004; began 0.1 1004 1005; queue 0.0 B00000180003ED0003EC
 poll 0 => send 0.0 B00000180003ED0003EC
-";
-    play(&rt, &SMALL, 1006, &[THREE_CALLS, ONE_LINE, STORY]);
-}
-
-/// A call that was taken waits behind a line that stands, though a slot is free.
-#[test]
-fn taken_call_waits_behind_a_line(rt: HostRuntime) {
-    const STORY: &str = "\
+",
+        ],
+    },
+    // A call that was taken waits behind a line that stands, though a slot is free.
+    Story {
+        name: "taken call waits behind a line",
+        site: SMALL,
+        radios: Some(1006),
+        told: &[
+            THREE_CALLS,
+            LINE_BEHIND_CALLS,
+            "\
 99 tick =>
 tick => ended 0.1; queue 0.1 AE00001100005BFFFECA
 poll 0 => fill 0.0 99000000111234000000; send 0.1 AE00001100005BFFFECA
 heard 0.0 9F000000.1006.1005 => asked 1005 1006 0 1; queue 0.0 A00001C00003ED0003EE; queue 0.0 9C0000000003EE0003ED
 heard 0.0 A1000088.1005.1006 => over 1005; lined 1005 1006; queue 0.0 A00001400003ED0003EE
-";
-    play(&rt, &SMALL, 1006, &[THREE_CALLS, LINE_BEHIND_CALLS, STORY]);
-}
-
-/// An ask is called off by its source alone, and once; a call isn't called off.
-#[test]
-fn ask_is_called_off_once(rt: HostRuntime) {
-    const ASK: &str = "\
+",
+        ],
+    },
+    // An ask is called off by its source alone, and once; a call isn't called off.
+    Story {
+        name: "ask is called off once, ask",
+        site: SMALL,
+        radios: Some(1002),
+        told: &[
+            ONE_ASK,
+            "\
 heard 0.0 9F00000F0003E90003EA => queue 0.0 A00000520003EA0003E9
 heard 0.0 9F00000F0003EA0003E9 => over 1001; queue 0.0 A00000C00003E90003EA
 heard 0.0 9F00000F0003EA0003E9 => queue 0.0 A00000520003E90003EA
 heard 0.0 A1000088.1001.1002 =>
 100 tick =>
-";
-    const CALL: &str = "\
+",
+        ],
+    },
+    Story {
+        name: "ask is called off once, call",
+        site: SMALL,
+        radios: Some(1002),
+        told: &[
+            ONE_ASK,
+            ONE_CALL,
+            "\
 heard 0.0 9F00000F.1002.1001 => queue 0.0 A00000520003E90003EA
 heard 0.0 9F00000F.1001.1002 => queue 0.0 A00000520003EA0003E9
-";
-    const LINE: &str = "\
+",
+        ],
+    },
+    Story {
+        name: "ask is called off once, line",
+        site: SMALL,
+        radios: Some(1006),
+        told: &[
+            THREE_CALLS,
+            ONE_LINE,
+            "\
 heard 0.0 9F00000F.1004.1005 => queue 0.0 A00000520003ED0003EC
 heard 0.0 9F00000F.1005.1004 => unlined 1004; queue 0.0 A00000C00003EC0003ED
-";
-    play(&rt, &SMALL, 1002, &[ONE_ASK, ASK]);
-    play(&rt, &SMALL, 1002, &[ONE_ASK, ONE_CALL, CALL]);
-    play(&rt, &SMALL, 1006, &[THREE_CALLS, ONE_LINE, LINE]);
-}
-
-/// A party leaves: what it is a party to is over. Of an ask or a line that its target leaves, the source is told so.
-#[test]
-fn parties_leave(rt: HostRuntime) {
-    const ASK: &str = "\
+",
+        ],
+    },
+    // A party leaves: what it is a party to is over. Of an ask or a line that its target leaves, the source is told so.
+    Story {
+        name: "parties leave, ask",
+        site: SMALL,
+        radios: Some(1002),
+        told: &[
+            ONE_ASK,
+            "\
 heard 0.0 9F00000E.16776902.1001 => over 1001; left 1001; queue 0.0 A00000C00003E9FFFEC6
 heard 0.0 A1000088.1001.1002 =>
-";
-    const SOURCE: &str = "\
+",
+        ],
+    },
+    Story {
+        name: "parties leave, source",
+        site: SMALL,
+        radios: Some(1002),
+        told: &[
+            ONE_ASK,
+            ONE_CALL,
+            "\
 heard 0.0 9F00000E.16776902.1001 => ended 0.1; queue 0.1 AE0000100003EAFFFECA; left 1001; \
     queue 0.0 A00000C0.1001.16776902
-";
-    const TARGET: &str = "\
+",
+        ],
+    },
+    Story {
+        name: "parties leave, target",
+        site: SMALL,
+        radios: Some(1002),
+        told: &[
+            ONE_ASK,
+            ONE_CALL,
+            "\
 heard 0.0 9F00000E.16776902.1002 => ended 0.1; queue 0.1 AE0000100003EAFFFECA; left 1002; \
     queue 0.0 A00000C0.1002.16776902
-";
-    const LINE: &str = "\
+",
+        ],
+    },
+    Story {
+        name: "parties leave, line",
+        site: SMALL,
+        radios: Some(1006),
+        told: &[
+            THREE_CALLS,
+            ONE_LINE,
+            "\
 heard 0.0 9F00000E.16776902.1004 => unlined 1004; left 1004; queue 0.0 A00000C00003ECFFFEC6
-";
-    const LINE_TARGET: &str = "\
+",
+        ],
+    },
+    Story {
+        name: "parties leave, line target",
+        site: SMALL,
+        radios: Some(1006),
+        told: &[
+            THREE_CALLS,
+            ONE_LINE,
+            "\
 heard 0.0 9F00000E.16776902.1005 => unlined 1004; queue 0.0 A00000480003EC0003ED; left 1005; \
     queue 0.0 A00000C00003EDFFFEC6
-";
-    play(&rt, &SMALL, 1002, &[ONE_ASK, ASK]);
-    play(&rt, &SMALL, 1002, &[ONE_ASK, ONE_CALL, SOURCE]);
-    play(&rt, &SMALL, 1002, &[ONE_ASK, ONE_CALL, TARGET]);
-    play(&rt, &SMALL, 1006, &[THREE_CALLS, ONE_LINE, LINE]);
-    play(&rt, &SMALL, 1006, &[THREE_CALLS, ONE_LINE, LINE_TARGET]);
-}
-
-/// One ask is repeated or given up with a tick, the one whose C_AHOY is oldest.
-#[test]
-fn asks_are_repeated_in_turn(rt: HostRuntime) {
-    const STORY: &str = "\
+",
+        ],
+    },
+    // One ask is repeated or given up with a tick, the one whose C_AHOY is oldest.
+    Story {
+        name: "asks are repeated in turn",
+        site: SMALL,
+        radios: Some(1004),
+        told: &[
+            ONE_ASK,
+            "\
 heard 0.0 9F000000.1004.1003 => asked 1003 1004 0 1; queue 0.0 A00001C00003EB0003EC; queue 0.0 9C0000000003EC0003EB
 7 tick =>
 tick => asked 1001 1002 0 2; queue 0.0 9C0000000003EA0003E9
@@ -265,6 +391,12 @@ tick => asked 1003 1004 0 3; queue 0.0 9C0000000003EC0003EB
 tick => over 1001; queue 0.0 A00000480003E90003EA
 tick => over 1003; queue 0.0 A00000480003EB0003EC
 100 tick =>
-";
-    play(&rt, &SMALL, 1004, &[ONE_ASK, STORY]);
+",
+        ],
+    },
+];
+
+#[test]
+fn individual(rt: HostRuntime) -> Result<(), Fail> {
+    tell_all(&rt, &STORIES)
 }

@@ -1,13 +1,17 @@
 //! Registration, leaving, and the control slot while nothing waits.
 
-use super::scene::tell;
-use super::start::{MANY, SMALL, play, play_afresh, site_of};
-use dmr_pdu::CarrierNo;
+use super::stage::{Story, tell_all};
+use crate::site_file::{MANY, SMALL};
+use std::test::Fail;
 
-/// A listed radio is registered once, and told so as often as it asks; a radio that isn't listed is denied.
-#[test]
-fn registers_once(rt: HostRuntime) {
-    const STORY: &str = "\
+static STORIES: [Story; 5] = [
+    // A listed radio is registered once, and told so as often as it asks; a radio that isn't listed is denied.
+    Story {
+        name: "registers once",
+        site: SMALL,
+        radios: None,
+        told: &[
+            "\
 up 0 =>
 heard 0.0 9F00020EFFFEC60003E9 => joined 1001; queue 0.0 A00000C40003E9FFFEC6
 poll 0 => send 0.0 A00000C40003E9FFFEC6
@@ -16,14 +20,17 @@ poll 0 => send 0.0 A00000C40003E9FFFEC6
 heard 0.0 9F00020EFFFEC60007D0 => queue 0.0 A00000560007D0FFFEC6
 poll 0 => send 0.0 A00000560007D0FFFEC6
 heard 0.0 9F00020EFFFEC60007D0 => queue 0.0 A00000560007D0FFFEC6
-";
-    play_afresh(&rt, &SMALL, STORY);
-}
-
-/// A radio that leaves is registered no more, and leaving is accepted as well from one that isn't registered or listed.
-#[test]
-fn leaves_at_any_time(rt: HostRuntime) {
-    const STORY: &str = "\
+",
+        ],
+    },
+    // A radio that leaves is registered no more, and leaving is accepted as well from one that isn't registered or
+    // listed.
+    Story {
+        name: "leaves at any time",
+        site: SMALL,
+        radios: Some(1002),
+        told: &[
+            "\
 heard 0.0 9F00000EFFFEC60003EA => left 1002; queue 0.0 A00000C00003EAFFFEC6
 poll 0 => send 0.0 A00000C00003EAFFFEC6
 heard 0.0 9F00000EFFFEC60003EA => queue 0.0 A00000C00003EAFFFEC6
@@ -31,14 +38,17 @@ poll 0 => send 0.0 A00000C00003EAFFFEC6
 heard 0.0 9F00000EFFFEC60007D0 => queue 0.0 A00000C00007D0FFFEC6
 poll 0 => send 0.0 A00000C00007D0FFFEC6
 heard 0.0 9F00020EFFFEC60003EA => joined 1002; queue 0.0 A00000C40003EAFFFEC6
-";
-    play(&rt, &SMALL, 1002, &[STORY]);
-}
-
-/// While 4,096 radios are registered, those are told so again, another is refused, and it has a place once one has left.
-#[test]
-fn at_most_4096_are_registered(rt: HostRuntime) {
-    const STORY: &str = "\
+",
+        ],
+    },
+    // While 4,096 radios are registered, those are told so again, another is refused, and it has a place once one has
+    // left.
+    Story {
+        name: "at most 4096 are registered",
+        site: MANY,
+        radios: None,
+        told: &[
+            "\
 up 0 =>
 
 rounds 1 to 4096
@@ -50,14 +60,17 @@ heard 0.0 9F00020EFFFEC6001000 => queue 0.0 A00000C4001000FFFEC6
 heard 0.0 9F00000EFFFEC6000007 => left 7; queue 0.0 A00000C0000007FFFEC6
 heard 0.0 9F00020EFFFEC6001001 => joined 4097; queue 0.0 A00000C4001001FFFEC6
 heard 0.0 9F00020EFFFEC6000007 => queue 0.0 A0000054000007FFFEC6
-";
-    play_afresh(&rt, &MANY, STORY);
-}
-
-/// Nothing waits: the control slot is filled with C_ALOHA, another slot with nothing; a carrier that is down sends nothing.
-#[test]
-fn idle_slots(rt: HostRuntime) {
-    const STORY: &str = "\
+",
+        ],
+    },
+    // Nothing waits: the control slot is filled with C_ALOHA, another slot with nothing; a carrier that is down sends
+    // nothing.
+    Story {
+        name: "idle slots",
+        site: SMALL,
+        radios: None,
+        told: &[
+            "\
 poll 0 =>
 up 0 =>
 poll 0 => fill 0.0 99000000111234000000
@@ -67,17 +80,17 @@ poll 1 =>
 up 9 =>
 poll 9 =>
 300 tick =>
-";
-    let site = &mut site_of(&rt, &SMALL);
-    assert_eq!(rt; site.plan().control(), CarrierNo::new(0));
-    tell(&rt, site, STORY);
-}
-
-/// What disturbs the control slot raises the backoff, up to 8, and counts for the 32 polls after it; a new connection
-/// forgets it. What disturbs another slot doesn't count.
-#[test]
-fn disturbed_slots_raise_the_backoff(rt: HostRuntime) {
-    const STORY: &str = "\
+",
+        ],
+    },
+    // What disturbs the control slot raises the backoff, up to 8, and counts for the 32 polls after it; a new
+    // connection forgets it. What disturbs another slot doesn't count.
+    Story {
+        name: "disturbed slots raise the backoff",
+        site: SMALL,
+        radios: None,
+        told: &[
+            "\
 up 0 =>
 noise 0.1 =>
 noise 0.0 =>
@@ -94,6 +107,12 @@ noise 0.0 =>
 poll 0 => fill 0.0 99000000181234000000
 up 0 =>
 poll 0 => fill 0.0 99000000111234000000
-";
-    play_afresh(&rt, &SMALL, STORY);
+",
+        ],
+    },
+];
+
+#[test]
+fn registrations(rt: HostRuntime) -> Result<(), Fail> {
+    tell_all(&rt, &STORIES)
 }

@@ -1,11 +1,20 @@
 //! Full tables, full slots and a full outbox.
 
-use super::start::{FULL_LINES, LARGE, LINE_BEHIND_CALLS, LOUD, SMALL, THREE_CALLS, WIDE, play};
+use super::stage::{Story, tell_all};
+use super::starts::{FULL_LINES, LINE_BEHIND_CALLS, THREE_CALLS};
+use crate::site_file::{LARGE, LOUD, SMALL, WIDE};
+use std::test::Fail;
 
-/// While 32 requests wait, another talkgroup request is refused, and waits once there is a place.
-#[test]
-fn at_most_32_requests_wait(rt: HostRuntime) {
-    const STORY: &str = "\
+static STORIES: [Story; 8] = [
+    // While 32 requests wait, another talkgroup request is refused, and waits once there is a place.
+    Story {
+        name: "at most 32 requests wait",
+        site: WIDE,
+        radios: Some(1036),
+        told: &[
+            THREE_CALLS,
+            FULL_LINES,
+            "\
 heard 0.0 9F00000100007E00040C => queue 0.0 A000004E00040C00007E
 poll 0 => send 0.0 A000004E00040C00007E
 heard 0.0 9F000001.125.1035 => queue 0.0 A000014000040B00007D
@@ -14,25 +23,31 @@ heard 0.0 9F000001.91.1036 => queue 0.0 B100001C00005B0003E9
 heard 0.0 9F00000F.100.1010 => unlined 1010; queue 0.0 A00000C00003F2000064
 heard 0.0 9F000001.126.1036 => lined 1036 g126; queue 0.0 A000014000040C00007E
 heard 0.0 9F000001.100.1010 => queue 0.0 A000004E0003F2000064
-";
-    play(&rt, &WIDE, 1036, &[THREE_CALLS, FULL_LINES, STORY]);
-}
-
-/// While 32 requests wait, a call that is taken is refused.
-#[test]
-fn taken_call_finds_no_place_to_wait(rt: HostRuntime) {
-    const STORY: &str = "\
+",
+        ],
+    },
+    // While 32 requests wait, a call that is taken is refused.
+    Story {
+        name: "taken call finds no place to wait",
+        site: WIDE,
+        radios: Some(1037),
+        told: &[
+            THREE_CALLS,
+            FULL_LINES,
+            "\
 heard 0.0 9F000000.1037.1036 => asked 1036 1037 0 1; queue 0.0 A00001C000040C00040D; queue 0.0 9C00000000040D00040C
 heard 0.0 A1000088.1036.1037 => over 1036; queue 0.0 A000004E00040C00040D
 heard 0.0 A1000088.1036.1037 =>
-";
-    play(&rt, &WIDE, 1037, &[THREE_CALLS, FULL_LINES, STORY]);
-}
-
-/// 32 radios are asked at a time; a call to another is refused, and has a place once an ask is over.
-#[test]
-fn at_most_32_radios_are_asked(rt: HostRuntime) {
-    const STORY: &str = "\
+",
+        ],
+    },
+    // 32 radios are asked at a time; a call to another is refused, and has a place once an ask is over.
+    Story {
+        name: "at most 32 radios are asked",
+        site: SMALL,
+        radios: Some(1066),
+        told: &[
+            "\
 rounds 1001 to 1032
 heard 0.0 9F000000.33+.0+ => asked 0+ 33+ 0 1; queue 0.0 A00001C0.0+.33+; queue 0.0 9C000000.33+.0+
 poll 0 => send 0.0 A00001C0.0+.33+
@@ -43,14 +58,16 @@ poll 0 => send 0.0 A000004E00040900042A
 heard 0.0 A100005C0003E900040A => over 1001; queue 0.0 A000005C0003E900040A
 heard 0.0 9F000000.1066.1033 => asked 1033 1066 0 1; queue 0.0 A00001C000040900042A; queue 0.0 9C00000000042A000409
 heard 0.0 9F000000.1034.1001 => queue 0.0 A000004E0003E900040A
-";
-    play(&rt, &SMALL, 1066, &[STORY]);
-}
-
-/// Sixteen carriers have 31 slots for calls, taken by carrier and then by slot; the 32nd request waits.
-#[test]
-fn sixteen_carriers_have_31_calls(rt: HostRuntime) {
-    const STORY: &str = "\
+",
+        ],
+    },
+    // Sixteen carriers have 31 slots for calls, taken by carrier and then by slot; the 32nd request waits.
+    Story {
+        name: "sixteen carriers have 31 calls",
+        site: LARGE,
+        radios: Some(1032),
+        told: &[
+            "\
 heard 0.0 9F000001.91.1001 => began 0.1 1001 g91; queue 0.0 B1000018.91.1001
 poll 0 => send 0.0 B1000018.91.1001
 heard 0.0 9F000001.92.1002 => began 1.0 1002 g92; queue 0.0 B1000020.92.1002
@@ -115,15 +132,17 @@ heard 0.0 9F000001.121.1031 => began 15.1 1031 g121; queue 0.0 B1000108000079000
 poll 0 => send 0.0 B1000108000079000407
 heard 0.0 9F000001.122.1032 => lined 1032 g122; queue 0.0 A000014000040800007A
 poll 0 => send 0.0 A000014000040800007A
-";
-    play(&rt, &LARGE, 1032, &[STORY]);
-}
-
-/// A tick that ends a call, repeats an ask and serves a line, where grants and P_CLEARs are sent four times: 13 acts, of
-/// which 9 put a PDU behind others.
-#[test]
-fn busiest_tick(rt: HostRuntime) {
-    const STORY: &str = "\
+",
+        ],
+    },
+    // A tick that ends a call, repeats an ask and serves a line, where grants and P_CLEARs are sent four times: 13
+    // acts, of which 9 put a PDU behind others.
+    Story {
+        name: "busiest tick",
+        site: LOUD,
+        radios: Some(1006),
+        told: &[
+            "\
 heard 0.0 9F000001.91.1001 => began 0.1 1001 g91; queue 0.0 B1000018.91.1001; queue 0.0 B1000018.91.1001; \
     queue 0.0 B1000018.91.1001; queue 0.0 B1000018.91.1001
 4 poll 0 => send 0.0 B1000018.91.1001
@@ -147,15 +166,17 @@ tick => ended 1.0; queue 1.0 AE00001100005CFFFECA; queue 1.0 AE00001100005CFFFEC
     queue 1.0 AE00001100005CFFFECA; queue 1.0 AE00001100005CFFFECA; asked 1005 1006 0 2; \
     queue 0.0 9C0000000003EE0003ED; unlined 1004; began 0.1 1004 g94; queue 0.0 B100001800005E0003EC; \
     queue 0.0 B100001800005E0003EC; queue 0.0 B100001800005E0003EC; queue 0.0 B100001800005E0003EC
-";
-    play(&rt, &LOUD, 1006, &[STORY]);
-}
-
-/// 57 PDUs wait for the control slot: no request, answer or leaving has any effect, and no ask is repeated, until one of
-/// the 57 is sent.
-#[test]
-fn no_room_no_effect(rt: HostRuntime) {
-    const STORY: &str = "\
+",
+        ],
+    },
+    // 57 PDUs wait for the control slot: no request, answer or leaving has any effect, and no ask is repeated, until
+    // one of the 57 is sent.
+    Story {
+        name: "no room no effect",
+        site: SMALL,
+        radios: Some(1005),
+        told: &[
+            "\
 heard 0.0 9F000000.1002.1001 => asked 1001 1002 0 1; queue 0.0 A00001C00003E90003EA; queue 0.0 9C0000000003EA0003E9
 55 heard 0.0 9F00020E.16776902.1003 => queue 0.0 A00000C40003EBFFFEC6
 heard 0.0 9F00020E.16776902.1003 =>
@@ -173,14 +194,18 @@ heard 0.0 9F000001.91.1003 => began 0.1 1003 g91; queue 0.0 B100001800005B0003EB
 heard 0.0 9F000001.92.1004 =>
 poll 0 => send 0.0 A00000C40003EBFFFEC6
 heard 0.0 A1000088.1001.1002 => over 1001; began 1.0 1001 1002; queue 0.0 B00000200003EA0003E9
-";
-    play(&rt, &SMALL, 1005, &[STORY]);
-}
-
-/// A call ends without room as well, but no line is served until there is room.
-#[test]
-fn no_room_no_service(rt: HostRuntime) {
-    const STORY: &str = "\
+",
+        ],
+    },
+    // A call ends without room as well, but no line is served until there is room.
+    Story {
+        name: "no room no service",
+        site: SMALL,
+        radios: Some(1004),
+        told: &[
+            THREE_CALLS,
+            LINE_BEHIND_CALLS,
+            "\
 57 heard 0.0 9F00020E.16776902.1003 => queue 0.0 A00000C40003EBFFFEC6
 99 tick =>
 tick => ended 0.1; queue 0.1 AE00001100005BFFFECA
@@ -189,14 +214,16 @@ heard 0.0 9F00020E.16776902.1003 => queue 0.0 A00000C40003EBFFFEC6
 tick => ended 1.0; queue 1.0 AE00001100005CFFFECA
 poll 0 => send 0.0 A00000C40003EBFFFEC6
 tick => ended 1.1; queue 1.1 AE00001100005DFFFECA; unlined 1004; began 0.1 1004 g94; queue 0.0 B100001800005E0003EC
-";
-    play(&rt, &SMALL, 1004, &[THREE_CALLS, LINE_BEHIND_CALLS, STORY]);
-}
-
-/// What waits is sent in its order, and is gone with the carrier.
-#[test]
-fn what_waits_is_gone_with_the_carrier(rt: HostRuntime) {
-    const STORY: &str = "\
+",
+        ],
+    },
+    // What waits is sent in its order, and is gone with the carrier.
+    Story {
+        name: "what waits is gone with the carrier",
+        site: SMALL,
+        radios: Some(1003),
+        told: &[
+            "\
 57 heard 0.0 9F00020E.16776902.1003 => queue 0.0 A00000C40003EBFFFEC6
 heard 0.0 9F00020E.16776902.1003 =>
 lost 0 =>
@@ -208,6 +235,12 @@ heard 0.0 9F000001.91.1001 => began 0.1 1001 g91; queue 0.0 B100001800005B0003E9
 poll 0 => send 0.0 A00000C40003EBFFFEC6
 poll 0 => send 0.0 B100001800005B0003E9
 poll 0 => fill 0.0 99000000111234000000
-";
-    play(&rt, &SMALL, 1003, &[STORY]);
+",
+        ],
+    },
+];
+
+#[test]
+fn limits(rt: HostRuntime) -> Result<(), Fail> {
+    tell_all(&rt, &STORIES)
 }

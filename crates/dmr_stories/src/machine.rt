@@ -1,13 +1,14 @@
 //! Sites that are told stories, and their answers: all acts in order, each PDU by its octets.
 
+mod acts;
 mod carriers;
 mod console;
 mod copies;
+mod events;
 mod individual;
 mod limits;
 mod registrations;
-mod replies;
-mod scene;
-mod start;
+mod stage;
+mod starts;
 mod talkgroups;
 mod waiting;

@@ -1,0 +1,154 @@
+//! The language of the tests: stories that a listener is told line by line, with what answers each line.
+//!
+//! A line is what is told, ` =>`, and the answer:
+//!
+//! ```text
+//! heard 0.0 9F00000100005B0003E9 => began 0.1 1001 g91; queue 0.0 B100001800005B0003E9
+//! poll 0 => send 0.0 B100001800005B0003E9
+//! 60 tick =>
+//! ```
+//!
+//! A number in front says how often it is told; each time it is answered so. Lines that begin with `#`, and empty ones,
+//! say nothing. What can be told, and what answers it, the listeners say.
+//!
+//! A part of a story that begins with a line `rounds A to B`, and ends with an empty line, is told once in each round
+//! from A to B. There a number with a `+` behind it, as `1000+`, is raised by the number of the round.
+//!
+//! A PDU is twenty hexadecimal digits, or eight of them and two addresses in decimal digits, as `B1000018.91.1001`.
+
+pub mod words;
+
+use std::alloc::{AllocError, Global};
+use std::process::Abort;
+
+/// What stories are told to.
+pub trait Listener {
+    /// Writes what answers words; `?` where it doesn't know them.
+    fn hear(&mut self, told: &str, said: &mut String) -> Result<(), AllocError>;
+}
+
+/// Tells a listener a story of a name, and wants each line to be answered so.
+pub fn tell<L: Listener>(
+    rt: &(impl Abort + AllocGlobal),
+    listener: &mut L,
+    name: &str,
+    story: &str,
+) -> Result<(), AllocError> {
+    for part in story.split("\n\n") {
+        let (first, last, lines) = rounds_of(part).unwrap_or((0, 0, part));
+        for round in first..=last {
+            tell_in_round(rt, listener, name, round, lines)?;
+        }
+    }
+    Ok(())
+}
+
+/// The first and the last round in which a part of a story is told, and its lines, where it says so.
+fn rounds_of(part: &str) -> Option<(u32, u32, &str)> {
+    let (rounds, lines) = part.strip_prefix("rounds ")?.split_once('\n')?;
+    let (first, last) = rounds.split_once(" to ")?;
+    Some((first.parse::<u32>().ok()?, last.parse::<u32>().ok()?, lines))
+}
+
+/// Tells a listener lines in a round of some number.
+pub fn tell_in_round<L: Listener>(
+    rt: &(impl Abort + AllocGlobal),
+    listener: &mut L,
+    name: &str,
+    round: u32,
+    lines: &str,
+) -> Result<(), AllocError> {
+    for line in lines.lines() {
+        if !line.is_empty() && !line.starts_with('#') {
+            let line = raised(rt.alloc(), round, line)?;
+            tell_line(rt, listener, name, line.as_str())?;
+        }
+    }
+    Ok(())
+}
+
+/// Tells a listener a line.
+fn tell_line<L: Listener>(
+    rt: &(impl Abort + AllocGlobal),
+    listener: &mut L,
+    name: &str,
+    line: &str,
+) -> Result<(), AllocError> {
+    let (told, wanted) = line.split_once(" =>").unwrap_or((line, "no answer"));
+    let wanted = wanted.strip_prefix(' ').unwrap_or(wanted);
+    let (times, told) = times_of(told);
+    for _ in 0..times {
+        let mut said = String::new(rt.alloc());
+        listener.hear(told, &mut said)?;
+        assert_eq!(rt; said.as_str(), wanted, "{name}: {line}");
+    }
+    Ok(())
+}
+
+/// How often something is told, and what is told.
+fn times_of(told: &str) -> (u32, &str) {
+    let (first, rest) = words::cut(told);
+    match first.parse::<u32>() {
+        Ok(times) => (times, rest),
+        Err(_) => (1, told),
+    }
+}
+
+/// A line as it is told in a round: each PDU by its twenty digits, and numbers with a `+` raised.
+fn raised(alloc: Global, round: u32, line: &str) -> Result<String, AllocError> {
+    let mut text = String::new(alloc);
+    for word in line.split(' ') {
+        if !text.is_empty() {
+            text.push_str(" ")?;
+        }
+        let (word, end) = match word.strip_suffix(';') {
+            Some(word) => (word, ";"),
+            None => (word, ""),
+        };
+        write_raised(&mut text, round, word)?;
+        text.push_str(end)?;
+    }
+    Ok(text)
+}
+
+/// Writes a word as it is told in a round.
+fn write_raised(text: &mut String, round: u32, word: &str) -> Result<(), AllocError> {
+    if let Some((head, first, second)) = addressed(round, word) {
+        write!(text, "{head:08X}{first:06X}{second:06X}")?;
+    } else if let Some(digits) = word.strip_suffix('+') {
+        let (mark, digits) = match digits.strip_prefix('g') {
+            Some(digits) => ("g", digits),
+            None => ("", digits),
+        };
+        let number = digits.parse::<u32>().unwrap_or(0).saturating_add(round);
+        write!(text, "{mark}{number}")?;
+    } else {
+        text.push_str(word)?;
+    }
+    Ok(())
+}
+
+/// The first four octets of a PDU and its two addresses, where it is written so.
+fn addressed(round: u32, word: &str) -> Option<(u32, u32, u32)> {
+    let (head, addresses) = word.split_once('.')?;
+    let (first, second) = addresses.split_once('.')?;
+    Some((
+        number(round, 16, head)?,
+        number(round, 10, first)?,
+        number(round, 10, second)?,
+    ))
+}
+
+/// The number of digits, raised where a `+` stands behind them.
+fn number(round: u32, radix: u32, digits: &str) -> Option<u32> {
+    let (digits, more) = match digits.strip_suffix('+') {
+        Some(digits) => (digits, round),
+        None => (digits, 0),
+    };
+    let number = if radix == 16 {
+        u32::from_str_radix(digits, 16)
+    } else {
+        digits.parse::<u32>()
+    };
+    number.ok()?.checked_add(more)
+}

@@ -1,0 +1,159 @@
+//! The words that all listeners know: radios, slots, PDUs, asks, lines and calls, read and written.
+//!
+//! `C.S` is slot S of carrier C; a talkgroup has a `g` before its number. An ask is `R T OPTIONS ATTEMPT`, a line `R T`
+//! and a call `C.S R T`, where R is a radio and T whom it calls.
+
+use dmr_calls::{Ask, Call, Line};
+use dmr_pdu::{Address, CarrierNo, Options, Pdu, Slot, SlotNo};
+use std::alloc::AllocError;
+
+/// The first word, and what stands behind it.
+pub fn cut(words: &str) -> (&str, &str) {
+    words.split_once(' ').unwrap_or((words, ""))
+}
+
+/// The radio of a number.
+pub fn address_of(digits: &str) -> Option<Address> {
+    Address::try_new(digits.parse::<u32>().ok()?)
+}
+
+/// Two radios, or a radio and a talkgroup, each by its number alone.
+pub fn two_addresses_of(words: &str) -> Option<(Address, Address)> {
+    let (first, second) = cut(words);
+    Some((address_of(first)?, address_of(second)?))
+}
+
+/// The carrier of a number.
+pub fn carrier_of(digits: &str) -> Option<CarrierNo> {
+    CarrierNo::try_new(digits.parse::<u32>().ok()?)
+}
+
+/// A slot of a carrier.
+pub fn slot_of(place: &str) -> Option<Slot> {
+    let (carrier, slot) = place.split_once('.')?;
+    Some(Slot {
+        carrier: carrier_of(carrier)?,
+        slot: SlotNo::try_new(slot.parse::<u32>().ok()?)?,
+    })
+}
+
+/// The PDU of twenty hexadecimal digits.
+pub fn pdu_of(digits: &str) -> Option<Pdu> {
+    let mut octets = [0; 10];
+    let mut left = digits;
+    for octet in &mut octets {
+        *octet = u8::from_str_radix(left.get(0..2)?, 16).ok()?;
+        left = left.get(2..)?;
+    }
+    if left.is_empty() {
+        Some(Pdu::from_octets(&octets))
+    } else {
+        None
+    }
+}
+
+/// Whom a radio calls, and whether that is a talkgroup.
+fn target_of(word: &str) -> Option<(Address, bool)> {
+    match word.strip_prefix('g') {
+        Some(digits) => Some((address_of(digits)?, true)),
+        None => Some((address_of(word)?, false)),
+    }
+}
+
+/// An ask.
+pub fn ask_of(words: &str) -> Option<Ask> {
+    let (source, others) = cut(words);
+    let (target, numbers) = cut(others);
+    let (options, attempt) = cut(numbers);
+    Some(Ask {
+        source: address_of(source)?,
+        target: address_of(target)?,
+        options: options_of(options)?,
+        attempt: attempt.parse::<u8>().ok()?,
+    })
+}
+
+/// The service options of a number.
+fn options_of(digits: &str) -> Option<Options> {
+    let number = digits.parse::<u32>().ok()?;
+    if number < 128 {
+        Some(Options::new(number))
+    } else {
+        None
+    }
+}
+
+/// A line.
+pub fn line_of(words: &str) -> Option<Line> {
+    let (source, target) = cut(words);
+    let (target, group) = target_of(target)?;
+    Some(Line {
+        source: address_of(source)?,
+        target,
+        group,
+    })
+}
+
+/// A call.
+pub fn call_of(words: &str) -> Option<Call> {
+    let (place, parties) = cut(words);
+    let Line {
+        source,
+        target,
+        group,
+    } = line_of(parties)?;
+    Some(Call {
+        slot: slot_of(place)?,
+        source,
+        target,
+        group,
+    })
+}
+
+/// Writes a slot behind a word.
+pub fn write_slot(said: &mut String, word: &str, slot: &Slot) -> Result<(), AllocError> {
+    write!(said, "{word}{}.{}", slot.carrier, slot.slot)
+}
+
+/// Writes that a PDU is sent so in a slot.
+pub fn write_sent(said: &mut String, word: &str, slot: &Slot, pdu: &Pdu) -> Result<(), AllocError> {
+    write_slot(said, word, slot)?;
+    said.push_str(" ")?;
+    for octet in pdu.to_octets() {
+        write!(said, "{octet:02X}")?;
+    }
+    Ok(())
+}
+
+/// Writes an ask behind a word.
+pub fn write_ask(said: &mut String, word: &str, ask: &Ask) -> Result<(), AllocError> {
+    let options = ask.options.get();
+    write!(
+        said,
+        "{word}{} {} {options} {}",
+        ask.source, ask.target, ask.attempt
+    )
+}
+
+/// What stands before the number of a talkgroup, and of a radio.
+fn mark_of(group: bool) -> &'static str {
+    if group { "g" } else { "" }
+}
+
+/// Writes a line behind a word.
+pub fn write_line(said: &mut String, word: &str, line: &Line) -> Result<(), AllocError> {
+    let mark = mark_of(line.group);
+    write!(said, "{word}{} {mark}{}", line.source, line.target)
+}
+
+/// Writes a call behind a word.
+pub fn write_call(said: &mut String, word: &str, call: &Call) -> Result<(), AllocError> {
+    write_slot(said, word, &call.slot)?;
+    let mark = mark_of(call.group);
+    write!(said, " {} {mark}{}", call.source, call.target)
+}
+
+/// Writes whether something is so.
+pub fn write_truth(said: &mut String, holds: bool) -> Result<(), AllocError> {
+    said.push_str(if holds { "yes" } else { "no" })
+}

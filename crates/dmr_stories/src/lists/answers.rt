@@ -1,0 +1,88 @@
+//! What lists answer.
+
+use crate::language::words::{write_ask, write_call, write_line, write_slot, write_truth};
+use dmr_calls::{Ask, Call, Counts, Due, Engagement, Full, Line};
+use dmr_pdu::BoundedList;
+use std::alloc::AllocError;
+
+/// What lists answer.
+#[derive(Clone, Copy)]
+pub enum Answer {
+    /// Nothing.
+    Done,
+    /// Whether there was a place.
+    Placed(Result<(), Full>),
+    /// Whether something is so.
+    Holds(bool),
+    /// A call, or none.
+    OneCall(Option<Call>),
+    /// An ask, or none.
+    OneAsk(Option<Ask>),
+    /// A line, or none.
+    OneLine(Option<Line>),
+    /// Lines.
+    Lines(BoundedList<Line, 16>),
+    /// What a radio is engaged by, or nothing.
+    Engaged(Option<Engagement>),
+    /// What is due.
+    Dues(Due),
+    /// How many stand.
+    Numbers(Counts),
+}
+
+/// Writes an answer.
+pub fn write_answer(said: &mut String, answer: &Answer) -> Result<(), AllocError> {
+    match answer {
+        Answer::Done => Ok(()),
+        Answer::Placed(Ok(())) => said.push_str("ok"),
+        Answer::Placed(Err(Full)) => said.push_str("full"),
+        Answer::Holds(holds) => write_truth(said, *holds),
+        Answer::OneCall(Some(call)) => write_call(said, "call ", call),
+        Answer::OneAsk(Some(ask)) => write_ask(said, "ask ", ask),
+        Answer::OneLine(Some(line)) => write_line(said, "line ", line),
+        Answer::OneCall(None) | Answer::OneAsk(None) | Answer::OneLine(None) => Ok(()),
+        Answer::Lines(lines) => write_lines(said, lines.as_slice()),
+        Answer::Engaged(Some(engagement)) => write_engagement(said, engagement),
+        Answer::Engaged(None) => Ok(()),
+        Answer::Dues(due) => write_due(said, due),
+        Answer::Numbers(counts) => {
+            let Counts { asks, lines, calls } = *counts;
+            write!(said, "{asks} {lines} {calls}")
+        }
+    }
+}
+
+/// Writes lines.
+fn write_lines(said: &mut String, lines: &[Line]) -> Result<(), AllocError> {
+    let mut mark = "line ";
+    for line in lines {
+        write_line(said, mark, line)?;
+        mark = ", line ";
+    }
+    Ok(())
+}
+
+/// Writes what a radio is engaged by.
+fn write_engagement(said: &mut String, engagement: &Engagement) -> Result<(), AllocError> {
+    match engagement {
+        Engagement::CallOf(call) => write_call(said, "call ", call),
+        Engagement::AskOf(ask) => write_ask(said, "ask ", ask),
+        Engagement::LineOf(line) => write_line(said, "line ", line),
+    }
+}
+
+/// Writes what is due.
+fn write_due(said: &mut String, due: &Due) -> Result<(), AllocError> {
+    if let Some(slot) = &due.call {
+        write_slot(said, "call ", slot)?;
+    }
+    if let Some(ask) = &due.ask {
+        let word = if said.is_empty() { "ask " } else { ", ask " };
+        write_ask(said, word, ask)?;
+    }
+    if let Some(line) = &due.line {
+        let word = if said.is_empty() { "line " } else { ", line " };
+        write_line(said, word, line)?;
+    }
+    Ok(())
+}

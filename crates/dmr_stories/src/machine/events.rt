@@ -1,0 +1,58 @@
+//! What sites are told.
+//!
+//! Events are `up C`, `lost C`, `poll C`, `tick`, `active C.S`, `noise C.S` and `heard C.S PDU`; and `say` with a
+//! command of an operator: `status`, `radios N`, `calls C`, `lines N`, `slots`, `drop R`, `end C.S`, `move L` and
+//! `stay`.
+
+use crate::language::words::{address_of, carrier_of, cut, pdu_of, slot_of};
+use dmr_core::{Command, Event, LineNo};
+use dmr_pdu::Lpcn;
+
+/// The event that words name.
+pub fn event_of(told: &str) -> Option<Event> {
+    let (word, rest) = cut(told);
+    match word {
+        "up" => Some(Event::Up(carrier_of(rest)?)),
+        "lost" => Some(Event::Lost(carrier_of(rest)?)),
+        "poll" => Some(Event::Poll(carrier_of(rest)?)),
+        "active" => Some(Event::Active(slot_of(rest)?)),
+        "noise" => Some(Event::Noise(slot_of(rest)?)),
+        "heard" => {
+            let (place, pdu) = cut(rest);
+            Some(Event::Heard(slot_of(place)?, pdu_of(pdu)?))
+        }
+        "say" => Some(Event::Say(command_of(rest)?)),
+        "tick" if rest.is_empty() => Some(Event::Tick),
+        _ => None,
+    }
+}
+
+/// The command that words name.
+fn command_of(words: &str) -> Option<Command> {
+    let (word, rest) = cut(words);
+    match word {
+        "status" => Some(Command::Status),
+        "radios" => Some(Command::Radios(address_of(rest)?)),
+        "calls" => Some(Command::Calls(carrier_of(rest)?)),
+        "lines" => Some(Command::Lines(line_number_of(rest)?)),
+        "slots" => Some(Command::Slots),
+        "drop" => Some(Command::Drop(address_of(rest)?)),
+        "end" => {
+            let slot = slot_of(rest)?;
+            Some(Command::End(slot.carrier, slot.slot))
+        }
+        "move" => Some(Command::Move(Lpcn::try_new(rest.parse::<u32>().ok()?)?)),
+        "stay" => Some(Command::Stay),
+        _ => None,
+    }
+}
+
+/// The place of a line.
+fn line_number_of(digits: &str) -> Option<LineNo> {
+    let number = digits.parse::<u8>().ok()?;
+    if 1 <= number && number <= 32 {
+        Some(LineNo::new(number))
+    } else {
+        None
+    }
+}

@@ -1,0 +1,130 @@
+//! The one site file of the tests, and sites that differ from it in a few places.
+//!
+//! How a site differs is written as what stands in the file, ` / `, and what stands there instead, with ` & ` between
+//! several such changes: `hang = 100 / hang = 0`. There `|` ends a line, `SITE` is the whole file, and `CARRIERS` all
+//! its carriers.
+
+use dmr_plan::{Plan, PlanFault};
+use std::alloc::{AllocError, Global};
+use std::test::Fail;
+
+/// A site of carriers 0 and 1, with channels 1 and 2, and four talkgroups.
+const SITE: &str = "\
+system = 0x1234
+regi = 0xFFFEC6
+tsi = 0xFFFECA
+leave_bit = 0
+hang = 100
+maximum = 3000
+ahoy_wait = 8
+ahoy_tries = 3
+grant_copies = 1
+clear_copies = 1
+backoff_low = 1
+backoff_high = 8
+tick_ms = 60
+silence = 100
+console_port = 7100
+radios = [[1000, 1999]]
+groups = [91, 92, 93, 94]
+control = 0
+[[carrier]]
+number = 0
+lpcn = 1
+port = 7101
+[[carrier]]
+number = 1
+lpcn = 2
+port = 7102
+";
+
+/// Its carriers.
+const CARRIERS: &str = "\
+[[carrier]]
+number = 0
+lpcn = 1
+port = 7101
+[[carrier]]
+number = 1
+lpcn = 2
+port = 7102
+";
+
+/// The site as it is: two carriers, four talkgroups, and no copies.
+pub const SMALL: &str = "";
+
+/// The same, but for grants and P_CLEARs, each of which is sent four times.
+pub const LOUD: &str = "grant_copies = 1 / grant_copies = 4 & clear_copies = 1 / clear_copies = 4";
+
+/// The same as the small one with 36 talkgroups.
+pub const WIDE: &str = "\
+groups = [91, 92, 93, 94] / groups = [\
+91, 92, 93, 94, 95, 96, 97, 98, 99, 100, 101, 102, \
+103, 104, 105, 106, 107, 108, 109, 110, 111, 112, 113, 114, \
+115, 116, 117, 118, 119, 120, 121, 122, 123, 124, 125, 126]";
+
+/// Sixteen carriers, and 32 talkgroups.
+pub const LARGE: &str = "\
+groups = [91, 92, 93, 94] / groups = [\
+91, 92, 93, 94, 95, 96, 97, 98, 99, 100, 101, 102, 103, 104, 105, 106, \
+107, 108, 109, 110, 111, 112, 113, 114, 115, 116, 117, 118, 119, 120, 121, 122] & \
+CARRIERS / carrier = [
+{ number = 0, lpcn = 1, port = 7101 },
+{ number = 1, lpcn = 2, port = 7102 },
+{ number = 2, lpcn = 3, port = 7103 },
+{ number = 3, lpcn = 4, port = 7104 },
+{ number = 4, lpcn = 5, port = 7105 },
+{ number = 5, lpcn = 6, port = 7106 },
+{ number = 6, lpcn = 7, port = 7107 },
+{ number = 7, lpcn = 8, port = 7108 },
+{ number = 8, lpcn = 9, port = 7109 },
+{ number = 9, lpcn = 10, port = 7110 },
+{ number = 10, lpcn = 11, port = 7111 },
+{ number = 11, lpcn = 12, port = 7112 },
+{ number = 12, lpcn = 13, port = 7113 },
+{ number = 13, lpcn = 14, port = 7114 },
+{ number = 14, lpcn = 15, port = 7115 },
+{ number = 15, lpcn = 16, port = 7116 },
+]|";
+
+/// The same as the small one, but 5,000 radios are listed.
+pub const MANY: &str = "radios = [[1000, 1999]] / radios = [[1, 5000]]";
+
+/// The text of a site file with changes.
+fn text_of(alloc: Global, changes: &str) -> Result<String, AllocError> {
+    let mut text = String::from_str(alloc, SITE)?;
+    if !changes.is_empty() {
+        for change in changes.split(" & ") {
+            let (from, to) = change.split_once('/').unwrap_or((change, change));
+            let from = lines_of(alloc, from.trim())?;
+            let to = lines_of(alloc, to.trim())?;
+            text = text.as_str().replace(alloc, from.as_str(), to.as_str())?;
+        }
+    }
+    Ok(text)
+}
+
+/// The lines that stand for words of a change.
+fn lines_of(alloc: Global, words: &str) -> Result<String, AllocError> {
+    match words {
+        "SITE" => String::from_str(alloc, SITE),
+        "CARRIERS" => String::from_str(alloc, CARRIERS),
+        _ => words.replace(alloc, "|", "\n"),
+    }
+}
+
+/// What reading a site file with changes gives: its plan, or what is wrong with the file.
+pub fn reading_of(alloc: Global, changes: &str) -> Result<Plan, PlanFault> {
+    match text_of(alloc, changes) {
+        Ok(text) => Plan::read(alloc, text.as_str()),
+        Err(_) => Err(PlanFault::OutOfMemory),
+    }
+}
+
+/// The plan of a site file with changes.
+pub fn plan_of(alloc: Global, changes: &str) -> Result<Plan, Fail> {
+    match reading_of(alloc, changes) {
+        Ok(plan) => Ok(plan),
+        Err(_) => Err("a plan".into()),
+    }
+}

@@ -3,7 +3,7 @@
 # make test    the whole gate: every proof, the must-fail edits and the tests, and each program's stored run (docs/GATE.md)
 # make wrong-bodies [CRATE=name]   every wrong body that must be refused, those outside the gate too
 # make bench   words decoded per second, beside a baseline, on this machine
-# make soak    a million random inputs through the engine, on two sites, all that is put out tested, by the proved program (half a minute, once it is proved)
+# make soak    a million random inputs through the engine, on two sites, compared with a reference model, by the proved program (some seconds, once it is proved)
 .PHONY: demo build test wrong-bodies bench soak
 
 demo:

@@ -1,5 +1,5 @@
 -- The texts of replies.
-use Rattle.std.specs.Prelude.{ℕ, Bool, true, false, List, ◌++◌, take, Option, Some, None, codes, decimal}
+use Rattle.std.specs.Prelude.{ℕ, Bool, true, false, List, ◌++◌, Option, Some, None, codes, decimal}
 use Rattle.std.specs.List.{flat_map, enumerate_from}
 use Rattle.dmr_pdu.specs.declared.slots.Slot.{Slot}
 use Rattle.dmr_calls.specs.declared.call.Call.{Call}
@@ -56,15 +56,15 @@ slot_row row = codes "slot " ++ slot_text row.slot ++ codes " " ++ state_text ro
 abbrev pub rows_text : {A : Type 0} → (A → List ℕ) → List A → List ℕ
 rows_text row rows = flat_map row rows ++ codes "end\n"
 
--- a reply's lists are within their bounds, 16, 2, 16 and 32, so `take` leaves none of their rows out
+-- the text of a reply
 abbrev pub text_of : Reply → List ℕ
 text_of (Status carriers radios asks lines calls moving) =
     codes "status carriers " ++ decimal carriers ++ codes " radios " ++ decimal radios ++ codes " asks " ++ decimal asks
     ++ codes " lines " ++ decimal lines ++ codes " calls " ++ decimal calls ++ codes " fill " ++ fill_text moving ++ codes "\n"
-text_of (Radios radios) = rows_text radio_row (take 16 radios)
-text_of (Calls calls) = rows_text call_row (take 2 calls)
-text_of (Lines from rows) = rows_text line_row (enumerate_from from (take 16 rows))
-text_of (Slots rows) = rows_text slot_row (take 32 rows)
+text_of (Radios radios) = rows_text radio_row radios
+text_of (Calls calls) = rows_text call_row calls
+text_of (Lines from rows) = rows_text line_row (enumerate_from from rows)
+text_of (Slots rows) = rows_text slot_row rows
 text_of Done = codes "ok\n"
 text_of NotRegistered = codes "error not registered\n"
 text_of Busy = codes "error busy\n"

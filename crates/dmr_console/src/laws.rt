@@ -1,14 +1,8 @@
-//! What holds of lines, and of the texts of whole lists. These functions do nothing: their contracts are the laws.
+//! Laws of lines. These functions do nothing: their contracts are the laws.
 
-ghost use Rattle.std.specs.Prelude.{◌≡◌, ◌≤◌, ◌≢◌, ℕ, List, [], ◌∷◌, ◌++◌, All, length};
-ghost use Rattle.std.specs.List.{enumerate_from};
-ghost use Rattle.dmr_calls.specs.declared.call.Call.{Call};
-ghost use Rattle.dmr_calls.specs.declared.line.Line.{Line as WaitingLine};
-ghost use Rattle.dmr_core.specs.declared.reply.SlotState.{SlotState};
-ghost use Rattle.dmr_core.specs.declared.reply.Reply.{Reply};
+ghost use Rattle.std.specs.Prelude.{◌≡◌, ◌≢◌, ℕ, List, [], ◌∷◌, ◌++◌, All};
 ghost use Rattle.dmr_console.specs.Lines.{kept, line_of, lines_in, open_in};
 ghost use Rattle.dmr_console.specs.Steps.{lines_from, rest_from};
-ghost use Rattle.dmr_console.specs.Texts.{call_row, line_row, radio_row, rows_text, slot_row, text_of};
 
 /// A line is what stands before an LF and holds none itself, and what no LF follows is still open.
 pub fn lines_stand_before_their_ends()
@@ -28,14 +22,4 @@ pub fn lines_in_any_cutting()
     ensures pieces { (a b : List ℕ) →
         (lines_in (a ++ b) ≡ lines_in a ++ lines_in (open_in a ++ b))
         × (open_in (a ++ b) ≡ open_in (open_in a ++ b)) }
-{}
-
-/// The text of a reply has all its rows, where its lists are within their bounds: 16 radios, two calls, 16 lines and
-/// 32 slots.
-pub fn texts_of_whole_lists()
-    ensures radios { (radios : List ℕ) → length radios ≤ 16 → text_of (Reply.Radios radios) ≡ rows_text radio_row radios }
-    ensures calls { (calls : List Call) → length calls ≤ 2 → text_of (Reply.Calls calls) ≡ rows_text call_row calls }
-    ensures lines { (from : ℕ) (rows : List WaitingLine) → length rows ≤ 16 →
-        text_of (Reply.Lines from rows) ≡ rows_text line_row (enumerate_from from rows) }
-    ensures slots { (slots : List SlotState) → length slots ≤ 32 → text_of (Reply.Slots slots) ≡ rows_text slot_row slots }
 {}

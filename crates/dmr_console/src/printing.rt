@@ -1,6 +1,6 @@
 //! Writes a reply as lines.
 
-ghost use Rattle.std.specs.Prelude.{◌≡◌, ◌+◌, ◌≤◌, ◌++◌, length, take, codes};
+ghost use Rattle.std.specs.Prelude.{◌≡◌, ◌+◌, ◌≤◌, ◌++◌, codes};
 ghost use Rattle.arrayvec.specs.ArrayString.{array_string_len};
 ghost use Rattle.dmr_console.specs.Texts.{fill_text, text_of};
 
@@ -54,19 +54,19 @@ pub fn print(reply: &Reply) -> ArrayString<1024>
             text.push_str("\n");
         }
         Reply::Radios(radios) => {
-            push_radios(&mut text, first_of(radios.as_slice(), 16));
+            push_radios(&mut text, radios.as_slice());
             text.push_str("end\n");
         }
         Reply::Calls(calls) => {
-            push_calls(&mut text, first_of(calls.as_slice(), 2));
+            push_calls(&mut text, calls.as_slice());
             text.push_str("end\n");
         }
         Reply::Lines { from, rows } => {
-            push_lines(&mut text, *from, first_of(rows.as_slice(), 16));
+            push_lines(&mut text, *from, rows.as_slice());
             text.push_str("end\n");
         }
         Reply::Slots(slots) => {
-            push_slots(&mut text, first_of(slots.as_slice(), 32));
+            push_slots(&mut text, slots.as_slice());
             text.push_str("end\n");
         }
         Reply::Done => text.push_str("ok\n"),
@@ -76,17 +76,6 @@ pub fn print(reply: &Reply) -> ArrayString<1024>
         Reply::NoCarrier => text.push_str("error no carrier\n"),
     }
     text
-}
-
-/// At most so many of a list's entries. No list of a reply has more, but contracts do not see that.
-fn first_of<T>(entries: &[T], most: usize) -> &[T]
-    ensures entries { result.now ≡ take most entries.now }
-    ensures len { length result.now ≤ most }
-{
-    match entries.get(..most) {
-        Some(first) => first,
-        None => entries,
-    }
 }
 
 /// Appends what fills the control slot.

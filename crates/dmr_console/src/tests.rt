@@ -314,6 +314,5 @@ fn short_texts(rt: HostRuntime) {
 fn laws_do_nothing(rt: HostRuntime) {
     lines_stand_before_their_ends();
     lines_in_any_cutting();
-    texts_of_whole_lists();
     assert!(rt; parse(b"").is_none());
 }

@@ -112,7 +112,7 @@ impl Machine {
     {
         self.pool.keeps();
         self.calls.end_of_carrier(carrier);
-        if self.plan.carrier(carrier).is_some() {
+        if self.plan.carrier_with(carrier).is_some() {
             self.pool.up(carrier);
         } else {
             self.pool.empty(carrier);

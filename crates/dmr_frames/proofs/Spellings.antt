@@ -19,11 +19,14 @@ abbrev third : List ℕ → ℕ
 third octets = get_or octets 2 0
 
 pub spelled_out_once : (f g : FrameOut) (x y : List ℕ) → IsFrameOut f → IsFrameOut g → spelling_out f ++ x ≡ spelling_out g ++ y → (f ≡ g) × (x ≡ y)
-spelled_out_once Welcome Welcome x y hf hg e = (refl, cc)
-spelled_out_once Welcome (Tx slot word) x y hf hg e = absurd (omega (arith, ap first e))
-spelled_out_once Welcome Done x y hf hg e = absurd (omega (arith, ap first e))
-spelled_out_once Welcome (Refused r) x y hf hg e = absurd (omega (arith, ap first e))
-spelled_out_once (Tx slot word) Welcome x y hf hg e = absurd (omega (arith, ap first e))
+spelled_out_once (Welcome v) (Welcome w) x y hf hg e =
+    let same : v ≡ w = ap third e in
+    let rest : x ≡ y = cc in
+    ((λ i. Welcome (same i)), rest)
+spelled_out_once (Welcome v) (Tx slot word) x y hf hg e = absurd (omega (arith, ap first e))
+spelled_out_once (Welcome v) Done x y hf hg e = absurd (omega (arith, ap first e))
+spelled_out_once (Welcome v) (Refused r) x y hf hg e = absurd (omega (arith, ap first e))
+spelled_out_once (Tx slot word) (Welcome v) x y hf hg e = absurd (omega (arith, ap first e))
 spelled_out_once (Tx slot word) (Tx slot' word') x y hf hg e =
     let es : slot ≡ slot' = cc in
     let ew : word_octets word ++ x ≡ word_octets word' ++ y = cc in
@@ -31,11 +34,11 @@ spelled_out_once (Tx slot word) (Tx slot' word') x y hf hg e =
     ((λ i. Tx (es i) (same.0 i)), same.1)
 spelled_out_once (Tx slot word) Done x y hf hg e = absurd (omega (arith, ap first e))
 spelled_out_once (Tx slot word) (Refused r) x y hf hg e = absurd (omega (arith, ap first e))
-spelled_out_once Done Welcome x y hf hg e = absurd (omega (arith, ap first e))
+spelled_out_once Done (Welcome v) x y hf hg e = absurd (omega (arith, ap first e))
 spelled_out_once Done (Tx slot word) x y hf hg e = absurd (omega (arith, ap first e))
 spelled_out_once Done Done x y hf hg e = (refl, cc)
 spelled_out_once Done (Refused r) x y hf hg e = absurd (omega (arith, ap first e))
-spelled_out_once (Refused r) Welcome x y hf hg e = absurd (omega (arith, ap first e))
+spelled_out_once (Refused r) (Welcome v) x y hf hg e = absurd (omega (arith, ap first e))
 spelled_out_once (Refused r) (Tx slot word) x y hf hg e = absurd (omega (arith, ap first e))
 spelled_out_once (Refused r) Done x y hf hg e = absurd (omega (arith, ap first e))
 spelled_out_once (Refused BadVersion) (Refused BadVersion) x y hf hg e = (refl, cc)
@@ -52,7 +55,7 @@ length-spelling (Active slot) = omega arith
 length-spelling Bye = omega arith
 
 pub length-spelling_out : (f : FrameOut) → length (spelling_out f) ≡ get_or (spelling_out f) 1 0 + 2
-length-spelling_out Welcome = omega arith
+length-spelling_out (Welcome v) = omega arith
 length-spelling_out (Tx slot word) = omega (arith, (word_octets-octets word).len)
 length-spelling_out Done = omega arith
 length-spelling_out (Refused r) = omega arith

@@ -42,14 +42,14 @@ refusal_octet WrongCarrier = 0x02
 
 -- each field of a frame to a carrier is in its range
 abbrev pub IsFrameOut : FrameOut → Type 0
-IsFrameOut Welcome = Unit {0}
+IsFrameOut (Welcome version) = version < 256
 IsFrameOut (Tx slot word) = (slot < 2) × (length word ≡ 196)
 IsFrameOut Done = Unit {0}
 IsFrameOut (Refused refusal) = Unit {0}
 
 -- the octets of a frame to a carrier
 abbrev pub spelling_out : FrameOut → List ℕ
-spelling_out Welcome = framed 0x81 (0x01 ∷ [])
+spelling_out (Welcome version) = framed 0x81 (version ∷ [])
 spelling_out (Tx slot word) = framed 0x82 (slot ∷ word_octets word)
 spelling_out Done = framed 0x83 []
 spelling_out (Refused refusal) = framed 0x84 (refusal_octet refusal ∷ [])

@@ -32,8 +32,8 @@ pub enum Refusal {
 /// A frame that goes to a carrier.
 #[derive(Clone, Copy, Debug, PartialEq, Eq)]
 pub enum FrameOut {
-    /// WELCOME: the answer to a HELLO that is accepted. It carries the link format's version, 1.
-    Welcome,
+    /// WELCOME: the answer to a HELLO that is accepted. It carries the version of the link format that is spoken from then on.
+    Welcome { version: u8 },
     /// TX: a burst to be sent on a slot.
     Tx { slot: SlotNo, word: Word196 },
     /// DONE: the answer to a POLL is complete.

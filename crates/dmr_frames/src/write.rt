@@ -7,9 +7,6 @@ use crate::frame::{FrameOut, Refusal};
 use crate::frame_type::{DONE, REFUSED, TX, WELCOME, length_octet};
 use arrayvec::ArrayVec;
 
-/// The version of the link format that the site speaks.
-const VERSION: u8 = 1;
-
 /// A frame's first two octets: its type and its length.
 fn head_of(kind: u8) -> ArrayVec<u8, 28>
     ensures { result.items ≡ framed kind [] }
@@ -25,9 +22,9 @@ pub fn write_frame(frame: &FrameOut) -> ArrayVec<u8, 28>
     ensures { result.items ≡ spelling_out frame.now }
 {
     match frame {
-        FrameOut::Welcome => {
+        FrameOut::Welcome { version } => {
             let mut octets = head_of(WELCOME);
-            octets.push(VERSION);
+            octets.push(*version);
             octets
         }
         FrameOut::Tx { slot, word } => {
@@ -71,7 +68,7 @@ mod tests {
 
     #[test]
     fn frames_written(rt: HostRuntime) -> Result<(), Fail> {
-        expect_octets(&rt, FrameOut::Welcome, &[0x81, 0x01, 0x01]);
+        expect_octets(&rt, FrameOut::Welcome { version: 1 }, &[0x81, 0x01, 0x01]);
         let mut burst = [0; 25];
         burst.copy_from_slice(&SENT[3..]);
         let word = Word196::from_octets(&burst)?;

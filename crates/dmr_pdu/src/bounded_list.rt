@@ -1,6 +1,6 @@
 //! A list of bounded length that is `Copy` and takes no memory from an allocator.
 
-ghost use Rattle.std.specs.Prelude.{◌≡◌, ◌<◌, ◌++◌, ◌∷◌, ◌↔◌, [], length, IsTrue};
+ghost use Rattle.std.specs.Prelude.{◌≡◌, ◌<◌, ◌≤◌, ◌++◌, ◌∷◌, ◌↔◌, [], length, IsTrue};
 ghost use Rattle.std.specs.Cmp.Lexicographic.{pointwise, lists_per, lists_equiv};
 
 use std::alloc::AllocError;
@@ -68,7 +68,8 @@ impl<T: Blank, const N: usize> BoundedList<T, N> {
 
     /// How many entries there are, 0 to `N`.
     pub fn len(&self) -> usize
-        ensures { result ≡ length self.now }
+        ensures value { result ≡ length self.now }
+        ensures few { result ≤ N }
     {
         self.as_slice().len()
     }
@@ -87,9 +88,10 @@ impl<T: Blank, const N: usize> BoundedList<T, N> {
         self.count == N
     }
 
-    /// The entries, in the order in which they were added.
+    /// The entries, in the order in which they were added: at most `N`.
     pub fn as_slice(&self) -> &[T]
-        ensures { result.now ≡ self.now }
+        ensures value { result.now ≡ self.now }
+        ensures few { length result.now ≤ N }
     {
         &self.cells[..self.count]
     }

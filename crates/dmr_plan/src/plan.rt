@@ -283,10 +283,10 @@ impl Plan {
     }
 
     /// The IPv4 address to listen at, first octet first; 127.0.0.1 where the file doesn't say.
-    pub fn address(&self) -> [u8; 4]
-        ensures { result ≡ self.now.address }
+    pub fn address(&self) -> &[u8]
+        ensures { result.now ≡ self.now.address }
     {
-        self.settings.address
+        self.settings.address.as_slice()
     }
 
     /// The TCP port of the console: 1 to 65535.
@@ -313,7 +313,7 @@ impl Plan {
 
     /// The carriers in the file's order, which need not be that of their numbers: 1 to 16. No number, channel or port stands
     /// twice.
-    pub fn carriers(&self) -> &[CarrierRow]
+    pub fn carrier(&self) -> &[CarrierRow]
         ensures { result.now ≡ self.now.carriers }
     {
         self.settings.carriers.as_slice()
@@ -344,7 +344,7 @@ impl Plan {
     }
 
     /// The carrier of a number, or `None` where no carrier has it.
-    pub fn carrier(&self, number: CarrierNo) -> Option<CarrierRow>
+    pub fn carrier_with(&self, number: CarrierNo) -> Option<CarrierRow>
         ensures gives { result ≡ row_with self.now.carriers number }
         ensures row { IfSome result (λ row. (row.number ≡ number) × Contains self.now.carriers row) }
         ensures found { is_some result ≡ has_number_in self.now.carriers number }

@@ -152,7 +152,7 @@ impl Pool {
     pub fn is_free(&self, slot: &Slot) -> bool
         ensures { result ≡ is_free self.now slot.now }
     {
-        self.plan.carrier(slot.carrier).is_some()
+        self.plan.carrier_with(slot.carrier).is_some()
             && self.is_up(slot.carrier)
             && !self.is_control(slot)
             && !self.held[place_of(slot)]
@@ -182,7 +182,7 @@ impl Pool {
         ensures { result ≡ is_granted self.now slot.now }
     {
         let control = place_of(&self.control_slot());
-        match self.plan.carrier(slot.carrier) {
+        match self.plan.carrier_with(slot.carrier) {
             Some(row) => self.outboxes[control].has_grant(row.lpcn, slot.slot),
             None => false,
         }

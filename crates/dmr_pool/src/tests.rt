@@ -16,7 +16,7 @@ fn pool(alloc: Global) -> Result<Pool, Fail> {
     let mut pool = Pool::new(alloc, &plan)?;
     let carrier = CarrierNo::new(0);
     let other = CarrierNo::new(1);
-    if plan.carrier(carrier).is_some() && plan.carrier(other).is_some() {
+    if plan.carrier_with(carrier).is_some() && plan.carrier_with(other).is_some() {
         pool.up(carrier);
         pool.up(other);
     }

@@ -248,9 +248,9 @@ fn finds_carriers_radios_and_groups(rt: HostRuntime) -> Result<(), Fail> {
     };
     assert_eq!(rt; plan.radios(), [range].as_slice());
     assert_eq!(rt; plan.groups().len(), 4);
-    assert_eq!(rt; plan.carriers().len(), 2);
-    assert_eq!(rt; plan.carrier(CarrierNo::new(1)), Some(second));
-    assert_eq!(rt; plan.carrier(CarrierNo::new(2)), None);
+    assert_eq!(rt; plan.carrier().len(), 2);
+    assert_eq!(rt; plan.carrier_with(CarrierNo::new(1)), Some(second));
+    assert_eq!(rt; plan.carrier_with(CarrierNo::new(2)), None);
     assert!(rt; plan.lists_radio(Address::new(1000)) && plan.lists_radio(Address::new(1999)));
     assert!(rt; !plan.lists_radio(Address::new(999)) && !plan.lists_radio(Address::new(2000)));
     assert!(rt; plan.lists_group(Address::new(94)) && !plan.lists_group(Address::new(95)));

@@ -204,7 +204,7 @@ fn outputs_text(alloc: Global, plan: &Plan, outputs: &Outputs) -> Result<Vec<u8>
     let mut text = Vec::new(alloc);
     for number in 0..16u32 {
         let carrier = CarrierNo::new(number);
-        if plan.carrier(carrier).is_some() {
+        if plan.carrier_with(carrier).is_some() {
             let line = carrier_line(alloc, number, outputs.carrier(carrier))?;
             text.extend_from_slice(line.as_bytes())?;
         }

@@ -42,7 +42,7 @@ impl Machine {
                 }
             }
             Command::End(carrier, slot) => {
-                if self.plan.carrier(*carrier).is_some() {
+                if self.plan.carrier_with(*carrier).is_some() {
                     let slot = Slot {
                         carrier: *carrier,
                         slot: *slot,
@@ -76,7 +76,7 @@ impl Machine {
             Command::Status => self.status(),
             Command::Radios(from) => Reply::Radios(self.registry.from_number(*from)),
             Command::Calls(carrier) => {
-                if self.plan.carrier(*carrier).is_some() {
+                if self.plan.carrier_with(*carrier).is_some() {
                     Reply::Calls(self.calls_of(*carrier))
                 } else {
                     Reply::NoCarrier
@@ -185,7 +185,7 @@ impl Machine {
         ensures slots { slots.new ≡ slots.old ++ shown self.now.plan self.now.facts slot.now }
         ensures few { length slots.new ≤ length slots.old + 1 }
     {
-        if self.plan.carrier(slot.carrier).is_some() {
+        if self.plan.carrier_with(slot.carrier).is_some() {
             slots.push(SlotState {
                 slot: *slot,
                 state: self.state_of(slot),
@@ -210,7 +210,7 @@ impl Machine {
     fn ending(&self, slot: &Slot) -> Reply
         ensures { result ≡ ending self.now.plan self.now.facts slot.now }
     {
-        if self.plan.carrier(slot.carrier).is_none() {
+        if self.plan.carrier_with(slot.carrier).is_none() {
             Reply::NoCarrier
         } else if self.calls.call_on(slot).is_none() {
             Reply::NoCall

@@ -57,7 +57,7 @@ impl Machine {
     fn lpcn_of(&self, carrier: CarrierNo) -> Lpcn
         ensures { result ≡ lpcn_of self.now.plan carrier }
     {
-        match self.plan.carrier(carrier) {
+        match self.plan.carrier_with(carrier) {
             Some(row) => row.lpcn,
             None => Lpcn::new(1),
         }

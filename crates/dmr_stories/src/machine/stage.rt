@@ -88,7 +88,7 @@ fn begin(
     last: u32,
 ) -> Result<(), AllocError> {
     let plan = *stage.site.plan();
-    for row in plan.carriers() {
+    for row in plan.carrier() {
         tell_in_round(rt, stage, name, row.number.get(), COMES_UP)?;
     }
     for radio in 1001..=last {

@@ -15,6 +15,6 @@ loop-value-preserved c =
     record {
       count = omega (arith, simp length-append at (ap length more), old.count);
       each = rw more (All-push IsRow _ row old.each new.kept);
-      apart = AreApart-grown c.args.console_port _ _ _ row c.as_slice.ensures more old.apart new.number new.lpcn new.port new.console;
-      same = in_turn-step (carrier_of c.args.console_port) _ _ _ row _ _ _ _ c.as_slice.ensures more c.loop-value-test.true c.value-item.is new.gives old.same;
+      apart = AreApart-grown c.args.console_port _ _ _ row c.as_slice.ensures.value more old.apart new.number new.lpcn new.port new.console;
+      same = in_turn-step (carrier_of c.args.console_port) _ _ _ row _ _ _ _ c.as_slice.ensures.value more c.loop-value-test.true c.value-item.is new.gives old.same;
     }

@@ -10,10 +10,10 @@ loop-number-preserved c =
     let plan = c.args.plan.now in
     let put_out : ℕ → List ℕ = λ number. slice_index_or c.args.outputs.now.carriers number [] in
     let number = c.loop-number.number in
-    let found = c.is_some.ensures ∙ c.carrier.ensures.found ∙ ap (has_number_in plan.carriers) c.new-carrier.ensures in
+    let found = c.is_some.ensures ∙ c.carrier_with.ensures.found ∙ ap (has_number_in plan.carriers) c.new-carrier.ensures in
     elim c.if-is_some.branch [
       | then-is_some+in_ok-line+in_ok-extend_from_slice w ↦
-          let octets_are = w.carrier-then-is_some.ensures ∙ ap put_out c.new-carrier.ensures in
+          let octets_are = w.carrier.ensures ∙ ap put_out c.new-carrier.ensures in
           (λ k. (w.text-is k).items)
           ∙ shown_more plan put_out number c.loop-number.text.items c.loop-number.invariant w.extend_from_slice.new.self.items w.as_bytes.result.now
           (sym found ∙ w.if-is_some.true)

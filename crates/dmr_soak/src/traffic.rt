@@ -1,162 +1,351 @@
-//! How often each thing came to the engine.
+//! The octets of a site's carriers and operators: each deed as they would write it, in pieces that are cut at random.
 
-use crate::stream::Meaning;
-use dmr_core::Event;
-use std::io;
+use crate::Counts;
+use crate::burst::{Burst, Pdu, burst_of, flip};
+use crate::draws::{Draws, Mode, Sort};
+use crate::model::{Link, Model, Request, Stage};
+use crate::radios::{command, line};
+use crate::requests::Said;
+use crate::scene::{Scene, Slot};
+use dmr_bits::Word196;
+use dmr_burst::read;
+use std::alloc::{AllocError, Global};
+use std::collections::VecDeque;
 
-/// How many times what came.
+/// The number of the operators among those who write octets; those below it are the carriers.
+pub const OPERATORS: u8 = 16;
+
+static NAMES: &str =
+    "HELLO, wrong HELLO, bursts, bursts of nothing, ACTIVE, POLL, BYE or no frame, commands, no commands, \
+    lines too long, broken but read, broken and lost";
+
+/// Octets from which no frame can follow: of no type, with a wrong length, or with a wrong slot.
+static FAULTS: [&[u8]; 7] = [
+    &[0x00],
+    &[0x06],
+    &[0x01, 0x05],
+    &[0x02, 0x19],
+    &[0x05, 0xFF],
+    &[0x02, 0x1A, 0x02],
+    &[0x04, 0x01, 0x80],
+];
+
+/// What octets of a carrier or of an operator are, at the last of them.
 #[derive(Clone, Copy)]
-pub struct Traffic {
-    pub ticks: u32,
-    pub opened: u32,
-    pub cut: u32,
-    pub cut_within: u32,
-    pub carrier_pieces: u32,
-    pub console_pieces: u32,
-    pub parts: u32,
-    pub several: u32,
-    pub byes: u32,
-    pub refused: u32,
-    pub no_hello: u32,
-    pub second_hello: u32,
-    faults: [u32; 4],
-    flipped: [u32; 4],
-    flipped_read: u32,
-    flipped_lost: u32,
-    garbled: u32,
-    garbled_read: u32,
-    pub commands: u32,
-    pub unknown: u32,
-    pub too_long: u32,
-    pub octets: u64,
+pub enum Meaning {
+    Hello,
+    /// Another HELLO, and what it is refused by.
+    WrongHello(u8),
+    /// A burst, and the PDU that it means, if any.
+    Burst(Slot, Option<Pdu>),
+    Active(Slot),
+    Poll,
+    /// BYE, or octets from which no frame can follow.
+    End,
+    Said(Said),
 }
 
-/// One more.
-pub fn add(count: &mut u32) {
-    *count = count.saturating_add(1);
+/// What comes to the engine next.
+#[derive(Clone, Copy)]
+pub enum Step {
+    /// A carrier's connection begins, or is cut.
+    Turn(u8, Link),
+    /// So many of the octets of a carrier, or of the operators.
+    Piece(u8, usize),
+    Tick,
+}
+
+/// Who writes octets, what they have written, and what goes on.
+#[derive(Drop)]
+pub struct Traffic {
+    alloc: Global,
+    pub scene: Scene,
+    pub draws: Draws,
+    /// The octets that are to come from each party, and what each means beyond those before it.
+    streams: Vec<VecDeque<(u8, Option<Meaning>)>>,
+    pub mode: Mode,
+    left: u32,
+    pub counts: Counts,
+}
+
+fn read_in(burst: &Burst) -> Option<Pdu> {
+    let word = Word196::from_octets(burst).ok()?;
+    Some(read(&word)?.to_octets())
+}
+
+/// The HELLO of a carrier.
+pub fn hello(carrier: u8) -> [u8; 6] {
+    [0x01, 0x04, 0x01, carrier, 0x00, carrier.wrapping_add(1)]
 }
 
 impl Traffic {
-    /// Nothing came.
-    pub fn new() -> Traffic {
-        Traffic {
-            ticks: 0,
-            opened: 0,
-            cut: 0,
-            cut_within: 0,
-            carrier_pieces: 0,
-            console_pieces: 0,
-            parts: 0,
-            several: 0,
-            byes: 0,
-            refused: 0,
-            no_hello: 0,
-            second_hello: 0,
-            faults: [0; 4],
-            flipped: [0; 4],
-            flipped_read: 0,
-            flipped_lost: 0,
-            garbled: 0,
-            garbled_read: 0,
-            commands: 0,
-            unknown: 0,
-            too_long: 0,
-            octets: 0,
+    /// Nothing is written.
+    pub fn new(alloc: Global, scene: &Scene, seed: u64) -> Result<Traffic, AllocError> {
+        let mut streams = Vec::new(alloc);
+        for _ in 0..=OPERATORS {
+            streams.push(VecDeque::new(alloc))?;
         }
+        Ok(Traffic {
+            alloc,
+            scene: *scene,
+            draws: Draws::new(seed),
+            streams,
+            mode: Mode::Everyday,
+            left: 300,
+            counts: Counts::new(NAMES),
+        })
     }
 
-    /// Octets from which no frame can follow: a type octet, a length octet, a slot octet, or a pad.
-    pub fn count_fault(&mut self, kind: u32) {
-        if let Some(count) = self.faults.get_mut(kind as usize) {
-            add(count);
-        }
-    }
-
-    /// A burst with so many flipped bits, and what it means.
-    pub fn count_flips(&mut self, flips: u32, event: &Event) {
-        match self.flipped.get_mut(flips as usize) {
-            Some(count) => add(count),
-            None => {
-                if matches!(event, Event::Heard(_, _)) {
-                    add(&mut self.flipped_read);
-                } else {
-                    add(&mut self.flipped_lost);
+    /// Octets of a party come: what they are, and what they mean.
+    pub fn come(&mut self, party: u8, count: usize) -> Result<(Vec<u8>, Vec<Meaning>), AllocError> {
+        let mut octets = Vec::new(self.alloc);
+        let mut meanings = Vec::new(self.alloc);
+        if let Some(stream) = self.streams.get_mut(usize::from(party)) {
+            for _ in 0..count {
+                if let Some((octet, meaning)) = stream.pop_front() {
+                    octets.push(octet)?;
+                    meanings.extend_from_slice(meaning.as_slice())?;
                 }
             }
         }
+        for meaning in meanings.as_slice() {
+            self.counts.add(match meaning {
+                Meaning::Hello => "HELLO",
+                Meaning::WrongHello(_) => "wrong HELLO",
+                Meaning::Burst(_, Some(_)) => "bursts",
+                Meaning::Burst(_, None) => "bursts of nothing",
+                Meaning::Active(_) => "ACTIVE",
+                Meaning::Poll => "POLL",
+                Meaning::End => "BYE or no frame",
+                Meaning::Said(Said::Unknown) => "no commands",
+                Meaning::Said(Said::TooLong) => "lines too long",
+                Meaning::Said(_) => "commands",
+            });
+        }
+        Ok((octets, meanings))
     }
 
-    /// The bursts with three flipped bits, and those with more that could be read, and that could not.
-    #[cfg(test)]
-    pub fn flips(&self) -> (u32, u32, u32) {
-        let [_, _, _, three] = self.flipped;
-        (three, self.flipped_read, self.flipped_lost)
+    fn left_of(&self, party: u8) -> usize {
+        let stream = self.streams.get(usize::from(party));
+        stream.map_or(0, |stream| stream.len())
     }
 
-    /// A word of random bits, and what it means.
-    pub fn count_garbled(&mut self, event: &Event) {
-        add(&mut self.garbled);
-        if matches!(event, Event::Heard(_, _)) {
-            add(&mut self.garbled_read);
+    fn piece(&mut self, party: u8) -> Step {
+        let mut count = self.left_of(party);
+        if self.draws.chance(2) {
+            count = self.draws.place(count);
         }
+        Step::Piece(party, count)
     }
 
-    /// A piece of octets: what came with it, whether some octets are left to come, and how many were put out.
-    pub fn count_piece(&mut self, meanings: &[Meaning], is_part: bool, octets: usize) {
-        if meanings.len() > 1 {
-            add(&mut self.several);
-        }
-        if is_part {
-            add(&mut self.parts);
-        }
-        self.octets = self.octets.saturating_add(octets as u64);
-        for meaning in meanings {
-            match meaning {
-                Meaning::Told(Event::Say(_)) => add(&mut self.commands),
-                Meaning::Unknown => add(&mut self.unknown),
-                Meaning::TooLong => add(&mut self.too_long),
-                _ => {}
+    /// A party writes octets, which mean nothing before their last.
+    fn put(&mut self, party: u8, octets: &[u8], last: Option<Meaning>) -> Result<Step, AllocError> {
+        let last_place = octets.len().saturating_sub(1);
+        if let Some(stream) = self.streams.get_mut(usize::from(party)) {
+            for (place, octet) in octets.iter().enumerate() {
+                let meaning = if place == last_place { last } else { None };
+                stream.push_back((*octet, meaning))?;
             }
         }
+        Ok(self.piece(party))
     }
 
-    /// Prints all counts.
-    pub fn print<R: Print>(&self, rt: &R) -> io::Result<()> {
-        let [types, lengths, slots, pads] = self.faults;
-        let [clean, one, two, three] = self.flipped;
-        let counts = [
-            (self.ticks, "ticks"),
-            (self.opened, "connections begun"),
-            (self.cut, "connections cut"),
-            (self.cut_within, "ended with octets to come"),
-            (self.carrier_pieces, "pieces of carriers"),
-            (self.console_pieces, "pieces of operators"),
-            (self.parts, "of both that leave some octets to come"),
-            (self.several, "that bring several frames or lines"),
-            (self.byes, "BYE"),
-            (self.refused, "HELLO refused"),
-            (self.no_hello, "other frames in place of HELLO"),
-            (self.second_hello, "second HELLO"),
-            (types, "unknown types"),
-            (lengths, "bad lengths"),
-            (slots, "bad slots"),
-            (pads, "bad pads"),
-            (clean, "clean bursts"),
-            (one, "with one bit flipped"),
-            (two, "with two"),
-            (three, "with three"),
-            (self.flipped_read, "with more, that could be read"),
-            (self.flipped_lost, "with more, that could not"),
-            (self.garbled, "bursts of random bits"),
-            (self.garbled_read, "of them that could be read"),
-            (self.commands, "commands"),
-            (self.unknown, "unknown commands"),
-            (self.too_long, "lines too long"),
-        ];
-        for (count, name) in &counts {
-            println!(rt; "    {count:>7} {name}")?;
+    fn forget(&mut self, carrier: u8, link: Link) -> Step {
+        if let Some(stream) = self.streams.get_mut(usize::from(carrier)) {
+            stream.clear();
         }
-        let octets = self.octets;
-        println!(rt; "    {octets:>7} octets put out")
+        Step::Turn(carrier, link)
+    }
+
+    fn wrong_hello(&mut self, carrier: u8) -> Result<Step, AllocError> {
+        let mut octets = hello(carrier);
+        let place = 2 + self.draws.place(4);
+        if let Some(octet) = octets.get_mut(place) {
+            *octet ^= self.draws.octet().max(1);
+        }
+        let refusal = if place == 2 { 1 } else { 2 };
+        self.put(carrier, &octets, Some(Meaning::WrongHello(refusal)))
+    }
+
+    fn fault(&mut self, carrier: u8) -> Result<Step, AllocError> {
+        let mut burst = self.any_burst();
+        if self.draws.chance(4) {
+            burst[24] |= 1 + self.draws.small(15);
+            self.put(carrier, &[0x02, 0x1A, 0x00], None)?;
+            self.put(carrier, &burst, Some(Meaning::End))?;
+        } else if let Some(octets) = self.draws.pick(&FAULTS) {
+            self.put(carrier, octets, Some(Meaning::End))?;
+        }
+        let length = self.draws.place(12);
+        self.put(carrier, burst.get(..length).unwrap_or(&[]), None)
+    }
+
+    fn lose(&mut self, carrier: u8) -> Result<Step, AllocError> {
+        if self.draws.chance(8) {
+            return Ok(self.forget(carrier, Link::Closed));
+        }
+        let mut begun = None;
+        if self.draws.chance(3) {
+            begun = Some(self.forget(carrier, Link::Open));
+        }
+        let step = match self.draws.below(7) {
+            0 | 1 => self.wrong_hello(carrier)?,
+            2 => self.put(carrier, &hello(carrier), Some(Meaning::Hello))?,
+            3 => self.put(carrier, &[0x03, 0x00], Some(Meaning::Poll))?,
+            4 => self.put(carrier, &[0x05, 0x00], Some(Meaning::End))?,
+            _ => self.fault(carrier)?,
+        };
+        Ok(begun.unwrap_or(step))
+    }
+
+    fn any_burst(&mut self) -> Burst {
+        let mut burst = [0; 25];
+        for octet in burst.iter_mut() {
+            *octet = self.draws.octet();
+        }
+        burst[24] &= 0xF0;
+        burst
+    }
+
+    /// A burst comes on a slot.
+    pub fn hear(&mut self, slot: Slot, burst: Burst, pdu: Option<Pdu>) -> Result<Step, AllocError> {
+        self.put(slot.carrier, &[0x02, 0x1A, slot.side], None)?;
+        self.put(slot.carrier, &burst, Some(Meaning::Burst(slot, pdu)))
+    }
+
+    fn send(&mut self, slot: Slot, pdu: &Pdu) -> Result<Step, AllocError> {
+        let mut flips = self.draws.place(4);
+        if self.draws.chance(60) {
+            flips = 4 + self.draws.place(9);
+        }
+        let mut burst = burst_of(pdu);
+        for _ in 0..flips {
+            flip(&mut burst, 1 + self.draws.place(195));
+        }
+        // Place 0 is outside the code, which mends three flips.
+        if self.draws.chance(8) {
+            flip(&mut burst, 0);
+        }
+        let mut meant = Some(*pdu);
+        if flips > 3 {
+            meant = read_in(&burst);
+            self.counts
+                .add(meant.map_or("broken and lost", |_| "broken but read"));
+        }
+        self.hear(slot, burst, meant)
+    }
+
+    fn slot(&mut self) -> Slot {
+        let carrier = match self.draws.below(8) {
+            0 => self.draws.small(16),
+            1 | 2 => return self.scene.control_slot(),
+            _ => self.draws.small(self.scene.carriers),
+        };
+        let side = self.draws.small(2);
+        Slot { carrier, side }
+    }
+
+    fn activity(&mut self, model: &Model) -> Result<Step, AllocError> {
+        let slot = match self.draws.request(model, Stage::Call) {
+            Some(call) if !self.draws.chance(6) => call.slot,
+            _ => self.slot(),
+        };
+        let octets = [0x04, 0x01, slot.side];
+        self.put(slot.carrier, &octets, Some(Meaning::Active(slot)))
+    }
+
+    fn poll(&mut self, model: &Model) -> Result<Step, AllocError> {
+        let mut slot = self.slot();
+        for _ in 0..8 {
+            if model.waiting(slot) == 0 {
+                slot = self.slot();
+            }
+        }
+        if self.draws.below(8) < 5 {
+            slot = self.scene.control_slot();
+        }
+        self.put(slot.carrier, &[0x03, 0x00], Some(Meaning::Poll))
+    }
+
+    fn say(&mut self, said: Said) -> Result<Step, AllocError> {
+        let line = line(self.alloc, &mut self.draws, &said)?;
+        self.put(OPERATORS, line.as_bytes(), Some(Meaning::Said(said)))
+    }
+
+    fn turn(&mut self) {
+        let lasting = self.scene.maximum.saturating_mul(2);
+        (self.mode, self.left) = match self.draws.below(100) {
+            0..45 => (Mode::Everyday, 250),
+            45..58 => (Mode::Crowd, 700),
+            58..66 => (Mode::Asking, 350),
+            66..77 => (Mode::Unpolled, 150),
+            77..93 => (Mode::Passing, 250),
+            93..97 => (Mode::Lasting, lasting),
+            _ => (Mode::Joining, 1500),
+        };
+    }
+
+    /// What comes to the engine next, by what stands: more of what was begun, a carrier that comes up, or a deed.
+    pub fn next(&mut self, model: &Model) -> Result<Step, AllocError> {
+        let first = self.draws.small(17);
+        for more in 0..17u8 {
+            let party = (first % 17 + more) % 17;
+            if self.left_of(party) > 0 && self.draws.chance(2) {
+                return Ok(self.piece(party));
+            }
+        }
+        for carrier in 0..self.scene.carriers {
+            if !model.is_up(carrier) && self.draws.chance(8) {
+                let step = self.forget(carrier, Link::Open);
+                self.put(carrier, &hello(carrier), Some(Meaning::Hello))?;
+                return Ok(step);
+            }
+        }
+        if self.left == 0 {
+            self.turn();
+        }
+        self.left = self.left.saturating_sub(1);
+        let quiet = self.scene.hang / 2;
+        let is_quiet = |call: &Request| call.stage == Stage::Call && call.quiet > quiet;
+        if self.mode == Mode::Lasting && model.requests.iter().any(is_quiet) {
+            return self.activity(model);
+        }
+        self.deed(model)
+    }
+
+    fn deed(&mut self, model: &Model) -> Result<Step, AllocError> {
+        let slot = self.slot();
+        match self.mode.sort(&mut self.draws) {
+            Sort::Active => self.activity(model),
+            Sort::Noise => {
+                let burst = self.any_burst();
+                self.hear(slot, burst, read_in(&burst))
+            }
+            Sort::Lose => self.lose(slot.carrier),
+            Sort::Tick => Ok(Step::Tick),
+            Sort::Command => {
+                let said = command(&mut self.draws, model);
+                self.say(said)
+            }
+            Sort::Nonsense => match self.draws.below(4) {
+                0 => self.say(Said::TooLong),
+                1 => {
+                    let mut octets = self.any_burst().map(|octet| octet.max(b'\r'));
+                    octets[24] = b'\n';
+                    self.put(OPERATORS, b"?", None)?;
+                    self.put(OPERATORS, &octets, Some(Meaning::Said(Said::Unknown)))
+                }
+                _ => self.say(Said::Unknown),
+            },
+            Sort::Poll => self.poll(model),
+            sort => {
+                let pdu = self.pdu(sort, model);
+                let slot = match sort {
+                    Sort::Elsewhere => slot,
+                    _ => self.scene.control_slot(),
+                };
+                self.send(slot, &pdu)
+            }
+        }
     }
 }

@@ -218,7 +218,7 @@ fn reads_each_value(rt: HostRuntime) -> Result<(), Fail> {
         let plan = plan_of(rt.alloc(), changes)?;
         assert_eq!(rt; numbers_of(&plan), *numbers);
         assert_eq!(rt; plan.leave_bit(), *leave_bit);
-        assert_eq!(rt; plan.address(), *address);
+        assert_eq!(rt; plan.address(), address.as_slice());
         assert_eq!(rt; plan.control(), CarrierNo::new(0));
     }
     Ok(())

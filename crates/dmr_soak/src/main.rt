@@ -129,17 +129,17 @@ impl Run {
         let step = self.traffic.next(&self.model)?;
         let mut outputs = Outputs::new(self.alloc);
         let text = self.step(&step, &mut outputs)?;
-        for party in 0..=OPERATORS {
-            let put_out = match CarrierNo::try_new(u32::from(party)) {
-                Some(carrier) => outputs.carrier(carrier),
-                None => outputs.console(),
-            };
-            let is_writer = matches!(step, Step::Piece(writer, _) if writer == party);
-            if put_out != if is_writer { text.as_slice() } else { &[] } {
-                return Ok(Some(party));
-            }
-        }
-        Ok(None)
+        Ok((0..=OPERATORS).find(|party| is_other(&outputs, *party, &step, text.as_slice())))
+    }
+}
+
+/// Whether something else is put out for a party than what should be: this text for the one that wrote octets.
+fn is_other(outputs: &Outputs, party: u8, step: &Step, text: &[u8]) -> bool {
+    let is_writer = matches!(step, Step::Piece(writer, _) if *writer == party);
+    let wanted = if is_writer { text } else { &[] };
+    match CarrierNo::try_new(u32::from(party)) {
+        Some(carrier) => outputs.carrier(carrier) != wanted,
+        None => outputs.console() != wanted,
     }
 }
 

@@ -60,6 +60,17 @@ impl Cutter {
         }
     }
 
+    /// The same cutter once more. What the one is fed does nothing to the other.
+    pub fn fork(&self) -> Self
+        ensures { result ≡ self.now }
+    {
+        Cutter {
+            octets: self.octets,
+            count: self.count,
+            fault: self.fault,
+        }
+    }
+
     /// Takes the next octet, and says what it brings. A frame comes at its last octet, a fault at the first octet with
     /// which the octets since the last frame begin no frame at all: `UnknownType`, `BadLength`, `BadSlot` or `BadPad`.
     /// From then on every octet is answered with that same fault.

@@ -13,3 +13,4 @@ pub mod Consoles
 pub mod OneJournal
 pub mod Runs
 pub mod Values
+pub mod Rooms

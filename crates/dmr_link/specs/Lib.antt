@@ -11,3 +11,5 @@ pub mod Texts
 pub mod Inputs
 pub mod Records
 pub mod Runs
+pub mod Turns
+pub mod Room

@@ -5,6 +5,7 @@ ghost use Rattle.dmr_burst.specs.Functions.{meaning_of};
 ghost use Rattle.dmr_link.specs.Meaning.{heard as event_heard, is_accepted, refused as notice_refused, first_brings, is_last, event_of as event_of_frame, lost, told};
 ghost use Rattle.dmr_link.specs.Sound.{IsSound};
 ghost use Rattle.dmr_link.specs.Steps.{opened, brought, taken};
+ghost use Rattle.dmr_link.specs.Turns.{turn_at, brings};
 
 use dmr_bits::Word196;
 use dmr_burst::read;
@@ -50,6 +51,17 @@ pub enum Connection {
     Waiting(Cutter),
     /// The carrier said HELLO, and is up.
     Running(Cutter),
+}
+
+/// What an octet completes on a connection: a step of the cutter, and where the connection stood.
+#[derive(Clone, Copy, Debug, PartialEq, Eq)]
+pub enum Turn {
+    /// No connection is open.
+    Closed,
+    /// Its first frame had not come whole.
+    Waiting(Step),
+    /// Its carrier was up.
+    Running(Step),
 }
 
 /// The event of a word that was received in a slot.
@@ -143,12 +155,80 @@ fn event_of(carrier: CarrierNo, frame: &FrameIn) -> Event
     }
 }
 
+impl Turn {
+    /// What it brings.
+    pub fn notice(&self, who: &Identity) -> Option<Notice>
+        ensures { result ≡ brings who.now self.now }
+    {
+        match self {
+            Turn::Closed => None,
+            Turn::Waiting(Step::Frame(frame)) => first(who, frame),
+            Turn::Waiting(_) | Turn::Running(Step::Need) => None,
+            Turn::Running(Step::Frame(frame)) => {
+                Some(Notice::Happened(event_of(who.carrier, frame)))
+            }
+            Turn::Running(Step::Fault(_)) => Some(Notice::Happened(Event::Lost(who.carrier))),
+        }
+    }
+}
+
 impl Connection {
     /// A connection that has just begun.
     pub fn open() -> Connection
         ensures { result ≡ opened }
     {
         Connection::Waiting(Cutter::new())
+    }
+
+    /// The same connection once more. What octets do to the one does nothing to the other.
+    pub fn fork(&self) -> Connection
+        ensures { result ≡ self.now }
+    {
+        match self {
+            Connection::Closed => Connection::Closed,
+            Connection::Waiting(cutter) => Connection::Waiting(cutter.fork()),
+            Connection::Running(cutter) => Connection::Running(cutter.fork()),
+        }
+    }
+
+    /// Goes one octet further, and tells what the octet completes. A fault, and a frame that ends the connection, close it,
+    /// and from then on octets complete nothing.
+    pub fn advance(&mut self, who: &Identity, octet: u8) -> Turn
+        ensures turn { result ≡ turn_at self.old octet }
+        ensures connection { self.new ≡ taken who.now self.old octet }
+        ensures sound { IsSound self.old → IsSound self.new }
+    {
+        match self {
+            Connection::Closed => Turn::Closed,
+            Connection::Waiting(cutter) => {
+                let step = cutter.feed_byte(octet);
+                match &step {
+                    Step::Need => {}
+                    Step::Frame(frame) => {
+                        *self = if accepts(who, frame) {
+                            Connection::Running(Cutter::new())
+                        } else {
+                            Connection::Closed
+                        };
+                    }
+                    Step::Fault(_) => *self = Connection::Closed,
+                }
+                Turn::Waiting(step)
+            }
+            Connection::Running(cutter) => {
+                let step = cutter.feed_byte(octet);
+                match &step {
+                    Step::Need => {}
+                    Step::Frame(frame) => {
+                        if ends(frame) {
+                            *self = Connection::Closed;
+                        }
+                    }
+                    Step::Fault(_) => *self = Connection::Closed,
+                }
+                Turn::Running(step)
+            }
+        }
     }
 
     /// Takes the next octet. A frame is taken at its last octet; a fault, and a frame that ends the connection, close it,
@@ -158,39 +238,7 @@ impl Connection {
         ensures connection { self.new ≡ taken who.now self.old octet }
         ensures sound { IsSound self.old → IsSound self.new }
     {
-        match self {
-            Connection::Closed => None,
-            Connection::Waiting(cutter) => match cutter.feed_byte(octet) {
-                Step::Need => None,
-                Step::Frame(frame) => {
-                    let frame = &frame;
-                    *self = if accepts(who, frame) {
-                        Connection::Running(Cutter::new())
-                    } else {
-                        Connection::Closed
-                    };
-                    first(who, frame)
-                }
-                Step::Fault(_) => {
-                    *self = Connection::Closed;
-                    None
-                }
-            },
-            Connection::Running(cutter) => match cutter.feed_byte(octet) {
-                Step::Need => None,
-                Step::Frame(frame) => {
-                    let frame = &frame;
-                    if ends(frame) {
-                        *self = Connection::Closed;
-                    }
-                    Some(Notice::Happened(event_of(who.carrier, frame)))
-                }
-                Step::Fault(_) => {
-                    *self = Connection::Closed;
-                    Some(Notice::Happened(Event::Lost(who.carrier)))
-                }
-            },
-        }
+        self.advance(who, octet).notice(who)
     }
 
     /// What the end of the connection brings: its carrier is lost, if it was up.

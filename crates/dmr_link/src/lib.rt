@@ -13,6 +13,7 @@ mod engine;
 mod input;
 mod laws;
 mod outputs;
+mod room;
 mod session;
 
 pub use engine::{Engine, RunFault};

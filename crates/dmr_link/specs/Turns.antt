@@ -1,0 +1,22 @@
+-- What an octet completes on a connection.
+use Rattle.std.specs.Prelude.{ℕ, Option, None}
+use Rattle.dmr_frames.specs.Reading.{fed}
+use Rattle.dmr_link.specs.declared.connection.Identity.{Identity}
+use Rattle.dmr_link.specs.declared.connection.Notice.{Notice}
+use Rattle.dmr_link.specs.declared.connection.Connection.{Connection}
+use Rattle.dmr_link.specs.declared.connection.Connection.TheVariants.{Closed, Waiting, Running}
+use Rattle.dmr_link.specs.declared.connection.Turn.{Turn}
+use Rattle.dmr_link.specs.declared.connection.Turn.TheVariants as turn
+use Rattle.dmr_link.specs.Steps.{waiting_brings, running_brings}
+
+-- a step of the cutter, where there is a connection
+abbrev pub turn_at : Connection → ℕ → Turn
+turn_at Closed x = turn.Closed
+turn_at (Waiting rest) x = turn.Waiting (fed rest x)
+turn_at (Running rest) x = turn.Running (fed rest x)
+
+-- what it brings
+abbrev pub brings : Identity → Turn → Option Notice
+brings who turn.Closed = None
+brings who (turn.Waiting step) = waiting_brings who step
+brings who (turn.Running step) = running_brings who.carrier step

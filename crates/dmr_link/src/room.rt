@@ -1,0 +1,41 @@
+//! How much a carrier's octets can put out, found out before anything is done with them.
+
+ghost use Rattle.std.specs.Prelude.{◌≡◌, ◌^◌, ◌-◌, min};
+ghost use Rattle.dmr_link.specs.Meaning.{told};
+ghost use Rattle.dmr_link.specs.Room.{most_in};
+ghost use Rattle.dmr_link.specs.Steps.{all_brought};
+ghost use Rattle.dmr_link.specs.Turns.{brings};
+
+use crate::connection::{Connection, Identity, Turn};
+use dmr_frames::{FrameIn, Step};
+
+/// The octets of WELCOME, and of REFUSED.
+const ANSWER_TO_HELLO: usize = 3;
+
+/// The most octets that answer a POLL: a TX of 28 in each of two slots, and DONE of two.
+const ANSWER_TO_POLL: usize = 58;
+
+/// The most octets that are put out for what an octet completes.
+fn most(turn: &Turn, who: &Identity) -> usize
+    ensures { result ≡ most_in (told (brings who.now turn.now)) }
+{
+    match turn {
+        Turn::Waiting(Step::Frame(FrameIn::Hello { .. })) => ANSWER_TO_HELLO,
+        Turn::Running(Step::Frame(FrameIn::Poll)) => ANSWER_TO_POLL,
+        _ => 0,
+    }
+}
+
+/// The most octets that are put out for octets of a connection: what each frame that they complete can put out, and nothing
+/// where no connection is open. A number of octets that is too large for a `usize` is its greatest value.
+pub fn room_for(who: &Identity, connection: &Connection, octets: &[u8]) -> usize
+    ensures { result ≡ min (most_in (all_brought who.now connection.now octets.now)) (2 ^ 64 - 1) }
+{
+    let mut trial = connection.fork();
+    let mut room: usize = 0;
+    for octet in octets {
+        let turn = trial.advance(who, *octet);
+        room = room.saturating_add(most(&turn, who));
+    }
+    room
+}

@@ -3,13 +3,15 @@
 ghost use Rattle.std.specs.Prelude.{◌≡◌};
 ghost use Rattle.dmr_burst.specs.Functions.{meaning_of};
 ghost use Rattle.dmr_link.specs.Meaning.{heard as event_heard, is_accepted, refused as notice_refused, first_brings, is_last, event_of as event_of_frame, lost, told};
+ghost use Rattle.dmr_link.specs.Closing.{closes, wrong_first as the_wrong_first, first_closes, frame_closes};
 ghost use Rattle.dmr_link.specs.Sound.{IsSound};
 ghost use Rattle.dmr_link.specs.Steps.{opened, brought, taken};
 
+use crate::ended::Closing;
 use dmr_bits::Word196;
 use dmr_burst::read;
 use dmr_core::Event;
-use dmr_frames::{Cutter, FrameIn, Refusal, Step};
+use dmr_frames::{Cause, Cutter, FrameIn, Refusal, Step};
 use dmr_pdu::{CarrierNo, Lpcn, Slot, SlotNo};
 
 /// The carrier that a connection is for.
@@ -143,6 +145,54 @@ fn event_of(carrier: CarrierNo, frame: &FrameIn) -> Event
     }
 }
 
+/// What an octet brings, and how it closes the connection, if it does.
+#[derive(Clone, Copy, Debug)]
+pub struct Received {
+    /// What it brings, if it brings something.
+    pub notice: Option<Notice>,
+    /// How it closes the connection, if it does.
+    pub closing: Option<Closing>,
+}
+
+/// Nothing: the connection goes on, or was closed before.
+pub const NOTHING: Received = Received {
+    notice: None,
+    closing: None,
+};
+
+/// What is wrong with a first frame that isn't accepted.
+fn wrong_first(frame: &FrameIn) -> Cause
+    ensures { result ≡ the_wrong_first frame.now }
+{
+    match frame {
+        FrameIn::Hello { version: 1, .. } => Cause::WrongCarrier,
+        FrameIn::Hello { .. } => Cause::BadVersion,
+        _ => Cause::NoHello,
+    }
+}
+
+/// How a frame closes a connection whose carrier is up, if it does.
+fn closing_of(frame: &FrameIn) -> Option<Closing>
+    ensures { result ≡ frame_closes frame.now }
+{
+    match frame {
+        FrameIn::Hello { .. } => Some(Closing::Bad(Cause::SecondHello)),
+        FrameIn::Bye => Some(Closing::Over),
+        _ => None,
+    }
+}
+
+/// How a connection's first frame closes it, if it does.
+fn first_closing(who: &Identity, frame: &FrameIn) -> Option<Closing>
+    ensures { result ≡ first_closes who.now frame.now }
+{
+    if accepts(who, frame) {
+        None
+    } else {
+        Some(Closing::Bad(wrong_first(frame)))
+    }
+}
+
 impl Connection {
     /// A connection that has just begun.
     pub fn open() -> Connection
@@ -158,10 +208,20 @@ impl Connection {
         ensures connection { self.new ≡ taken who.now self.old octet }
         ensures sound { IsSound self.old → IsSound self.new }
     {
+        self.receive(who, octet).notice
+    }
+
+    /// Takes the next octet as `take` does, and says too how it closes the connection, if it does.
+    pub fn receive(&mut self, who: &Identity, octet: u8) -> Received
+        ensures notice { result.notice ≡ brought who.now self.old octet }
+        ensures closing { result.closing ≡ closes who.now self.old octet }
+        ensures connection { self.new ≡ taken who.now self.old octet }
+        ensures sound { IsSound self.old → IsSound self.new }
+    {
         match self {
-            Connection::Closed => None,
+            Connection::Closed => NOTHING,
             Connection::Waiting(cutter) => match cutter.feed_byte(octet) {
-                Step::Need => None,
+                Step::Need => NOTHING,
                 Step::Frame(frame) => {
                     let frame = &frame;
                     *self = if accepts(who, frame) {
@@ -169,25 +229,37 @@ impl Connection {
                     } else {
                         Connection::Closed
                     };
-                    first(who, frame)
+                    Received {
+                        notice: first(who, frame),
+                        closing: first_closing(who, frame),
+                    }
                 }
-                Step::Fault(_) => {
+                Step::Fault(cause) => {
                     *self = Connection::Closed;
-                    None
+                    Received {
+                        notice: None,
+                        closing: Some(Closing::Bad(cause)),
+                    }
                 }
             },
             Connection::Running(cutter) => match cutter.feed_byte(octet) {
-                Step::Need => None,
+                Step::Need => NOTHING,
                 Step::Frame(frame) => {
                     let frame = &frame;
                     if ends(frame) {
                         *self = Connection::Closed;
                     }
-                    Some(Notice::Happened(event_of(who.carrier, frame)))
+                    Received {
+                        notice: Some(Notice::Happened(event_of(who.carrier, frame))),
+                        closing: closing_of(frame),
+                    }
                 }
-                Step::Fault(_) => {
+                Step::Fault(cause) => {
                     *self = Connection::Closed;
-                    Some(Notice::Happened(Event::Lost(who.carrier)))
+                    Received {
+                        notice: Some(Notice::Happened(Event::Lost(who.carrier))),
+                        closing: Some(Closing::Bad(cause)),
+                    }
                 }
             },
         }

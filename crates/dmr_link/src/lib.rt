@@ -9,6 +9,7 @@
 
 mod connection;
 mod console;
+mod console_link;
 mod desk;
 mod ended;
 mod engine;
@@ -18,10 +19,12 @@ mod link;
 mod outputs;
 mod owing;
 mod session;
+mod stream;
 mod talk;
 mod unread;
 mod writing;
 
+pub use console_link::ConsoleLink;
 pub use desk::{Deposit, Desk, Gate, OpenGate, TermOver};
 pub use ended::Ended;
 pub use engine::{Engine, RunFault};

@@ -7,6 +7,8 @@ use Rattle.dmr_link.specs.declared.connection.Connection.{Connection}
 use Rattle.dmr_link.specs.declared.connection.Connection.TheVariants.{Closed, Waiting, Running}
 use Rattle.dmr_link.specs.declared.connection.Turn.{Turn}
 use Rattle.dmr_link.specs.declared.connection.Turn.TheVariants as turn
+use Rattle.dmr_link.specs.declared.ended.Closing.{Closing}
+use Rattle.dmr_link.specs.Closing.{waiting_closes, running_closes}
 use Rattle.dmr_link.specs.Steps.{waiting_brings, running_brings}
 
 -- a step of the cutter, where there is a connection
@@ -20,3 +22,9 @@ abbrev pub brings : Identity → Turn → Option Notice
 brings who turn.Closed = None
 brings who (turn.Waiting step) = waiting_brings who step
 brings who (turn.Running step) = running_brings who.carrier step
+
+-- how it closes the connection, if it does
+abbrev pub closes_on : Identity → Turn → Option Closing
+closes_on who turn.Closed = None
+closes_on who (turn.Waiting step) = waiting_closes who step
+closes_on who (turn.Running step) = running_closes step

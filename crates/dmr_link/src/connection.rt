@@ -3,14 +3,16 @@
 ghost use Rattle.std.specs.Prelude.{◌≡◌};
 ghost use Rattle.dmr_burst.specs.Functions.{meaning_of};
 ghost use Rattle.dmr_link.specs.Meaning.{heard as event_heard, is_accepted, refused as notice_refused, first_brings, is_last, event_of as event_of_frame, lost, told};
+ghost use Rattle.dmr_link.specs.Closing.{closes, wrong_first as the_wrong_first, first_closes, frame_closes};
 ghost use Rattle.dmr_link.specs.Sound.{IsSound};
 ghost use Rattle.dmr_link.specs.Steps.{opened, brought, taken};
-ghost use Rattle.dmr_link.specs.Turns.{turn_at, brings};
+ghost use Rattle.dmr_link.specs.Turns.{turn_at, brings, closes_on};
 
+use crate::ended::Closing;
 use dmr_bits::Word196;
 use dmr_burst::read;
 use dmr_core::Event;
-use dmr_frames::{Cutter, FrameIn, Refusal, Step};
+use dmr_frames::{Cause, Cutter, FrameIn, Refusal, Step};
 use dmr_pdu::{CarrierNo, Lpcn, Slot, SlotNo};
 
 /// The carrier that a connection is for.
@@ -155,9 +157,57 @@ fn event_of(carrier: CarrierNo, frame: &FrameIn) -> Event
     }
 }
 
+/// What an octet brings, and how it closes the connection, if it does.
+#[derive(Clone, Copy, Debug)]
+pub struct Received {
+    /// What it brings, if it brings something.
+    pub notice: Option<Notice>,
+    /// How it closes the connection, if it does.
+    pub closing: Option<Closing>,
+}
+
+/// Nothing: the connection goes on, or was closed before.
+pub const NOTHING: Received = Received {
+    notice: None,
+    closing: None,
+};
+
+/// What is wrong with a first frame that isn't accepted.
+fn wrong_first(frame: &FrameIn) -> Cause
+    ensures { result ≡ the_wrong_first frame.now }
+{
+    match frame {
+        FrameIn::Hello { version: 1, .. } => Cause::WrongCarrier,
+        FrameIn::Hello { .. } => Cause::BadVersion,
+        _ => Cause::NoHello,
+    }
+}
+
+/// How a frame closes a connection whose carrier is up, if it does.
+fn closing_of(frame: &FrameIn) -> Option<Closing>
+    ensures { result ≡ frame_closes frame.now }
+{
+    match frame {
+        FrameIn::Hello { .. } => Some(Closing::Bad(Cause::SecondHello)),
+        FrameIn::Bye => Some(Closing::Over),
+        _ => None,
+    }
+}
+
+/// How a connection's first frame closes it, if it does.
+fn first_closing(who: &Identity, frame: &FrameIn) -> Option<Closing>
+    ensures { result ≡ first_closes who.now frame.now }
+{
+    if accepts(who, frame) {
+        None
+    } else {
+        Some(Closing::Bad(wrong_first(frame)))
+    }
+}
+
 impl Turn {
     /// What it brings.
-    pub fn notice(&self, who: &Identity) -> Option<Notice>
+    fn notice(&self, who: &Identity) -> Option<Notice>
         ensures { result ≡ brings who.now self.now }
     {
         match self {
@@ -168,6 +218,20 @@ impl Turn {
                 Some(Notice::Happened(event_of(who.carrier, frame)))
             }
             Turn::Running(Step::Fault(_)) => Some(Notice::Happened(Event::Lost(who.carrier))),
+        }
+    }
+
+    /// How it closes the connection, if it does.
+    fn closing(&self, who: &Identity) -> Option<Closing>
+        ensures { result ≡ closes_on who.now self.now }
+    {
+        match self {
+            Turn::Closed | Turn::Waiting(Step::Need) | Turn::Running(Step::Need) => None,
+            Turn::Waiting(Step::Frame(frame)) => first_closing(who, frame),
+            Turn::Running(Step::Frame(frame)) => closing_of(frame),
+            Turn::Waiting(Step::Fault(cause)) | Turn::Running(Step::Fault(cause)) => {
+                Some(Closing::Bad(*cause))
+            }
         }
     }
 }
@@ -239,6 +303,19 @@ impl Connection {
         ensures sound { IsSound self.old → IsSound self.new }
     {
         self.advance(who, octet).notice(who)
+    }
+
+    /// Takes the next octet as `take` does, and says too how it closes the connection, if it does.
+    pub fn receive(&mut self, who: &Identity, octet: u8) -> Received
+        ensures notice { result.notice ≡ brought who.now self.old octet }
+        ensures closing { result.closing ≡ closes who.now self.old octet }
+        ensures connection { self.new ≡ taken who.now self.old octet }
+    {
+        let turn = self.advance(who, octet);
+        Received {
+            notice: turn.notice(who),
+            closing: turn.closing(who),
+        }
     }
 
     /// What the end of the connection brings: its carrier is lost, if it was up.

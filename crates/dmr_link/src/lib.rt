@@ -9,14 +9,28 @@
 
 mod connection;
 mod console;
+mod console_link;
+mod desk;
+mod ended;
 mod engine;
 mod input;
 mod laws;
+mod link;
 mod outputs;
+mod owing;
 mod room;
 mod session;
+mod stream;
+mod talk;
+mod unread;
+mod writing;
 
+pub use console_link::ConsoleLink;
+pub use desk::{Deposit, Desk, Gate, OpenGate, TermOver};
+pub use ended::Ended;
 pub use engine::{Engine, RunFault};
 pub use input::Input;
 pub use laws::{connections_mean, inputs_mean, octets_mean, steps_make_runs};
+pub use link::Link;
 pub use outputs::Outputs;
+pub use owing::{links_account, records_read};

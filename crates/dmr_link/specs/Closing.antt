@@ -1,0 +1,90 @@
+-- How octets close a connection.
+use Rattle.std.specs.Prelude.{ℕ, List, [], ◌∷◌, Option, Some, None, ◌==◌, if◌then◌else◌}
+use Rattle.dmr_frames.specs.declared.frame.FrameIn.{FrameIn}
+use Rattle.dmr_frames.specs.declared.frame.FrameIn.TheVariants as frame
+use Rattle.dmr_frames.specs.declared.frame.Cause.{Cause}
+use Rattle.dmr_frames.specs.declared.frame.Cause.TheVariants as cause
+use Rattle.dmr_frames.specs.declared.cutter.Step.{Step}
+use Rattle.dmr_frames.specs.declared.cutter.Step.TheVariants.{Need, Frame, Fault}
+use Rattle.dmr_frames.specs.Rest.{Rest, Open, Faulty}
+use Rattle.dmr_frames.specs.Reading.{fed, frames_from, rest_from}
+use Rattle.dmr_link.specs.declared.ended.Ended.{Ended}
+use Rattle.dmr_link.specs.declared.ended.Ended.TheVariants as ended
+use Rattle.dmr_link.specs.declared.ended.Closing.{Closing}
+use Rattle.dmr_link.specs.declared.ended.Closing.TheVariants as closing
+use Rattle.dmr_link.specs.declared.connection.Identity.{Identity}
+use Rattle.dmr_link.specs.declared.connection.Connection.{Connection}
+use Rattle.dmr_link.specs.declared.connection.Connection.TheVariants.{Closed, Waiting, Running}
+use Rattle.dmr_link.specs.Meaning.{is_accepted}
+use Rattle.dmr_link.specs.Steps.{taken}
+
+-- what is answered for a connection that was closed so
+abbrev pub ended_of : Closing → Ended
+ended_of closing.Over = ended.Closed
+ended_of closing.ReadFailed = ended.ReadFault
+ended_of closing.WriteFailed = ended.WriteFault
+ended_of (closing.Bad why) = ended.BadFrame why
+
+-- ---- by the frames of a connection
+
+-- a fault behind the last frame
+abbrev pub fault_of : Rest → Option Closing
+fault_of (Open octets) = None
+fault_of (Faulty why) = Some (closing.Bad why)
+
+-- what is wrong with a first frame that isn't accepted
+abbrev pub wrong_first : FrameIn → Cause
+wrong_first (frame.Hello version carrier lpcn) = if version == 1 then cause.WrongCarrier else cause.BadVersion
+wrong_first other = cause.NoHello
+
+-- how a first frame closes a connection, if it does
+abbrev pub first_closes : Identity → FrameIn → Option Closing
+first_closes who f = if is_accepted who f then None else Some (closing.Bad (wrong_first f))
+
+-- how a frame closes a connection whose carrier is up, if it does
+abbrev pub frame_closes : FrameIn → Option Closing
+frame_closes (frame.Hello version carrier lpcn) = Some (closing.Bad cause.SecondHello)
+frame_closes frame.Bye = Some closing.Over
+frame_closes other = None
+
+-- the first that there is
+abbrev pub or_else : Option Closing → Option Closing → Option Closing
+or_else None other = other
+or_else (Some it) other = Some it
+
+-- frames of a carrier that is up
+abbrev pub up_closed : List FrameIn → Rest → Option Closing
+up_closed [] rest = fault_of rest
+up_closed (f ∷ fs) rest = or_else (frame_closes f) (up_closed fs rest)
+
+-- frames of a connection
+abbrev pub frames_closed : Identity → List FrameIn → Rest → Option Closing
+frames_closed who [] rest = fault_of rest
+frames_closed who (f ∷ fs) rest = if is_accepted who f then up_closed fs rest else Some (closing.Bad (wrong_first f))
+
+-- HOW OCTETS CLOSE a connection, if they do: by a BYE of a carrier that is up, or for a cause
+unfoldable pub closing_of_octets : Identity → List ℕ → Option Closing
+closing_of_octets who octets = frames_closed who (frames_from (Open []) octets) (rest_from (Open []) octets)
+
+-- ---- octet by octet
+
+abbrev pub waiting_closes : Identity → Step → Option Closing
+waiting_closes who Need = None
+waiting_closes who (Frame f) = first_closes who f
+waiting_closes who (Fault why) = Some (closing.Bad why)
+
+abbrev pub running_closes : Step → Option Closing
+running_closes Need = None
+running_closes (Frame f) = frame_closes f
+running_closes (Fault why) = Some (closing.Bad why)
+
+-- how an octet closes a connection, if it does
+abbrev pub closes : Identity → Connection → ℕ → Option Closing
+closes who Closed x = None
+closes who (Waiting rest) x = waiting_closes who (fed rest x)
+closes who (Running rest) x = running_closes (fed rest x)
+
+-- the same of octets
+abbrev pub all_closes : Identity → Connection → List ℕ → Option Closing
+all_closes who k [] = None
+all_closes who k (x ∷ xs) = or_else (closes who k x) (all_closes who (taken who k x) xs)

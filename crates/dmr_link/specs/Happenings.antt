@@ -1,0 +1,106 @@
+-- What happens in a call of serve, in its order.
+use Rattle.std.specs.Prelude.{◌≡◌, ℕ, ◌==◌, List, [], ◌∷◌, ◌++◌, Option, Some, None, if◌then◌else◌}
+use Rattle.dmr_wire.specs.Told.{Answer, Came, InputEnded, ReadInterrupted, ReadBlocked, ReadFailed}
+use Rattle.dmr_link.specs.declared.desk.Deposit.{Deposit}
+use Rattle.dmr_link.specs.declared.ended.Ended.{Ended}
+use Rattle.dmr_link.specs.declared.ended.Ended.TheVariants as ended
+use Rattle.dmr_link.specs.Passages.{Passage, Entered, Shut, Left}
+
+-- a port answers, a desk takes an event, or a gate is passed
+pub data Happening : Type 0 where
+  Answered : (answer : Answer) → Happening
+  Handed : (deposit : Deposit) → Happening
+  Passed : (passage : Passage) → Happening
+
+-- the answers of the port among them
+abbrev pub answers_in : List Happening → List Answer
+answers_in [] = []
+answers_in (Answered a ∷ xs) = a ∷ answers_in xs
+answers_in (Handed d ∷ xs) = answers_in xs
+answers_in (Passed p ∷ xs) = answers_in xs
+
+-- what the desk took
+abbrev pub deposits_in : List Happening → List Deposit
+deposits_in [] = []
+deposits_in (Answered a ∷ xs) = deposits_in xs
+deposits_in (Handed d ∷ xs) = d ∷ deposits_in xs
+deposits_in (Passed p ∷ xs) = deposits_in xs
+
+-- how the gate was passed
+abbrev pub passages_in : List Happening → List Passage
+passages_in [] = []
+passages_in (Answered a ∷ xs) = passages_in xs
+passages_in (Handed d ∷ xs) = passages_in xs
+passages_in (Passed p ∷ xs) = p ∷ passages_in xs
+
+-- how many reads an answer is of, and answers are of
+abbrev pub is_read : Answer → ℕ
+is_read (Came octets) = 1
+is_read InputEnded = 1
+is_read ReadInterrupted = 1
+is_read ReadBlocked = 1
+is_read ReadFailed = 1
+is_read other = 0
+
+-- ---- their order
+
+-- where a call stands: outside the gate; within it, with an event to hand in; within it, when the desk has taken the event; when
+-- it has left the gate and the desk took none; before a shut gate; behind a read that would block; or where it should not
+pub data Stage : Type 0 where
+  Outside : Stage
+  Within : Stage
+  Answering : Stage
+  TurnedAway : Stage
+  ShutOut : Stage
+  Blocked : Stage
+  Disordered : Stage
+
+-- outside it reads, and writes what it tells of notices that are no events; a read that would block is the last
+abbrev pub outside_then : Happening → Stage
+outside_then (Answered ReadBlocked) = Blocked
+outside_then (Answered a) = Outside
+outside_then (Handed d) = Disordered
+outside_then (Passed Entered) = Within
+outside_then (Passed Shut) = ShutOut
+outside_then (Passed Left) = Disordered
+
+-- within it hands in the event, or leaves where the desk doesn't take it
+abbrev pub within_then : Happening → Stage
+within_then (Answered a) = Disordered
+within_then (Handed d) = Answering
+within_then (Passed Entered) = Disordered
+within_then (Passed Shut) = Disordered
+within_then (Passed Left) = TurnedAway
+
+-- it writes the answer, and leaves
+abbrev pub answering_then : Happening → Stage
+answering_then (Answered a) = if is_read a == 0 then Answering else Disordered
+answering_then (Handed d) = Disordered
+answering_then (Passed Entered) = Disordered
+answering_then (Passed Shut) = Disordered
+answering_then (Passed Left) = Outside
+
+abbrev pub stage_then : Stage → Happening → Stage
+stage_then Outside x = outside_then x
+stage_then Within x = within_then x
+stage_then Answering x = answering_then x
+stage_then other x = Disordered
+
+abbrev pub all_staged : Stage → List Happening → Stage
+all_staged stage [] = stage
+all_staged stage (x ∷ xs) = all_staged (stage_then stage x) xs
+
+-- where a call stands when it ends so
+abbrev pub stage_at : Ended → Stage
+stage_at ended.TermOver = TurnedAway
+stage_at ended.GateShut = ShutOut
+stage_at ended.Idle = Blocked
+stage_at other = Outside
+
+abbrev pub stage_of : Option Ended → Stage
+stage_of None = Outside
+stage_of (Some stop) = stage_at stop
+
+-- the last answer is that a read would block
+abbrev pub EndsInBlock : List Answer → Type 0
+EndsInBlock answers = (front : List Answer) × (answers ≡ front ++ ReadBlocked ∷ [])

@@ -1,0 +1,117 @@
+-- Carriers and operators: what octets from each mean, and what goes out to each.
+use Rattle.std.specs.Prelude.{ℕ, Bool, true, false, List, [], ◌∷◌, ◌++◌, Option, Some, None, map}
+use Rattle.dmr_console.specs.declared.line_cutter.LineStep.{LineStep}
+use Rattle.dmr_console.specs.declared.line_cutter.LineStep.TheVariants as step
+use Rattle.dmr_console.specs.Commands.{command_of}
+use Rattle.dmr_console.specs.Lines.{open_in, kept}
+use Rattle.dmr_console.specs.Steps.{left_by, step_at}
+use Rattle.dmr_frames.specs.declared.frame.FrameOut.TheVariants as out
+use Rattle.dmr_frames.specs.Frames.{spelling_out}
+use Rattle.dmr_core.specs.declared.act.Acts.{Acts}
+use Rattle.dmr_core.specs.declared.entry.Entry.{Entry}
+use Rattle.dmr_core.specs.declared.event.Event.{Event}
+use Rattle.dmr_core.specs.declared.event.Event.TheVariants.{Say}
+use Rattle.dmr_link.specs.declared.connection.Connection.TheVariants.{Closed, Waiting, Running}
+use Rattle.dmr_link.specs.declared.connection.LineFault.TheVariants.{TooLong}
+use Rattle.dmr_link.specs.declared.connection.Notice.{Notice}
+use Rattle.dmr_link.specs.declared.connection.Notice.TheVariants.{Happened, Refused, Unheeded}
+use Rattle.dmr_link.specs.declared.desk.Deposit.{Deposit}
+use Rattle.dmr_link.specs.declared.ended.Closing.{Closing}
+use Rattle.dmr_link.specs.declared.stream.Peer.{Peer}
+use Rattle.dmr_link.specs.declared.stream.Peer.TheVariants.{Carrier, Operator}
+use Rattle.dmr_link.specs.declared.stream.Stream.{Stream}
+use Rattle.dmr_link.specs.declared.stream.Stream.TheVariants as stream
+use Rattle.dmr_link.specs.Closing.{closing_of_octets, closes}
+use Rattle.dmr_link.specs.Console.{asked, said_in, console_text, fault_text, reply_text}
+use Rattle.dmr_link.specs.Meaning.{meaning_of_octets, left_by_octets, told}
+use Rattle.dmr_link.specs.Session.{said, session_text}
+use Rattle.dmr_link.specs.Steps.{opened, brought, taken}
+
+-- ---- what octets mean
+
+-- MEANING of a connection: of the octets that came on it, and whether it has ended. A carrier's end is its Lost, if it was up; an
+-- operator's means nothing, nor does the line that it leaves open
+abbrev pub meaning_from : Peer → List ℕ → Bool → List Notice
+meaning_from (Carrier who) octets has_ended = meaning_of_octets who octets has_ended
+meaning_from Operator octets has_ended = said_in octets
+
+-- a connection on which these octets came; of an operator's open line the first 81 octets are kept
+abbrev pub left_from : Peer → List ℕ → Stream
+left_from (Carrier who) octets = stream.Frames who (left_by_octets who octets)
+left_from Operator octets = stream.Lines (kept (open_in octets))
+
+-- HOW OCTETS CLOSE a connection, if they do. An operator's never do
+abbrev pub closing_from : Peer → List ℕ → Option Closing
+closing_from (Carrier who) octets = closing_of_octets who octets
+closing_from Operator octets = None
+
+-- ---- what goes out
+
+-- an entry of a journal, as a desk took it
+abbrev pub entry_of_deposit : Deposit → Entry
+entry_of_deposit d = record { actor = 0; event = d.event; acts = d.acts }
+
+-- TEXT to a peer, of notices and of what a desk took: a carrier's session text, or the console text
+abbrev pub text_of : Peer → List Notice → List Deposit → List ℕ
+text_of (Carrier who) notices calls = session_text who.carrier notices (map entry_of_deposit calls)
+text_of Operator notices calls = console_text notices (map entry_of_deposit calls)
+
+-- what answers an event: a command's reply, or what the event and its answer say to their carrier
+abbrev pub answer_text : Event → Acts → List ℕ
+answer_text (Say command) acts = reply_text acts.said
+answer_text event acts = said event acts.list
+
+-- what is told of a notice that the site doesn't learn of
+abbrev pub aside_text : Notice → List ℕ
+aside_text (Happened event) = []
+aside_text (Refused c refusal) = spelling_out (out.Refused refusal)
+aside_text (Unheeded fault) = fault_text fault
+
+-- ---- octet by octet
+
+-- a connection that has just begun
+abbrev pub opened_for : Peer → Stream
+opened_for (Carrier who) = stream.Frames who opened
+opened_for Operator = stream.Lines []
+
+-- whether a connection is open
+abbrev pub is_going : Stream → Bool
+is_going stream.Closed = false
+is_going (stream.Frames who Closed) = false
+is_going (stream.Frames who (Waiting rest)) = true
+is_going (stream.Frames who (Running rest)) = true
+is_going (stream.Lines begun) = true
+
+-- the carrier that is up, if one is
+abbrev pub up_of : Stream → Option ℕ
+up_of (stream.Frames who (Running rest)) = Some who.carrier
+up_of other = None
+
+-- what a step of the line cutter brings
+abbrev pub line_brings : LineStep → Option Notice
+line_brings step.Need = None
+line_brings step.TooLong = Some (Unheeded TooLong)
+line_brings (step.Line line) = Some (asked (command_of line.items))
+
+-- what an octet brings
+abbrev pub brings : Stream → ℕ → Option Notice
+brings stream.Closed x = None
+brings (stream.Frames who k) x = brought who k x
+brings (stream.Lines begun) x = line_brings (step_at begun x)
+
+-- the connection after it
+abbrev pub left_after : Stream → ℕ → Stream
+left_after stream.Closed x = stream.Closed
+left_after (stream.Frames who k) x = stream.Frames who (taken who k x)
+left_after (stream.Lines begun) x = stream.Lines (left_by begun x)
+
+-- how it closes the connection, if it does
+abbrev pub closes_by : Stream → ℕ → Option Closing
+closes_by stream.Closed x = None
+closes_by (stream.Frames who k) x = closes who k x
+closes_by (stream.Lines begun) x = None
+
+-- what octets bring
+abbrev pub all_brings : Stream → List ℕ → List Notice
+all_brings k [] = []
+all_brings k (x ∷ xs) = told (brings k x) ++ all_brings (left_after k x) xs

@@ -101,6 +101,14 @@ abbrev pub stage_of : Option Ended → Stage
 stage_of None = Outside
 stage_of (Some stop) = stage_at stop
 
+-- how the gate is passed in a call that ends so, in which the desk took these events: it is entered and left for each; once more
+-- where the desk took one no more; and it is found shut where it was
+abbrev pub passages_of : List Deposit → Ended → List Passage
+passages_of [] ended.TermOver = Entered ∷ Left ∷ []
+passages_of [] ended.GateShut = Shut ∷ []
+passages_of [] other = []
+passages_of (d ∷ ds) stop = Entered ∷ Left ∷ passages_of ds stop
+
 -- the last answer is that a read would block
 abbrev pub EndsInBlock : List Answer → Type 0
 EndsInBlock answers = (front : List Answer) × (answers ≡ front ++ ReadBlocked ∷ [])

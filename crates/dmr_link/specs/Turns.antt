@@ -17,11 +17,11 @@ turn_at Closed x = turn.Closed
 turn_at (Waiting rest) x = turn.Waiting (fed rest x)
 turn_at (Running rest) x = turn.Running (fed rest x)
 
--- what it brings
-abbrev pub brings : Identity → Turn → Option Notice
-brings who turn.Closed = None
-brings who (turn.Waiting step) = waiting_brings who step
-brings who (turn.Running step) = running_brings who.carrier step
+-- what it brings_on
+abbrev pub brings_on : Identity → Turn → Option Notice
+brings_on who turn.Closed = None
+brings_on who (turn.Waiting step) = waiting_brings who step
+brings_on who (turn.Running step) = running_brings who.carrier step
 
 -- how it closes the connection, if it does
 abbrev pub closes_on : Identity → Turn → Option Closing

@@ -6,7 +6,7 @@ ghost use Rattle.dmr_link.specs.Meaning.{heard as event_heard, is_accepted, refu
 ghost use Rattle.dmr_link.specs.Closing.{closes, wrong_first as the_wrong_first, first_closes, frame_closes};
 ghost use Rattle.dmr_link.specs.Sound.{IsSound};
 ghost use Rattle.dmr_link.specs.Steps.{opened, brought, taken};
-ghost use Rattle.dmr_link.specs.Turns.{turn_at, brings, closes_on};
+ghost use Rattle.dmr_link.specs.Turns.{turn_at, brings_on, closes_on};
 
 use crate::ended::Closing;
 use dmr_bits::Word196;
@@ -56,7 +56,7 @@ pub enum Connection {
 }
 
 /// What an octet completes on a connection: a step of the cutter, and where the connection stood.
-#[derive(Clone, Copy, Debug, PartialEq, Eq)]
+#[derive(Clone, Copy)]
 pub enum Turn {
     /// No connection is open.
     Closed,
@@ -208,7 +208,7 @@ fn first_closing(who: &Identity, frame: &FrameIn) -> Option<Closing>
 impl Turn {
     /// What it brings.
     fn notice(&self, who: &Identity) -> Option<Notice>
-        ensures { result ≡ brings who.now self.now }
+        ensures { result ≡ brings_on who.now self.now }
     {
         match self {
             Turn::Closed => None,

@@ -4,7 +4,7 @@ ghost use Rattle.std.specs.Prelude.{◌≡◌, ◌^◌, ◌-◌, min};
 ghost use Rattle.dmr_link.specs.Meaning.{told};
 ghost use Rattle.dmr_link.specs.Room.{most_in};
 ghost use Rattle.dmr_link.specs.Steps.{all_brought};
-ghost use Rattle.dmr_link.specs.Turns.{brings};
+ghost use Rattle.dmr_link.specs.Turns.{brings_on};
 
 use crate::connection::{Connection, Identity, Turn};
 use dmr_frames::{FrameIn, Step};
@@ -17,7 +17,7 @@ const ANSWER_TO_POLL: usize = 58;
 
 /// The most octets that are put out for what an octet completes.
 fn most(turn: &Turn, who: &Identity) -> usize
-    ensures { result ≡ most_in (told (brings who.now turn.now)) }
+    ensures { result ≡ most_in (told (brings_on who.now turn.now)) }
 {
     match turn {
         Turn::Waiting(Step::Frame(FrameIn::Hello { .. })) => ANSWER_TO_HELLO,

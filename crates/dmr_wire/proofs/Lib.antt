@@ -1,0 +1,4 @@
+pub mod EntryLemmas
+pub mod RecordingLemmas
+pub mod ReadLemmas
+pub mod SortLemmas

@@ -1,5 +1,5 @@
 -- The answers of entries, as an entry and its octets are added to what is stored.
-use Rattle.std.proofs.Common.{suc, ◌≡◌, ℕ, ◌+◌, ◌-◌, ◌<◌, ◌≤◌, List, [], ◌∷◌, ◌++◌, Bool, true, ◌&&◌, nat_lt, nat_le, length, take, drop, map, sum_by, refl, sym, ◌∙◌, ap, arith, rules, length-append, length-drop, length-take-le}
+use Rattle.std.proofs.Common.{suc, ◌≡◌, ℕ, ◌+◌, ◌-◌, ◌<◌, ◌≤◌, List, [], ◌∷◌, ◌++◌, Bool, true, ◌&&◌, nat_lt, nat_le, length, take, drop, map, refl, sym, ◌∙◌, ap, arith, length-append, length-drop, length-take-le}
 use Rattle.std.proofs.lemmas.List.Sums.{sum_by-cons, sum_by_push}
 use Rattle.std.proofs.lemmas.List.{take-append-le, drop-append-le, take-append-drop, take-take}
 use Rattle.dmr_wire.specs.declared.wire.Got.TheVariants as got
@@ -9,7 +9,7 @@ use Rattle.dmr_wire.specs.declared.port.Waited.TheVariants as waited
 use Rattle.dmr_wire.specs.declared.recording.Entry.{Entry}
 use Rattle.dmr_wire.specs.declared.recording.Entry.TheVariants as entry
 use Rattle.dmr_wire.specs.declared.recording.Recording.TheInside.{Inside}
-use Rattle.dmr_wire.specs.Told.{Answer, Came, Took}
+use Rattle.dmr_wire.specs.Told.{Came, Took}
 use Rattle.dmr_wire.specs.Recording.{Recording, octets_of, count_in, octets_taken, taken_in, has_room}
 use Rattle.dmr_wire.specs.Entries.{entry_of, came_with, taken_with, answer_of, answers_of, IsStored}
 

@@ -1,4 +1,5 @@
 pub mod EntryLemmas
 pub mod RecordingLemmas
+mod PortCases
 pub mod ReadLemmas
 pub mod SortLemmas

@@ -1,5 +1,5 @@
 -- What a read of a port in memory answers.
-use Rattle.std.proofs.Common.{◌≡◌, ℕ, ◌<◌, List, [], ◌∷◌, arith, length-drop}
+use Rattle.std.proofs.Common.{ℕ, ◌<◌, List, [], ◌∷◌, arith, length-drop}
 use Rattle.dmr_wire.specs.declared.wire.Got.TheVariants as got
 use Rattle.dmr_wire.specs.declared.script.Reading.{Reading}
 use Rattle.dmr_wire.specs.declared.script.Reading.TheVariants.{Feed, Says}

@@ -1,5 +1,5 @@
 -- Steps that are sorted one by one.
-use Rattle.std.proofs.Common.{◌≡◌, ℕ, List, [], ◌∷◌, ◌++◌, Option, Some, None, IfSome, option_to_list, sym, ◌∙◌, ap, rules, append_assoc, arith}
+use Rattle.std.proofs.Common.{◌≡◌, ℕ, List, [], ◌∷◌, ◌++◌, Option, Some, None, IfSome, option_to_list, rules, arith}
 use Rattle.std.specs.List.{filter_map}
 use Rattle.std.proofs.lemmas.List.Elements.{filter_map-append}
 use Rattle.dmr_wire.specs.declared.wire.Got.TheVariants as got
@@ -9,22 +9,13 @@ use Rattle.dmr_wire.specs.declared.script.Reading.{Reading}
 use Rattle.dmr_wire.specs.declared.script.Script.{Script}
 use Rattle.dmr_wire.specs.Memory.{IsReading, AreReadings}
 use Rattle.dmr_wire.specs.Script.{feed_of, connect_of, reading_of, write_of, wait_of}
-use Rattle.dmr_wire.specs.Sorting.{Follows, IsSorting}
 
--- one list more
-one_more : {X Y : Type 0} (f : X → Option Y) (x : X) (left : List X) (now next all : List Y) → next ≡ now ++ filter_map f (x ∷ []) → now ++ filter_map f (x ∷ left) ≡ all → next ++ filter_map f left ≡ all
-one_more f x left now next all e h =
-    ap (λ ys. ys ++ filter_map f left) e
-    ∙ append_assoc now (filter_map f (x ∷ [])) (filter_map f left)
-    ∙ ap (λ ys. now ++ ys) (sym (filter_map-append f (x ∷ []) left)) ∙ h
-
-pub sorting-step : (old now next : Script) (steps left : List Step) (x : Step) → Follows now next (x ∷ []) → IsSorting old now steps (x ∷ left) → IsSorting old next steps left
-sorting-step old now next steps left x f s = record {
-  connects = one_more connect_of x left now.connects.items next.connects.items _ f.connects s.connects;
-  reads = one_more reading_of x left now.reads.items next.reads.items _ f.reads s.reads;
-  writes = one_more write_of x left now.writes.items next.writes.items _ f.writes s.writes;
-  waits = one_more wait_of x left now.waits.items next.waits.items _ f.waits s.waits;
-}
+-- what is sorted and the steps that are left give what all steps give
+pub record IsSorting (old now : Script) (steps left : List Step) : Type 0 where
+  pub connects : now.connects.items ++ filter_map connect_of left ≡ old.connects.items ++ filter_map connect_of steps
+  pub reads : now.reads.items ++ filter_map reading_of left ≡ old.reads.items ++ filter_map reading_of steps
+  pub writes : now.writes.items ++ filter_map write_of left ≡ old.writes.items ++ filter_map write_of steps
+  pub waits : now.waits.items ++ filter_map wait_of left ≡ old.waits.items ++ filter_map wait_of steps
 
 -- what steps give to reads
 feed-reading : (octets : List ℕ) → IfSome (feed_of octets) IsReading

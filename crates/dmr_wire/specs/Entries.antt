@@ -1,5 +1,5 @@
 -- The record, by what is stored of it: its entries, and all the octets that came and all that were taken.
-use Rattle.std.specs.Prelude.{◌≡◌, ℕ, ◌+◌, List, [], ◌∷◌, length, drop, sum_by}
+use Rattle.std.specs.Prelude.{◌≡◌, ℕ, List, [], ◌∷◌, length, drop, sum_by}
 use Rattle.dmr_wire.specs.declared.wire.Got.TheVariants as got
 use Rattle.dmr_wire.specs.declared.wire.Put.TheVariants as put
 use Rattle.dmr_wire.specs.declared.port.Connect.TheVariants as connect

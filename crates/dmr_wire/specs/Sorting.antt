@@ -26,10 +26,3 @@ pub record Follows (old new : Script) (steps : List Step) : Type 0 where
   pub reads : new.reads.items ≡ old.reads.items ++ filter_map reading_of steps
   pub writes : new.writes.items ≡ old.writes.items ++ filter_map write_of steps
   pub waits : new.waits.items ≡ old.waits.items ++ filter_map wait_of steps
-
--- steps are left that are to be sorted behind those that are
-pub record IsSorting (old now : Script) (steps left : List Step) : Type 0 where
-  pub connects : now.connects.items ++ filter_map connect_of left ≡ old.connects.items ++ filter_map connect_of steps
-  pub reads : now.reads.items ++ filter_map reading_of left ≡ old.reads.items ++ filter_map reading_of steps
-  pub writes : now.writes.items ++ filter_map write_of left ≡ old.writes.items ++ filter_map write_of steps
-  pub waits : now.waits.items ++ filter_map wait_of left ≡ old.waits.items ++ filter_map wait_of steps

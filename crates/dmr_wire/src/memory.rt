@@ -18,10 +18,12 @@ use std::alloc::Global;
 use std::marker::Model;
 
 /// A port that answers by steps, each for the next call of its kind. Where no step of the kind is left, a connect answers
-/// `Finished`, a read `End`, a write takes all octets, and a wait answers `Silent`. It tells the record of its answers as long as
-/// these are at most so many as it has room for, and have at most so many octets, those that came and those that were taken
-/// together. From the first answer on that goes beyond either it tells none, and goes on answering. Contracts see it as the steps
-/// that are left, by kind, and the record.
+/// `Finished`, a read `End`, a write takes all octets, and a wait answers `Silent`. Steps belong to no connection: what one leaves
+/// is for the next.
+///
+/// It tells its record as long as that has at most so many answers as there is room for, and at most so many octets, those that
+/// came and those that were taken together. From the first answer on that goes beyond either it tells none, and goes on
+/// answering. Contracts see it as the steps that are left, by kind, and the record.
 #[derive(Debug, Drop)]
 pub struct MemoryPort {
     script: Script,
@@ -74,7 +76,7 @@ impl MemoryPort {
     /// The entries of the record, the oldest first: each call and what it answered, without its octets. `None` where the port
     /// tells no record any more.
     pub fn entries(&self) -> Option<&[Entry]>
-        ensures { option_map (λ entries. entries.now) result ≡ option_map (λ answers. map entry_of answers) (told_by self.now.recording) }
+        ensures { option_map (λ entries. entries.now) result ≡ option_map (map entry_of) (told_by self.now.recording) }
     {
         self.recording.entries()
     }

@@ -106,8 +106,7 @@ impl Recording {
     fn has_room(&self, octets: usize) -> bool
         ensures { result ≡ has_room self.now octets }
     {
-        self.entries.len() < self.room
-            && octets <= self.room - self.came.len() - self.taken.len()
+        self.entries.len() < self.room && octets <= self.room - self.came.len() - self.taken.len()
     }
 
     /// The octets that were taken with the answers, in order.
@@ -119,7 +118,7 @@ impl Recording {
 
     /// The entries of the answers, the oldest first; `None` where the record is over.
     pub fn entries(&self) -> Option<&[Entry]>
-        ensures { option_map (λ entries. entries.now) result ≡ option_map (λ answers. map entry_of answers) (told_by self.now) }
+        ensures { option_map (λ entries. entries.now) result ≡ option_map (map entry_of) (told_by self.now) }
     {
         if self.is_over {
             return None;

@@ -92,8 +92,7 @@ impl Script {
         requires { HasRoom self.old (vec_len steps) }
         ensures { Follows self.old self.new steps.items }
     {
-        let mut left = VecDeque::from_vec(steps);
-        while let Some(step) = left.pop_front() {
+        for step in steps {
             self.add(step);
         }
     }

@@ -1,7 +1,5 @@
-use Rattle.std.proofs.Common.{◌≡◌, map, arith}
+use Rattle.std.proofs.Common.{arith}
 use Rattle.std.proofs.lemmas.Grind.{common_steps}
-use Rattle.dmr_wire.specs.Recording.{Recording}
-use Rattle.dmr_wire.specs.Entries.{answers_of, entry_of}
 use Rattle.dmr_wire.proofs.EntryLemmas.{entries-answers_of}
 use Rattle.dmr_wire.proofs.recording.Recording.entries.Goals as goal
 

@@ -1,4 +1,4 @@
-use Rattle.std.proofs.Common.{◌≡◌, ◌+◌, ◌<◌, ◌≤◌, List, ◌∷◌, [], ◌++◌, false, length, take, arith, sym, ◌∙◌, ap, length-append, length-take-le}
+use Rattle.std.proofs.Common.{◌≡◌, ◌+◌, ◌≤◌, List, ◌∷◌, [], ◌++◌, false, length, take, arith, sym, ◌∙◌, ap, length-append, length-take-le}
 use Rattle.std.proofs.lemmas.Grind.{common_steps}
 use Rattle.dmr_wire.specs.Told.{Answer}
 use Rattle.dmr_wire.specs.Recording.{Recording, octets_of, has_room}

@@ -1,5 +1,3 @@
-pub mod EntryLemmas
 pub mod RecordingLemmas
+pub mod ScriptLemmas
 mod PortCases
-pub mod ReadLemmas
-pub mod SortLemmas

@@ -18,11 +18,11 @@ use std::alloc::Global;
 use std::marker::Model;
 
 /// A port that answers by steps, each for the next call of its kind. Where no step of the kind is left, a connect answers
-/// `Finished`, a read `End`, a write takes all octets, and a wait answers `Silent`. Steps belong to no connection: what one leaves
-/// is for the next.
+/// `Finished`, a read `End`, a write takes all octets, and a wait answers `Silent`. Steps belong to no connection: what one
+/// leaves is for the next.
 ///
-/// It tells its record as long as that has at most so many answers as there is room for, and at most so many octets, those that
-/// came and those that were taken together. From the first answer on that goes beyond either it tells none, and goes on
+/// It tells its record as long as that has at most so many answers as there is room for, and at most so many octets, those
+/// that came and those that were taken together. From the first answer on that goes beyond either it tells none, and goes on
 /// answering. Contracts see it as the steps that are left, by kind, and the record.
 #[derive(Debug, Drop)]
 pub struct MemoryPort {
@@ -47,8 +47,8 @@ impl Model for MemoryPort {
 }
 
 impl MemoryPort {
-    /// A port of these steps, with room for a record of so many answers and of so many octets. No later call takes memory. `Err`
-    /// where there is no memory for it; the steps come back with it, as they were.
+    /// A port of these steps, with room for a record of so many answers and of so many octets. No later call takes memory.
+    /// `Err` where there is no memory for it, with the steps as they were.
     pub fn new(
         alloc: Global,
         steps: Vec<Step>,

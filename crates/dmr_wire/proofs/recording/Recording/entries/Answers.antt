@@ -1,6 +1,6 @@
 use Rattle.std.proofs.Common.{arith}
 use Rattle.std.proofs.lemmas.Grind.{common_steps}
-use Rattle.dmr_wire.proofs.EntryLemmas.{entries-answers_of}
+use Rattle.dmr_wire.proofs.RecordingLemmas.{entries-answers_of}
 use Rattle.dmr_wire.proofs.recording.Recording.entries.Goals as goal
 
 pub returns : goal.returns

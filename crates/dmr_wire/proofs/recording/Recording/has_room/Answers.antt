@@ -1,6 +1,6 @@
 use Rattle.std.proofs.Common.{arith}
 use Rattle.std.proofs.lemmas.Grind.{common_steps}
-use Rattle.dmr_wire.proofs.EntryLemmas.{has_room-stored}
+use Rattle.dmr_wire.proofs.RecordingLemmas.{has_room-stored}
 use Rattle.dmr_wire.proofs.recording.Recording.has_room.Goals as goal
 
 pub returns-then-len-self : goal.returns-then-len-self

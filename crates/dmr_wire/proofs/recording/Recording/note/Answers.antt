@@ -3,26 +3,25 @@ use Rattle.std.proofs.lemmas.Grind.{common_steps}
 use Rattle.dmr_wire.specs.Told.{Answer}
 use Rattle.dmr_wire.specs.Recording.{Recording, octets_of, has_room}
 use Rattle.dmr_wire.specs.Entries.{IsStored, came_with, taken_with, answer_of, answers_of}
-use Rattle.dmr_wire.proofs.EntryLemmas.{room_for_it, octets_of-answer_of, answers_of-push, stored-push}
-use Rattle.dmr_wire.proofs.RecordingLemmas.{noted-kept}
+use Rattle.dmr_wire.proofs.RecordingLemmas.{room_for_an_answer, octets_of-answer_of, answers_of-push, stored_push, noted-kept}
 use Rattle.dmr_wire.proofs.recording.Recording.note.Goals as goal
 
 pub unwrap-requires : goal.unwrap-requires
 unwrap-requires c =
     let a = c.self.inside in
-    let room = room_for_it a _ _ c.self.invariant.0 c.self.view_is c.if-not-has_room.ensures in
+    let room = room_for_an_answer a _ _ c.self.invariant.0 c.self.view_is c.if-not-has_room.ensures in
     c.extend_from_slice.ensures.succeeds (omega (arith, room, c.self.invariant, a.came.ok.0))
 
 pub unwrap-requires-2 : goal.unwrap-requires-2
 unwrap-requires-2 c =
     let a = c.self.inside in
-    let room = room_for_it a _ _ c.self.invariant.0 c.self.view_is c.if-not-has_room.ensures in
+    let room = room_for_an_answer a _ _ c.self.invariant.0 c.self.view_is c.if-not-has_room.ensures in
     c.extend_from_slice-2.ensures.succeeds (omega (arith, room, c.self.invariant, a.taken.ok.0))
 
 pub push_reserved-requires : goal.push_reserved-requires
 push_reserved-requires c =
     let a = c.self.inside in
-    let room = room_for_it a _ _ c.self.invariant.0 c.self.view_is c.if-not-has_room.ensures in
+    let room = room_for_an_answer a _ _ c.self.invariant.0 c.self.view_is c.if-not-has_room.ensures in
     omega (arith, room, c.self.invariant, a.entries.ok.0)
 
 -- the octets are stored behind those that were
@@ -37,9 +36,9 @@ invariant_of-self-2 c =
     let a = c.self.inside in
     let i = c.self.invariant in
     let octets = c.args.octets.now in
-    let room = room_for_it a _ _ i.0 c.self.view_is c.if-not-has_room.ensures in
+    let room = room_for_an_answer a _ _ i.0 c.self.view_is c.if-not-has_room.ensures in
     let stored : IsStored c.push_reserved.new.self.items c.extend_from_slice.new.self.items c.extend_from_slice-2.new.self.items =
-    rw (c.push_reserved.ensures.items, came_stored c, taken_stored c) (stored-push a.entries.items c.args.entry a.came.items a.taken.items octets i.0 c.requires) in
+    rw (c.push_reserved.ensures.items, came_stored c, taken_stored c) (stored_push a.entries.items c.args.entry a.came.items a.taken.items octets i.0 c.requires) in
     let came = ap length (came_stored c) ∙ length-append a.came.items (take (came_with c.args.entry) octets) in
     let taken = ap length (taken_stored c) ∙ length-append a.taken.items (take (taken_with c.args.entry) octets) in
     let count_came = ap (λ n. length (take n octets)) c.count_came.ensures in

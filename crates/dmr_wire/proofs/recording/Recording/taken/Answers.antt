@@ -1,6 +1,6 @@
 use Rattle.std.proofs.Common.{sym, ◌∙◌, ap}
 use Rattle.dmr_wire.specs.Recording.{Recording, taken_in}
-use Rattle.dmr_wire.proofs.EntryLemmas.{taken_in-answers_of}
+use Rattle.dmr_wire.proofs.RecordingLemmas.{taken_in-answers_of}
 use Rattle.dmr_wire.proofs.recording.Recording.taken.Goals as goal
 
 pub returns : goal.returns

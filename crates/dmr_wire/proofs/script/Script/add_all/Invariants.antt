@@ -1,6 +1,6 @@
 use Rattle.std.specs.VecDeque.{deque_len}
 use Rattle.dmr_wire.specs.Sorting.{HasRoom}
-use Rattle.dmr_wire.proofs.SortLemmas.{IsSorting}
+use Rattle.dmr_wire.proofs.ScriptLemmas.{IsSorting}
 use Rattle.dmr_wire.proofs.script.Script.add_all.Given as goal
 
 -- there is room for the steps that are left, and what is sorted and what is left are all of them

@@ -17,7 +17,7 @@ turn_at Closed x = turn.Closed
 turn_at (Waiting rest) x = turn.Waiting (fed rest x)
 turn_at (Running rest) x = turn.Running (fed rest x)
 
--- what it brings_on
+-- what it brings
 abbrev pub brings_on : Identity → Turn → Option Notice
 brings_on who turn.Closed = None
 brings_on who (turn.Waiting step) = waiting_brings who step

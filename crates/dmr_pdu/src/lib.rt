@@ -17,3 +17,8 @@ pub use bounded_list::{Blank, BoundedList};
 pub use numbers::{Address, Kind, Number, Options, Reason};
 pub use pdu::Pdu;
 pub use slots::{CarrierNo, Lpcn, Slot, SlotNo};
+
+use std::alloc::AllocError;
+
+/// No memory could be had for what was asked. It is what each call of the site's crates answers that may want memory.
+pub type OutOfMemory = AllocError;

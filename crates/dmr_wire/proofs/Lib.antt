@@ -1,0 +1,3 @@
+pub mod RecordingLemmas
+pub mod ScriptLemmas
+mod PortCases

@@ -1,0 +1,53 @@
+-- The record, by what is stored of it: its entries, and all the octets that came and all that were taken.
+use Rattle.std.specs.Prelude.{◌≡◌, ℕ, List, [], ◌∷◌, length, drop, sum_by}
+use Rattle.dmr_wire.specs.declared.wire.Got.TheVariants as got
+use Rattle.dmr_wire.specs.declared.wire.Put.TheVariants as put
+use Rattle.dmr_wire.specs.declared.port.Connect.TheVariants as connect
+use Rattle.dmr_wire.specs.declared.port.Waited.TheVariants as waited
+use Rattle.dmr_wire.specs.declared.recording.Entry.{Entry}
+use Rattle.dmr_wire.specs.declared.recording.Entry.TheVariants as entry
+use Rattle.dmr_wire.specs.Told.{Answer, Opened, NotYet, Finished, Came, InputEnded, ReadInterrupted, ReadBlocked, ReadFailed, Took, WriteInterrupted, WriteBlocked, WriteFailed, Again, Silent, of_read, of_write, of_connect, of_wait}
+
+-- the entry of an answer: how many octets it has stands in their place
+abbrev pub entry_of : Answer → Entry
+entry_of Opened = entry.Connect connect.Ready
+entry_of NotYet = entry.Connect connect.NotYet
+entry_of Finished = entry.Connect connect.Finished
+entry_of (Came octets) = entry.Read (got.Octets (length octets))
+entry_of InputEnded = entry.Read got.End
+entry_of ReadInterrupted = entry.Read got.Interrupted
+entry_of ReadBlocked = entry.Read got.Block
+entry_of ReadFailed = entry.Read got.Fault
+entry_of (Took octets) = entry.Write (put.Octets (length octets))
+entry_of WriteInterrupted = entry.Write put.Interrupted
+entry_of WriteBlocked = entry.Write put.Block
+entry_of WriteFailed = entry.Write put.Fault
+entry_of Again = entry.Wait waited.Again
+entry_of Silent = entry.Wait waited.Silent
+
+-- how many octets came with an entry
+abbrev pub came_with : Entry → ℕ
+came_with (entry.Read (got.Octets n)) = n
+came_with other = 0
+
+-- how many octets were taken with an entry
+abbrev pub taken_with : Entry → ℕ
+taken_with (entry.Write (put.Octets n)) = n
+taken_with other = 0
+
+-- the answer of an entry, whose octets are the first of those that came, or of those that were taken
+abbrev pub answer_of : Entry → List ℕ → List ℕ → Answer
+answer_of (entry.Connect answer) came taken = of_connect answer
+answer_of (entry.Read answer) came taken = of_read answer came
+answer_of (entry.Write answer) came taken = of_write answer taken
+answer_of (entry.Wait answer) came taken = of_wait answer
+
+-- the answers of entries, each with its octets
+abbrev pub answers_of : List Entry → List ℕ → List ℕ → List Answer
+answers_of [] came taken = []
+answers_of (e ∷ entries) came taken = answer_of e came taken ∷ answers_of entries (drop (came_with e) came) (drop (taken_with e) taken)
+
+-- the octets are those of the entries, no more and no fewer
+pub record IsStored (entries : List Entry) (came taken : List ℕ) : Type 0 where
+  pub came_all : sum_by came_with entries ≡ length came
+  pub taken_all : sum_by taken_with entries ≡ length taken

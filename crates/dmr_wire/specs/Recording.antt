@@ -1,0 +1,48 @@
+-- A record that is kept as long as there is room for its answers and for their octets.
+use Rattle.std.specs.Prelude.{ℕ, ◌+◌, List, [], ◌∷◌, ◌++◌, Bool, false, true, not, ◌&&◌, if◌then◌else◌, nat_lt, nat_le, Option, Some, None, length, sum_by}
+use Rattle.std.specs.List.{flat_map}
+use Rattle.dmr_wire.specs.Told.{Answer, Came, Took}
+
+-- the octets that came or were taken with an answer
+abbrev pub octets_of : Answer → List ℕ
+octets_of (Came octets) = octets
+octets_of (Took octets) = octets
+octets_of other = []
+
+-- how many octets came and were taken with answers, in all
+abbrev pub count_in : List Answer → ℕ
+count_in answers = sum_by (λ a. length (octets_of a)) answers
+
+-- the octets that were taken with an answer
+abbrev pub octets_taken : Answer → List ℕ
+octets_taken (Took octets) = octets
+octets_taken other = []
+
+-- the octets that were taken with answers, in order
+abbrev pub taken_in : List Answer → List ℕ
+taken_in answers = flat_map octets_taken answers
+
+-- the answers that are kept, the oldest first; and whether there was one without room, with which the record was over
+pub record Recording : Type 0 where
+  pub room : ℕ
+  pub answers : List Answer
+  pub is_over : Bool
+
+-- a record of no answers yet, with room for so many answers, and for so many octets
+abbrev pub empty_recording : ℕ → Recording
+empty_recording room = record { room = room; answers = []; is_over = false }
+
+-- the record that is told: none from the first answer on for which there was no room
+abbrev pub told_by : Recording → Option (List Answer)
+told_by recording = if recording.is_over then None else Some recording.answers
+
+-- whether there is room for one answer more, with so many octets
+abbrev pub has_room : Recording → ℕ → Bool
+has_room recording count = nat_lt (length recording.answers) recording.room && nat_le (count_in recording.answers + count) recording.room
+
+-- the record after one answer more
+abbrev pub noted : Recording → Answer → Recording
+noted recording answer =
+    if not recording.is_over && has_room recording (length (octets_of answer))
+    then record recording { answers = recording.answers ++ answer ∷ [] }
+    else record recording { is_over = true }

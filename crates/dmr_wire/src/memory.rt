@@ -1,0 +1,155 @@
+//! A port in memory.
+
+ghost use Rattle.std.specs.Prelude.{◌≡◌, ◌+◌, ◌<◌, ◌≤◌, ◌++◌, ◌∷◌, [], length, drop, map, option_map, slice_index_or, IfOk, IfErr};
+ghost use Rattle.dmr_wire.specs.Told.{Tells, GotWithin, PutWithin, of_read, of_write, of_connect, of_wait};
+ghost use Rattle.dmr_wire.specs.Recording.{empty_recording, noted, told_by, taken_in};
+ghost use Rattle.dmr_wire.specs.Entries.{entry_of};
+ghost use Rattle.dmr_wire.specs.Memory.{next_got, next_octets, reads_left, next_put};
+ghost use Rattle.dmr_wire.specs.Script.{memory_of};
+ghost use Rattle.dmr_wire.specs.Sorting.{HasRoom, IsEmpty};
+
+use crate::port::{Connect, Port, Waited};
+use crate::recording::{Entry, Recording};
+use crate::script::{Script, read_next};
+use crate::step::Step;
+use crate::wire::{Got, Put, Wire};
+use dmr_pdu::OutOfMemory;
+use std::alloc::Global;
+use std::marker::Model;
+
+/// A port that answers by steps, each for the next call of its kind. Where no step of the kind is left, a connect answers
+/// `Finished`, a read `End`, a write takes all octets, and a wait answers `Silent`. Steps belong to no connection: what one
+/// leaves is for the next.
+///
+/// It tells its record as long as that has at most so many answers as there is room for, and at most so many octets, those
+/// that came and those that were taken together. From the first answer on that goes beyond either it tells none, and goes on
+/// answering. Contracts see it as the steps that are left, by kind, and the record.
+#[derive(Debug, Drop)]
+pub struct MemoryPort {
+    script: Script,
+    recording: Recording,
+}
+
+impl Model for MemoryPort {
+    ghost use Rattle.dmr_wire.specs.Memory.{Memory, AreReadings};
+
+    ghost Value = { Memory };
+
+    ghost view = { λ p. record {
+      connects = p.script.connects.items;
+      reads = p.script.reads.items;
+      writes = p.script.writes.items;
+      waits = p.script.waits.items;
+      recording = p.recording;
+    } };
+
+    ghost invariant = { λ p. AreReadings p.script.reads.items };
+}
+
+impl MemoryPort {
+    /// A port of these steps, with room for a record of so many answers and of so many octets. No later call takes memory.
+    /// `Err` where there is no memory for it, with the steps as they were.
+    pub fn new(
+        alloc: Global,
+        steps: Vec<Step>,
+        room: usize,
+    ) -> Result<MemoryPort, (OutOfMemory, Vec<Step>)>
+        ensures ok { IfOk result (λ port. port ≡ memory_of steps.items room) }
+        ensures err { IfErr result (λ refused. refused.1 ≡ steps) }
+    {
+        match room_for(alloc, steps.len(), room) {
+            Ok((mut script, recording)) => {
+                script.add_all(steps);
+                Ok(MemoryPort { script, recording })
+            }
+            Err(refused) => Err((refused, steps)),
+        }
+    }
+
+    /// The octets that were taken, in order, as long as the record is told. From then on those that were taken till then.
+    pub fn taken(&self) -> &[u8]
+        ensures { result.now ≡ taken_in self.now.recording.answers }
+    {
+        self.recording.taken()
+    }
+
+    /// The entries of the record, the oldest first: each call and what it answered, without its octets. `None` where the port
+    /// tells no record any more.
+    pub fn entries(&self) -> Option<&[Entry]>
+        ensures { option_map (λ entries. entries.now) result ≡ option_map (map entry_of) (told_by self.now.recording) }
+    {
+        self.recording.entries()
+    }
+}
+
+impl Wire for MemoryPort {
+    ghost told = { λ port. told_by port.recording };
+
+    /// Answers by the next step for reads. The octets of the slice behind those that came stay as they were.
+    fn read(&mut self, octets: &mut [u8]) -> Got
+        requires { 0 < length octets.old }
+        ensures within { GotWithin result (length octets.new) }
+        ensures told { Tells (told_by self.old.recording) (of_read result octets.new ∷ []) (told_by self.new.recording) }
+        ensures got { result ≡ next_got self.old.reads (length octets.old) }
+        ensures octets { let given = next_octets self.old.reads (length octets.old) in octets.new ≡ given ++ drop (length given) octets.old }
+        ensures port { self.new ≡ record self.old { reads = reads_left self.old.reads (length octets.old); recording = noted self.old.recording (of_read result octets.new) } }
+    {
+        let got = read_next(&mut self.script.reads, octets);
+        self.recording.note(Entry::Read(got), octets);
+        got
+    }
+
+    /// Answers by the next step for writes.
+    fn write(&mut self, octets: &[u8]) -> Put
+        requires { 0 < length octets.now }
+        ensures within { PutWithin result (length octets.now) }
+        ensures told { Tells (told_by self.old.recording) (of_write result octets.now ∷ []) (told_by self.new.recording) }
+        ensures put { result ≡ next_put self.old.writes (length octets.now) }
+        ensures port { self.new ≡ record self.old { writes = drop 1 self.old.writes; recording = noted self.old.recording (of_write result octets.now) } }
+    {
+        let put = match self.script.writes.pop_front() {
+            None => Put::Octets(octets.len()),
+            Some(Put::Octets(count)) => Put::Octets(count.min(octets.len())),
+            Some(answer) => answer,
+        };
+        self.recording.note(Entry::Write(put), octets);
+        put
+    }
+}
+
+impl Port for MemoryPort {
+    /// Answers by the next step for connects.
+    fn connect(&mut self) -> Connect
+        ensures told { Tells (told_by self.old.recording) (of_connect result ∷ []) (told_by self.new.recording) }
+        ensures connect { result ≡ slice_index_or self.old.connects 0 Connect.Finished }
+        ensures port { self.new ≡ record self.old { connects = drop 1 self.old.connects; recording = noted self.old.recording (of_connect result) } }
+    {
+        let connects = &mut self.script.connects;
+        let connect = connects.pop_front().unwrap_or(Connect::Finished);
+        self.recording.note(Entry::Connect(connect), &[]);
+        connect
+    }
+
+    /// Answers by the next step for waits.
+    fn wait(&mut self) -> Waited
+        ensures told { Tells (told_by self.old.recording) (of_wait result ∷ []) (told_by self.new.recording) }
+        ensures waited { result ≡ slice_index_or self.old.waits 0 Waited.Silent }
+        ensures port { self.new ≡ record self.old { waits = drop 1 self.old.waits; recording = noted self.old.recording (of_wait result) } }
+    {
+        let waits = &mut self.script.waits;
+        let waited = waits.pop_front().unwrap_or(Waited::Silent);
+        self.recording.note(Entry::Wait(waited), &[]);
+        waited
+    }
+}
+
+/// The room for so many steps, and for a record of so many answers and so many octets. `Err` where there is no memory for it.
+fn room_for(alloc: Global, steps: usize, room: usize) -> Result<(Script, Recording), OutOfMemory>
+    ensures room { IfOk result (λ made. HasRoom made.0 steps) }
+    ensures none { IfOk result (λ made. IsEmpty made.0) }
+    ensures recording { IfOk result (λ made. made.1 ≡ empty_recording room) }
+{
+    let script = Script::new(alloc, steps)?;
+    let recording = Recording::new(alloc, room)?;
+    Ok((script, recording))
+}

@@ -17,3 +17,7 @@ pub use bounded_list::{Blank, BoundedList};
 pub use numbers::{Address, Kind, Number, Options, Reason};
 pub use pdu::Pdu;
 pub use slots::{CarrierNo, Lpcn, Slot, SlotNo};
+
+/// There is no memory for what a call takes; what is left then, the call says. It is std's `AllocError` under the name that the
+/// crates of a site have for it.
+pub use std::alloc::AllocError as OutOfMemory;

@@ -4,9 +4,9 @@ ghost use Rattle.std.specs.Prelude.{◌≡◌, ◌+◌, ◌≤◌, ◌↔◌, []
 ghost use Rattle.dmr_access.specs.Noise.{AreNoiseNumbers, noise_at_up, with_noise, with_poll, backoff_of};
 ghost use Rattle.dmr_access.specs.Fill.{aloha_of, fill_of, move_to};
 
-use dmr_pdu::{Address, Lpcn, Number, Pdu};
+use dmr_pdu::{Address, Lpcn, Number, OutOfMemory, Pdu};
 use dmr_plan::Plan;
-use std::alloc::{AllocError, Global};
+use std::alloc::Global;
 use std::marker::Model;
 
 /// How many noise numbers there are. A Noise counts until as many Polls came after it.
@@ -47,7 +47,7 @@ fn total(noise: &[u8]) -> u16
 impl Access {
     /// Access by a plan, with its control carrier down. It takes all the room that it needs; `Err` where there is no
     /// memory for that.
-    pub fn new(alloc: Global, plan: &Plan) -> Result<Access, AllocError>
+    pub fn new(alloc: Global, plan: &Plan) -> Result<Access, OutOfMemory>
         ensures { IfOk result (λ access. access ≡ record { plan = plan.now; noise = [] }) }
     {
         Ok(Access {
@@ -57,7 +57,7 @@ impl Access {
     }
 
     /// The same plan and noise numbers, with room of their own. `Err` where there is no memory for that.
-    pub fn try_clone(&self, alloc: Global) -> Result<Access, AllocError>
+    pub fn try_clone(&self, alloc: Global) -> Result<Access, OutOfMemory>
         ensures { IfOk result (λ copy. copy ≡ self.now) }
     {
         let mut noise = Vec::with_capacity(alloc, POLLS)?;

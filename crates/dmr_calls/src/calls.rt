@@ -16,8 +16,8 @@ use crate::ask::Asking;
 use crate::call::Standing;
 use crate::line::Line;
 use crate::ticks::{count_asks, count_calls};
-use dmr_pdu::Address;
-use std::alloc::{AllocError, Global};
+use dmr_pdu::{Address, OutOfMemory};
+use std::alloc::Global;
 use std::marker::Model;
 
 /// The most asks at a time.
@@ -53,7 +53,7 @@ impl Model for Calls {
 
 impl Calls {
     /// Nothing stands. It takes the room for 32 asks, 32 lines and 31 calls; `Err` where there is no memory for that.
-    pub fn new(alloc: Global) -> Result<Calls, AllocError>
+    pub fn new(alloc: Global) -> Result<Calls, OutOfMemory>
         ensures { IfOk result (λ calls. calls ≡ nothing) }
     {
         let asks = Vec::with_capacity(alloc, MOST_ASKS)?;
@@ -63,7 +63,7 @@ impl Calls {
     }
 
     /// The same, with room of its own. `Err` where there is no memory for that.
-    pub fn try_clone(&self, alloc: Global) -> Result<Calls, AllocError>
+    pub fn try_clone(&self, alloc: Global) -> Result<Calls, OutOfMemory>
         ensures { IfOk result (λ copy. copy ≡ self.now) }
     {
         let mut copy = Calls::new(alloc)?;

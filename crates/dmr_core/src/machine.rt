@@ -19,11 +19,11 @@ use crate::command::Command;
 use crate::event::Event;
 use dmr_access::Access;
 use dmr_calls::{Call, Calls};
-use dmr_pdu::{CarrierNo, Lpcn, Slot};
+use dmr_pdu::{CarrierNo, Lpcn, OutOfMemory, Slot};
 use dmr_plan::Plan;
 use dmr_pool::Pool;
 use dmr_registry::Registry;
-use std::alloc::{AllocError, Global};
+use std::alloc::Global;
 use std::marker::Model;
 
 /// A site in its parts: what it answers, and what changes, one step at a time.
@@ -62,7 +62,7 @@ fn numbers_of(slot: &Slot)
 impl Machine {
     /// A site of the plan on which nothing stands. `Err` where there is no memory for its parts.
     #[tactic(auto, using(crate::proofs::HeldLemmas::at_first))]
-    pub fn new(alloc: Global, plan: &Plan) -> Result<Machine, AllocError>
+    pub fn new(alloc: Global, plan: &Plan) -> Result<Machine, OutOfMemory>
         ensures { IfOk result (λ m. m ≡ record { plan = plan.now; facts = nothing }) }
     {
         let registry = Registry::new(alloc)?;
@@ -80,7 +80,7 @@ impl Machine {
     }
 
     /// A site of its own with the same plan and facts. `Err` where there is no memory for its parts.
-    pub fn try_clone(&self, alloc: Global) -> Result<Machine, AllocError>
+    pub fn try_clone(&self, alloc: Global) -> Result<Machine, OutOfMemory>
         ensures { IfOk result (λ copy. copy ≡ self.now) }
     {
         let registry = self.registry.try_clone(alloc)?;
@@ -150,7 +150,7 @@ impl Machine {
                     self.access.noise();
                 }
             }
-            Event::Active(slot) => self.calls.active(slot),
+            Event::Active(slot) => self.calls.active(*slot),
             Event::Poll(carrier) => {
                 if *carrier == self.plan.control() {
                     self.access.polled();
@@ -168,11 +168,10 @@ impl Machine {
         requires { MayBegin self.old.plan self.old.facts call.now }
         ensures { self.new ≡ record { plan = self.old.plan; facts = done self.old.facts (Began call.now) } }
     {
-        let slot = &call.slot;
-        numbers_of(slot);
+        numbers_of(&call.slot);
         self.pool.keeps();
-        self.pool.hold(slot);
-        let _ = self.calls.begin(call);
+        self.pool.hold(call.slot);
+        let _ = self.calls.begin(*call);
     }
 
     /// The call on a slot ends, and no longer holds it.
@@ -181,8 +180,8 @@ impl Machine {
     {
         numbers_of(slot);
         self.pool.keeps();
-        self.pool.release(slot);
-        let _ = self.calls.end(slot);
+        self.pool.release(*slot);
+        let _ = self.calls.end(*slot);
     }
 
     /// An act opens and closes what stands.
@@ -192,10 +191,10 @@ impl Machine {
     {
         match act {
             Act::Queue(slot, pdu) => {
-                let _ = self.pool.push(slot, pdu);
+                let _ = self.pool.push(*slot, *pdu);
             }
             Act::Send(slot, _) => {
-                let _ = self.pool.take(slot);
+                let _ = self.pool.take(*slot);
             }
             Act::Fill(_, _) => {}
             Act::Joined(radio) => {
@@ -205,11 +204,11 @@ impl Machine {
                 let _ = self.registry.leave(*radio);
             }
             Act::Asked(ask) => {
-                let _ = self.calls.ask(ask);
+                let _ = self.calls.ask(*ask);
             }
             Act::AskOver(source) => self.calls.ask_over(*source),
             Act::Lined(line) => {
-                let _ = self.calls.line(line);
+                let _ = self.calls.line(*line);
             }
             Act::Unlined(source) => self.calls.unline(*source),
             Act::Began(call) => self.begin(call),

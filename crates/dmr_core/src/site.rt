@@ -10,8 +10,9 @@ ghost use Rattle.dmr_core.specs.State.{IsSite};
 use crate::act::Acts;
 use crate::event::Event;
 use crate::machine::Machine;
+use dmr_pdu::OutOfMemory;
 use dmr_plan::Plan;
-use std::alloc::{AllocError, Global};
+use std::alloc::Global;
 use std::marker::Model;
 
 /// A trunked site. Contracts see it as its plan and its facts: which carriers are up, which radios are registered, the asks,
@@ -35,7 +36,7 @@ impl Model for Site {
 impl Site {
     /// The site of a plan on which nothing stands. It takes all the memory that it ever needs; `Err` where there is none
     /// for that.
-    pub fn new(alloc: Global, plan: Plan) -> Result<Site, AllocError>
+    pub fn new(alloc: Global, plan: Plan) -> Result<Site, OutOfMemory>
         ensures { IfOk result (λ site. site ≡ record { plan = plan; facts = nothing }) }
     {
         plan.keeps();
@@ -68,7 +69,7 @@ impl Site {
     }
 
     /// A site of its own with the same plan and facts. `Err` where there is no memory for it; this site stays as it is.
-    pub fn try_clone(&self, alloc: Global) -> Result<Site, AllocError>
+    pub fn try_clone(&self, alloc: Global) -> Result<Site, OutOfMemory>
         ensures { IfOk result (λ copy. copy ≡ self.now) }
     {
         Ok(Site {

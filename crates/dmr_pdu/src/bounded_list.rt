@@ -3,7 +3,7 @@
 ghost use Rattle.std.specs.Prelude.{◌≡◌, ◌<◌, ◌≤◌, ◌++◌, ◌∷◌, ◌↔◌, [], length, IsTrue};
 ghost use Rattle.std.specs.Cmp.Lexicographic.{pointwise, lists_per, lists_equiv};
 
-use std::alloc::AllocError;
+use crate::OutOfMemory;
 use std::fmt;
 use std::marker::Model;
 
@@ -48,7 +48,7 @@ impl<T: Blank, const N: usize> Clone for BoundedList<T, N> {
 
     ghost is_infallible = { λ _. ⊤ };
 
-    fn clone(&self) -> Result<Self, AllocError> {
+    fn clone(&self) -> Result<Self, OutOfMemory> {
         Ok(*self)
     }
 }

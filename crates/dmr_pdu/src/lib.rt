@@ -18,7 +18,6 @@ pub use numbers::{Address, Kind, Number, Options, Reason};
 pub use pdu::Pdu;
 pub use slots::{CarrierNo, Lpcn, Slot, SlotNo};
 
-use std::alloc::AllocError;
-
-/// No memory could be had for what was asked. It is what each call of the site's crates answers that may want memory.
-pub type OutOfMemory = AllocError;
+/// There was no memory for what a call takes; each call says what is left then. It is std's `AllocError` under the name that the
+/// site's crates have for it.
+pub use std::alloc::AllocError as OutOfMemory;

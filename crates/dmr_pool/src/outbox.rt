@@ -5,8 +5,8 @@ ghost use Rattle.std.specs.List.{list_any};
 ghost use Rattle.dmr_pool.specs.Free.{names};
 ghost use Rattle.dmr_pool.specs.Same.{are_same_pdus};
 
-use dmr_pdu::{Lpcn, Pdu, SlotNo};
-use std::alloc::{AllocError, Global};
+use dmr_pdu::{Lpcn, OutOfMemory, Pdu, SlotNo};
+use std::alloc::Global;
 use std::marker::Model;
 
 /// The most PDUs that wait for a slot.
@@ -53,7 +53,7 @@ impl Model for Outbox {
 
 impl Outbox {
     /// An outbox in which nothing waits, with room for 64 PDUs. `Err` where there is no memory for that.
-    pub fn new(alloc: Global) -> Result<Outbox, AllocError>
+    pub fn new(alloc: Global) -> Result<Outbox, OutOfMemory>
         ensures { IfOk result (λ outbox. outbox ≡ []) }
     {
         Ok(Outbox {
@@ -62,7 +62,7 @@ impl Outbox {
     }
 
     /// The same PDUs, with room of their own for 64. `Err` where there is no memory for that.
-    pub fn try_clone(&self, alloc: Global) -> Result<Outbox, AllocError>
+    pub fn try_clone(&self, alloc: Global) -> Result<Outbox, OutOfMemory>
         ensures { IfOk result (λ copy. copy ≡ self.now) }
     {
         let mut waiting = Vec::with_capacity(alloc, MOST_WAITING)?;
@@ -93,11 +93,11 @@ impl Outbox {
     }
 
     /// Puts a PDU behind those that wait. There must be a place for it.
-    pub fn push(&mut self, pdu: &Pdu)
+    pub fn push(&mut self, pdu: Pdu)
         requires { length self.old < 64 }
-        ensures { self.new ≡ self.old ++ pdu.now ∷ [] }
+        ensures { self.new ≡ self.old ++ pdu ∷ [] }
     {
-        self.waiting.push_reserved(*pdu);
+        self.waiting.push_reserved(pdu);
     }
 
     /// Takes out the PDU that has waited longest, if one waits.
@@ -137,7 +137,7 @@ impl PartialEq for Outbox {
 }
 
 /// The outboxes of a site on which nothing waits. `Err` where there is no memory for them.
-pub fn empty_outboxes(alloc: Global) -> Result<Vec<Outbox>, AllocError>
+pub fn empty_outboxes(alloc: Global) -> Result<Vec<Outbox>, OutOfMemory>
     ensures { IfOk result (λ outboxes. outboxes.items ≡ replicate 32 []) }
 {
     let mut outboxes = Vec::with_capacity(alloc, OUTBOXES)?;
@@ -148,7 +148,7 @@ pub fn empty_outboxes(alloc: Global) -> Result<Vec<Outbox>, AllocError>
 }
 
 /// The same outboxes with room of their own. `Err` where there is no memory for that.
-pub fn copied_outboxes(alloc: Global, outboxes: &[Outbox]) -> Result<Vec<Outbox>, AllocError>
+pub fn copied_outboxes(alloc: Global, outboxes: &[Outbox]) -> Result<Vec<Outbox>, OutOfMemory>
     ensures { IfOk result (λ copies. copies.items ≡ outboxes.now) }
 {
     let mut copies = Vec::with_capacity(alloc, outboxes.len())?;

@@ -9,9 +9,9 @@ ghost use Rattle.dmr_pool.specs.Same.{are_alike, are_same};
 
 use crate::outbox::{MOST_WAITING, Outbox, copied_outboxes, empty_outboxes};
 use crate::places::{place_of, slot_at};
-use dmr_pdu::{CarrierNo, Pdu, Slot, SlotNo};
+use dmr_pdu::{CarrierNo, OutOfMemory, Pdu, Slot, SlotNo};
 use dmr_plan::Plan;
-use std::alloc::{AllocError, Global};
+use std::alloc::Global;
 use std::marker::Model;
 
 /// There is no place for another PDU: 64 wait for the slot.
@@ -52,7 +52,7 @@ impl Model for Pool {
 impl Pool {
     /// The slots of a plan's site on which nothing is up, held or waiting. It takes the room for 64 PDUs in each of the 32
     /// outboxes; `Err` where there is no memory for that.
-    pub fn new(alloc: Global, plan: &Plan) -> Result<Pool, AllocError>
+    pub fn new(alloc: Global, plan: &Plan) -> Result<Pool, OutOfMemory>
         ensures { IfOk result (λ pool. pool ≡ nothing_on plan.now) }
     {
         Ok(Pool {
@@ -65,7 +65,7 @@ impl Pool {
 
     /// The same plan, carriers up, held slots and waiting PDUs, with room of their own. `Err` where there is no memory for
     /// that.
-    pub fn try_clone(&self, alloc: Global) -> Result<Pool, AllocError>
+    pub fn try_clone(&self, alloc: Global) -> Result<Pool, OutOfMemory>
         ensures { IfOk result (λ copy. copy ≡ self.now) }
     {
         Ok(Pool {
@@ -144,20 +144,20 @@ impl Pool {
     fn lowest_free(&self) -> Option<Slot>
         ensures { result ≡ lowest_free self.now }
     {
-        (0..32).map(slot_at).find(|slot| self.is_free(slot))
+        (0..32).map(slot_at).find(|slot| self.is_free(*slot))
     }
 
     /// Whether a slot is free for a call: its carrier is in the plan and up, it is not the control slot, no call holds it,
     /// nothing waits for it, and no grant of it waits for the control slot.
-    pub fn is_free(&self, slot: &Slot) -> bool
-        ensures { result ≡ is_free self.now slot.now }
+    pub fn is_free(&self, slot: Slot) -> bool
+        ensures { result ≡ is_free self.now slot }
     {
         self.plan.carrier_with(slot.carrier).is_some()
             && self.is_up(slot.carrier)
-            && !self.is_control(slot)
-            && !self.held[place_of(slot)]
+            && !self.is_control(&slot)
+            && !self.held[place_of(&slot)]
             && self.waiting(slot) == 0
-            && !self.is_granted(slot)
+            && !self.is_granted(&slot)
     }
 
     /// Slot 0 of the control carrier.
@@ -189,56 +189,56 @@ impl Pool {
     }
 
     /// A call takes a slot, which must be free: it is held from now on.
-    pub fn hold(&mut self, slot: &Slot)
-        requires { IsTrue (is_free self.old slot.now) }
-        ensures { self.new ≡ record self.old { held = slice_set self.old.held (place slot.now) true } }
+    pub fn hold(&mut self, slot: Slot)
+        requires { IsTrue (is_free self.old slot) }
+        ensures { self.new ≡ record self.old { held = slice_set self.old.held (place slot) true } }
     {
-        self.held[place_of(slot)] = true;
+        self.held[place_of(&slot)] = true;
     }
 
     /// No call holds a slot any longer. One that none holds stays as it is.
-    pub fn release(&mut self, slot: &Slot)
-        ensures { self.new ≡ record self.old { held = slice_set self.old.held (place slot.now) false } }
+    pub fn release(&mut self, slot: Slot)
+        ensures { self.new ≡ record self.old { held = slice_set self.old.held (place slot) false } }
     {
-        self.held[place_of(slot)] = false;
+        self.held[place_of(&slot)] = false;
     }
 
     /// Puts a PDU behind those that wait for a slot, whose carrier must be up. `Err` says that 64 wait, and then nothing is
     /// changed.
-    pub fn push(&mut self, slot: &Slot, pdu: &Pdu) -> Result<(), Full>
-        requires { IsTrue (is_up self.old.up slot.now.carrier) }
-        ensures full { IsErr result ↔ (length (box self.old.outboxes slot.now) ≡ 64) }
-        ensures ok { OnOk result (self.new ≡ record self.old { outboxes = queued self.old.outboxes slot.now pdu.now }) }
+    pub fn push(&mut self, slot: Slot, pdu: Pdu) -> Result<(), Full>
+        requires { IsTrue (is_up self.old.up slot.carrier) }
+        ensures full { IsErr result ↔ (length (box self.old.outboxes slot) ≡ 64) }
+        ensures ok { OnOk result (self.new ≡ record self.old { outboxes = queued self.old.outboxes slot pdu }) }
         ensures err { OnErr result (self.new ≡ self.old) }
     {
         if self.waiting(slot) >= MOST_WAITING {
             return Err(Full);
         }
-        self.outboxes[place_of(slot)].push(pdu);
+        self.outboxes[place_of(&slot)].push(pdu);
         Ok(())
     }
 
     /// Takes out the PDU that has waited longest for a slot, if one waits.
-    pub fn take(&mut self, slot: &Slot) -> Option<Pdu>
-        ensures first { result ≡ slice_get (box self.old.outboxes slot.now) 0 }
-        ensures rest { self.new ≡ record self.old { outboxes = sent self.old.outboxes slot.now } }
+    pub fn take(&mut self, slot: Slot) -> Option<Pdu>
+        ensures first { result ≡ slice_get (box self.old.outboxes slot) 0 }
+        ensures rest { self.new ≡ record self.old { outboxes = sent self.old.outboxes slot } }
     {
-        self.outboxes[place_of(slot)].take()
+        self.outboxes[place_of(&slot)].take()
     }
 
     /// The PDU that has waited longest for a slot, if one waits.
-    pub fn first(&self, slot: &Slot) -> Option<Pdu>
-        ensures { result ≡ slice_get (box self.now.outboxes slot.now) 0 }
+    pub fn first(&self, slot: Slot) -> Option<Pdu>
+        ensures { result ≡ slice_get (box self.now.outboxes slot) 0 }
     {
-        self.outboxes[place_of(slot)].first()
+        self.outboxes[place_of(&slot)].first()
     }
 
     /// How many PDUs wait for a slot: 0 to 64.
-    pub fn waiting(&self, slot: &Slot) -> usize
-        ensures value { result ≡ length (box self.now.outboxes slot.now) }
+    pub fn waiting(&self, slot: Slot) -> usize
+        ensures value { result ≡ length (box self.now.outboxes slot) }
         ensures few { result ≤ 64 }
     {
-        self.outboxes[place_of(slot)].len()
+        self.outboxes[place_of(&slot)].len()
     }
 
     /// Whether two have the same plan, and the same stands on their slots.

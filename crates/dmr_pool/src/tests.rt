@@ -62,7 +62,7 @@ fn private_grant() -> Pdu {
 }
 
 /// Puts a PDU behind those that wait for a slot, whose carrier is up.
-fn queue(pool: &mut Pool, slot: &Slot, pdu: &Pdu) -> Result<(), Fail> {
+fn queue(pool: &mut Pool, slot: Slot, pdu: Pdu) -> Result<(), Fail> {
     if !pool.is_up(slot.carrier) {
         return Err("a carrier that is up".into());
     }
@@ -75,7 +75,7 @@ fn queue(pool: &mut Pool, slot: &Slot, pdu: &Pdu) -> Result<(), Fail> {
 /// A call takes the lowest free slot.
 fn take_lowest(pool: &mut Pool) -> Option<Slot> {
     let slot = pool.free_slot()?;
-    pool.hold(&slot);
+    pool.hold(slot);
     Some(slot)
 }
 
@@ -83,15 +83,15 @@ fn take_lowest(pool: &mut Pool) -> Option<Slot> {
 fn gives_the_lowest_free_slot(rt: HostRuntime) -> Result<(), Fail> {
     let mut pool = pool(rt.alloc())?;
     pool.keeps();
-    assert!(rt; !pool.is_free(&slot(0, 0)));
+    assert!(rt; !pool.is_free(slot(0, 0)));
     for wanted in [slot(0, 1), slot(1, 0), slot(1, 1)] {
-        assert!(rt; pool.is_free(&wanted));
+        assert!(rt; pool.is_free(wanted));
         assert_eq!(rt; take_lowest(&mut pool), Some(wanted));
-        assert!(rt; !pool.is_free(&wanted));
+        assert!(rt; !pool.is_free(wanted));
     }
     assert_eq!(rt; pool.free_slot(), None);
-    pool.release(&slot(1, 0));
-    pool.release(&slot(1, 0));
+    pool.release(slot(1, 0));
+    pool.release(slot(1, 0));
     assert_eq!(rt; pool.free_slot(), Some(slot(1, 0)));
     Ok(())
 }
@@ -99,34 +99,34 @@ fn gives_the_lowest_free_slot(rt: HostRuntime) -> Result<(), Fail> {
 #[test]
 fn a_slot_for_which_something_waits_is_not_free(rt: HostRuntime) -> Result<(), Fail> {
     let mut pool = pool(rt.alloc())?;
-    queue(&mut pool, &slot(0, 0), &group_grant())?;
-    assert!(rt; !pool.is_free(&slot(1, 0)) && pool.is_free(&slot(1, 1)));
-    queue(&mut pool, &slot(0, 0), &private_grant())?;
-    assert!(rt; !pool.is_free(&slot(1, 0)) && !pool.is_free(&slot(1, 1)));
-    queue(&mut pool, &slot(0, 1), &moving(2))?;
-    assert!(rt; !pool.is_free(&slot(0, 1)));
+    queue(&mut pool, slot(0, 0), group_grant())?;
+    assert!(rt; !pool.is_free(slot(1, 0)) && pool.is_free(slot(1, 1)));
+    queue(&mut pool, slot(0, 0), private_grant())?;
+    assert!(rt; !pool.is_free(slot(1, 0)) && !pool.is_free(slot(1, 1)));
+    queue(&mut pool, slot(0, 1), moving(2))?;
+    assert!(rt; !pool.is_free(slot(0, 1)));
     assert_eq!(rt; pool.free_slot(), None);
-    assert_eq!(rt; pool.take(&slot(0, 0)), Some(group_grant()));
+    assert_eq!(rt; pool.take(slot(0, 0)), Some(group_grant()));
     assert_eq!(rt; pool.free_slot(), Some(slot(1, 0)));
-    assert_eq!(rt; pool.take(&slot(0, 1)), Some(moving(2)));
+    assert_eq!(rt; pool.take(slot(0, 1)), Some(moving(2)));
     assert_eq!(rt; pool.free_slot(), Some(slot(0, 1)));
-    assert!(rt; !pool.is_free(&slot(1, 1)));
-    assert_eq!(rt; pool.take(&slot(0, 0)), Some(private_grant()));
-    assert!(rt; pool.is_free(&slot(1, 1)));
+    assert!(rt; !pool.is_free(slot(1, 1)));
+    assert_eq!(rt; pool.take(slot(0, 0)), Some(private_grant()));
+    assert!(rt; pool.is_free(slot(1, 1)));
     Ok(())
 }
 
 #[test]
 fn a_lost_carrier_has_no_free_slot(rt: HostRuntime) -> Result<(), Fail> {
     let mut pool = pool(rt.alloc())?;
-    queue(&mut pool, &slot(1, 1), &moving(1))?;
+    queue(&mut pool, slot(1, 1), moving(1))?;
     assert_eq!(rt; take_lowest(&mut pool), Some(slot(0, 1)));
     assert_eq!(rt; take_lowest(&mut pool), Some(slot(1, 0)));
     assert_eq!(rt; pool.carriers_up(), 2);
     pool.lost(CarrierNo::new(1));
     assert_eq!(rt; pool.carriers_up(), 1);
     assert!(rt; !pool.is_up(CarrierNo::new(1)) && pool.is_up(CarrierNo::new(0)));
-    assert_eq!(rt; pool.waiting(&slot(1, 1)), 0);
+    assert_eq!(rt; pool.waiting(slot(1, 1)), 0);
     assert_eq!(rt; pool.free_slot(), None);
     Ok(())
 }
@@ -134,14 +134,14 @@ fn a_lost_carrier_has_no_free_slot(rt: HostRuntime) -> Result<(), Fail> {
 #[test]
 fn an_emptied_carrier_stays_up(rt: HostRuntime) -> Result<(), Fail> {
     let mut pool = pool(rt.alloc())?;
-    queue(&mut pool, &slot(1, 1), &moving(1))?;
+    queue(&mut pool, slot(1, 1), moving(1))?;
     assert_eq!(rt; take_lowest(&mut pool), Some(slot(0, 1)));
     assert_eq!(rt; take_lowest(&mut pool), Some(slot(1, 0)));
     pool.empty(CarrierNo::new(1));
     assert!(rt; pool.is_up(CarrierNo::new(1)));
-    assert_eq!(rt; pool.waiting(&slot(1, 1)), 0);
-    assert!(rt; pool.is_free(&slot(1, 0)) && pool.is_free(&slot(1, 1)));
-    assert!(rt; !pool.is_free(&slot(0, 1)));
+    assert_eq!(rt; pool.waiting(slot(1, 1)), 0);
+    assert!(rt; pool.is_free(slot(1, 0)) && pool.is_free(slot(1, 1)));
+    assert!(rt; !pool.is_free(slot(0, 1)));
     Ok(())
 }
 
@@ -151,9 +151,9 @@ fn alike_whatever_calls_hold(rt: HostRuntime) -> Result<(), Fail> {
     let copy = pool.try_clone(rt.alloc())?;
     assert_eq!(rt; take_lowest(&mut pool), Some(slot(0, 1)));
     assert!(rt; pool.is_as(&copy) && pool != copy);
-    queue(&mut pool, &slot(1, 1), &moving(1))?;
+    queue(&mut pool, slot(1, 1), moving(1))?;
     assert!(rt; !pool.is_as(&copy));
-    assert_eq!(rt; pool.take(&slot(1, 1)), Some(moving(1)));
+    assert_eq!(rt; pool.take(slot(1, 1)), Some(moving(1)));
     assert!(rt; pool.is_as(&copy));
     pool.lost(CarrierNo::new(1));
     assert!(rt; !pool.is_as(&copy));
@@ -165,20 +165,20 @@ fn sends_the_oldest_first(rt: HostRuntime) -> Result<(), Fail> {
     let mut pool = pool(rt.alloc())?;
     let control = slot(0, 0);
     for channel in 1..65 {
-        assert_eq!(rt; pool.waiting(&control), channel as usize - 1);
-        queue(&mut pool, &control, &moving(channel))?;
+        assert_eq!(rt; pool.waiting(control), channel as usize - 1);
+        queue(&mut pool, control, moving(channel))?;
     }
     assert!(rt; pool.is_up(control.carrier));
     let copy = pool.try_clone(rt.alloc())?;
     if pool.is_up(control.carrier) {
-        assert_eq!(rt; pool.push(&control, &moving(65)), Err(Full));
+        assert_eq!(rt; pool.push(control, moving(65)), Err(Full));
     }
     assert!(rt; pool == copy);
     for channel in 1..65 {
-        assert_eq!(rt; pool.first(&control), Some(moving(channel)));
-        assert_eq!(rt; pool.take(&control), Some(moving(channel)));
+        assert_eq!(rt; pool.first(control), Some(moving(channel)));
+        assert_eq!(rt; pool.take(control), Some(moving(channel)));
     }
-    assert_eq!(rt; pool.take(&control), None);
+    assert_eq!(rt; pool.take(control), None);
     assert!(rt; pool != copy);
     Ok(())
 }

@@ -5,8 +5,8 @@ ghost use Rattle.std.specs.List.{All, Contains};
 ghost use Rattle.dmr_registry.specs.Radios.{AreDistinct, is_held, answer_to_join, joined, without};
 ghost use Rattle.dmr_registry.specs.Least.{held_from, least_from, AreLeast};
 
-use dmr_pdu::{Address, BoundedList};
-use std::alloc::{AllocError, Global};
+use dmr_pdu::{Address, BoundedList, OutOfMemory};
+use std::alloc::Global;
 use std::marker::Model;
 
 /// The most radios that can be registered at a time.
@@ -36,7 +36,7 @@ impl Model for Registry {
 
 impl Registry {
     /// A registry without radios. It takes the room for 4,096 of them; `Err` where there is no memory for that.
-    pub fn new(alloc: Global) -> Result<Registry, AllocError>
+    pub fn new(alloc: Global) -> Result<Registry, OutOfMemory>
         ensures { IfOk result (λ registry. registry ≡ []) }
     {
         Ok(Registry {
@@ -45,7 +45,7 @@ impl Registry {
     }
 
     /// The same radios in the same order, with room of their own for 4,096. `Err` where there is no memory for that.
-    pub fn try_clone(&self, alloc: Global) -> Result<Registry, AllocError>
+    pub fn try_clone(&self, alloc: Global) -> Result<Registry, OutOfMemory>
         ensures { IfOk result (λ copy. copy ≡ self.now) }
     {
         let mut radios = Vec::with_capacity(alloc, MOST_RADIOS)?;

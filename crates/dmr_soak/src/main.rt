@@ -38,9 +38,9 @@ use crate::model::{Link, Model};
 use crate::scene::{SIXTEEN_CARRIERS, Scene, TWO_CARRIERS};
 use crate::traffic::{Meaning, OPERATORS, Step, Traffic};
 use dmr_link::{Engine, Input, Outputs};
-use dmr_pdu::CarrierNo;
+use dmr_pdu::{CarrierNo, OutOfMemory};
 use dmr_plan::Plan;
-use std::alloc::{AllocError, Global};
+use std::alloc::Global;
 use std::process::ExitCode;
 use std::{env, io};
 
@@ -87,7 +87,7 @@ struct Run {
 
 impl Run {
     /// The engine and the model take what comes next: what is to be put out for the party that wrote octets.
-    fn step(&mut self, step: &Step, outputs: &mut Outputs) -> Result<Vec<u8>, AllocError> {
+    fn step(&mut self, step: &Step, outputs: &mut Outputs) -> Result<Vec<u8>, OutOfMemory> {
         let mut text = Vec::new(self.alloc);
         match step {
             Step::Turn(carrier, link) => {
@@ -96,12 +96,12 @@ impl Run {
                         Link::Open => Input::Open(number),
                         _ => Input::Cut(number),
                     };
-                    self.engine.step(&input, outputs)?;
+                    self.engine.step(input, outputs)?;
                 }
                 self.model.turn(*carrier, *link);
             }
             Step::Tick => {
-                self.engine.step(&Input::Tick, outputs)?;
+                self.engine.step(Input::Tick, outputs)?;
                 self.model.tick()?;
             }
             Step::Piece(party, count) => {
@@ -110,7 +110,7 @@ impl Run {
                     Some(carrier) => Input::Bytes(carrier, octets.as_slice()),
                     None => Input::Text(octets.as_slice()),
                 };
-                self.engine.step(&input, outputs)?;
+                self.engine.step(input, outputs)?;
                 for meaning in meanings.as_slice() {
                     if let Meaning::Said(said) = meaning {
                         let reply = self.model.say(self.alloc, said)?;
@@ -125,7 +125,7 @@ impl Run {
     }
 
     /// An input comes: the carrier, or the operators by their number 16, for whom something else is put out than should be.
-    fn test(&mut self) -> Result<Option<u8>, AllocError> {
+    fn test(&mut self) -> Result<Option<u8>, OutOfMemory> {
         let step = self.traffic.next(&self.model)?;
         let mut outputs = Outputs::new(self.alloc);
         let text = self.step(&step, &mut outputs)?;

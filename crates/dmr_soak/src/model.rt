@@ -4,7 +4,8 @@ use crate::Counts;
 use crate::burst::{Pdu, burst_of, pdu_of};
 use crate::scene::{Scene, Slot};
 use crate::traffic::Meaning;
-use std::alloc::{AllocError, Global};
+use dmr_pdu::OutOfMemory;
+use std::alloc::Global;
 use std::collections::VecDeque;
 
 /// The address that calls are cleared from.
@@ -85,7 +86,7 @@ fn named(slot: Slot) -> u16 {
 
 impl Model {
     /// Nothing stands.
-    pub fn new(alloc: Global, scene: &Scene) -> Result<Model, AllocError> {
+    pub fn new(alloc: Global, scene: &Scene) -> Result<Model, OutOfMemory> {
         let mut outboxes = Vec::new(alloc);
         for _ in 0..32 {
             outboxes.push(VecDeque::new(alloc))?;
@@ -175,7 +176,7 @@ impl Model {
         None
     }
 
-    fn queue(&mut self, slot: Slot, times: u32, pdu: Pdu) -> Result<(), AllocError> {
+    fn queue(&mut self, slot: Slot, times: u32, pdu: Pdu) -> Result<(), OutOfMemory> {
         if let Some(outbox) = self.outboxes.get_mut(slot.place()) {
             for _ in 0..times {
                 outbox.push_back(pdu)?;
@@ -185,7 +186,7 @@ impl Model {
     }
 
     /// A radio is told how its request goes on.
-    pub fn acknowledge(&mut self, request: &Request, name: &str) -> Result<(), AllocError> {
+    pub fn acknowledge(&mut self, request: &Request, name: &str) -> Result<(), OutOfMemory> {
         self.counts.add(name);
         let place = NAMES.split(", ").position(|other| other == name);
         let reason = REASONS.get(place.unwrap_or(0)).copied().unwrap_or(0);
@@ -195,7 +196,7 @@ impl Model {
     }
 
     /// A call's radios are sent to its slot.
-    pub fn grant(&mut self, call: &Request, is_late: bool) -> Result<(), AllocError> {
+    pub fn grant(&mut self, call: &Request, is_late: bool) -> Result<(), OutOfMemory> {
         self.counts
             .add(if is_late { "late grants" } else { "grants" });
         let half = named(call.slot) | u16::from(is_late) << 2;
@@ -205,7 +206,7 @@ impl Model {
     }
 
     /// The called radio is asked.
-    pub fn ask(&mut self, ask: &Request) -> Result<(), AllocError> {
+    pub fn ask(&mut self, ask: &Request) -> Result<(), OutOfMemory> {
         self.counts.add("C_AHOY");
         self.requests.push(*ask)?;
         let pdu = pdu_of(0x9C, ask.options << 9, ask.target, ask.source);
@@ -214,7 +215,7 @@ impl Model {
     }
 
     /// A call begins on a slot.
-    pub fn begin(&mut self, slot: Slot, request: &Request) -> Result<(), AllocError> {
+    pub fn begin(&mut self, slot: Slot, request: &Request) -> Result<(), OutOfMemory> {
         let mut call = *request;
         (call.stage, call.slot) = (Stage::Call, slot);
         (call.age, call.quiet) = (0, 0);
@@ -229,7 +230,7 @@ impl Model {
     }
 
     /// A call ends, and its radios are sent back to the control channel.
-    pub fn clear(&mut self, call: &Request) -> Result<(), AllocError> {
+    pub fn clear(&mut self, call: &Request) -> Result<(), OutOfMemory> {
         self.counts.add("P_CLEAR");
         self.remove(call);
         let half = named(self.scene.control_slot()) | u16::from(call.group);
@@ -272,7 +273,7 @@ impl Model {
         carrier: u8,
         meaning: &Meaning,
         text: &mut Vec<u8>,
-    ) -> Result<(), AllocError> {
+    ) -> Result<(), OutOfMemory> {
         let link = self.links.get(usize::from(carrier)).copied();
         let control = self.scene.control_slot();
         match (link.unwrap_or(Link::Closed), meaning) {
@@ -317,7 +318,7 @@ impl Model {
         pdu
     }
 
-    fn poll(&mut self, carrier: u8, text: &mut Vec<u8>) -> Result<(), AllocError> {
+    fn poll(&mut self, carrier: u8, text: &mut Vec<u8>) -> Result<(), OutOfMemory> {
         for side in 0..2 {
             let slot = Slot { carrier, side };
             let outbox = self.outboxes.get_mut(slot.place());

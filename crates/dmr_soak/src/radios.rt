@@ -6,7 +6,8 @@ use crate::model::{Model, Stage};
 use crate::requests::Said;
 use crate::scene::Slot;
 use crate::traffic::Traffic;
-use std::alloc::{AllocError, Global};
+use dmr_pdu::OutOfMemory;
+use std::alloc::Global;
 
 /// The address that registrations are sent to.
 const REGI: u32 = 0xFF_FEC6;
@@ -146,7 +147,7 @@ pub fn command(draws: &mut Draws, model: &Model) -> Said {
     }
 }
 
-fn words(alloc: Global, draws: &mut Draws, said: &Said) -> Result<String, AllocError> {
+fn words(alloc: Global, draws: &mut Draws, said: &Said) -> Result<String, OutOfMemory> {
     match said {
         Said::Status | Said::TooLong => String::from_str(alloc, "status"),
         Said::Radios(from) => format!(in alloc; "radios {from}"),
@@ -165,7 +166,7 @@ fn words(alloc: Global, draws: &mut Draws, said: &Said) -> Result<String, AllocE
 }
 
 /// A line of an operator: now and then with spaces up to the 80 octets that it may have with its end, or of too many.
-pub fn line(alloc: Global, draws: &mut Draws, said: &Said) -> Result<String, AllocError> {
+pub fn line(alloc: Global, draws: &mut Draws, said: &Said) -> Result<String, OutOfMemory> {
     let mut line = words(alloc, draws, said)?;
     let end = if draws.chance(4) { "\r\n" } else { "\n" };
     let length = match said {

@@ -3,7 +3,8 @@
 use crate::burst::Pdu;
 use crate::model::{Model, Request, Stage};
 use crate::scene::Slot;
-use std::alloc::{AllocError, Global};
+use dmr_pdu::OutOfMemory;
+use std::alloc::Global;
 
 /// A line of an operator.
 #[derive(Clone, Copy)]
@@ -23,7 +24,7 @@ pub enum Said {
     TooLong,
 }
 
-fn write_parties(text: &mut String, request: &Request) -> Result<(), AllocError> {
+fn write_parties(text: &mut String, request: &Request) -> Result<(), OutOfMemory> {
     let kind = if request.group { "group" } else { "radio" };
     let (source, target) = (request.source, request.target);
     writeln!(text, "{kind} {target} from {source}")
@@ -31,7 +32,7 @@ fn write_parties(text: &mut String, request: &Request) -> Result<(), AllocError>
 
 impl Model {
     /// A PDU comes on the control slot. It is heard only with room.
-    pub fn heard(&mut self, pdu: &Pdu) -> Result<(), AllocError> {
+    pub fn heard(&mut self, pdu: &Pdu) -> Result<(), OutOfMemory> {
         if !self.has_room() {
             self.counts.add("requests without room");
             return Ok(());
@@ -57,7 +58,7 @@ impl Model {
     }
 
     /// A radio asks for something: seven bits of options, five flags, and the kind in four.
-    fn request(&mut self, request: &Request, half: u16) -> Result<(), AllocError> {
+    fn request(&mut self, request: &Request, half: u16) -> Result<(), OutOfMemory> {
         let radio = request.source;
         let reason = match half & 0x0F {
             _ if half & 0x01F0 != 0 => "Not_Supported",
@@ -81,7 +82,7 @@ impl Model {
         first <= radio && radio <= last
     }
 
-    fn registration(&mut self, request: &Request) -> Result<&'static str, AllocError> {
+    fn registration(&mut self, request: &Request) -> Result<&'static str, OutOfMemory> {
         let radio = request.source;
         if request.options.wrapping_shr(self.scene.leave_bit) & 1 == 0 {
             self.leave(radio)?;
@@ -100,7 +101,7 @@ impl Model {
     }
 
     /// A radio leaves, and what it is engaged in ends. Who called it is told.
-    pub fn leave(&mut self, radio: u32) -> Result<(), AllocError> {
+    pub fn leave(&mut self, radio: u32) -> Result<(), OutOfMemory> {
         self.registered.retain(|other| *other != radio);
         let Some(request) = self.engaging(radio) else {
             return Ok(());
@@ -115,7 +116,7 @@ impl Model {
         Ok(())
     }
 
-    fn call(&mut self, request: &Request) -> Result<(), AllocError> {
+    fn call(&mut self, request: &Request) -> Result<(), OutOfMemory> {
         let (source, target) = (request.source, request.target);
         let (first, last) = self.scene.groups;
         let reason = if request.group && (target < first || target > last) {
@@ -146,7 +147,7 @@ impl Model {
         self.acknowledge(request, reason)
     }
 
-    fn again(&mut self, request: &Request, other: &Request) -> Result<(), AllocError> {
+    fn again(&mut self, request: &Request, other: &Request) -> Result<(), OutOfMemory> {
         match other.stage {
             Stage::Ask => self.acknowledge(request, "Wait"),
             Stage::Line => self.acknowledge(request, "Queued_For_Resource"),
@@ -154,7 +155,7 @@ impl Model {
         }
     }
 
-    fn begin_or_line(&mut self, request: &Request) -> Result<(), AllocError> {
+    fn begin_or_line(&mut self, request: &Request) -> Result<(), OutOfMemory> {
         let lines = self.number(Stage::Line);
         match self.free_slot() {
             Some(slot) if lines == 0 => self.begin(slot, request),
@@ -168,7 +169,7 @@ impl Model {
         }
     }
 
-    fn answer(&mut self, radio: u32, reason: u16) -> Result<(), AllocError> {
+    fn answer(&mut self, radio: u32, reason: u16) -> Result<(), OutOfMemory> {
         match self.engaging(radio) {
             Some(ask) if ask.stage == Stage::Ask && ask.target == radio => {
                 self.remove(&ask);
@@ -182,7 +183,7 @@ impl Model {
     }
 
     /// The clock goes on by one. Room and the free slot are those that it finds.
-    pub fn tick(&mut self) -> Result<(), AllocError> {
+    pub fn tick(&mut self) -> Result<(), OutOfMemory> {
         for request in self.requests.iter_mut() {
             request.age = request.age.saturating_add(1);
             request.quiet = request.quiet.saturating_add(1);
@@ -202,7 +203,7 @@ impl Model {
         Ok(())
     }
 
-    fn end_first(&mut self) -> Result<(), AllocError> {
+    fn end_first(&mut self) -> Result<(), OutOfMemory> {
         let (hang, maximum) = (self.scene.hang, self.scene.maximum);
         let is_over = |call: &Request| call.quiet >= hang || call.age >= maximum;
         let is_due = |call: &&Request| call.stage == Stage::Call && is_over(call);
@@ -212,7 +213,7 @@ impl Model {
         }
     }
 
-    fn ask_again(&mut self) -> Result<(), AllocError> {
+    fn ask_again(&mut self) -> Result<(), OutOfMemory> {
         match self.nth(Stage::Ask, 0) {
             Some(mut ask) if ask.age >= 8 => {
                 self.remove(&ask);
@@ -228,7 +229,7 @@ impl Model {
     }
 
     /// An operator's line ends: the reply.
-    pub fn say(&mut self, alloc: Global, said: &Said) -> Result<String, AllocError> {
+    pub fn say(&mut self, alloc: Global, said: &Said) -> Result<String, OutOfMemory> {
         let mut text = String::new(alloc);
         match said {
             Said::Status => self.write_status(&mut text)?,
@@ -248,7 +249,7 @@ impl Model {
         Ok(text)
     }
 
-    fn write_status(&self, text: &mut String) -> Result<(), AllocError> {
+    fn write_status(&self, text: &mut String) -> Result<(), OutOfMemory> {
         let carriers = (0..self.scene.carriers).filter(|number| self.is_up(*number));
         let (carriers, radios) = (carriers.count(), self.registered.len());
         write!(text, "status carriers {carriers} radios {radios}")?;
@@ -261,7 +262,7 @@ impl Model {
         }
     }
 
-    fn write_radios(&self, text: &mut String, from: u32) -> Result<(), AllocError> {
+    fn write_radios(&self, text: &mut String, from: u32) -> Result<(), OutOfMemory> {
         let radios = self.registered.iter().filter(|radio| **radio >= from);
         for radio in radios.take(16) {
             writeln!(text, "radio {radio}")?;
@@ -269,7 +270,7 @@ impl Model {
         text.push_str("end\n")
     }
 
-    fn write_calls(&self, text: &mut String, carrier: u8) -> Result<(), AllocError> {
+    fn write_calls(&self, text: &mut String, carrier: u8) -> Result<(), OutOfMemory> {
         if carrier >= self.scene.carriers {
             return text.push_str("error no carrier\n");
         }
@@ -283,7 +284,7 @@ impl Model {
     }
 
     /// The lines from a place on, which is counted from 1.
-    fn write_lines(&self, text: &mut String, from: u32) -> Result<(), AllocError> {
+    fn write_lines(&self, text: &mut String, from: u32) -> Result<(), OutOfMemory> {
         for place in from..from.saturating_add(16) {
             if let Some(line) = self.nth(Stage::Line, place.saturating_sub(1) as usize) {
                 write!(text, "line {place} ")?;
@@ -293,7 +294,7 @@ impl Model {
         text.push_str("end\n")
     }
 
-    fn write_slots(&self, text: &mut String) -> Result<(), AllocError> {
+    fn write_slots(&self, text: &mut String) -> Result<(), OutOfMemory> {
         for carrier in 0..self.scene.carriers {
             for side in 0..2 {
                 let slot = Slot { carrier, side };
@@ -310,7 +311,7 @@ impl Model {
         text.push_str("end\n")
     }
 
-    fn drop_radio(&mut self, radio: u32) -> Result<&'static str, AllocError> {
+    fn drop_radio(&mut self, radio: u32) -> Result<&'static str, OutOfMemory> {
         match (self.is_registered(radio), self.has_room()) {
             (false, _) => return Ok("error not registered\n"),
             (true, false) => return Ok("error busy\n"),
@@ -319,7 +320,7 @@ impl Model {
         Ok("ok\n")
     }
 
-    fn end_call(&mut self, slot: Slot) -> Result<&'static str, AllocError> {
+    fn end_call(&mut self, slot: Slot) -> Result<&'static str, OutOfMemory> {
         match self.call_on(slot) {
             _ if slot.carrier >= self.scene.carriers => return Ok("error no carrier\n"),
             None => return Ok("error no call\n"),

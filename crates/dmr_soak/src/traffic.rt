@@ -9,7 +9,8 @@ use crate::requests::Said;
 use crate::scene::{Scene, Slot};
 use dmr_bits::Word196;
 use dmr_burst::read;
-use std::alloc::{AllocError, Global};
+use dmr_pdu::OutOfMemory;
+use std::alloc::Global;
 use std::collections::VecDeque;
 
 /// The number of the operators among those who write octets; those below it are the carriers.
@@ -80,7 +81,7 @@ pub fn hello(carrier: u8) -> [u8; 6] {
 
 impl Traffic {
     /// Nothing is written.
-    pub fn new(alloc: Global, scene: &Scene, seed: u64) -> Result<Traffic, AllocError> {
+    pub fn new(alloc: Global, scene: &Scene, seed: u64) -> Result<Traffic, OutOfMemory> {
         let mut streams = Vec::new(alloc);
         for _ in 0..=OPERATORS {
             streams.push(VecDeque::new(alloc))?;
@@ -97,7 +98,11 @@ impl Traffic {
     }
 
     /// Octets of a party come: what they are, and what they mean.
-    pub fn come(&mut self, party: u8, count: usize) -> Result<(Vec<u8>, Vec<Meaning>), AllocError> {
+    pub fn come(
+        &mut self,
+        party: u8,
+        count: usize,
+    ) -> Result<(Vec<u8>, Vec<Meaning>), OutOfMemory> {
         let mut octets = Vec::new(self.alloc);
         let mut meanings = Vec::new(self.alloc);
         if let Some(stream) = self.streams.get_mut(usize::from(party)) {
@@ -139,7 +144,12 @@ impl Traffic {
     }
 
     /// A party writes octets, which mean nothing before their last.
-    fn put(&mut self, party: u8, octets: &[u8], last: Option<Meaning>) -> Result<Step, AllocError> {
+    fn put(
+        &mut self,
+        party: u8,
+        octets: &[u8],
+        last: Option<Meaning>,
+    ) -> Result<Step, OutOfMemory> {
         let last_place = octets.len().saturating_sub(1);
         if let Some(stream) = self.streams.get_mut(usize::from(party)) {
             for (place, octet) in octets.iter().enumerate() {
@@ -157,7 +167,7 @@ impl Traffic {
         Step::Turn(carrier, link)
     }
 
-    fn wrong_hello(&mut self, carrier: u8) -> Result<Step, AllocError> {
+    fn wrong_hello(&mut self, carrier: u8) -> Result<Step, OutOfMemory> {
         let mut octets = hello(carrier);
         let place = 2 + self.draws.place(4);
         if let Some(octet) = octets.get_mut(place) {
@@ -167,7 +177,7 @@ impl Traffic {
         self.put(carrier, &octets, Some(Meaning::WrongHello(refusal)))
     }
 
-    fn fault(&mut self, carrier: u8) -> Result<Step, AllocError> {
+    fn fault(&mut self, carrier: u8) -> Result<Step, OutOfMemory> {
         let mut burst = self.any_burst();
         if self.draws.chance(4) {
             burst[24] |= 1 + self.draws.small(15);
@@ -180,7 +190,7 @@ impl Traffic {
         self.put(carrier, burst.get(..length).unwrap_or(&[]), None)
     }
 
-    fn lose(&mut self, carrier: u8) -> Result<Step, AllocError> {
+    fn lose(&mut self, carrier: u8) -> Result<Step, OutOfMemory> {
         if self.draws.chance(8) {
             return Ok(self.forget(carrier, Link::Closed));
         }
@@ -208,12 +218,17 @@ impl Traffic {
     }
 
     /// A burst comes on a slot.
-    pub fn hear(&mut self, slot: Slot, burst: Burst, pdu: Option<Pdu>) -> Result<Step, AllocError> {
+    pub fn hear(
+        &mut self,
+        slot: Slot,
+        burst: Burst,
+        pdu: Option<Pdu>,
+    ) -> Result<Step, OutOfMemory> {
         self.put(slot.carrier, &[0x02, 0x1A, slot.side], None)?;
         self.put(slot.carrier, &burst, Some(Meaning::Burst(slot, pdu)))
     }
 
-    fn send(&mut self, slot: Slot, pdu: &Pdu) -> Result<Step, AllocError> {
+    fn send(&mut self, slot: Slot, pdu: &Pdu) -> Result<Step, OutOfMemory> {
         let mut flips = self.draws.place(4);
         if self.draws.chance(60) {
             flips = 4 + self.draws.place(9);
@@ -245,7 +260,7 @@ impl Traffic {
         Slot { carrier, side }
     }
 
-    fn activity(&mut self, model: &Model) -> Result<Step, AllocError> {
+    fn activity(&mut self, model: &Model) -> Result<Step, OutOfMemory> {
         let slot = match self.draws.request(model, Stage::Call) {
             Some(call) if !self.draws.chance(6) => call.slot,
             _ => self.slot(),
@@ -254,7 +269,7 @@ impl Traffic {
         self.put(slot.carrier, &octets, Some(Meaning::Active(slot)))
     }
 
-    fn poll(&mut self, model: &Model) -> Result<Step, AllocError> {
+    fn poll(&mut self, model: &Model) -> Result<Step, OutOfMemory> {
         let mut slot = self.slot();
         for _ in 0..8 {
             if model.waiting(slot) == 0 {
@@ -267,7 +282,7 @@ impl Traffic {
         self.put(slot.carrier, &[0x03, 0x00], Some(Meaning::Poll))
     }
 
-    fn say(&mut self, said: Said) -> Result<Step, AllocError> {
+    fn say(&mut self, said: Said) -> Result<Step, OutOfMemory> {
         let line = line(self.alloc, &mut self.draws, &said)?;
         self.put(OPERATORS, line.as_bytes(), Some(Meaning::Said(said)))
     }
@@ -286,7 +301,7 @@ impl Traffic {
     }
 
     /// What comes to the engine next, by what stands: more of what was begun, a carrier that comes up, or a deed.
-    pub fn next(&mut self, model: &Model) -> Result<Step, AllocError> {
+    pub fn next(&mut self, model: &Model) -> Result<Step, OutOfMemory> {
         let first = self.draws.small(17);
         for more in 0..17u8 {
             let party = (first % 17 + more) % 17;
@@ -313,7 +328,7 @@ impl Traffic {
         self.deed(model)
     }
 
-    fn deed(&mut self, model: &Model) -> Result<Step, AllocError> {
+    fn deed(&mut self, model: &Model) -> Result<Step, OutOfMemory> {
         let slot = self.slot();
         match self.mode.sort(&mut self.draws) {
             Sort::Active => self.activity(model),

@@ -5,8 +5,8 @@ mod runs;
 
 use crate::site_file::{SMALL, plan_of};
 use dmr_link::{Engine, Input, Outputs};
-use dmr_pdu::CarrierNo;
-use std::alloc::{AllocError, Global};
+use dmr_pdu::{CarrierNo, OutOfMemory};
+use std::alloc::Global;
 use std::process::Abort;
 use std::test::Fail;
 
@@ -79,7 +79,7 @@ fn takes_steps(rt: &(impl Abort + AllocGlobal), name: &str, told: &[Told]) -> Re
     let mut engine = engine(rt.alloc())?;
     let mut outputs = Outputs::new(rt.alloc());
     for came in came.as_slice() {
-        engine.step(&came.as_input(), &mut outputs)?;
+        engine.step(came.as_input(), &mut outputs)?;
     }
     are_put_out(rt, name, told, &outputs)?;
     Ok(())
@@ -107,7 +107,7 @@ fn all_that_came(
     alloc: Global,
     told: &[Told],
     place: Option<usize>,
-) -> Result<Vec<Came>, AllocError> {
+) -> Result<Vec<Came>, OutOfMemory> {
     let mut came = Vec::new(alloc);
     for (step, _) in told {
         let octets = octets_of(alloc, step)?;
@@ -125,7 +125,7 @@ fn all_that_came(
 }
 
 /// The octets of a step, in one piece.
-fn octets_of(alloc: Global, step: &Step) -> Result<Vec<u8>, AllocError> {
+fn octets_of(alloc: Global, step: &Step) -> Result<Vec<u8>, OutOfMemory> {
     match step {
         Step::Bytes(_, octets) | Step::Text(octets) => joined(alloc, octets),
         _ => Ok(Vec::new(alloc)),
@@ -138,7 +138,7 @@ fn has_octets(step: &Step) -> bool {
 }
 
 /// What comes with a step, with octets in the place of its own.
-fn came_of(alloc: Global, step: &Step, octets: &[u8]) -> Result<Came, AllocError> {
+fn came_of(alloc: Global, step: &Step, octets: &[u8]) -> Result<Came, OutOfMemory> {
     Ok(match step {
         Step::Open(number) => Came::Open(carrier(*number)),
         Step::Bytes(number, _) => Came::Bytes(carrier(*number), octets.to_vec(alloc)?),
@@ -149,7 +149,7 @@ fn came_of(alloc: Global, step: &Step, octets: &[u8]) -> Result<Came, AllocError
 }
 
 /// Octets, piece behind piece.
-fn joined(alloc: Global, pieces: &[&[u8]]) -> Result<Vec<u8>, AllocError> {
+fn joined(alloc: Global, pieces: &[&[u8]]) -> Result<Vec<u8>, OutOfMemory> {
     let mut octets = Vec::new(alloc);
     for piece in pieces {
         octets.extend_from_slice(*piece)?;
@@ -163,11 +163,11 @@ fn carrier(number: u32) -> CarrierNo {
 }
 
 /// The inputs that came.
-fn inputs_of<'a>(alloc: Global, came: &'a [Came]) -> Result<Vec<Input<'a>>, AllocError> {
+fn inputs_of<'a>(alloc: Global, came: &'a [Came]) -> Result<Vec<Input<'a>>, OutOfMemory> {
     let mut inputs = Vec::new(alloc);
     for came in came {
         if inputs.push(came.as_input()).is_err() {
-            return Err(AllocError);
+            return Err(OutOfMemory);
         }
     }
     Ok(inputs)
@@ -179,7 +179,7 @@ fn are_put_out(
     name: &str,
     told: &[Told],
     outputs: &Outputs,
-) -> Result<(), AllocError> {
+) -> Result<(), OutOfMemory> {
     for number in 0..16 {
         let wanted = wanted_for(rt.alloc(), told, Some(number))?;
         let octets = outputs.carrier(carrier(number));
@@ -191,7 +191,7 @@ fn are_put_out(
 }
 
 /// What is to be put out for a carrier; for operators where there is none.
-fn wanted_for(alloc: Global, told: &[Told], carrier: Option<u32>) -> Result<Vec<u8>, AllocError> {
+fn wanted_for(alloc: Global, told: &[Told], carrier: Option<u32>) -> Result<Vec<u8>, OutOfMemory> {
     let mut octets = Vec::new(alloc);
     for (step, pieces) in told {
         if place_of(step) == carrier {

@@ -18,13 +18,14 @@
 
 pub mod words;
 
-use std::alloc::{AllocError, Global};
+use dmr_pdu::OutOfMemory;
+use std::alloc::Global;
 use std::process::Abort;
 
 /// What stories are told to.
 pub trait Listener {
     /// Writes what answers words; `?` where it doesn't know them.
-    fn hear(&mut self, told: &str, said: &mut String) -> Result<(), AllocError>;
+    fn hear(&mut self, told: &str, said: &mut String) -> Result<(), OutOfMemory>;
 }
 
 /// Tells a listener a story of a name, and wants each line to be answered so.
@@ -33,7 +34,7 @@ pub fn tell<L: Listener>(
     listener: &mut L,
     name: &str,
     story: &str,
-) -> Result<(), AllocError> {
+) -> Result<(), OutOfMemory> {
     for part in story.split("\n\n") {
         let (first, last, lines) = rounds_of(part).unwrap_or((0, 0, part));
         for round in first..=last {
@@ -57,7 +58,7 @@ pub fn tell_in_round<L: Listener>(
     name: &str,
     round: u32,
     lines: &str,
-) -> Result<(), AllocError> {
+) -> Result<(), OutOfMemory> {
     for line in lines.lines() {
         if !line.is_empty() && !line.starts_with('#') {
             let line = raised(rt.alloc(), round, line)?;
@@ -73,7 +74,7 @@ fn tell_line<L: Listener>(
     listener: &mut L,
     name: &str,
     line: &str,
-) -> Result<(), AllocError> {
+) -> Result<(), OutOfMemory> {
     let (told, wanted) = line.split_once(" =>").unwrap_or((line, "no answer"));
     let wanted = wanted.strip_prefix(' ').unwrap_or(wanted);
     let (times, told) = times_of(told);
@@ -95,7 +96,7 @@ fn times_of(told: &str) -> (u32, &str) {
 }
 
 /// A line as it is told in a round: each PDU by its twenty digits, and numbers with a `+` raised.
-fn raised(alloc: Global, round: u32, line: &str) -> Result<String, AllocError> {
+fn raised(alloc: Global, round: u32, line: &str) -> Result<String, OutOfMemory> {
     let mut text = String::new(alloc);
     for word in line.split(' ') {
         if !text.is_empty() {
@@ -112,7 +113,7 @@ fn raised(alloc: Global, round: u32, line: &str) -> Result<String, AllocError> {
 }
 
 /// Writes a word as it is told in a round.
-fn write_raised(text: &mut String, round: u32, word: &str) -> Result<(), AllocError> {
+fn write_raised(text: &mut String, round: u32, word: &str) -> Result<(), OutOfMemory> {
     if let Some((head, first, second)) = addressed(round, word) {
         write!(text, "{head:08X}{first:06X}{second:06X}")?;
     } else if let Some(digits) = word.strip_suffix('+') {

@@ -19,7 +19,8 @@ use self::finds::{find_ask_or_line, find_call, find_own};
 use crate::language::Listener;
 use crate::language::words::{cut, write_truth};
 use dmr_calls::Calls;
-use std::alloc::{AllocError, Global};
+use dmr_pdu::OutOfMemory;
+use std::alloc::Global;
 
 /// The asks, lines and calls of a site, and a copy of them.
 #[derive(Drop)]
@@ -31,7 +32,7 @@ pub struct Lists {
 
 impl Lists {
     /// Nothing stands.
-    pub fn new(alloc: Global) -> Result<Lists, AllocError> {
+    pub fn new(alloc: Global) -> Result<Lists, OutOfMemory> {
         Ok(Lists {
             calls: Calls::new(alloc)?,
             copy: Calls::new(alloc)?,
@@ -41,7 +42,7 @@ impl Lists {
 }
 
 impl Listener for Lists {
-    fn hear(&mut self, told: &str, said: &mut String) -> Result<(), AllocError> {
+    fn hear(&mut self, told: &str, said: &mut String) -> Result<(), OutOfMemory> {
         match told {
             "copy" => self.copy = self.calls.try_clone(self.alloc)?,
             "same" => write_truth(said, self.calls == self.copy)?,
@@ -54,7 +55,7 @@ impl Listener for Lists {
 
 impl Lists {
     /// Writes what answers the name of a method, and what stands behind it.
-    fn answer(&mut self, told: &str, said: &mut String) -> Result<(), AllocError> {
+    fn answer(&mut self, told: &str, said: &mut String) -> Result<(), OutOfMemory> {
         let (word, rest) = cut(told);
         let calls = &mut self.calls;
         if let Some(answer) = change_calls(calls, word, rest) {

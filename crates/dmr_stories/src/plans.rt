@@ -2,9 +2,9 @@
 
 use crate::language::{Listener, tell};
 use crate::site_file::{SMALL, plan_of, reading_of};
-use dmr_pdu::{Address, CarrierNo, Lpcn};
+use dmr_pdu::{Address, CarrierNo, Lpcn, OutOfMemory};
 use dmr_plan::{CarrierRow, Plan, PlanFault, RadioRange};
-use std::alloc::{AllocError, Global};
+use std::alloc::Global;
 use std::fmt::Display;
 use std::test::Fail;
 
@@ -117,7 +117,7 @@ struct Reader {
 }
 
 impl Listener for Reader {
-    fn hear(&mut self, told: &str, said: &mut String) -> Result<(), AllocError> {
+    fn hear(&mut self, told: &str, said: &mut String) -> Result<(), OutOfMemory> {
         match reading_of(self.alloc, told) {
             Ok(_) => said.push_str("accepted"),
             Err(fault) => write_text(said, &fault),
@@ -126,7 +126,7 @@ impl Listener for Reader {
 }
 
 /// Writes the text of a value.
-fn write_text<D: Display>(said: &mut String, value: &D) -> Result<(), AllocError> {
+fn write_text<D: Display>(said: &mut String, value: &D) -> Result<(), OutOfMemory> {
     write!(said, "{value}")
 }
 

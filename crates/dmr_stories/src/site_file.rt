@@ -4,8 +4,9 @@
 //! several such changes: `hang = 100 / hang = 0`. There `|` ends a line, `SITE` is the whole file, and `CARRIERS` all
 //! its carriers.
 
+use dmr_pdu::OutOfMemory;
 use dmr_plan::{Plan, PlanFault};
-use std::alloc::{AllocError, Global};
+use std::alloc::Global;
 use std::test::Fail;
 
 /// A site of carriers 0 and 1, with channels 1 and 2, and four talkgroups.
@@ -91,7 +92,7 @@ CARRIERS / carrier = [
 pub const MANY: &str = "radios = [[1000, 1999]] / radios = [[1, 5000]]";
 
 /// The text of a site file with changes.
-fn text_of(alloc: Global, changes: &str) -> Result<String, AllocError> {
+fn text_of(alloc: Global, changes: &str) -> Result<String, OutOfMemory> {
     let mut text = String::from_str(alloc, SITE)?;
     if !changes.is_empty() {
         for change in changes.split(" & ") {
@@ -105,7 +106,7 @@ fn text_of(alloc: Global, changes: &str) -> Result<String, AllocError> {
 }
 
 /// The lines that stand for words of a change.
-fn lines_of(alloc: Global, words: &str) -> Result<String, AllocError> {
+fn lines_of(alloc: Global, words: &str) -> Result<String, OutOfMemory> {
     match words {
         "SITE" => String::from_str(alloc, SITE),
         "CARRIERS" => String::from_str(alloc, CARRIERS),

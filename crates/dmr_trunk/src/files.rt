@@ -2,7 +2,7 @@
 
 ghost use Rattle.std.specs.Prelude.{List, Option, IfOk, option_map, ℕ, ⊤};
 
-use std::alloc::AllocError;
+use dmr_pdu::OutOfMemory;
 use std::rt::Files;
 use std::{fs, io};
 
@@ -13,7 +13,7 @@ pub trait FileSource {
     ghost gave: { Self → List ℕ → Option (List ℕ) → Type 0 };
 
     /// The octets of the file of a path; None where it cannot be read. At want of memory nothing is known of the file.
-    fn octets_of(&self, path: &str) -> Result<Option<Vec<u8>>, AllocError>
+    fn octets_of(&self, path: &str) -> Result<Option<Vec<u8>>, OutOfMemory>
         ensures { IfOk result (λ octets. gave self.now path.now (option_map (λ o. o.items) octets)) };
 }
 
@@ -33,12 +33,12 @@ impl<'a, R> SystemFiles<'a, R> {
 impl<R: AllocGlobal + Files> FileSource for SystemFiles<'_, R> {
     ghost gave = { λ _ _ _. ⊤ };
 
-    fn octets_of(&self, path: &str) -> Result<Option<Vec<u8>>, AllocError> {
+    fn octets_of(&self, path: &str) -> Result<Option<Vec<u8>>, OutOfMemory> {
         match fs::read(self.rt, path) {
             Ok(octets) => Ok(Some(octets)),
             Err(error) => {
                 if error.kind() == io::ErrorKind::OutOfMemory {
-                    Err(AllocError)
+                    Err(OutOfMemory)
                 } else {
                     Ok(None)
                 }

@@ -20,14 +20,15 @@ use crate::files::{FileSource, SystemFiles};
 use crate::replay::replay;
 use crate::status::{out_of_memory, words_refused};
 use crate::words::{Job, choose};
-use std::alloc::{AllocError, Global};
+use dmr_pdu::OutOfMemory;
+use std::alloc::Global;
 use std::io::Write;
 use std::process::ExitCode;
 use std::rt::Env;
 use std::{env, io};
 
 /// The words as texts.
-fn texts_of(alloc: Global, words: &[String]) -> Result<Vec<&str>, AllocError>
+fn texts_of(alloc: Global, words: &[String]) -> Result<Vec<&str>, OutOfMemory>
     ensures { IfOk result (λ texts. map (λ text. text.now) texts.items ≡ map string_bytes words.now) }
 {
     let mut texts = Vec::new(alloc);
@@ -55,7 +56,7 @@ fn replay_files<S: FileSource, W: Write, E: Write>(
     script: &str,
     out: &mut W,
     err: &mut E,
-) -> Result<u8, AllocError>
+) -> Result<u8, OutOfMemory>
     ensures status { IfOk result IsStatus }
     // At status 0 the files of the two paths, as the source gave them, give a text, and `out` got the whole of it.
     ensures ok { IfOk result (λ status. status ≡ 0 → AreReplayed (S.gave files.now) site.now script.now (W.contents out.old) (W.contents out.new)) }
@@ -80,7 +81,7 @@ fn do_job<S: FileSource, W: Write, E: Write>(
     job: Job<'_>,
     out: &mut W,
     err: &mut E,
-) -> Result<u8, AllocError>
+) -> Result<u8, OutOfMemory>
     ensures status { IfOk result IsStatus }
     ensures ok { IfOk result (λ status. status ≡ 0 → IsDone (S.gave files.now) job.entry (W.contents out.old) (W.contents out.new)) }
 {
@@ -96,7 +97,7 @@ fn run_words<S: FileSource, W: Write, E: Write>(
     words: &[String],
     out: &mut W,
     err: &mut E,
-) -> Result<u8, AllocError>
+) -> Result<u8, OutOfMemory>
     ensures status { IfOk result IsStatus }
     // At status 0 the words name two files, and these were replayed.
     ensures ok { IfOk result (λ status. status ≡ 0 → IsReplayed (S.gave files.now) (map string_bytes words.now) (W.contents out.old) (W.contents out.new)) }
@@ -136,7 +137,7 @@ fn run_program<R: AllocGlobal + Env, S: FileSource, W: Write, E: Write>(
     };
     match run_words(rt.alloc(), files, words.as_slice(), out, err) {
         Ok(status) => status,
-        Err(AllocError) => out_of_memory(err),
+        Err(OutOfMemory) => out_of_memory(err),
     }
 }
 

@@ -11,9 +11,9 @@ use crate::script::{ScriptFault, ScriptInput, read_script};
 use crate::status::{FAULT, MEMORY, OK};
 use dmr_core::one_legal_journal;
 use dmr_link::{Engine, Input, Outputs};
-use dmr_pdu::CarrierNo;
+use dmr_pdu::{CarrierNo, OutOfMemory};
 use dmr_plan::{Plan, PlanFault};
-use std::alloc::{AllocError, Global};
+use std::alloc::Global;
 use std::io::Write;
 use thiserror::Error;
 
@@ -114,7 +114,7 @@ fn text_of_replay<'a>(
     let given = given_by(alloc, script.ok_or(ReplayFault::CannotRead(script_name))?)?;
     match text_of_inputs(alloc, &plan, given.as_slice()) {
         Ok(text) => Ok(text),
-        Err(AllocError) => Err(ReplayFault::OutOfMemory),
+        Err(OutOfMemory) => Err(ReplayFault::OutOfMemory),
     }
 }
 
@@ -159,15 +159,15 @@ fn inputs_in(given: &[ScriptInput]) -> Option<usize> {
 
 /// The inputs that lines give. Their room is taken at once, so that a script of more ticks than memory holds is refused
 /// before the first of them is stored.
-fn inputs_of<'a>(alloc: Global, given: &'a [ScriptInput]) -> Result<Vec<Input<'a>>, AllocError>
+fn inputs_of<'a>(alloc: Global, given: &'a [ScriptInput]) -> Result<Vec<Input<'a>>, OutOfMemory>
     ensures { IfOk result (λ inputs. map input_of inputs.items ≡ inputs_of (map given_as given.entry.now)) }
 {
-    let count = inputs_in(given).ok_or(AllocError)?;
+    let count = inputs_in(given).ok_or(OutOfMemory)?;
     let mut inputs = Vec::with_capacity(alloc, count)?;
     for line in given {
         for _ in 0..line.times() {
             if inputs.push(line.as_input()).is_err() {
-                return Err(AllocError);
+                return Err(OutOfMemory);
             }
         }
     }
@@ -176,7 +176,7 @@ fn inputs_of<'a>(alloc: Global, given: &'a [ScriptInput]) -> Result<Vec<Input<'a
 
 /// What inputs put out, from a site on which nothing stands and with no connection open.
 #[tactic(auto, using(crate::proofs::EngineLemmas::run_text, crate::proofs::EngineLemmas::run_told))]
-fn outputs_of(alloc: Global, plan: &Plan, inputs: &[Input<'_>]) -> Result<Outputs, AllocError>
+fn outputs_of(alloc: Global, plan: &Plan, inputs: &[Input<'_>]) -> Result<Outputs, OutOfMemory>
     ensures carriers { IfOk result (λ outputs. (c : ℕ) → slice_index_or outputs.carriers c [] ≡ put_out plan.now (map input_of inputs.now) c) }
     ensures console { IfOk result (λ outputs. outputs.console ≡ told plan.now (map input_of inputs.now)) }
 {
@@ -184,12 +184,12 @@ fn outputs_of(alloc: Global, plan: &Plan, inputs: &[Input<'_>]) -> Result<Output
     let mut engine = Engine::new(alloc, *plan)?;
     match engine.run(alloc, inputs) {
         Ok(outputs) => Ok(outputs),
-        Err(_) => Err(AllocError),
+        Err(_) => Err(OutOfMemory),
     }
 }
 
 /// What is printed for what lines give.
-fn text_of_inputs(alloc: Global, plan: &Plan, given: &[ScriptInput]) -> Result<Vec<u8>, AllocError>
+fn text_of_inputs(alloc: Global, plan: &Plan, given: &[ScriptInput]) -> Result<Vec<u8>, OutOfMemory>
     ensures { IfOk result (λ text. text.items ≡ printed plan.now (put_out plan.now (inputs_of (map given_as given.now))) (told plan.now (inputs_of (map given_as given.now)))) }
 {
     let inputs = inputs_of(alloc, given)?;
@@ -198,7 +198,7 @@ fn text_of_inputs(alloc: Global, plan: &Plan, given: &[ScriptInput]) -> Result<V
 }
 
 /// A line per carrier of the plan, by number, and what operators were told.
-fn outputs_text(alloc: Global, plan: &Plan, outputs: &Outputs) -> Result<Vec<u8>, AllocError>
+fn outputs_text(alloc: Global, plan: &Plan, outputs: &Outputs) -> Result<Vec<u8>, OutOfMemory>
     ensures { IfOk result (λ text. text.items ≡ printed plan.now (λ c. slice_index_or outputs.now.carriers c []) outputs.now.console) }
 {
     let mut text = Vec::new(alloc);
@@ -214,7 +214,7 @@ fn outputs_text(alloc: Global, plan: &Plan, outputs: &Outputs) -> Result<Vec<u8>
 }
 
 /// The line of a carrier: its number, and the octets that were put out for it.
-fn carrier_line(alloc: Global, number: u32, octets: &[u8]) -> Result<String, AllocError>
+fn carrier_line(alloc: Global, number: u32, octets: &[u8]) -> Result<String, OutOfMemory>
     ensures { IfOk result (λ line. string_bytes line ≡ carrier_line number octets.now) }
 {
     let digits = digits_or_dash(alloc, octets)?;
@@ -222,7 +222,7 @@ fn carrier_line(alloc: Global, number: u32, octets: &[u8]) -> Result<String, All
 }
 
 /// Octets in upper case hexadecimal digits, or `-` where there are none.
-fn digits_or_dash(alloc: Global, octets: &[u8]) -> Result<String, AllocError>
+fn digits_or_dash(alloc: Global, octets: &[u8]) -> Result<String, OutOfMemory>
     ensures { IfOk result (λ text. string_bytes text ≡ digits_or_dash octets.now) }
 {
     match octets {

@@ -19,8 +19,8 @@ mod three_flips;
 
 use crate::replay::replay;
 use dmr_burst::write;
-use dmr_pdu::{Address, Kind, Number, Pdu};
-use std::alloc::{AllocError, Global};
+use dmr_pdu::{Address, Kind, Number, OutOfMemory, Pdu};
+use std::alloc::Global;
 use std::process::Abort;
 
 /// The site of the cases: carriers 0 and 1, the first of them the control carrier, radios 1000 to 1999.
@@ -131,7 +131,7 @@ pub fn without_note(line: &str) -> &str {
 ///
 /// A line that begins with two spaces carries on the line before it: the first such is set off by one space, and its
 /// words stand with nothing between them. A note behind a line is left out. All else is as it stands.
-pub fn plain(alloc: Global, text: &str) -> Result<String, AllocError> {
+pub fn plain(alloc: Global, text: &str) -> Result<String, OutOfMemory> {
     let mut plain = String::new(alloc);
     let mut carried = false;
     for (index, line) in text.split('\n').enumerate() {
@@ -159,7 +159,7 @@ pub fn plain(alloc: Global, text: &str) -> Result<String, AllocError> {
 
 impl Case<'_> {
     /// Wants a replay over the site of a site file to print exactly what the case says, and to tell no fault.
-    pub fn check(&self, rt: &(impl Abort + AllocGlobal), site: &str) -> Result<(), AllocError> {
+    pub fn check(&self, rt: &(impl Abort + AllocGlobal), site: &str) -> Result<(), OutOfMemory> {
         let script = plain(rt.alloc(), self.script)?;
         let printed = plain(rt.alloc(), self.printed)?;
         let answer = replayed(rt.alloc(), site, script.as_str());
@@ -169,7 +169,7 @@ impl Case<'_> {
 }
 
 /// Wants each case to be so over the site of `SITE`.
-pub fn check_cases(rt: &(impl Abort + AllocGlobal), cases: &[Case<'_>]) -> Result<(), AllocError> {
+pub fn check_cases(rt: &(impl Abort + AllocGlobal), cases: &[Case<'_>]) -> Result<(), OutOfMemory> {
     for case in cases {
         case.check(rt, SITE)?;
     }
@@ -178,7 +178,7 @@ pub fn check_cases(rt: &(impl Abort + AllocGlobal), cases: &[Case<'_>]) -> Resul
 
 /// What a text is read as: notes go, lines are carried on, and all else stays, an empty line and other spaces too.
 #[test]
-fn plain_texts(rt: HostRuntime) -> Result<(), AllocError> {
+fn plain_texts(rt: HostRuntime) -> Result<(), OutOfMemory> {
     let text = "# a\n\nopen 0  # b\ncarrier 0\n  81 01  # c\n  82\ncarrier 1 -\nsay  a \r\n b";
     let wanted = "# a\n\nopen 0\ncarrier 0 810182\ncarrier 1 -\nsay  a \r\n b";
     let plain = plain(rt.alloc(), text)?;
@@ -187,13 +187,13 @@ fn plain_texts(rt: HostRuntime) -> Result<(), AllocError> {
 }
 
 /// The site of the cases with a piece of its text written otherwise.
-pub fn site_with(alloc: Global, old: &str, new: &str) -> Result<String, AllocError> {
+pub fn site_with(alloc: Global, old: &str, new: &str) -> Result<String, OutOfMemory> {
     let (before, behind) = SITE.split_once(old).unwrap_or((SITE, ""));
     text_of(alloc, &[(1, before), (1, new), (1, behind)])
 }
 
 /// A text of pieces that stand so many times each.
-pub fn text_of(alloc: Global, pieces: &[(usize, &str)]) -> Result<String, AllocError> {
+pub fn text_of(alloc: Global, pieces: &[(usize, &str)]) -> Result<String, OutOfMemory> {
     let mut text = String::new(alloc);
     for (times, piece) in pieces {
         for _ in 0..*times {
@@ -204,7 +204,7 @@ pub fn text_of(alloc: Global, pieces: &[(usize, &str)]) -> Result<String, AllocE
 }
 
 /// A burst of a radio on the control slot, as a line of a script.
-fn heard(alloc: Global, pdu: &Pdu) -> Result<String, AllocError> {
+fn heard(alloc: Global, pdu: &Pdu) -> Result<String, OutOfMemory> {
     let word = write(pdu);
     let digits = hex::encode_upper(alloc, word.to_octets().as_slice())?;
     format!(in alloc; "bytes 0 021A00{digits}\n")
@@ -216,7 +216,7 @@ fn address(number: u32) -> Address {
 }
 
 /// A radio's request to be registered, as a line of a script.
-pub fn registers(alloc: Global, radio: u32) -> Result<String, AllocError> {
+pub fn registers(alloc: Global, radio: u32) -> Result<String, OutOfMemory> {
     let request = Pdu::Random {
         options: Number::new(1),
         flags: Number::new(0),
@@ -228,7 +228,7 @@ pub fn registers(alloc: Global, radio: u32) -> Result<String, AllocError> {
 }
 
 /// A radio's request of a kind, as a line of a script.
-pub fn requests(alloc: Global, kind: Kind, target: u32, radio: u32) -> Result<String, AllocError> {
+pub fn requests(alloc: Global, kind: Kind, target: u32, radio: u32) -> Result<String, OutOfMemory> {
     let request = Pdu::Random {
         options: Number::new(0),
         flags: Number::new(0),
@@ -240,7 +240,7 @@ pub fn requests(alloc: Global, kind: Kind, target: u32, radio: u32) -> Result<St
 }
 
 /// Adds a line to a script, and behind it so many polls of carrier 0.
-pub fn add_polled(script: &mut String, line: &str, polls: usize) -> Result<(), AllocError> {
+pub fn add_polled(script: &mut String, line: &str, polls: usize) -> Result<(), OutOfMemory> {
     script.push_str(line)?;
     for _ in 0..polls {
         script.push_str(POLL)?;
@@ -249,7 +249,7 @@ pub fn add_polled(script: &mut String, line: &str, polls: usize) -> Result<(), A
 }
 
 /// Both carriers come up, and radios from 1001 to the last are registered, each acknowledgement polled.
-pub fn registered(alloc: Global, last: u32) -> Result<String, AllocError> {
+pub fn registered(alloc: Global, last: u32) -> Result<String, OutOfMemory> {
     let mut script = String::from_str(alloc, BOTH_BEGIN)?;
     for radio in 1001..=last {
         add_polled(&mut script, registers(alloc, radio)?.as_str(), 1)?;
@@ -265,7 +265,7 @@ pub fn check_last(
     script: &str,
     polls: u8,
     printed: &str,
-) -> Result<(), AllocError> {
+) -> Result<(), OutOfMemory> {
     let printed = plain(rt.alloc(), printed)?;
     let last = printed
         .as_str()

@@ -10,8 +10,8 @@ ghost use Rattle.dmr_link.specs.Input.{input_of};
 ghost use Rattle.dmr_trunk.specs.Script.{arrival, carrier_of as carrier_of_word, cutting, given_as, given_by, given_by_line, is_digit, is_number, is_skipped, octets_of as octets_of_word, opening, script_of, telling, ticking, times_of as times_of_word, words_of};
 
 use dmr_link::Input;
-use dmr_pdu::CarrierNo;
-use std::alloc::{AllocError, Global};
+use dmr_pdu::{CarrierNo, OutOfMemory};
+use std::alloc::Global;
 
 /// The most ticks that a line gives.
 const MOST_TICKS: u32 = 100_000;
@@ -82,7 +82,7 @@ pub fn read_script(alloc: Global, script: &[u8]) -> Result<Vec<ScriptInput>, Scr
                     }
                 }
                 Ok(None) => return Err(ScriptFault::Line(index + 1)),
-                Err(AllocError) => return Err(ScriptFault::OutOfMemory),
+                Err(OutOfMemory) => return Err(ScriptFault::OutOfMemory),
             }
         }
     }
@@ -100,7 +100,7 @@ fn is_skipped(line: &[u8]) -> bool
 }
 
 /// What a line that is not skipped gives; None where it is no line of a script.
-fn given_in(alloc: Global, line: &[u8]) -> Result<Option<ScriptInput>, AllocError>
+fn given_in(alloc: Global, line: &[u8]) -> Result<Option<ScriptInput>, OutOfMemory>
     ensures { IfOk result (λ input. option_map given_as input ≡ given_by_line line.now) }
 {
     match line.strip_prefix(b"say ") {
@@ -113,7 +113,7 @@ fn given_in(alloc: Global, line: &[u8]) -> Result<Option<ScriptInput>, AllocErro
 }
 
 /// A text and an LF.
-fn ended(alloc: Global, text: &[u8]) -> Result<Vec<u8>, AllocError>
+fn ended(alloc: Global, text: &[u8]) -> Result<Vec<u8>, OutOfMemory>
     ensures { IfOk result (λ line. line.items ≡ text.now ++ 10 ∷ []) }
 {
     let mut line = Vec::new(alloc);
@@ -123,14 +123,14 @@ fn ended(alloc: Global, text: &[u8]) -> Result<Vec<u8>, AllocError>
 }
 
 /// The words of a line.
-fn words_of(alloc: Global, line: &[u8]) -> Result<Vec<&[u8]>, AllocError>
+fn words_of(alloc: Global, line: &[u8]) -> Result<Vec<&[u8]>, OutOfMemory>
     ensures { IfOk result (λ words. map (λ word. word.now) words.items ≡ words_of line.now) }
 {
     line.split(|octet| *octet == b' ').collect(alloc)
 }
 
 /// What words give; None where they are no words of a script.
-fn given_by(alloc: Global, words: &[&[u8]]) -> Result<Option<ScriptInput>, AllocError>
+fn given_by(alloc: Global, words: &[&[u8]]) -> Result<Option<ScriptInput>, OutOfMemory>
     ensures { IfOk result (λ input. option_map given_as input ≡ given_by (map (λ word. word.now) words.now)) }
 {
     let [name, arguments @ ..] = words else {
@@ -183,7 +183,7 @@ fn ticking(words: &[&[u8]]) -> Option<ScriptInput>
 }
 
 /// What the words behind `bytes` give: two words, C and HEX.
-fn arrival(alloc: Global, words: &[&[u8]]) -> Result<Option<ScriptInput>, AllocError>
+fn arrival(alloc: Global, words: &[&[u8]]) -> Result<Option<ScriptInput>, OutOfMemory>
     ensures { IfOk result (λ input. option_map given_as input ≡ arrival (map (λ word. word.now) words.now)) }
 {
     let [carrier, digits] = words else {
@@ -197,7 +197,7 @@ fn arrival(alloc: Global, words: &[&[u8]]) -> Result<Option<ScriptInput>, AllocE
 }
 
 /// What the words behind `text` give: one word, HEX.
-fn telling(alloc: Global, words: &[&[u8]]) -> Result<Option<ScriptInput>, AllocError>
+fn telling(alloc: Global, words: &[&[u8]]) -> Result<Option<ScriptInput>, OutOfMemory>
     ensures { IfOk result (λ input. option_map given_as input ≡ telling (map (λ word. word.now) words.now)) }
 {
     let [digits] = words else {
@@ -219,12 +219,12 @@ fn carrier_of(word: &[u8]) -> Option<CarrierNo>
 }
 
 /// Octets in hexadecimal digits of either case, at least one octet.
-fn octets_of(alloc: Global, word: &[u8]) -> Result<Option<Vec<u8>>, AllocError>
+fn octets_of(alloc: Global, word: &[u8]) -> Result<Option<Vec<u8>>, OutOfMemory>
     ensures { IfOk result (λ octets. option_map (λ o. o.items) octets ≡ octets_of_word word.now) }
 {
     match hex::decode(alloc, word) {
         Ok(octets) if !octets.is_empty() => Ok(Some(octets)),
-        Err(hex::FromHexError::OutOfMemory) => Err(AllocError),
+        Err(hex::FromHexError::OutOfMemory) => Err(OutOfMemory),
         _ => Ok(None),
     }
 }

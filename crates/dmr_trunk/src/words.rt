@@ -9,7 +9,8 @@ ghost use Rattle.dmr_trunk.specs.Words.{AreRefused, AskFor, command, file_option
 use crate::status::{MEMORY, WORDS, out_of_memory};
 use clap::error::ErrorKind;
 use clap::{Arg, ArgAction, Command, Error};
-use std::alloc::{AllocError, Global};
+use dmr_pdu::OutOfMemory;
+use std::alloc::Global;
 use std::io::Write;
 
 /// What the program is to do.
@@ -63,7 +64,7 @@ fn job_of<'a>(alloc: Global, words: &'a [&'a str]) -> Result<Job<'a>, Error>
 }
 
 /// The command line as the word reader wants it. A parse of it has both values.
-fn command<'a>(alloc: Global) -> Result<Command<'a>, AllocError>
+fn command<'a>(alloc: Global) -> Result<Command<'a>, OutOfMemory>
     ensures app { IfOk result (λ c. app_of c ≡ command) }
     ensures site { IfOk result (λ c. (m : ArgMatches) → IsParsedFrom c m → is_some (first_value (found_of m) (codes "site")) ≡ true) }
     ensures script { IfOk result (λ c. (m : ArgMatches) → IsParsedFrom c m → is_some (first_value (found_of m) (codes "script")) ≡ true) }

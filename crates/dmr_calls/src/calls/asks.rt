@@ -14,18 +14,15 @@ use dmr_pdu::Address;
 impl Calls {
     /// A C_AHOY was sent: the ask stands behind the others, with no tick since then. It takes the place of the ask of the
     /// same source, if there is one. `Err` where 32 asks of other sources stand; then nothing changes.
-    pub fn ask(&mut self, ask: &Ask) -> Result<(), Full>
-        ensures full { is_err result ≡ has_no_place self.old.asks ask.now.source }
-        ensures asks { self.new ≡ record self.old { asks = with_ask self.old.asks ask.now } }
+    pub fn ask(&mut self, ask: Ask) -> Result<(), Full>
+        ensures full { is_err result ≡ has_no_place self.old.asks ask.source }
+        ensures asks { self.new ≡ record self.old { asks = with_ask self.old.asks ask } }
     {
         if self.asks_of_others(ask.source) >= MOST_ASKS {
             return Err(Full);
         }
         self.ask_over(ask.source);
-        self.asks.push_reserved(Asking {
-            ask: *ask,
-            waited: 0,
-        });
+        self.asks.push_reserved(Asking { ask, waited: 0 });
         Ok(())
     }
 

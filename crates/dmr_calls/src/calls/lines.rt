@@ -21,14 +21,14 @@ fn from_place(lines: &[Line], place: usize) -> &[Line]
 
 impl Calls {
     /// Puts a line behind the others. `Err` where 32 lines stand; then nothing changes.
-    pub fn line(&mut self, line: &Line) -> Result<(), Full>
+    pub fn line(&mut self, line: Line) -> Result<(), Full>
         ensures full { is_err result ≡ nat_le 32 (length self.old.lines) }
-        ensures lines { self.new ≡ record self.old { lines = with_line self.old.lines line.now } }
+        ensures lines { self.new ≡ record self.old { lines = with_line self.old.lines line } }
     {
         if self.lines.len() >= MOST_LINES {
             return Err(Full);
         }
-        self.lines.push_reserved(*line);
+        self.lines.push_reserved(line);
         Ok(())
     }
 

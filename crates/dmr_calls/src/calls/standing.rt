@@ -15,15 +15,15 @@ use dmr_pdu::{Address, CarrierNo, Slot};
 impl Calls {
     /// A call begins: it stands behind the others, with no tick since then. `Err` where 31 calls stand; then nothing
     /// changes.
-    pub fn begin(&mut self, call: &Call) -> Result<(), Full>
+    pub fn begin(&mut self, call: Call) -> Result<(), Full>
         ensures full { is_err result ≡ nat_le 31 (length self.old.calls) }
-        ensures calls { self.new ≡ record self.old { calls = with_call self.old.calls call.now } }
+        ensures calls { self.new ≡ record self.old { calls = with_call self.old.calls call } }
     {
         if self.calls.len() >= MOST_CALLS {
             return Err(Full);
         }
         self.calls.push_reserved(Standing {
-            call: *call,
+            call,
             age: 0,
             quiet: 0,
         });
@@ -31,12 +31,12 @@ impl Calls {
     }
 
     /// Takes out the calls on a slot, and gives the first of them.
-    pub fn end(&mut self, slot: &Slot) -> Option<Call>
-        ensures first { result ≡ call_on self.old.calls slot.now }
-        ensures calls { self.new ≡ record self.old { calls = on_other_slots slot.now self.old.calls } }
+    pub fn end(&mut self, slot: Slot) -> Option<Call>
+        ensures first { result ≡ call_on self.old.calls slot }
+        ensures calls { self.new ≡ record self.old { calls = on_other_slots slot self.old.calls } }
     {
         let first = self.call_on(slot);
-        self.calls.retain(|s| s.call.slot != *slot);
+        self.calls.retain(|s| s.call.slot != slot);
         first
     }
 
@@ -48,17 +48,17 @@ impl Calls {
     }
 
     /// Marks the calls on a slot as active: no tick since then.
-    pub fn active(&mut self, slot: &Slot)
-        ensures { self.new ≡ record self.old { calls = map (marked slot.now) self.old.calls } }
+    pub fn active(&mut self, slot: Slot)
+        ensures { self.new ≡ record self.old { calls = map (marked slot) self.old.calls } }
     {
-        mark(&mut self.calls, slot);
+        mark(&mut self.calls, &slot);
     }
 
     /// The first call on a slot.
-    pub fn call_on(&self, slot: &Slot) -> Option<Call>
-        ensures { result ≡ call_on self.now.calls slot.now }
+    pub fn call_on(&self, slot: Slot) -> Option<Call>
+        ensures { result ≡ call_on self.now.calls slot }
     {
-        let found = self.calls.iter().find(|s| s.call.slot == *slot)?;
+        let found = self.calls.iter().find(|s| s.call.slot == slot)?;
         Some(found.call)
     }
 

@@ -20,7 +20,7 @@ impl Machine {
         ensures acts { acts.new ≡ acts.old ++ poll self.now.plan self.now.facts slot.now }
         ensures few { length acts.new ≤ length acts.old + 1 }
     {
-        if let Some(pdu) = self.pool.first(slot) {
+        if let Some(pdu) = self.pool.first(*slot) {
             acts.push(Act::Send(*slot, pdu));
         } else if self.is_control(slot) {
             acts.push(Act::Fill(*slot, self.access.fill(self.moving)));
@@ -79,7 +79,7 @@ impl Machine {
         ensures few { length acts.new ≤ length acts.old + 5 }
     {
         if let Some(slot) = self.due().call {
-            if let Some(call) = self.calls.call_on(&slot) {
+            if let Some(call) = self.calls.call_on(slot) {
                 self.add_clear(acts, &call);
             }
         }

@@ -47,7 +47,7 @@ impl Machine {
                         carrier: *carrier,
                         slot: *slot,
                     };
-                    if let Some(call) = self.calls.call_on(&slot) {
+                    if let Some(call) = self.calls.call_on(slot) {
                         self.add_clear(&mut acts, &call);
                     }
                 }
@@ -128,8 +128,7 @@ impl Machine {
         ensures calls { calls.new ≡ calls.old ++ at_most_one (call_on self.now.facts.calls (record { carrier = carrier; slot = slot })) }
         ensures few { length calls.new ≤ length calls.old + 1 }
     {
-        let slot = &Slot { carrier, slot };
-        if let Some(call) = self.calls.call_on(slot) {
+        if let Some(call) = self.calls.call_on(Slot { carrier, slot }) {
             calls.push(call);
         }
     }
@@ -139,7 +138,7 @@ impl Machine {
     fn stands_on(&self, slot: &Slot) -> bool
         ensures { result ≡ stands_on self.now.facts.calls slot.now }
     {
-        self.calls.call_on(slot).is_some()
+        self.calls.call_on(*slot).is_some()
     }
 
     /// Whether a call can begin on a slot.
@@ -148,7 +147,7 @@ impl Machine {
         ensures { result ≡ is_free self.now.plan self.now.facts slot.now }
     {
         numbers_of(slot);
-        self.pool.is_free(slot)
+        self.pool.is_free(*slot)
     }
 
     /// How a slot stands: the first state that applies.
@@ -212,7 +211,7 @@ impl Machine {
     {
         if self.plan.carrier_with(slot.carrier).is_none() {
             Reply::NoCarrier
-        } else if self.calls.call_on(slot).is_none() {
+        } else if self.calls.call_on(*slot).is_none() {
             Reply::NoCall
         } else {
             Reply::Done

@@ -42,8 +42,7 @@ impl Machine {
     pub(super) fn has_room(&self) -> bool
         ensures { result ≡ has_room self.now.plan self.now.facts }
     {
-        let control = &self.control_slot();
-        self.pool.waiting(control) <= ROOM
+        self.pool.waiting(self.control_slot()) <= ROOM
     }
 
     /// Whether a radio is engaged.

@@ -4,8 +4,7 @@
 //! and a call `C.S R T`, where R is a radio and T whom it calls.
 
 use dmr_calls::{Ask, Call, Line};
-use dmr_pdu::{Address, CarrierNo, Options, Pdu, Slot, SlotNo};
-use std::alloc::AllocError;
+use dmr_pdu::{Address, CarrierNo, Options, OutOfMemory, Pdu, Slot, SlotNo};
 
 /// The first word, and what stands behind it.
 pub fn cut(words: &str) -> (&str, &str) {
@@ -111,12 +110,17 @@ pub fn call_of(words: &str) -> Option<Call> {
 }
 
 /// Writes a slot behind a word.
-pub fn write_slot(said: &mut String, word: &str, slot: &Slot) -> Result<(), AllocError> {
+pub fn write_slot(said: &mut String, word: &str, slot: &Slot) -> Result<(), OutOfMemory> {
     write!(said, "{word}{}.{}", slot.carrier, slot.slot)
 }
 
 /// Writes that a PDU is sent so in a slot.
-pub fn write_sent(said: &mut String, word: &str, slot: &Slot, pdu: &Pdu) -> Result<(), AllocError> {
+pub fn write_sent(
+    said: &mut String,
+    word: &str,
+    slot: &Slot,
+    pdu: &Pdu,
+) -> Result<(), OutOfMemory> {
     write_slot(said, word, slot)?;
     said.push_str(" ")?;
     for octet in pdu.to_octets() {
@@ -126,7 +130,7 @@ pub fn write_sent(said: &mut String, word: &str, slot: &Slot, pdu: &Pdu) -> Resu
 }
 
 /// Writes an ask behind a word.
-pub fn write_ask(said: &mut String, word: &str, ask: &Ask) -> Result<(), AllocError> {
+pub fn write_ask(said: &mut String, word: &str, ask: &Ask) -> Result<(), OutOfMemory> {
     let options = ask.options.get();
     write!(
         said,
@@ -141,19 +145,19 @@ fn mark_of(group: bool) -> &'static str {
 }
 
 /// Writes a line behind a word.
-pub fn write_line(said: &mut String, word: &str, line: &Line) -> Result<(), AllocError> {
+pub fn write_line(said: &mut String, word: &str, line: &Line) -> Result<(), OutOfMemory> {
     let mark = mark_of(line.group);
     write!(said, "{word}{} {mark}{}", line.source, line.target)
 }
 
 /// Writes a call behind a word.
-pub fn write_call(said: &mut String, word: &str, call: &Call) -> Result<(), AllocError> {
+pub fn write_call(said: &mut String, word: &str, call: &Call) -> Result<(), OutOfMemory> {
     write_slot(said, word, &call.slot)?;
     let mark = mark_of(call.group);
     write!(said, " {} {mark}{}", call.source, call.target)
 }
 
 /// Writes whether something is so.
-pub fn write_truth(said: &mut String, holds: bool) -> Result<(), AllocError> {
+pub fn write_truth(said: &mut String, holds: bool) -> Result<(), OutOfMemory> {
     said.push_str(if holds { "yes" } else { "no" })
 }

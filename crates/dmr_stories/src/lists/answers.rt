@@ -2,8 +2,7 @@
 
 use crate::language::words::{write_ask, write_call, write_line, write_slot, write_truth};
 use dmr_calls::{Ask, Call, Counts, Due, Engagement, Full, Line};
-use dmr_pdu::BoundedList;
-use std::alloc::AllocError;
+use dmr_pdu::{BoundedList, OutOfMemory};
 
 /// What lists answer.
 #[derive(Clone, Copy)]
@@ -31,7 +30,7 @@ pub enum Answer {
 }
 
 /// Writes an answer.
-pub fn write_answer(said: &mut String, answer: &Answer) -> Result<(), AllocError> {
+pub fn write_answer(said: &mut String, answer: &Answer) -> Result<(), OutOfMemory> {
     match answer {
         Answer::Done => Ok(()),
         Answer::Placed(Ok(())) => said.push_str("ok"),
@@ -53,7 +52,7 @@ pub fn write_answer(said: &mut String, answer: &Answer) -> Result<(), AllocError
 }
 
 /// Writes lines.
-fn write_lines(said: &mut String, lines: &[Line]) -> Result<(), AllocError> {
+fn write_lines(said: &mut String, lines: &[Line]) -> Result<(), OutOfMemory> {
     let mut mark = "line ";
     for line in lines {
         write_line(said, mark, line)?;
@@ -63,7 +62,7 @@ fn write_lines(said: &mut String, lines: &[Line]) -> Result<(), AllocError> {
 }
 
 /// Writes what a radio is engaged by.
-fn write_engagement(said: &mut String, engagement: &Engagement) -> Result<(), AllocError> {
+fn write_engagement(said: &mut String, engagement: &Engagement) -> Result<(), OutOfMemory> {
     match engagement {
         Engagement::CallOf(call) => write_call(said, "call ", call),
         Engagement::AskOf(ask) => write_ask(said, "ask ", ask),
@@ -72,7 +71,7 @@ fn write_engagement(said: &mut String, engagement: &Engagement) -> Result<(), Al
 }
 
 /// Writes what is due.
-fn write_due(said: &mut String, due: &Due) -> Result<(), AllocError> {
+fn write_due(said: &mut String, due: &Due) -> Result<(), OutOfMemory> {
     if let Some(slot) = &due.call {
         write_slot(said, "call ", slot)?;
     }

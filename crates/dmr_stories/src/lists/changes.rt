@@ -18,10 +18,10 @@ pub fn times_of(words: &str) -> Option<(u16, u16, u16)> {
 /// Changes calls, or counts a tick.
 pub fn change_calls(calls: &mut Calls, word: &str, rest: &str) -> Option<Answer> {
     match word {
-        "begin" => Some(Answer::Placed(calls.begin(&call_of(rest)?))),
-        "end" => Some(Answer::OneCall(calls.end(&slot_of(rest)?))),
+        "begin" => Some(Answer::Placed(calls.begin(call_of(rest)?))),
+        "end" => Some(Answer::OneCall(calls.end(slot_of(rest)?))),
         "active" => {
-            calls.active(&slot_of(rest)?);
+            calls.active(slot_of(rest)?);
             Some(Answer::Done)
         }
         "end_of_carrier" => {
@@ -43,13 +43,13 @@ pub fn change_calls(calls: &mut Calls, word: &str, rest: &str) -> Option<Answer>
 /// Changes asks and lines.
 pub fn change_waiting(calls: &mut Calls, word: &str, rest: &str) -> Option<Answer> {
     match word {
-        "ask" => Some(Answer::Placed(calls.ask(&ask_of(rest)?))),
+        "ask" => Some(Answer::Placed(calls.ask(ask_of(rest)?))),
         "answer" => Some(Answer::OneAsk(calls.answer(address_of(rest)?))),
         "ask_over" => {
             calls.ask_over(address_of(rest)?);
             Some(Answer::Done)
         }
-        "line" => Some(Answer::Placed(calls.line(&line_of(rest)?))),
+        "line" => Some(Answer::Placed(calls.line(line_of(rest)?))),
         "unline" => {
             calls.unline(address_of(rest)?);
             Some(Answer::Done)

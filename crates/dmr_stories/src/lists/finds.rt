@@ -8,7 +8,7 @@ use dmr_calls::Calls;
 /// Finds a call, what a radio is engaged by, what is due, or how many stand.
 pub fn find_call(calls: &Calls, word: &str, rest: &str) -> Option<Answer> {
     match word {
-        "call_on" => Some(Answer::OneCall(calls.call_on(&slot_of(rest)?))),
+        "call_on" => Some(Answer::OneCall(calls.call_on(slot_of(rest)?))),
         "call_of" => Some(Answer::OneCall(calls.call_of(address_of(rest)?))),
         "group_call" => Some(Answer::OneCall(calls.group_call(address_of(rest)?))),
         "engaged" => Some(Answer::Engaged(calls.engaged(address_of(rest)?))),

@@ -12,11 +12,10 @@
 use crate::language::words::{write_ask, write_call, write_line, write_sent, write_slot};
 use dmr_calls::{Call, Line};
 use dmr_core::{Act, Acts, Reply, SlotState, State};
-use dmr_pdu::{Address, Lpcn};
-use std::alloc::AllocError;
+use dmr_pdu::{Address, Lpcn, OutOfMemory};
 
 /// Writes a reply, if there is one, and acts.
-pub fn write_acts(said: &mut String, acts: &Acts) -> Result<(), AllocError> {
+pub fn write_acts(said: &mut String, acts: &Acts) -> Result<(), OutOfMemory> {
     if let Some(reply) = &acts.said {
         write_reply(said, reply)?;
     }
@@ -30,7 +29,7 @@ pub fn write_acts(said: &mut String, acts: &Acts) -> Result<(), AllocError> {
 }
 
 /// Writes an act.
-fn write_act(said: &mut String, act: &Act) -> Result<(), AllocError> {
+fn write_act(said: &mut String, act: &Act) -> Result<(), OutOfMemory> {
     match act {
         Act::Queue(slot, pdu) => write_sent(said, "queue ", slot, pdu),
         Act::Send(slot, pdu) => write_sent(said, "send ", slot, pdu),
@@ -47,12 +46,12 @@ fn write_act(said: &mut String, act: &Act) -> Result<(), AllocError> {
 }
 
 /// Writes a radio behind a word.
-fn write_radio(said: &mut String, word: &str, radio: &Address) -> Result<(), AllocError> {
+fn write_radio(said: &mut String, word: &str, radio: &Address) -> Result<(), OutOfMemory> {
     write!(said, "{word}{radio}")
 }
 
 /// Writes a reply.
-fn write_reply(said: &mut String, reply: &Reply) -> Result<(), AllocError> {
+fn write_reply(said: &mut String, reply: &Reply) -> Result<(), OutOfMemory> {
     match reply {
         Reply::Status {
             carriers,
@@ -78,7 +77,7 @@ fn write_reply(said: &mut String, reply: &Reply) -> Result<(), AllocError> {
 }
 
 /// Writes the numbers of a status.
-fn write_numbers(said: &mut String, numbers: &[usize]) -> Result<(), AllocError> {
+fn write_numbers(said: &mut String, numbers: &[usize]) -> Result<(), OutOfMemory> {
     said.push_str("reply status ")?;
     for number in numbers {
         write!(said, "{number} ")?;
@@ -87,14 +86,14 @@ fn write_numbers(said: &mut String, numbers: &[usize]) -> Result<(), AllocError>
 }
 
 /// Writes what fills the control slot.
-fn write_fill(said: &mut String, moving: &Option<Lpcn>) -> Result<(), AllocError> {
+fn write_fill(said: &mut String, moving: &Option<Lpcn>) -> Result<(), OutOfMemory> {
     match moving {
         Some(channel) => write!(said, "move {}", channel.get()),
         None => said.push_str("aloha"),
     }
 }
 
-fn write_radios(said: &mut String, radios: &[Address]) -> Result<(), AllocError> {
+fn write_radios(said: &mut String, radios: &[Address]) -> Result<(), OutOfMemory> {
     said.push_str("reply radios")?;
     let mut mark = " ";
     for radio in radios {
@@ -104,7 +103,7 @@ fn write_radios(said: &mut String, radios: &[Address]) -> Result<(), AllocError>
     Ok(())
 }
 
-fn write_calls(said: &mut String, calls: &[Call]) -> Result<(), AllocError> {
+fn write_calls(said: &mut String, calls: &[Call]) -> Result<(), OutOfMemory> {
     said.push_str("reply calls")?;
     let mut mark = " ";
     for call in calls {
@@ -114,7 +113,7 @@ fn write_calls(said: &mut String, calls: &[Call]) -> Result<(), AllocError> {
     Ok(())
 }
 
-fn write_lines(said: &mut String, from: u8, lines: &[Line]) -> Result<(), AllocError> {
+fn write_lines(said: &mut String, from: u8, lines: &[Line]) -> Result<(), OutOfMemory> {
     write!(said, "reply lines {from}")?;
     let mut mark = " ";
     for line in lines {
@@ -124,7 +123,7 @@ fn write_lines(said: &mut String, from: u8, lines: &[Line]) -> Result<(), AllocE
     Ok(())
 }
 
-fn write_slots(said: &mut String, slots: &[SlotState]) -> Result<(), AllocError> {
+fn write_slots(said: &mut String, slots: &[SlotState]) -> Result<(), OutOfMemory> {
     said.push_str("reply slots")?;
     let mut mark = " ";
     for slot in slots {

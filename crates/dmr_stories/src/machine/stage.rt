@@ -12,7 +12,8 @@ use crate::language::words::{cut, write_truth};
 use crate::language::{Listener, tell, tell_in_round};
 use crate::site_file::{plan_of, reading_of};
 use dmr_core::{Event, Site};
-use std::alloc::{AllocError, Global};
+use dmr_pdu::OutOfMemory;
+use std::alloc::Global;
 use std::mem;
 use std::process::Abort;
 use std::test::Fail;
@@ -86,7 +87,7 @@ fn begin(
     stage: &mut Stage,
     name: &str,
     last: u32,
-) -> Result<(), AllocError> {
+) -> Result<(), OutOfMemory> {
     let plan = *stage.site.plan();
     for row in plan.carrier() {
         tell_in_round(rt, stage, name, row.number.get(), COMES_UP)?;
@@ -98,7 +99,7 @@ fn begin(
 }
 
 impl Listener for Stage {
-    fn hear(&mut self, told: &str, said: &mut String) -> Result<(), AllocError> {
+    fn hear(&mut self, told: &str, said: &mut String) -> Result<(), OutOfMemory> {
         let (word, rest) = cut(told);
         match word {
             "copy" => self.copy = self.site.try_clone(self.alloc)?,
@@ -118,7 +119,7 @@ impl Listener for Stage {
 
 impl Stage {
     /// Puts the site of a site file with changes in the place of the copy.
-    fn take_other(&mut self, changes: &str, said: &mut String) -> Result<(), AllocError> {
+    fn take_other(&mut self, changes: &str, said: &mut String) -> Result<(), OutOfMemory> {
         match reading_of(self.alloc, changes) {
             Ok(plan) => self.copy = Site::new(self.alloc, plan)?,
             Err(_) => said.push_str("?")?,
@@ -127,7 +128,7 @@ impl Stage {
     }
 
     /// Writes whether a copy of the site is equal to it, and is not once this event came to the copy alone.
-    fn stands_alone(&self, told: &str, said: &mut String) -> Result<(), AllocError> {
+    fn stands_alone(&self, told: &str, said: &mut String) -> Result<(), OutOfMemory> {
         let event: Option<Event> = event_of(told);
         let Some(event) = event else {
             return said.push_str("?");

@@ -1,8 +1,7 @@
 //! Radios that are asked whether they take a call: their answers, and the limit of asks.
 
 use crate::rows::{Case, SITE, add_polled, check_cases, check_last, registered, requests};
-use dmr_pdu::Kind;
-use std::alloc::AllocError;
+use dmr_pdu::{Kind, OutOfMemory};
 
 /// Whole scripts over the site of `SITE`, and what they print: a radio is asked, answers, or does not.
 static ASKS: [Case<'static>; 9] = [
@@ -341,7 +340,7 @@ carrier 1 810101  # WELCOME
 ];
 
 #[test]
-fn asks_and_answers(rt: HostRuntime) -> Result<(), AllocError> {
+fn asks_and_answers(rt: HostRuntime) -> Result<(), OutOfMemory> {
     check_cases(&rt, &ASKS)
 }
 
@@ -424,7 +423,7 @@ carrier 1 810101  # WELCOME
 
 /// 32 asks stand, and nobody else can be asked.
 #[test]
-fn full_asks(rt: HostRuntime) -> Result<(), AllocError> {
+fn full_asks(rt: HostRuntime) -> Result<(), OutOfMemory> {
     let mut script = registered(rt.alloc(), 1066)?;
     for number in 1..=32u32 {
         let call = requests(

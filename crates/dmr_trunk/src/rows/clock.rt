@@ -1,7 +1,7 @@
 //! Scripts with a clock, and carriers that are lost.
 
 use crate::rows::{Case, check_cases};
-use std::alloc::AllocError;
+use dmr_pdu::OutOfMemory;
 
 /// Whole scripts over the site of `SITE`, and what they print.
 static CASES: [Case<'static>; 7] = [
@@ -307,6 +307,6 @@ carrier 1
 ];
 
 #[test]
-fn clock_and_cuts(rt: HostRuntime) -> Result<(), AllocError> {
+fn clock_and_cuts(rt: HostRuntime) -> Result<(), OutOfMemory> {
     check_cases(&rt, &CASES)
 }

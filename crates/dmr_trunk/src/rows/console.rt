@@ -1,7 +1,7 @@
 //! Operators: their lines in scripts, and what they are told. It stands behind the carriers' lines.
 
 use crate::rows::{BEGINS, Case, REGISTERS, SITE, check_cases, text_of};
-use std::alloc::AllocError;
+use dmr_pdu::OutOfMemory;
 
 /// Whole scripts over the site of `SITE`, and what they print: what operators do, and what they see of it.
 static COMMANDS: [Case<'static>; 5] = [
@@ -285,13 +285,13 @@ ok
 ];
 
 #[test]
-fn commands(rt: HostRuntime) -> Result<(), AllocError> {
+fn commands(rt: HostRuntime) -> Result<(), OutOfMemory> {
     check_cases(&rt, &COMMANDS)
 }
 
 /// 57 acknowledgements wait, so there is no room for the 58th request, nor to drop a radio; with one less there is.
 #[test]
-fn no_room_to_drop_a_radio(rt: HostRuntime) -> Result<(), AllocError> {
+fn no_room_to_drop_a_radio(rt: HostRuntime) -> Result<(), OutOfMemory> {
     let said = "say drop 1001\nbytes 0 0300\nsay drop 1001\nsay drop 1001\n";
     let script = text_of(rt.alloc(), &[(1, BEGINS), (58, REGISTERS), (1, said)])?;
     let case = Case {
@@ -581,6 +581,6 @@ ok
 ];
 
 #[test]
-fn lines_and_replies(rt: HostRuntime) -> Result<(), AllocError> {
+fn lines_and_replies(rt: HostRuntime) -> Result<(), OutOfMemory> {
     check_cases(&rt, &LINES)
 }

@@ -4,7 +4,7 @@ use crate::rows::{
     BEGINS, BEGUN, Case, POLL, REGISTERS, SITE, check_cases, plain, registers, replayed, site_with,
     text_of,
 };
-use std::alloc::AllocError;
+use dmr_pdu::OutOfMemory;
 use std::process::Abort;
 
 /// Whole scripts over the site of `SITE`, and what they print.
@@ -200,7 +200,7 @@ carrier 1 -
 ];
 
 #[test]
-fn requests_and_fills(rt: HostRuntime) -> Result<(), AllocError> {
+fn requests_and_fills(rt: HostRuntime) -> Result<(), OutOfMemory> {
     check_cases(&rt, &CASES)
 }
 
@@ -226,7 +226,7 @@ carrier 1 -
 
 /// Where the site file names no option bit, no request is one to leave.
 #[test]
-fn nobody_leaves(rt: HostRuntime) -> Result<(), AllocError> {
+fn nobody_leaves(rt: HostRuntime) -> Result<(), OutOfMemory> {
     let site = site_with(rt.alloc(), "leave_bit = 0\n", "")?;
     NOBODY_LEAVES.check(&rt, site.as_str())
 }
@@ -252,7 +252,7 @@ fn check_repeated(
     name: &'static str,
     script: &[(usize, &str)],
     printed: &[(usize, &str)],
-) -> Result<(), AllocError> {
+) -> Result<(), OutOfMemory> {
     let script = text_of(rt.alloc(), script)?;
     let printed = text_of(rt.alloc(), printed)?;
     let case = Case {
@@ -265,7 +265,7 @@ fn check_repeated(
 
 /// A noise counts for the 32 polls after it, the first of which it came before.
 #[test]
-fn noise_window(rt: HostRuntime) -> Result<(), AllocError> {
+fn noise_window(rt: HostRuntime) -> Result<(), OutOfMemory> {
     check_repeated(
         &rt,
         "noise window",
@@ -276,7 +276,7 @@ fn noise_window(rt: HostRuntime) -> Result<(), AllocError> {
 
 /// 57 PDUs wait, and the 58th request has no effect.
 #[test]
-fn full_outbox(rt: HostRuntime) -> Result<(), AllocError> {
+fn full_outbox(rt: HostRuntime) -> Result<(), OutOfMemory> {
     check_repeated(
         &rt,
         "full outbox",
@@ -293,7 +293,7 @@ const GRANTED: &str = "821A0012F300E50874154838405BD0B1610A082084B22018036290908
 
 /// While 57 PDUs wait a call that is asked for has no effect; when one has been sent it is granted.
 #[test]
-fn call_without_room(rt: HostRuntime) -> Result<(), AllocError> {
+fn call_without_room(rt: HostRuntime) -> Result<(), OutOfMemory> {
     check_repeated(
         &rt,
         "call without room",
@@ -326,7 +326,7 @@ carrier 1 -
 
 /// 4,096 radios are registered, and the next is refused.
 #[test]
-fn full_registry(rt: HostRuntime) -> Result<(), AllocError> {
+fn full_registry(rt: HostRuntime) -> Result<(), OutOfMemory> {
     let site = site_with(
         rt.alloc(),
         "radios = [[1000, 1999]]",

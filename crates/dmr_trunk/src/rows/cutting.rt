@@ -1,7 +1,8 @@
 //! The octets of a carrier, handed in as one piece, octet by octet, and split at every place: what is put out is the same.
 
 use crate::rows::{Case, SITE, plain};
-use std::alloc::{AllocError, Global};
+use dmr_pdu::OutOfMemory;
+use std::alloc::Global;
 use std::process::Abort;
 
 /// More octets than one of the connections has.
@@ -103,14 +104,14 @@ fn parts(line: &str) -> (&str, &str) {
 }
 
 /// Adds a line to a script: its words, and a piece of octets behind them.
-fn add_line(script: &mut String, words: &str, digits: &str) -> Result<(), AllocError> {
+fn add_line(script: &mut String, words: &str, digits: &str) -> Result<(), OutOfMemory> {
     script.push_str(words)?;
     script.push_str(digits)?;
     script.push_str("\n")
 }
 
 /// Adds lines to a script, one for each octet.
-fn add_octets(script: &mut String, words: &str, digits: &str) -> Result<(), AllocError> {
+fn add_octets(script: &mut String, words: &str, digits: &str) -> Result<(), OutOfMemory> {
     let mut rest = digits;
     for _ in 0..OCTETS {
         let Some((octet, others)) = rest.split_at_checked(2) else {
@@ -124,7 +125,7 @@ fn add_octets(script: &mut String, words: &str, digits: &str) -> Result<(), Allo
 
 impl Cutting {
     /// Adds a line to a script, its octets as they are cut.
-    fn add(self, script: &mut String, line: &str) -> Result<(), AllocError> {
+    fn add(self, script: &mut String, line: &str) -> Result<(), OutOfMemory> {
         let (words, digits) = parts(line);
         let first = match self {
             Cutting::Octets if !digits.is_empty() => return add_octets(script, words, digits),
@@ -141,7 +142,7 @@ impl Cutting {
     }
 
     /// A script with its octets cut so.
-    fn script(self, alloc: Global, whole: &str) -> Result<String, AllocError> {
+    fn script(self, alloc: Global, whole: &str) -> Result<String, OutOfMemory> {
         let mut script = String::new(alloc);
         for line in whole.lines() {
             self.add(&mut script, line)?;
@@ -154,7 +155,7 @@ impl Cutting {
         self,
         rt: &(impl Abort + AllocGlobal),
         connections: &Case<'_>,
-    ) -> Result<(), AllocError> {
+    ) -> Result<(), OutOfMemory> {
         let whole = plain(rt.alloc(), connections.script)?;
         let script = self.script(rt.alloc(), whole.as_str())?;
         let case = Case {
@@ -167,7 +168,7 @@ impl Cutting {
 }
 
 #[test]
-fn pieces(rt: HostRuntime) -> Result<(), AllocError> {
+fn pieces(rt: HostRuntime) -> Result<(), OutOfMemory> {
     for connections in &CONNECTIONS {
         Cutting::Whole.check(&rt, connections)?;
         Cutting::Octets.check(&rt, connections)?;
@@ -176,7 +177,7 @@ fn pieces(rt: HostRuntime) -> Result<(), AllocError> {
 }
 
 #[test]
-fn two_pieces(rt: HostRuntime) -> Result<(), AllocError> {
+fn two_pieces(rt: HostRuntime) -> Result<(), OutOfMemory> {
     for connections in &CONNECTIONS {
         for octets in 1..OCTETS {
             Cutting::At(octets).check(&rt, connections)?;

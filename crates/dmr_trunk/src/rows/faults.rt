@@ -1,7 +1,7 @@
 //! Lines that are no lines of a script, and what ends a connection.
 
 use crate::rows::{Case, SITE, check_cases, replayed, text_of};
-use std::alloc::AllocError;
+use dmr_pdu::OutOfMemory;
 
 /// Lines that are no lines of a script: what is wrong, and the line.
 static BAD_LINES: [(&str, &str); 13] = [
@@ -31,7 +31,7 @@ bytes 0 0300
 
 /// Nothing is run, and the fourth line is told.
 #[test]
-fn bad_lines(rt: HostRuntime) -> Result<(), AllocError> {
+fn bad_lines(rt: HostRuntime) -> Result<(), OutOfMemory> {
     for (name, line) in &BAD_LINES {
         let script = text_of(rt.alloc(), &[(1, BEFORE), (1, *line), (1, BEHIND)])?;
         let answer = replayed(rt.alloc(), SITE, script.as_str());
@@ -313,6 +313,6 @@ carrier 1 -
 ];
 
 #[test]
-fn links(rt: HostRuntime) -> Result<(), AllocError> {
+fn links(rt: HostRuntime) -> Result<(), OutOfMemory> {
     check_cases(&rt, &LINKS)
 }

@@ -1,7 +1,7 @@
 //! Calls of one radio by another: grants, the line, and their ends.
 
 use crate::rows::{Case, check_cases};
-use std::alloc::AllocError;
+use dmr_pdu::OutOfMemory;
 
 /// Calls that stand or wait in line, and their ends.
 static CALLS: [Case<'static>; 7] = [
@@ -330,6 +330,6 @@ carrier 1 810101  # WELCOME
 ];
 
 #[test]
-fn calls_and_the_line(rt: HostRuntime) -> Result<(), AllocError> {
+fn calls_and_the_line(rt: HostRuntime) -> Result<(), OutOfMemory> {
     check_cases(&rt, &CALLS)
 }

@@ -3,7 +3,7 @@
 use crate::replay::replay;
 use crate::rows::{Answer, SITE, site_with};
 use crate::words::{Job, choose};
-use std::alloc::AllocError;
+use dmr_pdu::OutOfMemory;
 use std::io;
 use std::io::Write;
 use std::process::Abort;
@@ -124,14 +124,14 @@ fn check_site(
     old: &str,
     new: &str,
     said: &[u8],
-) -> Result<(), AllocError> {
+) -> Result<(), OutOfMemory> {
     let site = site_with(rt.alloc(), old, new)?;
     check_fault(rt, Some(site.as_bytes()), Some(b"open 0\n"), said, 1);
     Ok(())
 }
 
 #[test]
-fn faults_of_a_site(rt: HostRuntime) -> Result<(), AllocError> {
+fn faults_of_a_site(rt: HostRuntime) -> Result<(), OutOfMemory> {
     check_site(
         &rt,
         "lpcn = 2",

@@ -1,7 +1,7 @@
 //! Registrations: one burst in, its acknowledgement out.
 
 use crate::rows::{Case, check_cases};
-use std::alloc::AllocError;
+use dmr_pdu::OutOfMemory;
 
 /// Whole scripts over the site of `SITE`, and what they print.
 static REGISTRATIONS: [Case<'static>; 8] = [
@@ -135,7 +135,7 @@ carrier 1 -
 ];
 
 #[test]
-fn registrations(rt: HostRuntime) -> Result<(), AllocError> {
+fn registrations(rt: HostRuntime) -> Result<(), OutOfMemory> {
     check_cases(&rt, &REGISTRATIONS)
 }
 
@@ -204,6 +204,6 @@ carrier 1 -
 ];
 
 #[test]
-fn silences(rt: HostRuntime) -> Result<(), AllocError> {
+fn silences(rt: HostRuntime) -> Result<(), OutOfMemory> {
     check_cases(&rt, &SILENCES)
 }

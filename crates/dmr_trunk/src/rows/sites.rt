@@ -1,7 +1,7 @@
 //! Site files that are accepted: what an idle control slot of theirs is filled with.
 
 use crate::rows::{Case, site_with};
-use std::alloc::AllocError;
+use dmr_pdu::OutOfMemory;
 
 /// A poll of carrier 0 on which nothing waits.
 const IDLE: &str = "\
@@ -85,7 +85,7 @@ static FILLS: [Fill; 7] = [
 ];
 
 #[test]
-fn fills(rt: HostRuntime) -> Result<(), AllocError> {
+fn fills(rt: HostRuntime) -> Result<(), OutOfMemory> {
     for fill in &FILLS {
         let site = site_with(rt.alloc(), fill.old, fill.new)?;
         let case = Case {

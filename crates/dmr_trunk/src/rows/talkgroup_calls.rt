@@ -3,8 +3,7 @@
 use crate::rows::{
     Case, add_polled, check_cases, check_last, registered, registers, requests, site_with,
 };
-use dmr_pdu::Kind;
-use std::alloc::AllocError;
+use dmr_pdu::{Kind, OutOfMemory};
 
 /// Whole scripts over the site of `SITE`, and what they print: calls that begin, wait or are refused.
 static CALLS: [Case<'static>; 8] = [
@@ -306,7 +305,7 @@ carrier 1 8101018300  # WELCOME; DONE
 ];
 
 #[test]
-fn calls_and_the_line(rt: HostRuntime) -> Result<(), AllocError> {
+fn calls_and_the_line(rt: HostRuntime) -> Result<(), OutOfMemory> {
     check_cases(&rt, &CALLS)
 }
 
@@ -557,7 +556,7 @@ carrier 1 810101  # WELCOME
 ];
 
 #[test]
-fn ends_of_calls(rt: HostRuntime) -> Result<(), AllocError> {
+fn ends_of_calls(rt: HostRuntime) -> Result<(), OutOfMemory> {
     check_cases(&rt, &ENDS)
 }
 
@@ -608,7 +607,7 @@ carrier 1 810101  # WELCOME
 
 /// A grant is sent twice and a P_CLEAR three times where the site file says so.
 #[test]
-fn copies(rt: HostRuntime) -> Result<(), AllocError> {
+fn copies(rt: HostRuntime) -> Result<(), OutOfMemory> {
     let site = site_with(
         rt.alloc(),
         "grant_copies = 1\nclear_copies = 1\n",
@@ -673,7 +672,7 @@ const ACCEPTS: &str = "bytes 0 021A00446805F708C898602360404014E05C806A90AE20250
 
 /// 32 requests wait in line, and there is no place for another.
 #[test]
-fn full_line(rt: HostRuntime) -> Result<(), AllocError> {
+fn full_line(rt: HostRuntime) -> Result<(), OutOfMemory> {
     let site = site_with(
         rt.alloc(),
         "groups = [91, 92, 93, 94]",

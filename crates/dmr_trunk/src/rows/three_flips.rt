@@ -1,7 +1,7 @@
 //! A burst with at most three flipped bits means what the clean burst meant; one with more means nothing.
 
 use crate::rows::{Case, SITE, text_of, without_note};
-use std::alloc::AllocError;
+use dmr_pdu::OutOfMemory;
 use std::process::Abort;
 
 /// The word by which radio 1001 registers, flipped at no more than three of the places behind the first; behind each what is
@@ -52,7 +52,7 @@ fn check_words(
     rt: &(impl Abort + AllocGlobal),
     words: &str,
     printed: &str,
-) -> Result<(), AllocError> {
+) -> Result<(), OutOfMemory> {
     for line in words.lines() {
         let word = without_note(line);
         let script = text_of(rt.alloc(), &[(1, BEFORE), (1, word), (1, BEHIND)])?;
@@ -67,7 +67,7 @@ fn check_words(
 }
 
 #[test]
-fn flips(rt: HostRuntime) -> Result<(), AllocError> {
+fn flips(rt: HostRuntime) -> Result<(), OutOfMemory> {
     check_words(&rt, READ, ACCEPTED)?;
     check_words(&rt, LOST, NOISE)
 }

@@ -66,7 +66,7 @@ impl MemoryPort {
         }
     }
 
-    /// The octets that were taken, in order, as long as the record is told. From then on those that were taken till then.
+    /// The octets that were taken, in order. Once no record is told any more they are those that were taken while it was.
     pub fn taken(&self) -> &[u8]
         ensures { result.now ≡ taken_in self.now.recording.answers }
     {

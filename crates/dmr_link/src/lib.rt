@@ -40,4 +40,4 @@ pub use input::Input;
 pub use laws::{connections_mean, inputs_mean, octets_mean, steps_make_runs};
 pub use link::Link;
 pub use outputs::Outputs;
-pub use owing::{links_account, records_read};
+pub use owing::{happenings_follow, links_account, links_rest, records_read};

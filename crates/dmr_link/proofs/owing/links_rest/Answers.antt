@@ -1,0 +1,8 @@
+use Rattle.dmr_link.proofs.Linked.{dead_over, over_dead}
+use Rattle.dmr_link.proofs.owing.links_rest.Goals as goal
+
+pub returns-clause-over : goal.returns-clause-over
+returns-clause-over c = dead_over
+
+pub returns-clause-dead : goal.returns-clause-dead
+returns-clause-dead c = over_dead

@@ -3,7 +3,7 @@
 use dmr_pdu::{Address, Blank};
 
 /// A line: a request for a call that waits for a free slot.
-#[derive(Clone, Copy, Debug, PartialEq, Eq)]
+#[derive(Clone, Copy, Debug, Default, PartialEq, Eq)]
 pub struct Line {
     /// The radio that calls.
     pub source: Address,

@@ -66,6 +66,18 @@ impl<T: Blank, const N: usize> BoundedList<T, N> {
         }
     }
 
+    /// The list of these entries, in their order. There must be at most `N` of them.
+    pub fn from_slice(entries: &[T]) -> Self
+        requires { length entries.now ≤ N }
+        ensures { result ≡ entries.now }
+    {
+        let mut list = BoundedList::new();
+        for entry in entries {
+            list.push(*entry);
+        }
+        list
+    }
+
     /// How many entries there are, 0 to `N`.
     pub fn len(&self) -> usize
         ensures value { result ≡ length self.now }

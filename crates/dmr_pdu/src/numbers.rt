@@ -113,6 +113,17 @@ impl Blank for Address {
     }
 }
 
+/// The address 0.
+impl Default for Address {
+    ghost use Rattle.std.specs.Prelude.{◌≡◌};
+
+    ghost is_default = { λ address. address ≡ 0 };
+
+    fn default() -> Self {
+        Address { number: 0 }
+    }
+}
+
 /// The service kind, which says what a request asks for: 4 bits (TS 102 361-4, clause 7.2).
 #[derive(Clone, Copy, Debug, PartialEq, Eq)]
 pub struct Kind {

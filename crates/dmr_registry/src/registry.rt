@@ -5,7 +5,8 @@ ghost use Rattle.std.specs.List.{All, Contains};
 ghost use Rattle.dmr_registry.specs.Radios.{AreDistinct, is_held, answer_to_join, joined, without};
 ghost use Rattle.dmr_registry.specs.Least.{held_from, least_from, AreLeast};
 
-use dmr_pdu::{Address, BoundedList, OutOfMemory};
+use arrayvec::ArrayVec;
+use dmr_pdu::{Address, OutOfMemory};
 use std::alloc::Global;
 use std::marker::Model;
 
@@ -112,11 +113,11 @@ impl Registry {
     }
 
     /// The 16 least registered radios from a number on, in ascending order; all of them where there are fewer.
-    pub fn from_number(&self, from: Address) -> BoundedList<Address, 16>
-        ensures gives { result ≡ least_from self.now from }
-        ensures least { AreLeast self.now from result }
+    pub fn from_number(&self, from: Address) -> ArrayVec<Address, 16>
+        ensures gives { result.items ≡ least_from self.now from }
+        ensures least { AreLeast self.now from result.items }
     {
-        let mut listed = BoundedList::new();
+        let mut listed = ArrayVec::new();
         let mut next = from.get();
         while !listed.is_full() {
             let Some(radio) = self.lowest_from(next) else {

@@ -8,7 +8,8 @@ use super::{Calls, MOST_LINES};
 use crate::answer::Full;
 use crate::line::Line;
 use crate::party::is_party;
-use dmr_pdu::{Address, BoundedList};
+use arrayvec::ArrayVec;
+use dmr_pdu::Address;
 
 /// At most 16 of the lines, from a place on.
 fn from_place(lines: &[Line], place: usize) -> &[Line]
@@ -47,10 +48,11 @@ impl Calls {
     }
 
     /// The lines from a place on, 16 at most, in their order. Places are counted from 0.
-    pub fn lines_from(&self, place: usize) -> BoundedList<Line, 16>
-        ensures { result ≡ lines_from self.now.lines place }
+    pub fn lines_from(&self, place: usize) -> ArrayVec<Line, 16>
+        ensures rows { result.items ≡ lines_from self.now.lines place }
+        ensures few { length result.items ≤ 16 }
     {
-        let mut rows = BoundedList::new();
+        let mut rows = ArrayVec::new();
         for line in from_place(self.lines.as_slice(), place) {
             rows.push(*line);
         }

@@ -74,7 +74,10 @@ impl Machine {
     {
         match command {
             Command::Status => self.status(),
-            Command::Radios(from) => Reply::Radios(self.registry.from_number(*from)),
+            Command::Radios(from) => {
+                let radios = self.registry.from_number(*from);
+                Reply::Radios(BoundedList::from_slice(radios.as_slice()))
+            }
             Command::Calls(carrier) => {
                 if self.plan.carrier_with(*carrier).is_some() {
                     Reply::Calls(self.calls_of(*carrier))
@@ -82,10 +85,13 @@ impl Machine {
                     Reply::NoCarrier
                 }
             }
-            Command::Lines(from) => Reply::Lines {
-                from: *from,
-                rows: self.calls.lines_from(usize::from(from.get()) - 1),
-            },
+            Command::Lines(from) => {
+                let lines = self.calls.lines_from(usize::from(from.get()) - 1);
+                Reply::Lines {
+                    from: *from,
+                    rows: BoundedList::from_slice(lines.as_slice()),
+                }
+            }
             Command::Slots => Reply::Slots(self.slots()),
             Command::Drop(radio) => self.dropping(*radio),
             Command::End(carrier, slot) => self.ending(&Slot {

@@ -1,11 +1,12 @@
 //! What lists answer.
 
 use crate::language::words::{write_ask, write_call, write_line, write_slot, write_truth};
+use arrayvec::ArrayVec;
 use dmr_calls::{Ask, Call, Counts, Due, Engagement, Full, Line};
-use dmr_pdu::{BoundedList, OutOfMemory};
+use dmr_pdu::OutOfMemory;
 
 /// What lists answer.
-#[derive(Clone, Copy)]
+#[derive(Drop)]
 pub enum Answer {
     /// Nothing.
     Done,
@@ -20,7 +21,7 @@ pub enum Answer {
     /// A line, or none.
     OneLine(Option<Line>),
     /// Lines.
-    Lines(BoundedList<Line, 16>),
+    Lines(ArrayVec<Line, 16>),
     /// What a radio is engaged by, or nothing.
     Engaged(Option<Engagement>),
     /// What is due.

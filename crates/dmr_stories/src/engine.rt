@@ -1,6 +1,6 @@
 //! Engines that take inputs, over the common site, and what they put out.
 
-mod frames;
+pub mod frames;
 mod runs;
 
 use crate::site_file::{SMALL, plan_of};
@@ -149,7 +149,7 @@ fn came_of(alloc: Global, step: &Step, octets: &[u8]) -> Result<Came, OutOfMemor
 }
 
 /// Octets, piece behind piece.
-fn joined(alloc: Global, pieces: &[&[u8]]) -> Result<Vec<u8>, OutOfMemory> {
+pub fn joined(alloc: Global, pieces: &[&[u8]]) -> Result<Vec<u8>, OutOfMemory> {
     let mut octets = Vec::new(alloc);
     for piece in pieces {
         octets.extend_from_slice(*piece)?;

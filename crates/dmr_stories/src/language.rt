@@ -87,7 +87,7 @@ fn tell_line<L: Listener>(
 }
 
 /// How often something is told, and what is told.
-fn times_of(told: &str) -> (u32, &str) {
+pub fn times_of(told: &str) -> (u32, &str) {
     let (first, rest) = words::cut(told);
     match first.parse::<u32>() {
         Ok(times) => (times, rest),

@@ -1,4 +1,4 @@
-//! Stories that the site's plan, lists, machine and engine are told, and how they answer.
+//! Stories that the site's plan, lists, machine, engine and links are told, and how they answer.
 //!
 //! The crate has tests alone, each a loop over a table. They stand here, above the crates that they try, since a crate
 //! that has tests is proved twice.
@@ -8,6 +8,8 @@
 mod engine;
 #[cfg(test)]
 mod language;
+#[cfg(test)]
+mod links;
 #[cfg(test)]
 mod lists;
 #[cfg(test)]

@@ -1,0 +1,42 @@
+//! Links that are told stories, over ports that fail at any call.
+
+mod answers;
+mod carriers;
+mod desk;
+mod frames;
+mod gate;
+mod operators;
+mod peer;
+mod stage;
+mod steps;
+mod terms;
+
+use self::peer::Peer;
+use self::stage::tell_all;
+use std::test::Fail;
+
+/// A story by its name.
+pub type Story = (&'static str, &'static str);
+
+#[test]
+fn links_of_carriers(rt: HostRuntime) -> Result<(), Fail> {
+    let peer = Peer::carrier();
+    tell_all(&rt, &peer, &carriers::READS, "")?;
+    tell_all(&rt, &peer, &carriers::WRITES, "")?;
+    tell_all(&rt, &peer, &frames::NO_FRAMES, "")?;
+    tell_all(&rt, &peer, &frames::FRAMES, "")?;
+    tell_all(&rt, &peer, &terms::PAUSES, "")?;
+    tell_all(&rt, &peer, &terms::STOPS, "")?;
+    tell_all(&rt, &peer, &terms::CUTS, "")?;
+    tell_all(&rt, &peer, &terms::ENDINGS, terms::AGAIN)
+}
+
+#[test]
+fn links_of_operators(rt: HostRuntime) -> Result<(), Fail> {
+    let peer = Peer::operator();
+    tell_all(&rt, &peer, &operators::READS, "")?;
+    tell_all(&rt, &peer, &operators::WRITES, "")?;
+    tell_all(&rt, &peer, &operators::LINES, "")?;
+    tell_all(&rt, &peer, &operators::STOPS, "")?;
+    tell_all(&rt, &peer, &operators::ENDINGS, operators::AGAIN)
+}

@@ -1,0 +1,116 @@
+//! A desk that keeps a list of what it took.
+
+ghost use Rattle.std.specs.Prelude.{◌≡◌, ◌<◌, [], ◌∷◌, ◌++◌, length, vec_len, vec_capacity, IfOk, IfErr};
+
+use dmr_core::{Acts, Event, Site};
+use dmr_link::{Deposit, Desk, TermOver};
+use dmr_pdu::OutOfMemory;
+use std::alloc::Global;
+use std::marker::Model;
+
+/// A site, and the events that it was told in this term with its answers, as many as the term has room for.
+#[derive(Drop)]
+pub struct ListDesk {
+    actor: usize,
+    site: Site,
+    calls: Vec<Deposit>,
+    limit: usize,
+}
+
+impl Model for ListDesk {
+    ghost use Rattle.std.specs.Prelude.{◌≤◌, vec_len, vec_capacity};
+    ghost use Rattle.dmr_stories.specs.ListDesk.{ListDesk as Shown};
+
+    ghost Value = { Shown };
+
+    ghost view = { λ d. record { actor = d.actor; calls = d.calls.items; limit = d.limit } };
+
+    ghost invariant = { λ d. (vec_len d.calls ≤ d.limit) × (d.limit ≤ vec_capacity d.calls) };
+}
+
+impl ListDesk {
+    /// An actor's desk, over a site, for a term of so many events. All its memory is taken here.
+    pub fn new(
+        alloc: Global,
+        actor: usize,
+        site: Site,
+        limit: usize,
+    ) -> Result<ListDesk, OutOfMemory>
+        ensures { IfOk result (λ desk. desk ≡ record { actor = actor; calls = []; limit = limit }) }
+    {
+        Ok(ListDesk {
+            actor,
+            site,
+            calls: Vec::with_capacity(alloc, limit)?,
+            limit,
+        })
+    }
+
+    /// Begins another term, of so many events, with nothing taken in it. The site stays as it is.
+    pub fn begin_term(&mut self, alloc: Global, limit: usize) -> Result<(), OutOfMemory>
+        ensures { IfOk result (λ _. self.new ≡ record { actor = self.old.actor; calls = []; limit = limit }) }
+    {
+        self.calls = Vec::with_capacity(alloc, limit)?;
+        self.limit = limit;
+        Ok(())
+    }
+
+    /// Tells the site an event, and keeps it with the answer, unless the term is over.
+    fn take(&mut self, event: &Event) -> Result<Acts, TermOver>
+        ensures ok { IfOk result (λ acts. self.new ≡ record self.old { calls = self.old.calls ++ record { event = event.now; acts = acts } ∷ [] }) }
+        ensures err { IfErr result (λ _. (self.new ≡ self.old) × (length self.old.calls ≡ self.old.limit)) }
+    {
+        let entries = self.calls.len();
+        if entries >= self.limit {
+            return Err(TermOver { entries });
+        }
+        let acts = self.site.apply(*event);
+        push_copy(&mut self.calls, &deposit_of(event, &acts));
+        Ok(acts)
+    }
+
+    /// What it took in this term, the oldest first.
+    pub fn calls(&self) -> &[Deposit]
+        ensures { result.now ≡ self.now.calls }
+    {
+        self.calls.as_slice()
+    }
+}
+
+/// It refuses where the term has as many events as it has room for, and stays as it was.
+impl Desk for ListDesk {
+    ghost actor = { λ d. d.actor };
+
+    ghost calls = { λ d. d.calls };
+
+    ghost refuses = { λ d event f. (f ≡ d) × (length d.calls ≡ d.limit) };
+
+    ghost ends = { λ d f. (f ≡ d) × (length d.calls ≡ d.limit) };
+
+    fn deposit(&mut self, event: Event) -> Result<Acts, TermOver> {
+        self.take(&event)
+    }
+
+    fn over(&mut self) -> bool {
+        self.calls.len() == self.limit
+    }
+}
+
+/// An event that was taken, and its answer.
+fn deposit_of(event: &Event, acts: &Acts) -> Deposit
+    ensures { result ≡ record { event = event.now; acts = acts.now } }
+{
+    Deposit {
+        event: *event,
+        acts: *acts,
+    }
+}
+
+/// Puts a copy of an item at the end of a list that has room for it.
+fn push_copy<T: Copy>(list: &mut Vec<T>, item: &T)
+    requires { vec_len list.old < vec_capacity list.old }
+    ensures items { list.new.items ≡ list.old.items ++ item.now ∷ [] }
+    ensures capacity { vec_capacity list.new ≡ vec_capacity list.old }
+{
+    list.push_reserved(*item);
+}

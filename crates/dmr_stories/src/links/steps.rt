@@ -1,0 +1,131 @@
+//! What the port of a link is to answer.
+//!
+//! Steps stand with `; ` between them, each with a number before it where it comes several times. `octets` and octets come
+//! with one read, `single` and octets with one read each; an octet is its decimal number, and a word that names a frame
+//! or a line is its octets. `first N` are the first N octets that the links of the stories are told, and `behind N` those that
+//! follow them. `line` and a line come with one read and with the LF, `text` without. `read` and `write` say what a read or
+//! write answers: `end`, `interrupted`, `block` or `fault`, and `write N` takes N octets.
+
+use crate::engine::frames::{
+    ACCEPTED, BYE, DONE, FILL, HELLO_0, OTHER_CARRIER, OTHER_VERSION, POLL, REGISTERS, WELCOME,
+};
+use crate::language::times_of;
+use crate::language::words::cut;
+use dmr_wire::{Got, Put, Step};
+use std::alloc::{AllocError, Global};
+
+/// The frames and lines that have names.
+pub static NAMED: [(&str, &[u8]); 12] = [
+    ("hello", HELLO_0),
+    ("registers", REGISTERS),
+    ("poll", POLL),
+    ("bye", BYE),
+    ("welcome", WELCOME),
+    ("accepted", ACCEPTED),
+    ("fill", FILL),
+    ("done", DONE),
+    ("version", OTHER_VERSION),
+    ("carrier", OTHER_CARRIER),
+    ("status", b"status\n"),
+    ("stay", b"stay\n"),
+];
+
+/// The steps of these words, `told` being the octets that the links of the stories are told. `None` where there is a word
+/// that is none.
+pub fn steps_of(alloc: Global, told: &[u8], words: &str) -> Result<Option<Vec<Step>>, AllocError> {
+    let mut steps = Vec::new(alloc);
+    for words in words.split("; ") {
+        let (times, words) = times_of(words);
+        for _ in 0..times {
+            if !add_steps(alloc, &mut steps, told, words)? {
+                return Ok(None);
+            }
+        }
+    }
+    Ok(Some(steps))
+}
+
+/// Adds the steps of words between which no `; ` stands. Whether there were such.
+fn add_steps(
+    alloc: Global,
+    steps: &mut Vec<Step>,
+    told: &[u8],
+    words: &str,
+) -> Result<bool, AllocError> {
+    if let Some(step) = answer_of(words) {
+        steps.push(step)?;
+        return Ok(true);
+    }
+    let Some(octets) = octets_of(alloc, told, words)? else {
+        return Ok(false);
+    };
+    if words.starts_with("single ") {
+        for octet in octets.as_slice() {
+            steps.push(Step::Feed(vec![in alloc; *octet]?))?;
+        }
+    } else {
+        steps.push(Step::Feed(octets))?;
+    }
+    Ok(true)
+}
+
+/// The step of a read or write that gives no octets.
+fn answer_of(words: &str) -> Option<Step> {
+    match words {
+        "read end" => Some(Step::Read(Got::End)),
+        "read interrupted" => Some(Step::Read(Got::Interrupted)),
+        "read block" => Some(Step::Read(Got::Block)),
+        "read fault" => Some(Step::Read(Got::Fault)),
+        "write interrupted" => Some(Step::Write(Put::Interrupted)),
+        "write block" => Some(Step::Write(Put::Block)),
+        "write fault" => Some(Step::Write(Put::Fault)),
+        _ => {
+            let count = words.strip_prefix("write ")?.parse::<usize>().ok()?;
+            Some(Step::Write(Put::Octets(count)))
+        }
+    }
+}
+
+/// The octets that come with words.
+fn octets_of(alloc: Global, told: &[u8], words: &str) -> Result<Option<Vec<u8>>, AllocError> {
+    let (word, rest) = cut(words);
+    let mut octets = Vec::new(alloc);
+    let known = match word {
+        "octets" | "single" => put_all(&mut octets, rest)?,
+        "first" | "behind" => put_told(&mut octets, told, words)?,
+        "text" | "line" => {
+            octets.extend_from_slice(rest.as_bytes())?;
+            true
+        }
+        _ => false,
+    };
+    if word == "line" {
+        octets.push(b'\n')?;
+    }
+    Ok(if known { Some(octets) } else { None })
+}
+
+/// Puts the first of the octets that are told, or those behind them.
+fn put_told(octets: &mut Vec<u8>, told: &[u8], words: &str) -> Result<bool, AllocError> {
+    let (word, digits) = cut(words);
+    let Ok(count) = digits.parse::<usize>() else {
+        return Ok(false);
+    };
+    let (first, behind) = told.split_at(count.min(told.len()));
+    octets.extend_from_slice(if word == "first" { first } else { behind })?;
+    Ok(true)
+}
+
+/// Puts the octets that words are, one behind the other.
+fn put_all(octets: &mut Vec<u8>, words: &str) -> Result<bool, AllocError> {
+    for word in words.split(' ') {
+        if let Ok(octet) = word.parse::<u8>() {
+            octets.push(octet)?;
+        } else if let Some((_, frame)) = NAMED.iter().find(|named| named.0 == word) {
+            octets.extend_from_slice(*frame)?;
+        } else {
+            return Ok(false);
+        }
+    }
+    Ok(true)
+}

@@ -50,6 +50,9 @@ serve => read fault; -; 0
 rounds 7 to 11
 begin first 0+; 17 read interrupted; behind 0+ =>
 serve => read fault; status; 61
+
+begin first 12; 17 read interrupted =>
+serve => read fault; status stay; 64
 ",
     ),
     (

@@ -1,8 +1,8 @@
 //! A link that is told stories.
 //!
-//! `begin` and steps put a link in its place that has never been opened, with a port of these steps, and a desk of a site
-//! on which nothing stands; its term has room for all that happens. `port` and steps put another port there, `term N`
-//! begins another term of the same site, of N events. `open`, `live`, `serve` and `cut` are the calls of the link;
+//! `begin` and steps put another link in its place and open it, with a port of these steps, and a desk of a site on which
+//! nothing stands; its term has room for all that happens. `port` and steps put another port there, `term N` begins
+//! another term of the same site, of N events. `open`, `live`, `serve` and `cut` are the calls of the link;
 //! `serve N` serves it by a gate that is shut at the Nth entry, and at none where N is 0, `serve` by an open one. `again`
 //! is `serve`, but where it ends as the last one did, it answers `same`. `reads` asks how often the port was read, and
 //! `writes` how often it was written.

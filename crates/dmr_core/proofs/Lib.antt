@@ -29,5 +29,6 @@ mod DownLemmas
 mod WaitingLemmas
 mod HeldLemmas
 mod FreeLemmas
+mod Equality
 pub mod ConsoleLemmas
 pub mod Polls

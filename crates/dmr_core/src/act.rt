@@ -1,5 +1,7 @@
 //! What the site does.
 
+ghost use Rattle.std.specs.Prelude.{◌≡◌, ◌↔◌, IsTrue};
+
 use crate::reply::Reply;
 use dmr_calls::{Ask, Call, Line};
 use dmr_pdu::{Address, Blank, BoundedList, Pdu, Slot};
@@ -51,4 +53,14 @@ pub struct Acts {
     pub list: ActList,
     /// What it replies to an operator; None for an event that is no command.
     pub said: Option<Reply>,
+}
+
+impl Acts {
+    /// Whether the two are the same answer: the same acts in the same order, and the same reply. It answers as `==` does, and
+    /// says what that means.
+    pub fn is(&self, other: &Acts) -> bool
+        ensures { IsTrue result ↔ (self.now ≡ other.now) }
+    {
+        self == other
+    }
 }

@@ -1,5 +1,7 @@
 //! What the site is told.
 
+ghost use Rattle.std.specs.Prelude.{◌≡◌, ◌↔◌, IsTrue};
+
 use crate::command::Command;
 use dmr_pdu::{CarrierNo, Pdu, Slot};
 
@@ -22,4 +24,13 @@ pub enum Event {
     Tick,
     /// An operator asks something of the site.
     Say(Command),
+}
+
+impl Event {
+    /// Whether the two are the same event. It answers as `==` does, and says what that means.
+    pub fn is(&self, other: &Event) -> bool
+        ensures { IsTrue result ↔ (self.now ≡ other.now) }
+    {
+        self == other
+    }
 }

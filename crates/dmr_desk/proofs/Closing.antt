@@ -1,0 +1,65 @@
+-- From what the seats and the views show, what closing shows.
+use Rattle.std.proofs.Common.{◌≡◌, ℕ, ◌<◌, inl, inr, List, length, reverse, Some, Result, Ok, Err, refl, sym, ap, ◌∙◌, subst}
+use Rattle.std.specs.Prelude.{slice_get, Contains, All, IfOk, IfErr}
+use Rattle.std.proofs.lemmas.Option.{same_Some, slice_get_within}
+use Rattle.dmr_core.specs.declared.entry.Entry.{Entry}
+use Rattle.dmr_link.specs.declared.desk.Deposit.{Deposit}
+use Rattle.dmr_desk.specs.declared.report.Report.{Report}
+use Rattle.dmr_desk.specs.declared.fault.CloseFault.{CloseFault}
+use Rattle.dmr_desk.specs.declared.fault.CloseFault.TheVariants.{SeatMissing, Differs}
+use Rattle.dmr_desk.specs.Pages.{Pages, AreKept, site_after}
+use Rattle.dmr_link.specs.Runs.{IsSafe}
+use Rattle.dmr_desk.specs.Sitting.{Sitting, Opened}
+use Rattle.dmr_desk.specs.Views.{view_of}
+use Rattle.dmr_desk.specs.Audited.{AreGathered, IsFault, IsMissing, IsOf, IsOther, IsAudited, IsReported, SameBelow, all_told}
+use Rattle.dmr_desk.proofs.Counts.{no_others}
+
+pub missing_fault : (desk : Opened) (seats : List Sitting) (pages : Pages) (fault : CloseFault) → IsMissing seats fault → IsFault desk seats pages fault
+missing_fault desk seats pages (SeatMissing actor) is = is
+missing_fault desk seats pages (Differs actor) is = absurd is
+
+pub other_fault : (desk : Opened) (seats : List Sitting) (views : List (List Deposit)) (pages : Pages) (fault : CloseFault) → AreGathered seats views → IsOther desk views pages fault → IsFault desk seats pages fault
+other_fault desk seats views pages (SeatMissing actor) g is = absurd is
+other_fault desk seats views pages (Differs actor) g is = elim is [
+  | inl copies ↦ inl copies
+  | inr differs ↦
+      let found = g.has actor differs.0 in
+      let seat = found.0 in
+      inr (
+        seat,
+        found.1,
+        found.2,
+        λ same. differs.1 (ap (λ (k : ℕ). slice_get views k) (sym found.2) ∙ g.each seat found.1 ∙ ap (λ (ds : List Deposit). Some ds) same),
+        λ other has below. same_Some other.deposits (view_of other.actor pages.entries) (sym (g.each other has) ∙ differs.2 other.actor below),
+      )
+]
+
+pub other_result : (desk : Opened) (seats : List Sitting) (views : List (List Deposit)) (pages : Pages) (result : Result Report CloseFault) → AreGathered seats views → IfErr result (IsOther desk views pages) → IfErr result (IsFault desk seats pages)
+other_result desk seats views pages (Ok report) g is = is
+other_result desk seats views pages (Err fault) g is = other_fault desk seats views pages fault g is
+
+-- a report of what a book has, at the very site and limit that it was opened with
+of_book : (pages : Pages) (report : Report) → AreKept pages → IsSafe pages.opening.plan pages.opening.facts (reverse pages.entries) → report.site ≡ site_after pages.opening pages.entries → report.journal ≡ pages.entries → SameBelow (length report.views.items) report.views.items pages.entries → length pages.entries ≡ all_told report.views.items → IsReported (record { site = pages.opening; limit = pages.limit }) report.views.items report
+of_book pages report kept safe site journal same count =
+    let P : List Entry → Type 0 = λ entries. IsReported (record { site = pages.opening; limit = pages.limit }) report.views.items (record { site = site_after pages.opening entries; journal = entries; views = report.views }) in
+    let base : P pages.entries = record {
+      legal = kept.legal;
+      safe = safe;
+      within = kept.within;
+      site = refl;
+      views_are = refl;
+      told = record { each = same; others = no_others report.views.items pages.entries same count };
+    } in
+    let Q : Report → Type 0 = λ r. IsReported (record { site = pages.opening; limit = pages.limit }) report.views.items r in
+    subst Q (λ i. record { site = sym site i; journal = sym journal i; views = report.views }) base
+
+pub reported : (desk : Opened) (pages : Pages) (report : Report) → AreKept pages → IsSafe pages.opening.plan pages.opening.facts (reverse pages.entries) → IsOf desk pages → report.site ≡ site_after pages.opening pages.entries → report.journal ≡ pages.entries → SameBelow (length report.views.items) report.views.items pages.entries → length pages.entries ≡ all_told report.views.items → IsReported desk report.views.items report
+reported desk pages report kept safe is_of site journal same count =
+    let P : Opened → Type 0 = λ d. IsReported d report.views.items report in
+    subst P (λ i. record { site = is_of.0 i; limit = is_of.1 i }) (of_book pages report kept safe site journal same count)
+
+-- what a seat has is what the journal has of its actor
+pub seat_has_view : (desk : Opened) (seats : List Sitting) (report : Report) → IsAudited desk seats report → (seat : Sitting) → Contains seats seat → seat.deposits ≡ view_of seat.actor report.journal
+seat_has_view desk seats report is seat has =
+    let seen = is.gathered.each seat has in
+    same_Some seat.deposits (view_of seat.actor report.journal) (sym seen ∙ is.reported.told.each seat.actor (slice_get_within report.views.items seat.actor seat.deposits seen))

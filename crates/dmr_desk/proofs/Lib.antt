@@ -1,0 +1,4 @@
+mod ViewLemmas
+mod SeatLemmas
+mod Counts
+mod Closing

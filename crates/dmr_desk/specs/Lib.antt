@@ -1,0 +1,5 @@
+pub mod Pages
+pub mod Views
+pub mod Sitting
+pub mod Opening
+pub mod Audited

@@ -1,0 +1,29 @@
+-- Seats, and the desk that they stand round.
+use Rattle.std.specs.Prelude.{◌≡◌, ◌++◌, ℕ, zero, suc, List, [], ◌∷◌, Contains}
+use Rattle.dmr_core.specs.declared.event.Event.{Event}
+use Rattle.dmr_core.specs.declared.act.Acts.{Acts}
+use Rattle.dmr_core.specs.State.{State}
+use Rattle.dmr_link.specs.declared.desk.Deposit.{Deposit}
+
+-- a seat: whose it is, and what was told from it
+pub record Sitting : Type 0 where
+  pub actor : ℕ
+  pub deposits : List Deposit
+
+-- the same with one deposit more, the youngest: an event, and the answer to it
+abbrev pub deposited : Sitting → Event → Acts → Sitting
+deposited seat event acts = record { actor = seat.actor; deposits = seat.deposits ++ record { event = event; acts = acts } ∷ [] }
+
+-- a desk: the site when it was opened, and the most entries that its journal may have
+pub record Opened : Type 0 where
+  pub site : State
+  pub limit : ℕ
+
+-- a seat of this actor is among them
+abbrev pub HasSeat : List Sitting → ℕ → Type 0
+HasSeat seats actor = (seat : Sitting) × Contains seats seat × (seat.actor ≡ actor)
+
+-- the seats of the actors below a number, in order, from which nothing was told yet
+abbrev pub empty_seats : ℕ → List Sitting
+empty_seats zero = []
+empty_seats (suc n) = empty_seats n ++ record { actor = n; deposits = [] } ∷ []

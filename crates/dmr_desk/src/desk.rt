@@ -1,0 +1,194 @@
+//! The desk: a book behind a lock, and seats round it.
+
+ghost use Rattle.std.specs.Prelude.{◌≡◌, ◌≤◌, ◌+◌, length, IfOk, IfErr, OnOk, OnErr};
+ghost use Rattle.dmr_desk.specs.Pages.{AreKept, Pages, answer_to, entered};
+ghost use Rattle.dmr_desk.specs.Sitting.{deposited, empty_seats};
+ghost use Rattle.dmr_desk.specs.Opening.{IsLimit, IsNumber, IsRefused};
+ghost use Rattle.dmr_desk.specs.Audited.{IsAudited, IsFault};
+
+use crate::audit::{audited, gathered};
+use crate::book::Book;
+use crate::fault::{CloseFault, OpenFault};
+use crate::report::Report;
+use crate::seat::Seat;
+use dmr_core::{Acts, Event, Site};
+use dmr_link::TermOver;
+use dmr_pdu::OutOfMemory;
+use std::alloc::Global;
+use std::marker::Model;
+use std::sync::ledger::{Blank, Ledger, Share};
+use std::sync::{Mutex, Wait, ledger};
+
+/// How many parts the blank has that a desk is opened with. Each seat has one; the lock keeps the others.
+pub const PARTS: u64 = 18;
+
+/// What the lock keeps: the book, how many entries it has by the ledger, and the parts that no seat has.
+#[derive(Drop)]
+struct Locked<L: Ledger> {
+    book: Book,
+    total: ledger::Book<L>,
+    rest: Share<L>,
+    actors: u8,
+    ghost counted: { length book.entries ≡ total.total },
+    ghost rest_is: { rest.parts + actors ≡ 18 },
+    ghost rest_idle: { rest.amount ≡ 0 },
+}
+
+impl<L: Ledger> Locked<L> {
+    /// Tells the site an event that comes from a seat.
+    fn tell(&mut self, seat: &mut Seat<L>, event: &Event) -> Result<Acts, TermOver>
+        ensures acts { IfOk result (λ acts. acts ≡ answer_to self.old.book event.now) }
+        ensures entered { IfOk result (λ acts. self.new.book ≡ entered self.old.book seat.old.actor event.now acts) }
+        ensures deposited { IfOk result (λ acts. seat.new ≡ deposited seat.old event.now acts) }
+        ensures over { OnErr result ((self.new.book ≡ self.old.book) × (seat.new ≡ seat.old)) }
+    {
+        let Locked { book, total, .. } = self;
+        seat.tell(book, total, event)
+    }
+
+    /// The report of the book and these seats, where the book is of this site and limit and each seat has what the journal
+    /// has of its actor.
+    fn audit(self, opening: &Site, limit: usize, seats: Vec<Seat<L>>) -> Result<Report, CloseFault>
+        requires { L.parts ≡ 18 }
+        ensures ok { IfOk result (λ report. IsAudited (record { site = opening.now; limit = limit }) seats.items report) }
+        ensures fault { IfErr result (λ fault. IsFault (record { site = opening.now; limit = limit }) seats.items self.book fault) }
+    {
+        let Locked {
+            book,
+            mut total,
+            rest,
+            actors,
+        } = self;
+        let (views, mut all) = gathered(seats, rest, actors)?;
+        total.audit(&mut all);
+        audited(book, views, opening, limit)
+    }
+}
+
+/// Seats for the actors below a number, each with one part of a share that has told nothing.
+fn seats_for<L: Ledger>(
+    alloc: Global,
+    rest: &mut Share<L>,
+    limit: usize,
+    actors: u8,
+) -> Result<Vec<Seat<L>>, OutOfMemory>
+    requires parts { actors ≤ rest.old.parts }
+    requires idle { rest.old.amount ≡ 0 }
+    ensures seats { IfOk result (λ seats. seats.items ≡ empty_seats actors) }
+    ensures parts { OnOk result (rest.new.parts + actors ≡ rest.old.parts) }
+    ensures idle { rest.new.amount ≡ 0 }
+{
+    let mut seats = Vec::with_capacity(alloc, actors as usize)?;
+    for actor in 0..actors {
+        let seat = Seat::new(alloc, actor, limit, rest.split_off(1, 0))?;
+        seats.push_reserved(seat);
+    }
+    Ok(seats)
+}
+
+/// One site that many threads tell events to, one at a time. Contracts see the site at its opening and the most entries that
+/// the journal may have.
+#[derive(Drop)]
+pub struct SharedDesk<L: Ledger> {
+    locked: Mutex<Locked<L>>,
+    opening: Site,
+    limit: usize,
+}
+
+impl<L: Ledger> Model for SharedDesk<L> {
+    ghost use Rattle.dmr_desk.specs.Sitting.{Opened};
+
+    ghost Value = { Opened };
+
+    ghost view = { λ d. record { site = d.opening; limit = d.limit } };
+}
+
+impl<L: Ledger> SharedDesk<L> {
+    /// A desk for a site, and a seat for each of so many actors, numbered from 0. The journal may have `limit` entries, and
+    /// there is room for them from the beginning. Where it is not opened, the site is handed back as it was; the blank is not.
+    pub fn open(
+        alloc: Global,
+        blank: Blank,
+        site: Site,
+        limit: usize,
+        actors: u8,
+    ) -> Result<(SharedDesk<L>, Vec<Seat<L>>), (OpenFault, Site)>
+        requires name { blank.name ≡ L.name }
+        requires parts { blank.parts ≡ L.parts }
+        requires eighteen { blank.parts ≡ 18 }
+        ensures numbers { OnOk result (IsLimit limit × IsNumber actors) }
+        ensures desk { IfOk result (λ opened. opened.0 ≡ record { site = site; limit = limit }) }
+        ensures seats { IfOk result (λ opened. opened.1.items ≡ empty_seats actors) }
+        ensures fault { IfErr result (λ refused. IsRefused limit actors refused.0) }
+        ensures site { IfErr result (λ refused. refused.1 ≡ site) }
+    {
+        if limit == 0 || limit > 100_000 {
+            return Err((OpenFault::BadLimit, site));
+        }
+        if actors == 0 || actors > 18 {
+            return Err((OpenFault::BadActors, site));
+        }
+        let Ok(opening) = site.try_clone(alloc) else {
+            return Err((OpenFault::OutOfMemory, site));
+        };
+        let (total, mut rest) = blank.open::<L>();
+        let Ok(seats) = seats_for(alloc, &mut rest, limit, actors) else {
+            return Err((OpenFault::OutOfMemory, site));
+        };
+        match Book::new(alloc, site, limit) {
+            Ok(book) => {
+                let locked = Mutex::new(Locked {
+                    book,
+                    total,
+                    rest,
+                    actors,
+                });
+                Ok((
+                    SharedDesk {
+                        locked,
+                        opening,
+                        limit,
+                    },
+                    seats,
+                ))
+            }
+            Err((_, site)) => Err((OpenFault::OutOfMemory, site)),
+        }
+    }
+
+    /// Tells the site an event from a seat, and gives the answer. One event is told at a time, whichever thread tells it.
+    /// Where the journal has as many entries as it may have, nothing is changed.
+    pub fn deposit<R: Wait>(
+        &self,
+        rt: &R,
+        seat: &mut Seat<L>,
+        event: Event,
+    ) -> Result<Acts, TermOver>
+        ensures ok { IfOk result (λ acts. seat.new ≡ deposited seat.old event acts) }
+        ensures over { OnErr result (seat.new ≡ seat.old) }
+    {
+        self.locked.lock(rt).tell(seat, &event)
+    }
+
+    /// Whether the journal has as many entries as it may have.
+    pub fn over<R: Wait>(&self, rt: &R) -> bool {
+        self.locked.lock(rt).book.is_full()
+    }
+
+    /// The site, the journal and what each actor told, where every seat was handed in and has what the journal has of its
+    /// actor. It takes no memory.
+    pub fn close<R: Wait>(self, _rt: &R, seats: Vec<Seat<L>>) -> Result<Report, CloseFault>
+        requires { L.parts ≡ 18 }
+        ensures ok { IfOk result (λ report. IsAudited self seats.items report) }
+        ensures fault { IfErr result (λ fault. (pages : Pages) × AreKept pages × IsFault self seats.items pages fault) }
+    {
+        let SharedDesk {
+            locked,
+            opening,
+            limit,
+        } = self;
+        let locked = locked.into_inner();
+        locked.book.keeps();
+        locked.audit(&opening, limit, seats)
+    }
+}

@@ -1,0 +1,30 @@
+//! Why a desk is not opened, or its report not given.
+
+use thiserror::Error;
+
+/// Why a desk is not opened: the first that applies. The site is handed back as it was; the blank is used up.
+#[derive(Clone, Copy, PartialEq, Eq, Debug, Error)]
+pub enum OpenFault {
+    /// A journal cannot have this many entries: it has room for 1 to 100,000.
+    #[error("a journal has room for 1 to 100,000 entries")]
+    BadLimit,
+    /// A desk cannot have this many actors: it has 1 to 18.
+    #[error("a desk has 1 to 18 actors")]
+    BadActors,
+    /// An allocation was refused.
+    #[error("out of memory")]
+    OutOfMemory,
+}
+
+/// Why there is no report of a desk: the first that applies, and the least actor of which it is so. Desk, site, journal and
+/// seats are used up.
+#[derive(Clone, Copy, PartialEq, Eq, Debug, Error)]
+pub enum CloseFault {
+    /// No seat of this actor was handed in.
+    #[error("the seat of actor {0} is missing")]
+    SeatMissing(u8),
+    /// What was deposited from this actor's seat is not what the journal has of the actor; or, for actor 0, the book is not one
+    /// of the site and the limit that the desk was opened with.
+    #[error("the seat of actor {0} differs from the journal")]
+    Differs(u8),
+}

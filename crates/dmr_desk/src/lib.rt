@@ -1,0 +1,26 @@
+//! One site for many threads: a book keeps every event that the site was told and its answer, a lock lets one thread in at a
+//! time, and each thread keeps the calls that it made.
+#![tactic(auto)]
+
+mod at;
+mod audit;
+mod book;
+mod desk;
+mod fault;
+mod laws;
+mod report;
+mod room;
+mod seat;
+mod view;
+
+pub use at::SeatAt;
+pub use book::Book;
+pub use desk::{PARTS, SharedDesk};
+pub use fault::{CloseFault, OpenFault};
+pub use laws::reports_account;
+pub use report::{Journal, Report, Views};
+pub use seat::Seat;
+pub use view::View;
+
+#[cfg(test)]
+mod tests;

@@ -1,0 +1,113 @@
+//! A seat at the desk.
+
+ghost use Rattle.std.specs.Prelude.{◌≡◌, ◌+◌, [], length, IfOk, OnOk, OnErr};
+ghost use Rattle.dmr_desk.specs.Pages.{answer_to, entered};
+ghost use Rattle.dmr_desk.specs.Sitting.{deposited};
+
+use crate::book::Book;
+use crate::room::push_copy;
+use crate::view::deposit_of;
+use dmr_core::{Acts, Event};
+use dmr_link::{Deposit, TermOver};
+use dmr_pdu::OutOfMemory;
+use std::alloc::Global;
+use std::marker::Model;
+use std::sync::ledger;
+use std::sync::ledger::{Ledger, Share};
+
+/// One actor's place at a desk: the number of the actor, and everything that it told the site from here, with the answers.
+/// Contracts see the two. It fits the desk that it was opened with and no other, and has room for as many deposits as that
+/// desk's journal may have entries.
+#[derive(Drop)]
+pub struct Seat<L: Ledger> {
+    actor: u8,
+    deposits: Vec<Deposit>,
+    limit: usize,
+    share: Share<L>,
+}
+
+impl<L: Ledger> Model for Seat<L> {
+    ghost use Rattle.std.specs.Prelude.{◌≡◌, ◌≤◌, vec_len, vec_capacity};
+    ghost use Rattle.dmr_desk.specs.Sitting.{Sitting};
+
+    ghost Value = { Sitting };
+
+    ghost view = { λ s. record { actor = s.actor; deposits = s.deposits.items } };
+
+    ghost invariant = { λ s. (s.share.parts ≡ 1) × (s.share.amount ≡ vec_len s.deposits) × (s.limit ≤ vec_capacity s.deposits) };
+}
+
+impl<L: Ledger> Seat<L> {
+    /// The seat of an actor, with room for this many deposits. `Err` where there is no memory for it.
+    pub(crate) fn new(
+        alloc: Global,
+        actor: u8,
+        limit: usize,
+        share: Share<L>,
+    ) -> Result<Seat<L>, OutOfMemory>
+        requires part { share.parts ≡ 1 }
+        requires idle { share.amount ≡ 0 }
+        ensures { IfOk result (λ seat. seat ≡ record { actor = actor; deposits = [] }) }
+    {
+        let deposits = Vec::with_capacity(alloc, limit)?;
+        Ok(Seat {
+            actor,
+            deposits,
+            limit,
+            share,
+        })
+    }
+
+    /// Tells the book an event as this actor, keeps it with the answer, and counts it. Where the book or the seat has no
+    /// room, nothing is changed.
+    pub(crate) fn tell(
+        &mut self,
+        book: &mut Book,
+        total: &mut ledger::Book<L>,
+        event: &Event,
+    ) -> Result<Acts, TermOver>
+        ensures acts { IfOk result (λ acts. acts ≡ answer_to book.old event.now) }
+        ensures entered { IfOk result (λ acts. book.new ≡ entered book.old self.old.actor event.now acts) }
+        ensures deposited { IfOk result (λ acts. self.new ≡ deposited self.old event.now acts) }
+        ensures counted { OnOk result (total.new.total ≡ total.old.total + 1) }
+        ensures over { OnErr result ((book.new ≡ book.old) × (self.new ≡ self.old) × (total.new.total ≡ total.old.total)) }
+    {
+        if self.deposits.len() >= self.limit {
+            return Err(TermOver {
+                entries: book.len(),
+            });
+        }
+        let acts = book.apply(self.actor, *event)?;
+        total.add(&mut self.share, 1);
+        push_copy(&mut self.deposits, &deposit_of(event, &acts));
+        Ok(acts)
+    }
+
+    /// What was told from here, and the seat's part of the ledger, with as many as were told.
+    pub(crate) fn into_parts(self) -> (Vec<Deposit>, Share<L>)
+        ensures deposits { result.0.items ≡ self.deposits }
+        ensures part { result.1.parts ≡ 1 }
+        ensures amount { result.1.amount ≡ length self.deposits }
+    {
+        let Seat {
+            deposits,
+            share,
+            ..
+        } = self;
+        (deposits, share)
+    }
+
+    /// The number of the actor.
+    pub fn actor(&self) -> u8
+        ensures { result ≡ self.now.actor }
+    {
+        self.actor
+    }
+
+    /// What was told from here, in order.
+    pub fn deposits(&self) -> &[Deposit]
+        ensures { result.now ≡ self.now.deposits }
+    {
+        self.deposits.as_slice()
+    }
+}

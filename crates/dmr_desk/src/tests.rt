@@ -1,0 +1,177 @@
+//! Desks of a site of two carriers.
+
+use super::*;
+use dmr_core::{Command, Event, Reply, Site};
+use dmr_link::{Desk, TermOver};
+use dmr_pdu::CarrierNo;
+use dmr_plan::Plan;
+use std::alloc::Global;
+use std::marker::Brand;
+use std::process::Abort;
+use std::sync::Wait;
+use std::sync::ledger::{Blank, Ledger};
+use std::thread;
+use std::thread::Threads;
+
+/// A site of carriers 0 and 1, with channels 1 and 2.
+const SITE: &str =
+    "system = 0x1234\nregi = 0xFFFEC6\ntsi = 0xFFFECA\nleave_bit = 0\nhang = 100\nmaximum = 3000\nahoy_wait = 8\nahoy_tries = 3\ngrant_copies = 1\nclear_copies = 1\nbackoff_low = 1\nbackoff_high = 8\ntick_ms = 60\nsilence = 100\nconsole_port = 7100\nradios = [[1000, 1999]]\ngroups = [91, 92, 93, 94]\ncontrol = 0\n[[carrier]]\nnumber = 0\nlpcn = 1\nport = 7101\n[[carrier]]\nnumber = 1\nlpcn = 2\nport = 7102\n";
+
+/// A site on which nothing is up.
+fn site(rt: &(impl Abort + AllocGlobal)) -> Site {
+    let plan = Plan::read(rt.alloc(), SITE).expect(rt, "a plan");
+    Site::new(rt.alloc(), plan).expect(rt, "memory")
+}
+
+/// What became of a desk.
+#[derive(Clone, Copy, Debug, PartialEq, Eq)]
+enum Outcome {
+    /// It was not opened.
+    NotOpened(OpenFault),
+    /// It gave no report.
+    NotClosed(CloseFault),
+    /// So many entries and views were reported.
+    Closed(usize, usize),
+}
+
+/// What becomes of a desk at which nothing is deposited, and to which only so many seats are handed back.
+fn open_and_close<L: Ledger, R: Wait>(
+    rt: &R,
+    alloc: Global,
+    blank: Blank,
+    site: Site,
+    limit: usize,
+    actors: u8,
+    kept: usize,
+) -> Outcome
+    requires name { blank.name ≡ L.name }
+    requires parts { blank.parts ≡ L.parts }
+    requires eighteen { blank.parts ≡ 18 }
+{
+    let (desk, mut seats) = match SharedDesk::<L>::open(alloc, blank, site, limit, actors) {
+        Ok(opened) => opened,
+        Err((fault, _)) => return Outcome::NotOpened(fault),
+    };
+    seats.truncate(kept);
+    match desk.close(rt, seats) {
+        Ok(report) => Outcome::Closed(report.journal.as_slice().len(), report.views.len()),
+        Err(fault) => Outcome::NotClosed(fault),
+    }
+}
+
+/// The same, in a ledger of its own.
+fn outcome<R: Wait>(
+    rt: &R,
+    alloc: Global,
+    site: Site,
+    limit: usize,
+    actors: u8,
+    kept: usize,
+) -> Outcome {
+    open_and_close::<Brand, R>(rt, alloc, Blank::new(PARTS), site, limit, actors, kept)
+}
+
+/// A desk opens for 1 to 100,000 entries and 1 to 18 actors, and closes with all its seats alone.
+#[test]
+fn opens_and_closes(rt: HostRuntime) {
+    for (limit, actors, kept, want) in [
+        (0, 4, 4, Outcome::NotOpened(OpenFault::BadLimit)),
+        (100_001, 0, 4, Outcome::NotOpened(OpenFault::BadLimit)),
+        (10, 0, 0, Outcome::NotOpened(OpenFault::BadActors)),
+        (10, 19, 19, Outcome::NotOpened(OpenFault::BadActors)),
+        (10, 4, 3, Outcome::NotClosed(CloseFault::SeatMissing(3))),
+        (10, 4, 4, Outcome::Closed(0, 4)),
+        (100_000, 18, 18, Outcome::Closed(0, 18)),
+    ] {
+        assert_eq!(rt; outcome(&rt, rt.alloc(), site(&rt), limit, actors, kept), want);
+    }
+}
+
+/// A book of one entry takes one event.
+#[test]
+fn book_of_one_entry(rt: HostRuntime) {
+    let mut book = Book::new(rt.alloc(), site(&rt), 1)
+        .map_err(|_| ())
+        .expect(&rt, "memory");
+    let acts = book.apply(7, Event::Say(Command::Stay)).expect(&rt, "room");
+    assert_eq!(rt; acts.said, Some(Reply::Done));
+    assert_eq!(rt; book.apply(7, Event::Tick), Err(TermOver { entries: 1 }));
+    assert_eq!(rt; book.as_slice().len(), 1);
+    assert_eq!(rt; book.as_slice()[0].actor, 7);
+}
+
+/// Deposits an event again and again from a seat, until the term is over, and gives the seat back.
+fn deposit_all<L: Ledger, R: Wait>(
+    rt: &R,
+    desk: &SharedDesk<L>,
+    seat: Seat<L>,
+    event: &Event,
+    times: u32,
+) -> Seat<L> {
+    let mut at = SeatAt::new(rt, desk, seat);
+    for _ in 0..times {
+        if at.over() || at.deposit(*event).is_err() {
+            break;
+        }
+    }
+    at.into_seat()
+}
+
+/// The report of a desk at which two threads deposit at once, each an event of its own a thousand times.
+fn at_once<L: Ledger + Send + Sync, R: Wait + Threads + Sync>(
+    rt: &R,
+    alloc: Global,
+    blank: Blank,
+    site: Site,
+    limit: usize,
+) -> Result<Report, CloseFault>
+    requires name { blank.name ≡ L.name }
+    requires parts { blank.parts ≡ L.parts }
+    requires eighteen { blank.parts ≡ 18 }
+{
+    let Ok((desk, mut seats)) = SharedDesk::<L>::open(alloc, blank, site, limit, 2) else {
+        return Err(CloseFault::Differs(0));
+    };
+    let Some(seat_1) = seats.pop() else {
+        return Err(CloseFault::SeatMissing(1));
+    };
+    let Some(seat_0) = seats.pop() else {
+        return Err(CloseFault::SeatMissing(0));
+    };
+    let shared = &desk;
+    let (seat_0, seat_1) = thread::join(
+        rt,
+        move || deposit_all(rt, shared, seat_0, &Event::Up(CarrierNo::new(0)), 1000),
+        move || deposit_all(rt, shared, seat_1, &Event::Tick, 1000),
+    );
+    let Ok(seats) = Vec::from_array(alloc, [seat_1, seat_0]) else {
+        return Err(CloseFault::SeatMissing(0));
+    };
+    desk.close(rt, seats)
+}
+
+/// The same, in a ledger of its own.
+fn two_at_once<R: Wait + Threads + Sync>(
+    rt: &R,
+    alloc: Global,
+    site: Site,
+    limit: usize,
+) -> Result<Report, CloseFault> {
+    at_once::<Brand, R>(rt, alloc, Blank::new(PARTS), site, limit)
+}
+
+/// What two threads deposited is the journal; where the limit is too low for both, the journal has as many entries as it says.
+#[test]
+fn two_threads(rt: HostRuntime) {
+    for (limit, want) in [(2000, 2000), (1500, 1500)] {
+        let report = two_at_once(&rt, rt.alloc(), site(&rt), limit).expect(&rt, "a report");
+        let views = report.views.as_slice();
+        assert_eq!(rt; views.len(), 2);
+        assert_eq!(rt; report.journal.as_slice().len(), want);
+        let told = views[0]
+            .as_slice()
+            .len()
+            .saturating_add(views[1].as_slice().len());
+        assert_eq!(rt; told, want);
+    }
+}

@@ -1,5 +1,7 @@
 //! Desks of a site of two carriers.
 
+ghost use Rattle.std.specs.Prelude.{◌≡◌};
+
 use super::*;
 use dmr_core::{Command, Event, Reply, Site};
 use dmr_link::{Desk, TermOver};
@@ -60,7 +62,7 @@ fn open_and_close<L: Ledger, R: Wait>(
 }
 
 /// The same, in a ledger of its own.
-fn outcome<R: Wait>(
+fn outcome_of<R: Wait>(
     rt: &R,
     alloc: Global,
     site: Site,
@@ -83,7 +85,7 @@ fn opens_and_closes(rt: HostRuntime) {
         (10, 4, 4, Outcome::Closed(0, 4)),
         (100_000, 18, 18, Outcome::Closed(0, 18)),
     ] {
-        assert_eq!(rt; outcome(&rt, rt.alloc(), site(&rt), limit, actors, kept), want);
+        assert_eq!(rt; outcome_of(&rt, rt.alloc(), site(&rt), limit, actors, kept), want);
     }
 }
 
@@ -139,9 +141,10 @@ fn at_once<L: Ledger + Send + Sync, R: Wait + Threads + Sync>(
         return Err(CloseFault::SeatMissing(0));
     };
     let shared = &desk;
+    let up = Event::Up(CarrierNo::new(0));
     let (seat_0, seat_1) = thread::join(
         rt,
-        move || deposit_all(rt, shared, seat_0, &Event::Up(CarrierNo::new(0)), 1000),
+        move || deposit_all(rt, shared, seat_0, &up, 1000),
         move || deposit_all(rt, shared, seat_1, &Event::Tick, 1000),
     );
     let Ok(seats) = Vec::from_array(alloc, [seat_1, seat_0]) else {

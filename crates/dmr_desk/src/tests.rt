@@ -85,7 +85,10 @@ fn opens_and_closes(rt: HostRuntime) {
         (10, 4, 4, Outcome::Closed(0, 4)),
         (100_000, 18, 18, Outcome::Closed(0, 18)),
     ] {
-        assert_eq!(rt; outcome_of(&rt, rt.alloc(), site(&rt), limit, actors, kept), want);
+        assert_eq!(rt;
+            outcome_of(&rt, rt.alloc(), site(&rt), limit, actors, kept),
+            want
+        );
     }
 }
 

@@ -1,8 +1,8 @@
 //! The site controller of a DMR Tier III trunked radio site.
 //!
 //! `dmr_trunk --site FILE --script FILE` replays a script over the site of a site file and prints what was put out for
-//! each carrier. The words are read in `words`, files come from `files`, and scripts are read in `script`; `replay` runs a script's inputs through the engine of
-//! `dmr_link`, and is the program but for its words and files.
+//! each carrier. The words are read in `words`, files come from `files`, and scripts are read in `script`; `replay` runs a
+//! script's inputs through the engine of `dmr_link`, and is the program but for its words and files.
 #![tactic(auto)]
 
 mod files;

@@ -1,6 +1,6 @@
 -- From what the seats and the views show, what closing shows.
-use Rattle.std.proofs.Common.{◌≡◌, ℕ, ◌<◌, inl, inr, List, length, reverse, Some, Result, Ok, Err, refl, sym, ap, ◌∙◌, subst}
-use Rattle.std.specs.Prelude.{slice_get, Contains, All, IfOk, IfErr}
+use Rattle.std.proofs.Common.{◌≡◌, ℕ, inl, inr, List, length, reverse, arith, Some, Result, Ok, Err, refl, sym, ap, ◌∙◌, subst}
+use Rattle.std.specs.Prelude.{slice_get, Contains, IfErr}
 use Rattle.std.proofs.lemmas.Option.{same_Some, slice_get_within}
 use Rattle.dmr_core.specs.declared.entry.Entry.{Entry}
 use Rattle.dmr_link.specs.declared.desk.Deposit.{Deposit}
@@ -20,19 +20,22 @@ missing_fault desk seats pages (Differs actor) is = absurd is
 
 pub other_fault : (desk : Opened) (seats : List Sitting) (views : List (List Deposit)) (pages : Pages) (fault : CloseFault) → AreGathered seats views → IsOther desk views pages fault → IsFault desk seats pages fault
 other_fault desk seats views pages (SeatMissing actor) g is = absurd is
-other_fault desk seats views pages (Differs actor) g is = elim is [
-  | inl copies ↦ inl copies
-  | inr differs ↦
-      let found = g.has actor differs.0 in
-      let seat = found.0 in
-      inr (
-        seat,
-        found.1,
-        found.2,
-        λ same. differs.1 (ap (λ (k : ℕ). slice_get views k) (sym found.2) ∙ g.each seat found.1 ∙ ap (λ (ds : List Deposit). Some ds) same),
-        λ other has below. same_Some other.deposits (view_of other.actor pages.entries) (sym (g.each other has) ∙ differs.2 other.actor below),
-      )
-]
+other_fault desk seats views pages (Differs actor) g is = (
+  λ lower below. let m = g.as_many in g.has lower (omega arith),
+  elim is [
+    | inl copies ↦ inl copies
+    | inr differs ↦
+        let found = g.has actor differs.0 in
+        let seat = found.0 in
+        inr (
+          seat,
+          found.1,
+          found.2,
+          λ same. differs.1 (ap (λ (k : ℕ). slice_get views k) (sym found.2) ∙ g.each seat found.1 ∙ ap (λ (ds : List Deposit). Some ds) same),
+          λ other has below. same_Some other.deposits (view_of other.actor pages.entries) (sym (g.each other has) ∙ differs.2 other.actor below),
+        )
+  ],
+)
 
 pub other_result : (desk : Opened) (seats : List Sitting) (views : List (List Deposit)) (pages : Pages) (result : Result Report CloseFault) → AreGathered seats views → IfErr result (IsOther desk views pages) → IfErr result (IsFault desk seats pages)
 other_result desk seats views pages (Ok report) g is = is

@@ -7,6 +7,7 @@ use Rattle.dmr_core.specs.State.{State, IsSite}
 use Rattle.dmr_core.specs.Facts.{facts_after}
 use Rattle.dmr_core.specs.Journal.{IsLegal, answer}
 
+-- what contracts see of a book
 pub record Pages : Type 0 where
   pub opening : State  -- the site when the book was opened
   pub limit : ℕ  -- the most entries
@@ -16,7 +17,7 @@ pub record Pages : Type 0 where
 abbrev pub site_after : State → List Entry → State
 site_after opening entries = record { plan = opening.plan; facts = facts_after opening.plan opening.facts (reverse entries) }
 
--- the same with one entry more, the youngest: an actor's event, and the answer to it
+-- the pages with one entry more, the newest: an actor's event, and the answer to it
 abbrev pub entered : Pages → ℕ → Event → Acts → Pages
 entered pages actor event acts = record {
   opening = pages.opening;
@@ -28,7 +29,7 @@ entered pages actor event acts = record {
 abbrev pub answer_to : Pages → Event → Acts
 answer_to pages event = answer pages.opening.plan pages.opening.facts (reverse pages.entries) event
 
--- what every book keeps: it was opened with a site, its journal is legal from there, and it has no more entries than it may
+-- what every book keeps: it was opened with a site, its journal is legal from there, and it has at most as many entries as it may
 pub record AreKept (pages : Pages) : Type 0 where
   pub site : IsSite pages.opening
   pub legal : IsLegal pages.opening.plan pages.opening.facts (reverse pages.entries)

@@ -1,16 +1,16 @@
 -- Seats, and the desk that they stand round.
-use Rattle.std.specs.Prelude.{◌≡◌, ◌++◌, ℕ, zero, suc, List, [], ◌∷◌, Contains}
+use Rattle.std.specs.Prelude.{◌≡◌, ◌<◌, ◌++◌, ℕ, zero, suc, List, [], ◌∷◌, length, Contains}
 use Rattle.dmr_core.specs.declared.event.Event.{Event}
 use Rattle.dmr_core.specs.declared.act.Acts.{Acts}
 use Rattle.dmr_core.specs.State.{State}
 use Rattle.dmr_link.specs.declared.desk.Deposit.{Deposit}
 
--- a seat: whose it is, and what was told from it
+-- a seat: whose it is, and what was deposited from it, the oldest first
 pub record Sitting : Type 0 where
   pub actor : ℕ
   pub deposits : List Deposit
 
--- the same with one deposit more, the youngest: an event, and the answer to it
+-- the seat with one deposit more, the newest: an event, and the answer to it
 abbrev pub deposited : Sitting → Event → Acts → Sitting
 deposited seat event acts = record { actor = seat.actor; deposits = seat.deposits ++ record { event = event; acts = acts } ∷ [] }
 
@@ -23,7 +23,11 @@ pub record Opened : Type 0 where
 abbrev pub HasSeat : List Sitting → ℕ → Type 0
 HasSeat seats actor = (seat : Sitting) × Contains seats seat × (seat.actor ≡ actor)
 
--- the seats of the actors below a number, in order, from which nothing was told yet
+-- none is missing among so many: each actor below their number has a seat
+abbrev pub NoneMissing : List Sitting → Type 0
+NoneMissing seats = (actor : ℕ) → actor < length seats → HasSeat seats actor
+
+-- the seats of the actors below a number, in order, from which nothing was deposited yet
 abbrev pub empty_seats : ℕ → List Sitting
 empty_seats zero = []
 empty_seats (suc n) = empty_seats n ++ record { actor = n; deposits = [] } ∷ []

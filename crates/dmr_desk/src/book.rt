@@ -14,7 +14,7 @@ use std::marker::Model;
 
 /// A site, and the journal of every event that it was told since the book was opened, with its answers. Contracts see it as
 /// the site at its opening, the most entries that it may have, and its entries, the oldest first. The journal is legal from
-/// that site, and the site stands as the journal leaves it, as [`keeps`](Book::keeps) tells.
+/// that site, as [`keeps`](Book::keeps) tells, and the site stands as the journal leaves it.
 #[derive(Drop)]
 pub struct Book {
     opening: Site,
@@ -34,7 +34,7 @@ impl Model for Book {
     ghost invariant = { λ b. AreKept (record { opening = b.opening; limit = b.limit; entries = b.journal.items }) × (b.site ≡ site_after b.opening b.journal.items) × (b.limit ≤ vec_capacity b.journal) };
 }
 
-/// An entry.
+/// The entry of an actor's event and its answer.
 fn entry_of(actor: u8, event: &Event, acts: &Acts) -> Entry
     ensures { result ≡ record { actor = actor; event = event.now; acts = acts.now } }
 {
@@ -46,8 +46,8 @@ fn entry_of(actor: u8, event: &Event, acts: &Acts) -> Entry
 }
 
 impl Book {
-    /// The book of a site, with no entry yet and room for `limit`. Where there is no memory for it, the site is handed back
-    /// as it was.
+    /// The book of a site, with no entry yet. Its journal may have `limit` entries, and has room for them from the beginning.
+    /// `Err`: an allocation was refused; the site is handed back as it was.
     pub fn new(alloc: Global, site: Site, limit: usize) -> Result<Book, (OutOfMemory, Site)>
         ensures ok { IfOk result (λ book. book ≡ record { opening = site; limit = limit; entries = [] }) }
         ensures err { IfErr result (λ fault. fault.1 ≡ site) }
@@ -67,8 +67,8 @@ impl Book {
         })
     }
 
-    /// Tells the site an event that this actor brings, and enters it with the answer. Where the journal has as many entries
-    /// as it may have, nothing is changed. It takes no memory.
+    /// Tells the site an event that the actor of this number brings, enters it with the site's answer, and gives the answer. It
+    /// takes no memory. `Err`: the journal has as many entries as it may have; the site was not told, and nothing has changed.
     pub fn apply(&mut self, actor: u8, event: Event) -> Result<Acts, TermOver>
         ensures acts { IfOk result (λ acts. acts ≡ answer_to self.old event) }
         ensures entered { IfOk result (λ acts. self.new ≡ entered self.old actor event acts) }
@@ -95,7 +95,7 @@ impl Book {
     }
 
     /// How many entries there are.
-    pub fn len(&self) -> usize
+    pub(crate) fn len(&self) -> usize
         ensures { result ≡ length self.now.entries }
     {
         self.journal.len()
@@ -124,8 +124,8 @@ impl Book {
         self.journal.as_slice()
     }
 
-    /// Whether it was opened with such a site, with the same plan and facts, and for as many entries.
-    pub fn is_of(&self, opening: &Site, limit: usize) -> bool
+    /// Whether it was opened with a site of the same plan and facts, and for as many entries.
+    pub(crate) fn is_of(&self, opening: &Site, limit: usize) -> bool
         ensures { IsTrue result ↔ ((self.now.opening ≡ opening.now) × (self.now.limit ≡ limit)) }
     {
         self.opening == *opening && self.limit == limit

@@ -19,10 +19,12 @@ use std::marker::Model;
 use std::sync::ledger::{Blank, Ledger, Share};
 use std::sync::{Mutex, Wait, ledger};
 
-/// How many parts the blank has that a desk is opened with. Each seat has one; the lock keeps the others.
+/// How many parts the ledger has that a desk is opened with: as many as it may have actors. Each seat has one part, and the lock
+/// keeps the others.
 pub const PARTS: u64 = 18;
 
-/// What the lock keeps: the book, how many entries it has by the ledger, and the parts that no seat has.
+/// What the lock keeps: the book, the ledger's total, which is how many entries the book has, the parts of the ledger that no
+/// seat has, and how many seats there are.
 #[derive(Drop)]
 struct Locked<L: Ledger> {
     book: Book,
@@ -35,7 +37,7 @@ struct Locked<L: Ledger> {
 }
 
 impl<L: Ledger> Locked<L> {
-    /// Tells the site an event that comes from a seat.
+    /// Tells the site an event from a seat. `Err`: there is no room, and nothing has changed.
     fn tell(&mut self, seat: &mut Seat<L>, event: &Event) -> Result<Acts, TermOver>
         ensures acts { IfOk result (λ acts. acts ≡ answer_to self.old.book event.now) }
         ensures entered { IfOk result (λ acts. self.new.book ≡ entered self.old.book seat.old.actor event.now acts) }
@@ -65,7 +67,8 @@ impl<L: Ledger> Locked<L> {
     }
 }
 
-/// Seats for the actors below a number, each with one part of a share that has told nothing.
+/// Seats of the actors below a number, each with one part of a share in which nothing is counted yet. `Err`: an allocation was
+/// refused.
 fn seats_for<L: Ledger>(
     alloc: Global,
     rest: &mut Share<L>,
@@ -87,7 +90,7 @@ fn seats_for<L: Ledger>(
 }
 
 /// One site that many threads tell events to, one at a time. Contracts see the site at its opening and the most entries that
-/// the journal may have.
+/// the journal may have. What is behind the lock they cannot name; what it was is shown by the report, when the desk is closed.
 #[derive(Drop)]
 pub struct SharedDesk<L: Ledger> {
     locked: Mutex<Locked<L>>,
@@ -104,8 +107,10 @@ impl<L: Ledger> Model for SharedDesk<L> {
 }
 
 impl<L: Ledger> SharedDesk<L> {
-    /// A desk for a site, and a seat for each of so many actors, numbered from 0. The journal may have `limit` entries, and
-    /// there is room for them from the beginning. Where it is not opened, the site is handed back as it was; the blank is not.
+    /// The desk of a site, and the seats of `actors` actors, which are numbered from 0, in this order. The journal may have
+    /// `limit` entries; the journal and each seat have room for so many from the beginning. The blank is that of the ledger `L`,
+    /// of [`PARTS`] parts. `Err`: the first fault that applies, in the order of [`OpenFault`]; the site is handed back as it was,
+    /// the blank is used up.
     pub fn open(
         alloc: Global,
         blank: Blank,
@@ -156,8 +161,9 @@ impl<L: Ledger> SharedDesk<L> {
         }
     }
 
-    /// Tells the site an event from a seat, and gives the answer. One event is told at a time, whichever thread tells it.
-    /// Where the journal has as many entries as it may have, nothing is changed.
+    /// Tells the site an event from a seat, and gives the site's answer, which the seat keeps with the event. It waits for the
+    /// lock: one event is told at a time, whichever thread tells it. It takes no memory. `Err`: the journal has as many entries as
+    /// it may have; the site was not told, and nothing has changed.
     pub fn deposit<R: Wait>(
         &self,
         rt: &R,
@@ -170,13 +176,16 @@ impl<L: Ledger> SharedDesk<L> {
         self.locked.lock(rt).tell(seat, &event)
     }
 
-    /// Whether the journal has as many entries as it may have.
+    /// Whether the journal has as many entries as it may have. It waits for the lock, as [`deposit`](SharedDesk::deposit) does. No
+    /// clause says what it answers: contracts cannot name what is behind a lock.
     pub fn over<R: Wait>(&self, rt: &R) -> bool {
         self.locked.lock(rt).book.is_full()
     }
 
-    /// The site, the journal and what each actor told, where every seat was handed in and has what the journal has of its
-    /// actor. It takes no memory.
+    /// Closes the desk, with its seats in any order. The report has the site, the journal, and the view of each actor, moved out of
+    /// its seat; what it says, [`reports_account`](crate::reports_account) says in one place. It takes no memory. `Err`: a seat is
+    /// missing, of the least actor of which that is so; or else a seat differs from the journal, of the least such actor. Site,
+    /// journal and seats are gone then.
     pub fn close<R: Wait>(self, _rt: &R, seats: Vec<Seat<L>>) -> Result<Report, CloseFault>
         requires { L.parts ≡ 18 }
         ensures ok { IfOk result (λ report. IsAudited self seats.items report) }

@@ -16,15 +16,16 @@ pub enum OpenFault {
     OutOfMemory,
 }
 
-/// Why there is no report of a desk: the first that applies, and the least actor of which it is so. Desk, site, journal and
-/// seats are used up.
+/// Why there is no report of a desk: the first that applies, and the least actor of which it is so. The desk, with its site and
+/// journal, and the seats are gone.
 #[derive(Clone, Copy, PartialEq, Eq, Debug, Error)]
 pub enum CloseFault {
     /// No seat of this actor was handed in.
     #[error("the seat of actor {0} is missing")]
     SeatMissing(u8),
-    /// What was deposited from this actor's seat is not what the journal has of the actor; or, for actor 0, the book is not one
-    /// of the site and the limit that the desk was opened with.
+    /// What was deposited from this actor's seat is not what the journal has of the actor; or, told of actor 0, the book is not
+    /// one of the site and the limit that the desk was opened with. The latter is looked at since no contract says that what
+    /// comes out of a lock is what went in.
     #[error("the seat of actor {0} differs from the journal")]
     Differs(u8),
 }

@@ -1,5 +1,16 @@
-//! One site for many threads: a book keeps every event that the site was told and its answer, a lock lets one thread in at a
-//! time, and each thread keeps the calls that it made.
+//! One site for many threads, told one event at a time, and the proof, made when it is closed, that what each thread was
+//! answered is what one legal journal says.
+//!
+//! - A [`Book`] is a site and the journal of what it was told, in one thread: each event is entered with its answer.
+//! - A [`SharedDesk`] is a book behind a lock, and a [`Seat`] an actor's place at it. Whoever has a seat deposits events from
+//!   it, each of which takes the lock and becomes one entry; the seat keeps what was deposited from it, with the answers. A
+//!   [`SeatAt`] is a seat as a link's `Desk`.
+//! - [`close`](SharedDesk::close) takes the desk and all its seats, and gives a [`Report`]: the site, the [`Journal`], and each
+//!   actor's [`View`]. It compares each seat with the journal. What a report says stands in one place, in the contract of
+//!   [`reports_account`].
+//!
+//! That no entry is of anybody else needs no comparison. A desk and its seats share the parts of a ledger, in which each deposit
+//! counts one; when all parts are together, the journal is exactly as long as all seats' lists.
 #![tactic(auto)]
 
 mod at;

@@ -15,9 +15,9 @@ use std::marker::Model;
 use std::sync::ledger;
 use std::sync::ledger::{Ledger, Share};
 
-/// One actor's place at a desk: the number of the actor, and everything that it told the site from here, with the answers.
-/// Contracts see the two. It fits the desk that it was opened with and no other, and has room for as many deposits as that
-/// desk's journal may have entries.
+/// One actor's place at a desk: the number of the actor, and what was deposited from here, in order. Contracts see the two. It
+/// fits the desk that it was opened with and no other, by the ledger `L`, and has room for as many deposits as that desk's
+/// journal may have entries.
 #[derive(Drop)]
 pub struct Seat<L: Ledger> {
     actor: u8,
@@ -38,7 +38,7 @@ impl<L: Ledger> Model for Seat<L> {
 }
 
 impl<L: Ledger> Seat<L> {
-    /// The seat of an actor, with room for this many deposits. `Err` where there is no memory for it.
+    /// The seat of an actor, with room for `limit` deposits. `Err`: an allocation was refused.
     pub(crate) fn new(
         alloc: Global,
         actor: u8,
@@ -58,8 +58,8 @@ impl<L: Ledger> Seat<L> {
         })
     }
 
-    /// Tells the book an event as this actor, keeps it with the answer, and counts it. Where the book or the seat has no
-    /// room, nothing is changed.
+    /// Tells the book an event as this actor, counts it in the ledger, and keeps it with the answer. `Err`: the book or the seat
+    /// has no room, and nothing has changed.
     pub(crate) fn tell(
         &mut self,
         book: &mut Book,
@@ -72,6 +72,8 @@ impl<L: Ledger> Seat<L> {
         ensures counted { OnOk result (total.new.total ≡ total.old.total + 1) }
         ensures over { OnErr result ((book.new ≡ book.old) × (self.new ≡ self.old) × (total.new.total ≡ total.old.total)) }
     {
+        // Where the seat is full the book is full too, since each deposit is an entry. No contract says so: nothing ties the
+        // limits of the two.
         if self.deposits.len() >= self.limit {
             return Err(TermOver {
                 entries: book.len(),
@@ -83,7 +85,7 @@ impl<L: Ledger> Seat<L> {
         Ok(acts)
     }
 
-    /// What was told from here, and the seat's part of the ledger, with as many as were told.
+    /// What was deposited from here, and the seat's part of the ledger, whose amount is their number.
     pub(crate) fn into_parts(self) -> (Vec<Deposit>, Share<L>)
         ensures deposits { result.0.items ≡ self.deposits }
         ensures part { result.1.parts ≡ 1 }
@@ -104,7 +106,7 @@ impl<L: Ledger> Seat<L> {
         self.actor
     }
 
-    /// What was told from here, in order.
+    /// What was deposited from here: the events and their answers, in order.
     pub fn deposits(&self) -> &[Deposit]
         ensures { result.now ≡ self.now.deposits }
     {

@@ -83,7 +83,8 @@ fn opens_and_closes(rt: HostRuntime) {
         (10, 19, 19, Outcome::NotOpened(OpenFault::BadActors)),
         (10, 4, 3, Outcome::NotClosed(CloseFault::SeatMissing(3))),
         (10, 4, 4, Outcome::Closed(0, 4)),
-        (100_000, 18, 18, Outcome::Closed(0, 18)),
+        (10, 18, 18, Outcome::Closed(0, 18)),
+        (100_000, 1, 1, Outcome::Closed(0, 1)),
     ] {
         assert_eq!(rt;
             outcome_of(&rt, rt.alloc(), site(&rt), limit, actors, kept),
@@ -122,7 +123,8 @@ fn deposit_all<L: Ledger, R: Wait>(
     at.into_seat()
 }
 
-/// The report of a desk at which two threads deposit at once, each an event of its own a thousand times.
+/// The report of a desk at which two threads deposit at once, each an event of its own a thousand times. Where memory is
+/// wanting there is none.
 fn at_once<L: Ledger + Send + Sync, R: Wait + Threads + Sync>(
     rt: &R,
     alloc: Global,

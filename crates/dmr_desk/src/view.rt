@@ -1,6 +1,6 @@
 //! What one actor told the site, and how it was answered.
 
-ghost use Rattle.std.specs.Prelude.{◌≡◌, ◌↔◌, [], IsTrue};
+ghost use Rattle.std.specs.Prelude.{◌≡◌, ◌↔◌, IsTrue};
 ghost use Rattle.dmr_desk.specs.Views.{deposit_in, view_of};
 
 use dmr_core::{Acts, Entry, Event};
@@ -9,7 +9,7 @@ use std::alloc::Global;
 use std::default::MadeWith;
 use std::marker::Model;
 
-/// A deposit.
+/// The deposit of an event and its answer.
 pub(crate) fn deposit_of(event: &Event, acts: &Acts) -> Deposit
     ensures { result ≡ record { event = event.now; acts = acts.now } }
 {
@@ -19,7 +19,7 @@ pub(crate) fn deposit_of(event: &Event, acts: &Acts) -> Deposit
     }
 }
 
-/// Whether a deposit is what an entry of a journal says.
+/// Whether a deposit has the event and the answer of an entry.
 fn is_of(deposit: &Deposit, entry: &Entry) -> bool
     ensures { IsTrue result ↔ (deposit.now ≡ deposit_in entry.now) }
 {
@@ -42,7 +42,7 @@ pub fn is_view(deposits: &[Deposit], actor: u8, journal: &[Entry]) -> bool
     next == deposits.len()
 }
 
-/// What one actor told the site in a term, and the answers, in order. Contracts see it as the list of its deposits.
+/// What one actor told the site, and the answers, in order. Contracts see it as the list of its deposits.
 #[derive(Drop)]
 pub struct View {
     deposits: Vec<Deposit>,
@@ -59,7 +59,7 @@ impl Model for View {
 
 impl View {
     /// The view of these deposits.
-    pub fn new(deposits: Vec<Deposit>) -> Self
+    pub(crate) fn new(deposits: Vec<Deposit>) -> Self
         ensures { result ≡ deposits.items }
     {
         View { deposits }

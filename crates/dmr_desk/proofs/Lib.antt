@@ -2,3 +2,4 @@ mod ViewLemmas
 mod SeatLemmas
 mod Counts
 mod Closing
+mod Ticking

@@ -3,3 +3,4 @@ pub mod Views
 pub mod Sitting
 pub mod Opening
 pub mod Audited
+pub mod Pace

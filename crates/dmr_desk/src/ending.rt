@@ -1,0 +1,12 @@
+//! Why a worker ends.
+
+/// Why a worker ended.
+#[derive(Clone, Copy, Debug, PartialEq, Eq)]
+pub enum Ending {
+    /// Its port has no more connections, or its pacer no more ticks. Its link, if it has one, owes nothing.
+    Finished,
+    /// Its gate was shut. The event that was to be handed in is kept by its link.
+    GateShut,
+    /// The term is over. An event that the desk did not take is kept by the link; a tick is dropped.
+    TermOver,
+}

@@ -4,3 +4,4 @@ pub mod Sitting
 pub mod Opening
 pub mod Audited
 pub mod Pace
+pub mod Work

@@ -13,6 +13,7 @@ mod pace;
 mod report;
 mod room;
 mod seat;
+mod station;
 mod view;
 
 pub use at::SeatAt;
@@ -24,6 +25,7 @@ pub use laws::reports_account;
 pub use pace::{Pace, Pacer, work_ticker};
 pub use report::{Journal, Report, Views};
 pub use seat::Seat;
+pub use station::{ConsoleStation, Station};
 pub use view::View;
 
 #[cfg(test)]

@@ -3,3 +3,4 @@ mod SeatLemmas
 mod Counts
 mod Closing
 mod Ticking
+mod Working

@@ -15,6 +15,7 @@ mod room;
 mod seat;
 mod station;
 mod view;
+mod work;
 
 pub use at::SeatAt;
 pub use book::Book;
@@ -27,6 +28,7 @@ pub use report::{Journal, Report, Views};
 pub use seat::Seat;
 pub use station::{ConsoleStation, Station};
 pub use view::View;
+pub use work::{work_carrier, work_console};
 
 #[cfg(test)]
 mod tests;

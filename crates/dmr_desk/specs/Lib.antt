@@ -5,3 +5,4 @@ pub mod Opening
 pub mod Audited
 pub mod Pace
 pub mod Work
+pub mod Term

@@ -2,6 +2,7 @@
 //! time, and each thread keeps the calls that it made.
 #![tactic(auto)]
 
+mod actors;
 mod at;
 mod audit;
 mod book;

@@ -4,3 +4,4 @@ mod Counts
 mod Closing
 mod Ticking
 mod Working
+mod Crews

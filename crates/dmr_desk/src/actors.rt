@@ -42,7 +42,9 @@ pub struct TickerWork<T, L: Ledger> {
 pub struct LinkKept<S>(pub Snapshot<S>, pub u8);
 
 impl<S: Serving, L: Ledger> Promise<LinkWork<S, L>> for LinkKept<S> {
-    ghost kept_by = { λ p r. IsDone p.1 (S.stand p.0.value) (done (S.stand r.station) r.seat r.ending) × (r.ending ≡ Ending.GateShut → S.shut r.station) };
+    ghost use Rattle.dmr_desk.specs.declared.ending.Ending.TheVariants.{GateShut};
+
+    ghost kept_by = { λ p r. IsDone p.1 (S.stand p.0.value) (done (S.stand r.station) r.seat r.ending) × (r.ending ≡ GateShut → S.shut r.station) };
 }
 
 /// That the ticker does its work with this pacer, and a new seat of this actor.

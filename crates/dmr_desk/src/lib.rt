@@ -15,6 +15,7 @@ mod report;
 mod room;
 mod seat;
 mod station;
+mod threads;
 mod view;
 mod work;
 

@@ -103,3 +103,19 @@ all_new_then n (x ∷ xs) h =
     let a = new_then n x h.0 in
     let b = all_new_then (n + 1) xs h.1 in
     (λ i. a i && b i)
+
+-- the last two of the seats are the ticker's and the console's
+pub crew_of : (n : ℕ) (seats middle rest : List Sitting) (console pacer : Sitting) → seats ≡ empty_seats (n + 2) → seats ≡ middle ++ console ∷ [] → middle ≡ rest ++ pacer ∷ []
+    → (length rest ≡ n) × AreNew 0 rest × IsNew n pacer × IsNew (n + 1) console
+crew_of n seats middle rest console pacer all first second =
+    let P : List Sitting → Type 0 = AreNew 0 in
+    let new : AreNew 0 seats = subst P (sym all) (empty_new (n + 2)) in
+    let a = new_but_last seats middle console first new in
+    let b = new_but_last middle rest pacer second a.0 in
+    let m : length seats ≡ n + 2 = ap length all ∙ empty_length (n + 2) in
+    let p : length seats ≡ length middle + 1 = ap length first ∙ length-append middle (console ∷ []) in
+    let q : length middle ≡ length rest + 1 = ap length second ∙ length-append rest (pacer ∷ []) in
+    let r : length rest ≡ n = omega arith in
+    let t : length middle ≡ n + 1 = omega arith in
+    let Q : ℕ → Type 0 = λ i. IsNew i pacer in
+    let R : ℕ → Type 0 = λ i. IsNew i console in (r, b.0, subst Q r b.1, subst R t a.1)

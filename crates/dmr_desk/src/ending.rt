@@ -10,3 +10,15 @@ pub enum Ending {
     /// The term is over. An event that the desk did not take is kept by the link; a tick is dropped.
     TermOver,
 }
+
+/// Finished.
+impl Default for Ending {
+    ghost use Rattle.std.specs.Prelude.{◌≡◌};
+    ghost use Rattle.dmr_desk.specs.declared.ending.Ending.TheVariants.{Finished};
+
+    ghost is_default = { λ e. e ≡ Finished };
+
+    fn default() -> Self {
+        Ending::Finished
+    }
+}

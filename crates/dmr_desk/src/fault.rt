@@ -29,3 +29,23 @@ pub enum CloseFault {
     #[error("the seat of actor {0} differs from the journal")]
     Differs(u8),
 }
+
+/// Why there is no term: the first that applies. What was handed in is used up.
+#[derive(Clone, Copy, PartialEq, Eq, Debug, Error)]
+pub enum TermFault {
+    /// There is not one station for each carrier of the plan, in the order of their numbers. No thread was started.
+    #[error("there is not one station for each carrier, by number")]
+    BadStations,
+    /// The desk was not opened, or there was no memory for what the workers hand back. No thread was started.
+    #[error("the desk was not opened: {0}")]
+    Open(OpenFault),
+    /// A thread could not be started. The workers that ran have ended.
+    #[error("a thread could not be started")]
+    NoThread,
+    /// The workers have ended, and the desk has no report.
+    #[error("no report: {0}")]
+    Audit(CloseFault),
+    /// The workers have ended, and this actor, the least, was told that the term is over while the journal was below its limit.
+    #[error("actor {0} was told too early that the term is over")]
+    Early(u8),
+}

@@ -1,0 +1,6 @@
+use Rattle.std.proofs.Common.{rules, ◌≡◌}
+use Rattle.dmr_desk.proofs.Crews.{new_if, all_new_if}
+use Rattle.dmr_desk.proofs.threads.run_crew.Goals as goal
+
+pub run_all-requires-clause-new : goal.run_all-requires-clause-new
+run_all-requires-clause-new g c = λ κs within. all_new_if _ _ c.args.crew.new

@@ -1,0 +1,24 @@
+use Rattle.dmr_desk.specs.Work.{Stand, moment, Going}
+use Rattle.dmr_desk.proofs.Working.{same_calls, went_ready, went_not_yet, went_finished}
+use Rattle.dmr_desk.proofs.work.connect.Goals as goal
+
+pub returns-in-Ready-clause-goes : goal.returns-in-Ready-clause-goes
+returns-in-Ready-clause-goes g c = λ m h.
+    let at : Stand = g.S.Serving.stand c.args.station.now in
+    let calls = g.D.Desk.calls c.over.new.self in
+    let h1 : Going m (moment at calls) = same_calls Going m at (g.D.Desk.calls c.args.desk.now) calls c.over.ensures.calls h in
+    went_ready m (moment at calls) (g.S.Serving.stand c.connect.new.self) (g.S.Serving.stand c.open.new.self) h1 c.requires c.in-Ready.ensures c.open.ensures.turns c.open.ensures.stands
+
+pub returns-in-NotYet-clause-goes : goal.returns-in-NotYet-clause-goes
+returns-in-NotYet-clause-goes g c = λ m h.
+    let at : Stand = g.S.Serving.stand c.args.station.now in
+    let calls = g.D.Desk.calls c.over.new.self in
+    let h1 : Going m (moment at calls) = same_calls Going m at (g.D.Desk.calls c.args.desk.now) calls c.over.ensures.calls h in
+    went_not_yet m (moment at calls) (g.S.Serving.stand c.connect.new.self) h1 c.requires c.in-NotYet.ensures
+
+pub returns-in-Finished-clause-goes : goal.returns-in-Finished-clause-goes
+returns-in-Finished-clause-goes g c = λ m h.
+    let at : Stand = g.S.Serving.stand c.args.station.now in
+    let calls = g.D.Desk.calls c.over.new.self in
+    let h1 : Going m (moment at calls) = same_calls Going m at (g.D.Desk.calls c.args.desk.now) calls c.over.ensures.calls h in
+    went_finished m (moment at calls) (g.S.Serving.stand c.connect.new.self) h1 c.requires c.in-Finished.ensures

@@ -1,0 +1,7 @@
+use Rattle.std.proofs.Common.{refl}
+use Rattle.dmr_desk.specs.Work.{moment}
+use Rattle.dmr_desk.proofs.Working.{going_from}
+use Rattle.dmr_desk.proofs.work.work.Goals as goal
+
+pub loop-init : goal.loop-init
+loop-init g c = record { going = going_from (moment (g.S.Serving.stand c.args.station.now) (g.D.Desk.calls c.args.desk.now)); actor = refl }

@@ -1,0 +1,111 @@
+-- What a term does: each actor's part, and the whole.
+use Rattle.std.specs.Prelude.{◌≡◌, ℕ, ◌+◌, ◌≤◌, ◌<◌, ◌==◌, ◌&&◌, Bool, true, false, List, [], ◌∷◌, Option, Some, length, reverse, slice_get, All}
+use Rattle.dmr_core.specs.State.{State}
+use Rattle.dmr_core.specs.Journal.{IsLegal}
+use Rattle.dmr_core.specs.declared.entry.Entry.{Entry}
+use Rattle.dmr_link.specs.Runs.{IsSafe}
+use Rattle.dmr_link.specs.declared.desk.Deposit.{Deposit}
+use Rattle.dmr_desk.specs.declared.ending.Ending.{Ending}
+use Rattle.dmr_desk.specs.declared.ending.Ending.TheVariants as ending
+use Rattle.dmr_desk.specs.Pace.{Paced, Ticks}
+use Rattle.dmr_desk.specs.Pages.{site_after}
+use Rattle.dmr_desk.specs.Sitting.{Sitting}
+use Rattle.dmr_desk.specs.Views.{view_of}
+use Rattle.dmr_desk.specs.Work.{Stand, moment, Works}
+
+-- ---- each actor's part
+
+-- a link's worker did its work from one stand to another, with a new desk that took these events
+abbrev pub HasWorked : Stand → Stand → List Deposit → Ending → Type 0
+HasWorked s t view e = Works (moment s []) (moment t view) e
+
+-- the ticker did its work, with a new desk that took these events
+abbrev pub HasTicked : Option Paced → Option Paced → List Deposit → Ending → Type 0
+HasTicked before after view e = Ticks before [] after view e
+
+-- ---- the whole
+
+-- what is handed in
+pub record Start : Type 0 where
+  pub site : State
+  pub limit : ℕ
+  pub stations : List Stand
+  pub pacer : Option Paced
+  pub console : Stand
+
+-- what is handed back
+pub record End : Type 0 where
+  pub site : State
+  pub journal : List Entry
+  pub views : List (List Deposit)
+  pub ends : List Ending
+  pub stations : List Stand
+  pub pacer : Option Paced
+  pub console : Stand
+
+-- A TERM. The actors are the stations by number, then the ticker, then the console
+pub record IsTerm (start : Start) (end : End) : Type 0 where
+  -- the journal is legal from the site handed in, safe, and has at most `limit` entries; the site handed back is as it leaves it
+  pub legal : IsLegal start.site.plan start.site.facts (reverse end.journal)
+  pub safe : IsSafe start.site.plan start.site.facts (reverse end.journal)
+  pub within : length end.journal ≤ start.limit
+  pub site : end.site ≡ site_after start.site end.journal
+  -- each actor's list is its view of the journal, and no entry is of another actor
+  pub actors : length end.views ≡ length start.stations + 2
+  pub views : (k : ℕ) → k < length end.views → slice_get end.views k ≡ Some (view_of k end.journal)
+  pub nobody : All (λ (entry : Entry). entry.actor < length end.views) end.journal
+  -- each actor did its part, and its view is what its desk took
+  pub handed_back : length end.stations ≡ length start.stations
+  pub carriers : (k : ℕ) (s t : Stand) (e : Ending) → slice_get start.stations k ≡ Some s → slice_get end.stations k ≡ Some t → slice_get end.ends k ≡ Some e
+      → HasWorked s t (view_of k end.journal) e
+  pub ticker : (e : Ending) → slice_get end.ends (length start.stations) ≡ Some e → HasTicked start.pacer end.pacer (view_of (length start.stations) end.journal) e
+  pub console : (e : Ending) → slice_get end.ends (length start.stations + 1) ≡ Some e → HasWorked start.console end.console (view_of (length start.stations + 1) end.journal) e
+  -- a worker ended because the term was over only where it was
+  pub ended : length end.ends ≡ length start.stations + 2
+  pub over : (k : ℕ) → slice_get end.ends k ≡ Some ending.TermOver → length end.journal ≡ start.limit
+
+-- ---- on the way
+
+-- what a link's worker hands back: where its station stands, its seat, and why it ended
+pub record Done : Type 0 where
+  pub at : Stand
+  pub seat : Sitting
+  pub ending : Ending
+
+abbrev pub done : Stand → Sitting → Ending → Done
+done at seat e = record { at = at; seat = seat; ending = e }
+
+-- the worker of this actor did its work
+abbrev pub IsDone : ℕ → Stand → Done → Type 0
+IsDone actor s d = (d.seat.actor ≡ actor) × HasWorked s d.at d.seat.deposits d.ending
+
+-- the workers of the actors from this number on did their work
+abbrev pub AllDone : ℕ → List Stand → List Done → Type 0
+AllDone actor [] [] = Unit {0}
+AllDone actor (s ∷ ss) (d ∷ ds) = IsDone actor s d × AllDone (actor + 1) ss ds
+AllDone actor ss ds = ⊥
+
+-- the ticker, as this actor, did its work
+abbrev pub IsTicked : ℕ → Option Paced → Option Paced → Sitting → Ending → Type 0
+IsTicked actor before after seat e = (seat.actor ≡ actor) × HasTicked before after seat.deposits e
+
+-- a seat of this actor, from which nothing was told yet
+abbrev pub IsNew : ℕ → Sitting → Type 0
+IsNew actor seat = (seat.actor ≡ actor) × (seat.deposits ≡ [])
+
+-- seats of the actors from this number on, from which nothing was told yet
+abbrev pub AreNew : ℕ → List Sitting → Type 0
+AreNew actor [] = Unit {0}
+AreNew actor (seat ∷ seats) = IsNew actor seat × AreNew (actor + 1) seats
+
+-- the same, as tests
+abbrev pub is_none : List Deposit → Bool
+is_none [] = true
+is_none (deposit ∷ deposits) = false
+
+abbrev pub is_new : ℕ → Sitting → Bool
+is_new actor seat = (seat.actor == actor) && is_none seat.deposits
+
+abbrev pub are_new : ℕ → List Sitting → Bool
+are_new actor [] = true
+are_new actor (seat ∷ seats) = is_new actor seat && are_new (actor + 1) seats

@@ -1,0 +1,203 @@
+-- What a link's worker does, step by step: a carrier's, or the operators'.
+use Rattle.std.specs.Prelude.{◌≡◌, ◌≤◌, true, List, [], ◌∷◌, ◌++◌, Option, Some, None, map}
+use Rattle.dmr_wire.specs.Told.{Answer, Opened, NotYet, Finished, Again, Silent, Tells}
+use Rattle.dmr_link.specs.declared.desk.Deposit.{Deposit}
+use Rattle.dmr_link.specs.declared.ended.Ended.{Ended}
+use Rattle.dmr_link.specs.declared.ended.Ended.TheVariants as ended
+use Rattle.dmr_link.specs.declared.stream.Peer.{Peer}
+use Rattle.dmr_link.specs.declared.talk.Talk.{Talk}
+use Rattle.dmr_link.specs.Happenings.{Happening, Answered, Handed, answers_in, deposits_in, passages_in, Outside, all_staged, stage_at, passages_of, EndsInBlock}
+use Rattle.dmr_link.specs.Passages.{Passage}
+use Rattle.dmr_link.specs.Recorded.{silenced}
+use Rattle.dmr_link.specs.Sessions.{Session, new_session, with_calls, hearing, all_heard, reads_in, AreOfWire, IsQuiet, IsOver, StandsFor, served, KeepsTurns, Sides, sides, Happens}
+use Rattle.dmr_link.specs.Talks.{is_live}
+use Rattle.dmr_desk.specs.declared.ending.Ending.{Ending}
+use Rattle.dmr_desk.specs.declared.ending.Ending.TheVariants as ending
+
+-- ---- where a station stands
+
+-- its link, the record that its port tells, and the record that its gate tells
+pub record Stand : Type 0 where
+  pub talk : Talk
+  pub told : Option (List Answer)
+  pub passed : Option (List Passage)
+
+abbrev pub stand : Talk → Option (List Answer) → Option (List Passage) → Stand
+stand talk told passed = record { talk = talk; told = told; passed = passed }
+
+-- it, and what the desk took so far
+pub record Moment : Type 0 where
+  pub at : Stand
+  pub calls : List Deposit
+
+abbrev pub moment : Stand → List Deposit → Moment
+moment at calls = record { at = at; calls = calls }
+
+-- what port, desk and gate tell then
+abbrev pub sides_at : Stand → List Deposit → Sides
+sides_at at calls = sides at.told calls at.passed
+
+-- the port gave this answer, and nothing else has changed
+pub record Answers (before : Stand) (answer : Answer) (after : Stand) : Type 0 where
+  pub told : Tells before.told (answer ∷ []) after.told
+  pub talk : after.talk ≡ before.talk
+  pub passed : after.passed ≡ before.passed
+
+-- the link changed, and of the same peer it is still
+pub record Turns (before : Stand) (after : Stand) : Type 0 where
+  pub who : after.talk.who ≡ before.talk.who
+  pub told : after.told ≡ before.told
+  pub passed : after.passed ≡ before.passed
+
+-- ---- steps, the newest first
+
+-- an ask for a connection; a call of `serve`, in which these things happened, and which ended so; a wait, and what the desk took of
+-- a link that was cut for silence
+pub data Doing : Type 0 where
+  Asked : (answer : Answer) → Doing
+  Served : (happened : List Happening) (stop : Ended) → Doing
+  Waited : (answer : Answer) (deposits : List Deposit) → Doing
+
+-- what happened in a step
+abbrev pub happened_in : Doing → List Happening
+happened_in (Asked answer) = Answered answer ∷ []
+happened_in (Served happened stop) = happened
+happened_in (Waited answer deposits) = Answered answer ∷ map Handed deposits
+
+-- what happened in all, the oldest first
+abbrev pub happened_of : List Doing → List Happening
+happened_of [] = []
+happened_of (d ∷ earlier) = happened_of earlier ++ happened_in d
+
+-- what the newest connection has handed in
+abbrev pub handing : List Session → List Deposit → List Session
+handing [] deposits = []
+handing (s ∷ ss) deposits = with_calls s deposits ∷ ss
+
+-- the connections, after an ask, and after a wait
+abbrev pub asked : List Session → Answer → List Session
+asked past Opened = new_session ∷ past
+asked past answer = past
+
+abbrev pub waited : List Session → Answer → List Deposit → List Session
+waited past Silent deposits = handing (silenced past) deposits
+waited past answer deposits = past
+
+-- the connections, after a step
+abbrev pub past_then : List Session → Doing → List Session
+past_then past (Asked answer) = asked past answer
+past_then past (Served happened stop) = served past (answers_in happened) (deposits_in happened)
+past_then past (Waited answer deposits) = waited past answer deposits
+
+-- the connections, after all
+abbrev pub past_after : List Session → List Doing → List Session
+past_after past [] = past
+past_after past (d ∷ earlier) = past_then (past_after past earlier) d
+
+-- what a desk took of connections, the oldest first
+abbrev pub calls_of : List Session → List Deposit
+calls_of [] = []
+calls_of (s ∷ ss) = calls_of ss ++ s.calls
+
+-- ---- in order
+
+abbrev pub IsAsk : Answer → Type 0
+IsAsk Opened = Unit {0}
+IsAsk NotYet = Unit {0}
+IsAsk Finished = Unit {0}
+IsAsk answer = ⊥
+
+-- of a link that isn't cut the desk takes nothing
+abbrev pub IsWait : Answer → List Deposit → Type 0
+IsWait Again deposits = deposits ≡ []
+IsWait Silent deposits = Unit {0}
+IsWait answer deposits = ⊥
+
+-- no connection is open, and nothing is owed
+abbrev pub Rests : List Session → Type 0
+Rests past = (link : Talk) × IsOver link × StandsFor link past
+
+-- a call of `serve` may begin at the start, at an opening, after an Again, and after the 64 reads of the call before
+abbrev pub MayBegin : List Doing → Type 0
+MayBegin [] = Unit {0}
+MayBegin (Asked Opened ∷ earlier) = Unit {0}
+MayBegin (Served happened ended.Paused ∷ earlier) = Unit {0}
+MayBegin (Waited Again deposits ∷ earlier) = Unit {0}
+MayBegin other = ⊥
+
+-- a wait may follow a call of `serve` that ended at a read that would block
+abbrev pub MayWait : List Doing → Type 0
+MayWait (Served happened ended.Idle ∷ earlier) = Unit {0}
+MayWait other = ⊥
+
+-- why a call of `serve` ends, in the words of the port's answers
+abbrev pub StopsAt : Ended → List Answer → Type 0
+StopsAt ended.Idle answers = EndsInBlock answers
+StopsAt ended.Paused answers = reads_in answers ≡ 64
+StopsAt stop answers = Unit {0}
+
+-- a call of `serve` on these connections of a peer: it reads and writes alone, and reads at most 64 times; the gate is passed for each
+-- event, and an event's answer is written behind it; and connections are read and written in their turn
+pub record IsCall (who : Peer) (past : List Session) (happened : List Happening) (stop : Ended) : Type 0 where
+  pub wire : AreOfWire (answers_in happened)
+  pub few : reads_in (answers_in happened) ≤ 64
+  pub order : all_staged Outside happened ≡ stage_at stop
+  pub passages : passages_in happened ≡ passages_of (deposits_in happened) stop
+  pub turns : (s : Session) (ss : List Session) → past ≡ s ∷ ss → KeepsTurns who (hearing s 0) happened
+  pub rested : (s : Session) (ss : List Session) → past ≡ s ∷ ss → (all_heard (hearing s 0) (answers_in happened)).writing ≡ 0
+  pub stops : StopsAt stop (answers_in happened)
+
+-- it asked only where no connection was open and nothing was owed, its calls of `serve` began where they may, and each wait stands right
+-- behind a read that would block
+abbrev pub IsOrderly : Peer → List Session → List Doing → Type 0
+IsOrderly who past [] = Unit {0}
+IsOrderly who past (Asked answer ∷ earlier) = IsAsk answer × Rests (past_after past earlier) × IsOrderly who past earlier
+IsOrderly who past (Served happened stop ∷ earlier) = IsCall who (past_after past earlier) happened stop × MayBegin earlier × IsOrderly who past earlier
+IsOrderly who past (Waited answer deposits ∷ earlier) = IsWait answer deposits × MayWait earlier × IsOrderly who past earlier
+
+-- ---- from one moment to another
+
+-- these steps were done
+pub record Went (m : Moment) (n : Moment) (doings : List Doing) : Type 0 where
+  pub who : n.at.talk.who ≡ m.at.talk.who
+  -- what port, desk and gate tell goes on by what happened, and by nothing else
+  pub happens : Happens (sides_at m.at m.calls) (happened_of doings) (sides_at n.at n.calls)
+  -- whatever connections the link stood for, it stands for what these steps make of them
+  pub stands : (past : List Session) → StandsFor m.at.talk past → StandsFor n.at.talk (past_after past doings)
+  -- what the desk took in these steps is, in one list, what it took of these connections since
+  pub view : (past : List Session) → StandsFor m.at.talk past → calls_of (past_after past doings) ≡ calls_of past ++ deposits_in (happened_of doings)
+  pub orderly : (past : List Session) → StandsFor m.at.talk past → IsOrderly m.at.talk.who past doings
+
+-- the last answer to an ask was that there will be no more connections
+abbrev pub HasFinished : List Doing → Type 0
+HasFinished (Asked Finished ∷ earlier) = Unit {0}
+HasFinished other = ⊥
+
+-- the last call of `serve` found the gate shut
+abbrev pub WasShut : List Doing → Type 0
+WasShut (Served happened ended.GateShut ∷ earlier) = Unit {0}
+WasShut other = ⊥
+
+-- a worker has finished only where no connection is open and nothing is owed
+abbrev pub EndsFor : Ending → Talk → List Doing → Type 0
+EndsFor ending.Finished talk doings = HasFinished doings × IsOver talk
+EndsFor ending.GateShut talk doings = WasShut doings
+EndsFor ending.TermOver talk doings = Unit {0}
+
+-- the whole work
+abbrev pub Works : Moment → Moment → Ending → Type 0
+Works m n e = (doings : List Doing) × Went m n doings × EndsFor e n.at.talk doings
+
+-- ---- on the way
+
+-- it goes on: to a call of `serve`, or to an ask
+abbrev pub Going : Moment → Moment → Type 0
+Going m n = (doings : List Doing) × Went m n doings × (is_live n.at.talk ≡ true → MayBegin doings)
+
+-- it is about to wait
+abbrev pub Waiting : Moment → Moment → Type 0
+Waiting m n = (doings : List Doing) × Went m n doings × MayWait doings × IsQuiet n.at.talk × (n.at.talk.unread ≡ [])
+
+abbrev pub GoesOn : Moment → Moment → Option Ending → Type 0
+GoesOn m n None = Going m n
+GoesOn m n (Some e) = Works m n e

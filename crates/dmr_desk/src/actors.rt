@@ -1,0 +1,97 @@
+//! Each actor's work at its seat.
+
+ghost use Rattle.std.specs.Prelude.{◌≡◌, []};
+ghost use Rattle.dmr_desk.specs.Term.{HasWorked, HasTicked, IsDone, IsTicked, done};
+
+use crate::at::SeatAt;
+use crate::desk::SharedDesk;
+use crate::ending::Ending;
+use crate::pace::{Pacer, work_ticker};
+use crate::seat::Seat;
+use crate::station::Serving;
+use crate::work::work;
+use std::snapshot::Snapshot;
+use std::sync::Wait;
+use std::sync::ledger::Ledger;
+use std::thread::Promise;
+
+/// What the worker of a link hands back.
+#[derive(Drop)]
+pub struct LinkWork<S, L: Ledger> {
+    /// The station.
+    pub station: S,
+    /// The seat.
+    pub seat: Seat<L>,
+    /// Why it ended.
+    pub ending: Ending,
+}
+
+/// What the ticker hands back.
+#[derive(Drop)]
+pub struct TickerWork<T, L: Ledger> {
+    /// The pacer.
+    pub pacer: T,
+    /// The seat.
+    pub seat: Seat<L>,
+    /// Why it ended.
+    pub ending: Ending,
+}
+
+/// That the worker of this station does its work, with a new seat of this actor.
+#[derive(Drop)]
+pub struct LinkKept<S>(pub Snapshot<S>, pub u8);
+
+impl<S: Serving, L: Ledger> Promise<LinkWork<S, L>> for LinkKept<S> {
+    ghost use Rattle.dmr_desk.specs.declared.ending.Ending.TheVariants.{GateShut};
+
+    ghost kept_by = { λ p r. IsDone p.1 (S.stand p.0.value) (done (S.stand r.station) r.seat r.ending) × (r.ending ≡ GateShut → S.shut r.station) };
+}
+
+/// That the ticker does its work with this pacer, and a new seat of this actor.
+#[derive(Drop)]
+pub struct TickerKept<T>(pub Snapshot<T>, pub u8);
+
+impl<T: Pacer, L: Ledger> Promise<TickerWork<T, L>> for TickerKept<T> {
+    ghost kept_by = { λ p r. IsTicked p.1 (T.paced p.0.value) (T.paced r.pacer) r.seat r.ending };
+}
+
+/// Serves a station from a seat that is new.
+pub fn serve_at<S: Serving, L: Ledger, R: Wait>(
+    rt: &R,
+    desk: &SharedDesk<L>,
+    station: S,
+    seat: Seat<L>,
+) -> LinkWork<S, L>
+    requires { seat.deposits ≡ [] }
+    ensures done { IsDone seat.actor (S.stand station) (done (S.stand result.station) result.seat result.ending) }
+    ensures shut { result.ending ≡ Ending.GateShut → S.shut result.station }
+{
+    let mut station = station;
+    let mut at = SeatAt::new(rt, desk, seat);
+    let ending = work(rt, &mut station, &mut at);
+    LinkWork {
+        station,
+        seat: at.into_seat(),
+        ending,
+    }
+}
+
+/// Hands in ticks from a seat that is new.
+pub fn tick_at<T: Pacer, L: Ledger, R: Wait>(
+    rt: &R,
+    desk: &SharedDesk<L>,
+    pacer: T,
+    seat: Seat<L>,
+) -> TickerWork<T, L>
+    requires { seat.deposits ≡ [] }
+    ensures { IsTicked seat.actor (T.paced pacer) (T.paced result.pacer) result.seat result.ending }
+{
+    let mut pacer = pacer;
+    let mut at = SeatAt::new(rt, desk, seat);
+    let ending = work_ticker(rt, &mut pacer, &mut at);
+    TickerWork {
+        pacer,
+        seat: at.into_seat(),
+        ending,
+    }
+}

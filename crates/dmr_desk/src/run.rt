@@ -1,0 +1,170 @@
+//! Running a term.
+
+ghost use Rattle.std.specs.Prelude.{◌≡◌, ◌+◌, ◌-◌, ◌≤◌, ◌↔◌, ℕ, IfErr, IfOk, IsTrue, None, OnOk, Some, map, slice_get, vec_len};
+ghost use Rattle.dmr_desk.specs.Opening.{IsLimit};
+ghost use Rattle.dmr_desk.specs.Refusing.{AreStations, IsFaultFor, IsTermFault, number_of, numbers_from};
+ghost use Rattle.dmr_desk.specs.Term.{IsTerm};
+ghost use Rattle.dmr_desk.specs.Work.{stand};
+
+use crate::desk::{PARTS, SharedDesk};
+use crate::ending::Ending;
+use crate::fault::{OpenFault, TermFault};
+use crate::pace::Pacer;
+use crate::station::{ConsoleStation, Serving, Station};
+use crate::term::{Back, Term, finish, run_threads};
+use arrayvec::ArrayVec;
+use dmr_core::Site;
+use dmr_link::Gate;
+use dmr_pdu::CarrierNo;
+use dmr_plan::Plan;
+use dmr_wire::Port;
+use std::alloc::Global;
+use std::marker::Brand;
+use std::sync::Wait;
+use std::sync::ledger::{Blank, Ledger};
+use std::thread::Threads;
+
+/// Whether these are the stations of the last `many` carrier numbers that the plan has, by number.
+fn are_stations<P, G>(plan: &Plan, many: u32, stations: &[Station<P, G>]) -> bool
+    requires { many ≤ 16 }
+    ensures { IsTrue result ↔ (map (λ s. number_of s.link.who) stations.now ≡ map (λ n. Some n) (numbers_from plan.now many (16 - many))) }
+{
+    if many == 0 {
+        return stations.is_empty();
+    }
+    let number = CarrierNo::new(16 - many);
+    if plan.carrier_with(number).is_none() {
+        return are_stations(plan, many - 1, stations);
+    }
+    match stations {
+        [] => false,
+        [first, rest @ ..] => {
+            if first.link.carrier() != number {
+                return false;
+            }
+            are_stations(plan, many - 1, rest)
+        }
+    }
+}
+
+/// A term over a ledger, of at most 16 stations.
+fn run_over<S, T, C, L, R>(
+    rt: &R,
+    alloc: Global,
+    blank: Blank,
+    site: Site,
+    limit: usize,
+    stations: Vec<S>,
+    pacer: T,
+    console: C,
+) -> Result<Term<S, T, C>, TermFault>
+where
+    S: Serving + Send + Drop,
+    T: Pacer + Send + Drop,
+    C: Serving + Send + Drop,
+    L: Ledger + Send + Sync,
+    R: Wait + Threads + Sync,
+    requires name { blank.name ≡ L.name }
+    requires parts { blank.parts ≡ L.parts }
+    requires eighteen { blank.parts ≡ 18 }
+    requires few { vec_len stations ≤ 16 }
+    ensures term { IfOk result (λ t. IsTerm
+        (record {
+          site = site;
+          limit = limit;
+          stations = map (λ s. S.stand s) stations.items;
+          pacer = T.paced pacer;
+          console = C.stand console;
+        })
+        (record {
+          site = t.report.site;
+          journal = t.report.journal;
+          views = t.report.views.items;
+          ends = t.ends.items;
+          stations = map (λ s. S.stand s) t.stations.items;
+          pacer = T.paced t.pacer;
+          console = C.stand t.console;
+        })) }
+    ensures shut { IfOk result (λ t. (k : ℕ) (s : _) → slice_get t.stations.items k ≡ Some s → slice_get t.ends.items k ≡ Some Ending.GateShut → S.shut s) }
+    ensures fault { IfErr result (IsFaultFor limit) }
+    ensures limit { OnOk result (IsLimit limit) }
+{
+    let count = stations.len();
+    let actors = count as u8 + 2;
+    let (desk, seats) = match SharedDesk::<L>::open(alloc, blank, site, limit, actors) {
+        Ok(opened) => opened,
+        Err((fault, _)) => return Err(TermFault::Open(fault)),
+    };
+    let Ok(room) = Vec::with_capacity(alloc, count) else {
+        return Err(TermFault::Open(OpenFault::OutOfMemory));
+    };
+    let Ok(stations_room) = Vec::with_capacity(alloc, count) else {
+        return Err(TermFault::Open(OpenFault::OutOfMemory));
+    };
+    let Ok(seats_room) = Vec::with_capacity(alloc, count + 2) else {
+        return Err(TermFault::Open(OpenFault::OutOfMemory));
+    };
+    let back = Back {
+        stations: stations_room,
+        seats: seats_room,
+        ends: ArrayVec::new(),
+    };
+    match run_threads(rt, &desk, stations, seats, pacer, console, room) {
+        Some(all) => finish(rt, desk, limit, all, back),
+        None => Err(TermFault::NoThread),
+    }
+}
+
+/// Runs a term: a thread for each station, one for the ticker and one for the console, round one locked site. It ends when all workers
+/// have ended; then the desk is closed, and its journal compared with what each worker was answered. The stations are those of the
+/// plan's carriers, one for each, in the order of their numbers. All its memory is taken before a thread starts.
+pub fn run_term<P, G, T, C, R>(
+    rt: &R,
+    alloc: Global,
+    site: Site,
+    limit: usize,
+    stations: Vec<Station<P, G>>,
+    pacer: T,
+    console: ConsoleStation<C>,
+) -> Result<Term<Station<P, G>, T, ConsoleStation<C>>, TermFault>
+where
+    P: Port + Send + Drop,
+    G: Gate + Send + Drop,
+    T: Pacer + Send + Drop,
+    C: Port + Send + Drop,
+    R: Wait + Threads + Sync,
+    ensures term { IfOk result (λ t. IsTerm
+        (record {
+          site = site;
+          limit = limit;
+          stations = map (λ s. stand s.link (P.told s.port) (G.passed s.gate)) stations.items;
+          pacer = T.paced pacer;
+          console = stand console.link (C.told console.port) None;
+        })
+        (record {
+          site = t.report.site;
+          journal = t.report.journal;
+          views = t.report.views.items;
+          ends = t.ends.items;
+          stations = map (λ s. stand s.link (P.told s.port) (G.passed s.gate)) t.stations.items;
+          pacer = T.paced t.pacer;
+          console = stand t.console.link (C.told t.console.port) None;
+        })) }
+    ensures shut { IfOk result (λ t. (k : ℕ) (s : _) → slice_get t.stations.items k ≡ Some s → slice_get t.ends.items k ≡ Some Ending.GateShut → (before : _) × G.shuts before s.gate) }
+    ensures fault { IfErr result (IsTermFault site.plan (map (λ s. stand s.link (P.told s.port) (G.passed s.gate)) stations.items) limit) }
+    ensures fits { OnOk result (AreStations site.plan (map (λ s. stand s.link (P.told s.port) (G.passed s.gate)) stations.items) × IsLimit limit) }
+{
+    if !are_stations(site.plan(), 16, stations.as_slice()) {
+        return Err(TermFault::BadStations);
+    }
+    run_over::<Station<P, G>, T, ConsoleStation<C>, Brand, R>(
+        rt,
+        alloc,
+        Blank::new(PARTS),
+        site,
+        limit,
+        stations,
+        pacer,
+        console,
+    )
+}

@@ -1,0 +1,141 @@
+//! Stations: a link, and what its worker serves it by.
+
+ghost use Rattle.std.specs.Prelude.{◌≡◌, true, false, not, [], ◌∷◌, IfOk, IfErr, List};
+ghost use Rattle.dmr_core.specs.declared.event.Event.{Event as AnEvent};
+ghost use Rattle.dmr_wire.specs.Told.{Tells, of_connect, of_wait};
+ghost use Rattle.dmr_link.specs.Sessions.{Session, new_session, StandsFor, IsOver, Serves, Cuts};
+ghost use Rattle.dmr_link.specs.Talks.{is_live};
+ghost use Rattle.dmr_desk.specs.Work.{Stand, Answers, Turns, sides_at};
+
+use dmr_link::{ConsoleLink, Desk, Ended, Gate, Link, TermOver};
+use dmr_wire::{Connect, Port, Waited};
+
+/// A carrier's link, its port, and its gate.
+#[derive(Drop)]
+pub struct Station<P, G> {
+    /// The link.
+    pub link: Link,
+    /// The port.
+    pub port: P,
+    /// The gate.
+    pub gate: G,
+}
+
+/// The console's link, and its port.
+#[derive(Drop)]
+pub struct ConsoleStation<P> {
+    /// The link.
+    pub link: ConsoleLink,
+    /// The port.
+    pub port: P,
+}
+
+/// What a link's worker serves. Contracts see where it stands.
+pub trait Serving {
+    /// Its link, and what its port and its gate tell. A console has no gate, and tells nothing of it.
+    ghost stand: { Self → Stand };
+
+    /// Its gate was shut when it was last to be entered.
+    ghost shut: { Self → Type 0 };
+
+    /// Whether the link is live.
+    fn live(&self) -> bool
+        ensures { result ≡ is_live (stand self.now).talk };
+
+    /// Asks the port for the next connection.
+    fn connect(&mut self) -> Connect
+        ensures { Answers (stand self.old) (of_connect result) (stand self.new) };
+
+    /// Begins a connection.
+    fn open(&mut self)
+        requires { is_live (stand self.old).talk ≡ false }
+        ensures turns { Turns (stand self.old) (stand self.new) }
+        ensures stands { (past : List Session) → StandsFor (stand self.old).talk past → StandsFor (stand self.new).talk (new_session ∷ past) };
+
+    /// Serves the link until it has to stop.
+    fn serve<D: Desk>(&mut self, desk: &mut D) -> Ended
+        ensures actor { D.actor desk.new ≡ D.actor desk.old }
+        ensures serves { Serves (stand self.old).talk (stand self.new).talk (sides_at (stand self.old) (D.calls desk.old)) (sides_at (stand self.new) (D.calls desk.new)) result }
+        ensures over { result ≡ Ended.TermOver → (before : _) × (event : AnEvent) × D.refuses before event desk.new }
+        ensures shut { result ≡ Ended.GateShut → shut self.new };
+
+    /// Waits on the port.
+    fn wait(&mut self) -> Waited
+        ensures { Answers (stand self.old) (of_wait result) (stand self.new) };
+
+    /// Cuts the link.
+    fn cut<D: Desk>(&mut self, desk: &mut D) -> Result<(), TermOver>
+        requires { is_live (stand self.old).talk ≡ true }
+        ensures actor { D.actor desk.new ≡ D.actor desk.old }
+        ensures turns { Turns (stand self.old) (stand self.new) }
+        ensures cuts { Cuts (stand self.old).talk (stand self.new).talk (D.calls desk.old) (D.calls desk.new) }
+        ensures done { IfOk result (λ _. IsOver (stand self.new).talk) }
+        ensures over { IfErr result (λ _. (before : _) × (event : AnEvent) × D.refuses before event desk.new) };
+}
+
+impl<P: Port, G: Gate> Serving for Station<P, G> {
+    ghost use Rattle.dmr_desk.specs.Work.{stand as stand_of};
+
+    ghost stand = { λ s. stand_of s.link (P.told s.port) (G.passed s.gate) };
+
+    ghost shut = { λ s. (before : _) × G.shuts before s.gate };
+
+    fn live(&self) -> bool {
+        self.link.live()
+    }
+
+    fn connect(&mut self) -> Connect {
+        self.port.connect()
+    }
+
+    fn open(&mut self) {
+        self.link.open();
+    }
+
+    fn serve<D: Desk>(&mut self, desk: &mut D) -> Ended {
+        self.link.serve(&mut self.port, desk, &mut self.gate)
+    }
+
+    fn wait(&mut self) -> Waited {
+        self.port.wait()
+    }
+
+    fn cut<D: Desk>(&mut self, desk: &mut D) -> Result<(), TermOver> {
+        self.link.cut(desk)
+    }
+}
+
+impl<P: Port> Serving for ConsoleStation<P> {
+    ghost use Rattle.std.specs.Prelude.{None};
+    ghost use Rattle.dmr_desk.specs.Work.{stand as stand_of};
+
+    ghost stand = { λ s. stand_of s.link (P.told s.port) None };
+
+    ghost shut = { λ s. ⊥ };
+
+    fn live(&self) -> bool {
+        self.link.live()
+    }
+
+    fn connect(&mut self) -> Connect {
+        self.port.connect()
+    }
+
+    fn open(&mut self) {
+        self.link.keeps();
+        self.link.open();
+        self.link.keeps();
+    }
+
+    fn serve<D: Desk>(&mut self, desk: &mut D) -> Ended {
+        self.link.serve(&mut self.port, desk)
+    }
+
+    fn wait(&mut self) -> Waited {
+        self.port.wait()
+    }
+
+    fn cut<D: Desk>(&mut self, desk: &mut D) -> Result<(), TermOver> {
+        self.link.cut(desk)
+    }
+}

@@ -1,0 +1,217 @@
+//! A term: the workers of a site, each in a thread of its own, round one locked site.
+
+ghost use Rattle.std.specs.Prelude.{◌≡◌, ◌+◌, ◌≤◌, ◌++◌, ◌∷◌, [], ℕ, All, List, Option, Some, IfOk, IfErr, IfSome, map, slice_get, vec_len, vec_capacity, length};
+ghost use Rattle.arrayvec.specs.ArrayVec.{array_vec_len};
+ghost use Rattle.dmr_desk.specs.Pace.{Paced};
+ghost use Rattle.dmr_desk.specs.Refusing.{IsLate, early_actor, first_over};
+ghost use Rattle.dmr_desk.specs.Sitting.{empty_seats};
+ghost use Rattle.dmr_desk.specs.Term.{AllDone, IsDone, IsTerm, IsTicked, done};
+ghost use Rattle.dmr_desk.specs.Work.{Stand};
+
+use crate::actors::LinkWork;
+use crate::desk::SharedDesk;
+use crate::ending::Ending;
+use crate::fault::TermFault;
+use crate::pace::Pacer;
+use crate::report::Report;
+use crate::seat::Seat;
+use crate::station::Serving;
+use crate::threads::{AllWork, Crew, Others, start};
+use arrayvec::ArrayVec;
+use std::sync::Wait;
+use std::sync::ledger::Ledger;
+use std::thread::Threads;
+
+/// A term that was audited.
+#[derive(Drop)]
+pub struct Term<S, T, C> {
+    /// The site, the journal, and what each actor told the site.
+    pub report: Report,
+    /// Why each actor's worker ended, by number: the stations', the ticker's, the console's.
+    pub ends: ArrayVec<Ending, 18>,
+    /// The stations, in the order in which they were handed in.
+    pub stations: Vec<S>,
+    /// The pacer.
+    pub pacer: T,
+    /// The console.
+    pub console: C,
+}
+
+/// The first that ended because the term was over.
+fn first_told(from: u8, ends: &[Ending]) -> Option<u8>
+    requires { from + length ends.now < 256 }
+    ensures { result ≡ first_over from ends.now }
+{
+    match ends {
+        [] => None,
+        [Ending::TermOver, ..] => Some(from),
+        [_, rest @ ..] => first_told(from + 1, rest),
+    }
+}
+
+/// The least actor that was told that the term is over, though the journal is below its limit.
+fn early(entries: usize, limit: usize, ends: &[Ending]) -> Option<u8>
+    requires { length ends.now ≤ 18 }
+    ensures { result ≡ early_actor entries limit ends.now }
+{
+    if entries < limit {
+        first_told(0, ends)
+    } else {
+        None
+    }
+}
+
+/// What the carriers' workers handed back, each kind in a list of its own.
+#[derive(Drop)]
+pub struct Back<S, L: Ledger> {
+    /// The stations.
+    pub stations: Vec<S>,
+    /// The seats.
+    pub seats: Vec<Seat<L>>,
+    /// Why each worker ended.
+    pub ends: ArrayVec<Ending, 18>,
+}
+
+/// Takes apart what the carriers' workers handed back.
+fn gather<S: Drop, L: Ledger>(mut works: Vec<LinkWork<S, L>>, back: Back<S, L>) -> Back<S, L>
+    requires stations { vec_len back.stations + vec_len works ≤ vec_capacity back.stations }
+    requires seats { vec_len back.seats + vec_len works ≤ vec_capacity back.seats }
+    requires ends { array_vec_len back.ends + vec_len works ≤ 18 }
+    ensures stations { result.stations.items ≡ back.stations.items ++ map (λ w. w.station) works.items }
+    ensures seats { result.seats.items ≡ back.seats.items ++ map (λ w. w.seat) works.items }
+    ensures ends { result.ends.items ≡ back.ends.items ++ map (λ w. w.ending) works.items }
+    ensures len { vec_len result.stations ≡ vec_len back.stations + vec_len works }
+    ensures seats_len { vec_len result.seats ≡ vec_len back.seats + vec_len works }
+    ensures ends_len { array_vec_len result.ends ≡ array_vec_len back.ends + vec_len works }
+    ensures capacity { vec_capacity result.stations ≡ vec_capacity back.stations }
+    ensures seats_capacity { vec_capacity result.seats ≡ vec_capacity back.seats }
+{
+    let Some(work) = works.pop() else {
+        return back;
+    };
+    let LinkWork {
+        station,
+        seat,
+        ending,
+    } = work;
+    let mut back = gather(works, back);
+    back.stations.push_reserved(station);
+    back.seats.push_reserved(seat);
+    back.ends.push(ending);
+    back
+}
+
+/// Closes the desk with what the workers left, and says who ended early.
+pub fn finish<S, T, C, L, R>(
+    rt: &R,
+    desk: SharedDesk<L>,
+    limit: usize,
+    all: AllWork<S, T, C, L>,
+    back: Back<S, L>,
+) -> Result<Term<S, T, C>, TermFault>
+where
+    S: Serving + Drop,
+    T: Pacer + Drop,
+    C: Serving + Drop,
+    L: Ledger,
+    R: Wait,
+    requires whole { L.parts ≡ 18 }
+    requires limit { desk.limit ≡ limit }
+    requires few { vec_len all.carriers ≤ 16 }
+    requires stations { back.stations.items ≡ [] }
+    requires seats { back.seats.items ≡ [] }
+    requires ends { back.ends.items ≡ [] }
+    requires room { vec_len all.carriers ≤ vec_capacity back.stations }
+    requires seats_room { vec_len all.carriers + 2 ≤ vec_capacity back.seats }
+    ensures term { IfOk result (λ t. (stations : List Stand) (pacer : Option Paced) (console : Stand)
+        → AllDone 0 stations (map (λ w. done (S.stand w.station) w.seat w.ending) all.carriers.items)
+        → IsTicked (length stations) pacer (T.paced all.ticker.pacer) all.ticker.seat all.ticker.ending
+        → IsDone (length stations + 1) console (done (C.stand all.console.station) all.console.seat all.console.ending)
+        → IsTerm (record { site = desk.site; limit = desk.limit; stations = stations; pacer = pacer; console = console })
+        (record {
+          site = t.report.site;
+          journal = t.report.journal;
+          views = t.report.views.items;
+          ends = t.ends.items;
+          stations = map (λ s. S.stand s) t.stations.items;
+          pacer = T.paced t.pacer;
+          console = C.stand t.console;
+        })) }
+    ensures shut { IfOk result (λ t. All (λ w. w.ending ≡ Ending.GateShut → S.shut w.station) all.carriers.items
+        → (k : ℕ) (s : _) → slice_get t.stations.items k ≡ Some s → slice_get t.ends.items k ≡ Some Ending.GateShut → S.shut s) }
+    ensures late { IfErr result IsLate }
+{
+    let AllWork {
+        carriers,
+        ticker,
+        console,
+    } = all;
+    let Back {
+        stations,
+        mut seats,
+        mut ends,
+    } = gather(carriers, back);
+    seats.push_reserved(ticker.seat);
+    seats.push_reserved(console.seat);
+    ends.push(ticker.ending);
+    ends.push(console.ending);
+    let report = match desk.close(rt, seats) {
+        Ok(report) => report,
+        Err(fault) => return Err(TermFault::Audit(fault)),
+    };
+    let entries = report.journal.as_slice().len();
+    match early(entries, limit, ends.as_slice()) {
+        Some(actor) => Err(TermFault::Early(actor)),
+        None => Ok(Term {
+            report,
+            ends,
+            stations,
+            pacer: ticker.pacer,
+            console: console.station,
+        }),
+    }
+}
+
+/// Runs the workers, each in a thread of its own, from new seats: one for each station, then the ticker's, then the console's. `None`
+/// where a thread could not be started.
+pub fn run_threads<S, T, C, L, R>(
+    rt: &R,
+    desk: &SharedDesk<L>,
+    stations: Vec<S>,
+    mut seats: Vec<Seat<L>>,
+    pacer: T,
+    console: C,
+    room: Vec<LinkWork<S, L>>,
+) -> Option<AllWork<S, T, C, L>>
+where
+    S: Serving + Send + Drop,
+    T: Pacer + Send + Drop,
+    C: Serving + Send + Drop,
+    L: Ledger + Send + Sync,
+    R: Wait + Threads + Sync,
+    requires seats { seats.items ≡ empty_seats (vec_len stations + 2) }
+    requires empty { room.items ≡ [] }
+    requires room { vec_len stations ≤ vec_capacity room }
+    ensures carriers { IfSome result (λ r. AllDone 0 (map (λ s. S.stand s) stations.items) (map (λ w. done (S.stand w.station) w.seat w.ending) r.carriers.items)) }
+    ensures shut { IfSome result (λ r. All (λ w. w.ending ≡ Ending.GateShut → S.shut w.station) r.carriers.items) }
+    ensures len { IfSome result (λ r. vec_len r.carriers ≡ vec_len stations) }
+    ensures ticker { IfSome result (λ r. IsTicked (vec_len stations) (T.paced pacer) (T.paced r.ticker.pacer) r.ticker.seat r.ticker.ending) }
+    ensures console { IfSome result (λ r. IsDone (vec_len stations + 1) (C.stand console) (done (C.stand r.console.station) r.console.seat r.console.ending)) }
+    ensures open { IfSome result (λ r. r.console.ending ≡ Ending.GateShut → C.shut r.console.station) }
+{
+    let console_seat = seats.pop()?;
+    let pacer_seat = seats.pop()?;
+    let others = Others {
+        pacer,
+        pacer_seat,
+        console,
+        console_seat,
+    };
+    let crew = Crew {
+        stations,
+        seats,
+        others,
+        room,
+    };
+    start(rt, desk, crew)
+}

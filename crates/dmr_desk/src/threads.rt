@@ -1,0 +1,252 @@
+//! The threads of a term.
+
+ghost use Rattle.std.specs.Prelude.{◌≡◌, ◌≤◌, ◌+◌, [], All, IfSome, true, map, vec_len, vec_capacity};
+ghost use Rattle.dmr_desk.specs.Term.{AllDone, AreNew, IsDone, IsNew, IsTicked, are_new, done, is_new};
+
+use crate::actors::{LinkKept, LinkWork, TickerKept, TickerWork, serve_at, tick_at};
+use crate::desk::SharedDesk;
+use crate::ending::Ending;
+use crate::pace::Pacer;
+use crate::seat::Seat;
+use crate::station::Serving;
+use std::snapshot::Snapshot;
+use std::sync::Wait;
+use std::sync::ledger::Ledger;
+use std::thread;
+use std::thread::{Scope, Threads};
+
+/// The pacer and the console, with their seats.
+#[derive(Drop)]
+pub struct Others<T, C, L: Ledger> {
+    /// The pacer.
+    pub pacer: T,
+    /// The ticker's seat.
+    pub pacer_seat: Seat<L>,
+    /// The console.
+    pub console: C,
+    /// The console's seat.
+    pub console_seat: Seat<L>,
+}
+
+/// What all workers hand back.
+#[derive(Drop)]
+pub struct AllWork<S, T, C, L: Ledger> {
+    /// The carriers' workers, in the order of their stations.
+    pub carriers: Vec<LinkWork<S, L>>,
+    /// The ticker.
+    pub ticker: TickerWork<T, L>,
+    /// The console's worker.
+    pub console: LinkWork<C, L>,
+}
+
+/// Starts the console's worker, and waits for it. `None` where no thread could be started.
+fn run_console<'s, E, C, L, R>(
+    rt: &'s R,
+    scope: &'s Scope<'s, E>,
+    desk: &'s SharedDesk<L>,
+    station: C,
+    seat: Seat<L>,
+) -> Option<LinkWork<C, L>>
+where
+    C: Serving + Send + Drop + 's,
+    L: Ledger + Send + Sync + 's,
+    R: Wait + Threads + Sync,
+    requires { seat.deposits ≡ [] }
+    ensures done { IfSome result (λ r. IsDone seat.actor (C.stand station) (done (C.stand r.station) r.seat r.ending)) }
+    ensures shut { IfSome result (λ r. r.ending ≡ Ending.GateShut → C.shut r.station) }
+{
+    let promise = LinkKept(Snapshot::of(&station), seat.actor());
+    match scope.spawn_with(
+        promise,
+        move || -> LinkWork<C, L>
+            requires { seat.deposits ≡ [] }
+            ensures { IsDone seat.actor (C.stand station) (done (C.stand result.station) result.seat result.ending) × (result.ending ≡ Ending.GateShut → C.shut result.station) }
+        { serve_at(rt, desk, station, seat) },
+    ) {
+        Ok(child) => Some(child.join(rt)),
+        Err(_) => None,
+    }
+}
+
+/// Starts the ticker and the console's worker, and waits for both. `None` where a thread could not be started.
+fn run_others<'s, E, S, T, C, L, R>(
+    rt: &'s R,
+    scope: &'s Scope<'s, E>,
+    desk: &'s SharedDesk<L>,
+    others: Others<T, C, L>,
+    carriers: Vec<LinkWork<S, L>>,
+) -> Option<AllWork<S, T, C, L>>
+where
+    S: Serving + Send + Drop + 's,
+    T: Pacer + Send + Drop + 's,
+    C: Serving + Send + Drop + 's,
+    L: Ledger + Send + Sync + 's,
+    R: Wait + Threads + Sync,
+    requires pacer { others.pacer_seat.deposits ≡ [] }
+    requires console { others.console_seat.deposits ≡ [] }
+    ensures carriers { IfSome result (λ r. r.carriers ≡ carriers) }
+    ensures ticker { IfSome result (λ r. IsTicked others.pacer_seat.actor (T.paced others.pacer) (T.paced r.ticker.pacer) r.ticker.seat r.ticker.ending) }
+    ensures console { IfSome result (λ r. IsDone others.console_seat.actor (C.stand others.console) (done (C.stand r.console.station) r.console.seat r.console.ending)) }
+    ensures shut { IfSome result (λ r. r.console.ending ≡ Ending.GateShut → C.shut r.console.station) }
+{
+    let Others {
+        pacer,
+        pacer_seat,
+        console,
+        console_seat,
+    } = others;
+    let promise = TickerKept(Snapshot::of(&pacer), pacer_seat.actor());
+    match scope.spawn_with(
+        promise,
+        move || -> TickerWork<T, L>
+            requires { pacer_seat.deposits ≡ [] }
+            ensures { IsTicked pacer_seat.actor (T.paced pacer) (T.paced result.pacer) result.seat result.ending }
+        { tick_at(rt, desk, pacer, pacer_seat) },
+    ) {
+        Ok(child) => {
+            let console = run_console(rt, scope, desk, console, console_seat);
+            let ticker = child.join(rt);
+            match console {
+                Some(console) => Some(AllWork {
+                    carriers,
+                    ticker,
+                    console,
+                }),
+                None => None,
+            }
+        }
+        Err(_) => None,
+    }
+}
+
+/// Starts the last station's worker, does the rest, and waits for it. `None` where a thread could not be started; those that were
+/// started have ended by then.
+fn run_all<'s, E, S, T, C, L, R>(
+    rt: &'s R,
+    scope: &'s Scope<'s, E>,
+    desk: &'s SharedDesk<L>,
+    mut stations: Vec<S>,
+    mut seats: Vec<Seat<L>>,
+    others: Others<T, C, L>,
+    room: Vec<LinkWork<S, L>>,
+) -> Option<AllWork<S, T, C, L>>
+where
+    S: Serving + Send + Drop + 's,
+    T: Pacer + Send + Drop + 's,
+    C: Serving + Send + Drop + 's,
+    L: Ledger + Send + Sync + 's,
+    R: Wait + Threads + Sync,
+    requires each { vec_len seats ≡ vec_len stations }
+    requires new { AreNew 0 seats.items }
+    requires pacer { others.pacer_seat.deposits ≡ [] }
+    requires console { others.console_seat.deposits ≡ [] }
+    requires empty { room.items ≡ [] }
+    requires room { vec_len stations ≤ vec_capacity room }
+    ensures carriers { IfSome result (λ r. AllDone 0 (map (λ s. S.stand s) stations.items) (map (λ w. done (S.stand w.station) w.seat w.ending) r.carriers.items)) }
+    ensures shut { IfSome result (λ r. All (λ w. w.ending ≡ Ending.GateShut → S.shut w.station) r.carriers.items) }
+    ensures len { IfSome result (λ r. vec_len r.carriers ≡ vec_len stations) }
+    ensures room { IfSome result (λ r. vec_capacity r.carriers ≡ vec_capacity room) }
+    ensures ticker { IfSome result (λ r. IsTicked others.pacer_seat.actor (T.paced others.pacer) (T.paced r.ticker.pacer) r.ticker.seat r.ticker.ending) }
+    ensures console { IfSome result (λ r. IsDone others.console_seat.actor (C.stand others.console) (done (C.stand r.console.station) r.console.seat r.console.ending)) }
+    ensures open { IfSome result (λ r. r.console.ending ≡ Ending.GateShut → C.shut r.console.station) }
+{
+    let Some(station) = stations.pop() else {
+        return run_others(rt, scope, desk, others, room);
+    };
+    let Some(seat) = seats.pop() else {
+        unreachable!()
+    };
+    let promise = LinkKept(Snapshot::of(&station), seat.actor());
+    match scope.spawn_with(
+        promise,
+        move || -> LinkWork<S, L>
+            requires { seat.deposits ≡ [] }
+            ensures { IsDone seat.actor (S.stand station) (done (S.stand result.station) result.seat result.ending) × (result.ending ≡ Ending.GateShut → S.shut result.station) }
+        { serve_at(rt, desk, station, seat) },
+    ) {
+        Ok(child) => {
+            let rest = run_all(rt, scope, desk, stations, seats, others, room);
+            let work = child.join(rt);
+            match rest {
+                Some(mut all) => {
+                    all.carriers.push_reserved(work);
+                    Some(all)
+                }
+                None => None,
+            }
+        }
+        Err(_) => None,
+    }
+}
+
+/// What a term's threads take with them: a new seat for each station and for the others, and room for what comes back.
+#[derive(Drop)]
+pub struct Crew<S, T, C, L: Ledger> {
+    /// The stations.
+    pub stations: Vec<S>,
+    /// Their seats.
+    pub seats: Vec<Seat<L>>,
+    /// The pacer and the console.
+    pub others: Others<T, C, L>,
+    /// Room for what the stations' workers hand back.
+    pub room: Vec<LinkWork<S, L>>,
+    ghost each: { vec_len seats ≡ vec_len stations },
+    ghost new: { are_new 0 seats.items ≡ true },
+    ghost pacer: { is_new (vec_len stations) others.pacer_seat ≡ true },
+    ghost console: { is_new (vec_len stations + 1) others.console_seat ≡ true },
+    ghost empty: { vec_len room ≡ 0 },
+    ghost fits: { vec_len stations ≤ vec_capacity room },
+}
+
+/// As `run_all`.
+fn run_crew<'s, E, S, T, C, L, R>(
+    rt: &'s R,
+    scope: &'s Scope<'s, E>,
+    desk: &'s SharedDesk<L>,
+    crew: Crew<S, T, C, L>,
+) -> Option<AllWork<S, T, C, L>>
+where
+    S: Serving + Send + Drop + 's,
+    T: Pacer + Send + Drop + 's,
+    C: Serving + Send + Drop + 's,
+    L: Ledger + Send + Sync + 's,
+    R: Wait + Threads + Sync,
+    ensures carriers { IfSome result (λ r. AllDone 0 (map (λ s. S.stand s) crew.stations.items) (map (λ w. done (S.stand w.station) w.seat w.ending) r.carriers.items)) }
+    ensures shut { IfSome result (λ r. All (λ w. w.ending ≡ Ending.GateShut → S.shut w.station) r.carriers.items) }
+    ensures len { IfSome result (λ r. vec_len r.carriers ≡ vec_len crew.stations) }
+    ensures ticker { IfSome result (λ r. IsTicked (vec_len crew.stations) (T.paced crew.others.pacer) (T.paced r.ticker.pacer) r.ticker.seat r.ticker.ending) }
+    ensures console { IfSome result (λ r. IsDone (vec_len crew.stations + 1) (C.stand crew.others.console) (done (C.stand r.console.station) r.console.seat r.console.ending)) }
+    ensures open { IfSome result (λ r. r.console.ending ≡ Ending.GateShut → C.shut r.console.station) }
+{
+    let Crew {
+        stations,
+        seats,
+        others,
+        room,
+    } = crew;
+    run_all(rt, scope, desk, stations, seats, others, room)
+}
+
+/// Runs all workers, each in a thread of its own, and waits for them. `None` where a thread could not be started.
+pub fn start<S, T, C, L, R>(
+    rt: &R,
+    desk: &SharedDesk<L>,
+    crew: Crew<S, T, C, L>,
+) -> Option<AllWork<S, T, C, L>>
+where
+    S: Serving + Send + Drop,
+    T: Pacer + Send + Drop,
+    C: Serving + Send + Drop,
+    L: Ledger + Send + Sync,
+    R: Wait + Threads + Sync,
+    ensures carriers { IfSome result (λ r. AllDone 0 (map (λ s. S.stand s) crew.stations.items) (map (λ w. done (S.stand w.station) w.seat w.ending) r.carriers.items)) }
+    ensures shut { IfSome result (λ r. All (λ w. w.ending ≡ Ending.GateShut → S.shut w.station) r.carriers.items) }
+    ensures len { IfSome result (λ r. vec_len r.carriers ≡ vec_len crew.stations) }
+    ensures ticker { IfSome result (λ r. IsTicked (vec_len crew.stations) (T.paced crew.others.pacer) (T.paced r.ticker.pacer) r.ticker.seat r.ticker.ending) }
+    ensures console { IfSome result (λ r. IsDone (vec_len crew.stations + 1) (C.stand crew.others.console) (done (C.stand r.console.station) r.console.seat r.console.ending)) }
+    ensures open { IfSome result (λ r. r.console.ending ≡ Ending.GateShut → C.shut r.console.station) }
+{
+    thread::scope(thread::scope_env(), rt, move |scope| {
+        run_crew(rt, scope, desk, crew)
+    })
+}

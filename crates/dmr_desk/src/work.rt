@@ -1,0 +1,133 @@
+//! The workers of links: a carrier's, and the console's.
+
+ghost use Rattle.std.specs.Prelude.{◌≡◌, ◌⊎◌, true, false, None, Some};
+ghost use Rattle.dmr_core.specs.declared.event.Event.{Event as AnEvent};
+ghost use Rattle.dmr_link.specs.Talks.{is_live};
+ghost use Rattle.dmr_desk.specs.Work.{stand, moment, Going, Waiting, GoesOn, Works};
+
+use crate::ending::Ending;
+use crate::station::{ConsoleStation, Serving, Station};
+use dmr_link::{Desk, Ended, Gate};
+use dmr_wire::{Connect, Port, Waited};
+use std::sync::Wait;
+
+/// Asks once for a connection, and begins it where there is one. `Some` where the work is at its end.
+fn connect<S: Serving, D: Desk>(station: &mut S, desk: &mut D) -> Option<Ending>
+    requires { is_live (S.stand station.old).talk ≡ false }
+    ensures actor { D.actor desk.new ≡ D.actor desk.old }
+    ensures goes { (m : _) → Going m (moment (S.stand station.old) (D.calls desk.old)) → GoesOn m (moment (S.stand station.new) (D.calls desk.new)) result }
+    ensures shut { result ≡ Some Ending.GateShut → ⊥ }
+    ensures over { result ≡ Some Ending.TermOver → (before : _) × D.ends before desk.new }
+{
+    if desk.over() {
+        return Some(Ending::TermOver);
+    }
+    match station.connect() {
+        Connect::Ready => {
+            station.open();
+            None
+        }
+        Connect::NotYet => None,
+        Connect::Finished => Some(Ending::Finished),
+    }
+}
+
+/// Waits, behind a read that would block, and cuts the link where the other side was silent. `Some` where the work is at its end.
+fn wait<S: Serving, D: Desk>(station: &mut S, desk: &mut D) -> Option<Ending>
+    requires { is_live (S.stand station.old).talk ≡ true }
+    ensures actor { D.actor desk.new ≡ D.actor desk.old }
+    ensures goes { (m : _) → Waiting m (moment (S.stand station.old) (D.calls desk.old)) → GoesOn m (moment (S.stand station.new) (D.calls desk.new)) result }
+    ensures shut { result ≡ Some Ending.GateShut → ⊥ }
+    ensures over { result ≡ Some Ending.TermOver → ((before : _) × (event : AnEvent) × D.refuses before event desk.new) ⊎ ((before : _) × D.ends before desk.new) }
+{
+    if desk.over() {
+        return Some(Ending::TermOver);
+    }
+    match station.wait() {
+        Waited::Again => None,
+        Waited::Silent => match station.cut(desk) {
+            Ok(()) => None,
+            Err(_) => Some(Ending::TermOver),
+        },
+    }
+}
+
+/// Serves the link once, and waits where a read would block. `Some` where the work is at its end.
+fn serve<S: Serving, D: Desk>(station: &mut S, desk: &mut D) -> Option<Ending>
+    requires { is_live (S.stand station.old).talk ≡ true }
+    ensures actor { D.actor desk.new ≡ D.actor desk.old }
+    ensures goes { (m : _) → Going m (moment (S.stand station.old) (D.calls desk.old)) → GoesOn m (moment (S.stand station.new) (D.calls desk.new)) result }
+    ensures shut { result ≡ Some Ending.GateShut → S.shut station.new }
+    ensures over { result ≡ Some Ending.TermOver → ((before : _) × (event : AnEvent) × D.refuses before event desk.new) ⊎ ((before : _) × D.ends before desk.new) }
+{
+    if desk.over() {
+        return Some(Ending::TermOver);
+    }
+    match station.serve(desk) {
+        Ended::Idle => wait(station, desk),
+        Ended::TermOver => Some(Ending::TermOver),
+        Ended::GateShut => Some(Ending::GateShut),
+        Ended::Paused => None,
+        // The connection is closed: another is asked for.
+        _ => None,
+    }
+}
+
+/// Asks for a connection where the link isn't live, and else serves it. `Some` where the work is at its end.
+fn go_on<S: Serving, D: Desk>(station: &mut S, desk: &mut D) -> Option<Ending>
+    ensures actor { D.actor desk.new ≡ D.actor desk.old }
+    ensures goes { (m : _) → Going m (moment (S.stand station.old) (D.calls desk.old)) → GoesOn m (moment (S.stand station.new) (D.calls desk.new)) result }
+    ensures shut { result ≡ Some Ending.GateShut → S.shut station.new }
+    ensures over { result ≡ Some Ending.TermOver → ((before : _) × (event : AnEvent) × D.refuses before event desk.new) ⊎ ((before : _) × D.ends before desk.new) }
+{
+    if station.live() {
+        serve(station, desk)
+    } else {
+        connect(station, desk)
+    }
+}
+
+/// Serves a station's connections, one after another, until its work is at its end.
+pub fn work<R: Wait, S: Serving, D: Desk>(rt: &R, station: &mut S, desk: &mut D) -> Ending
+    ensures actor { D.actor desk.new ≡ D.actor desk.old }
+    ensures works { Works (moment (S.stand station.old) (D.calls desk.old)) (moment (S.stand station.new) (D.calls desk.new)) result }
+    ensures shut { result ≡ Ending.GateShut → S.shut station.new }
+    ensures over { result ≡ Ending.TermOver → ((before : _) × (event : AnEvent) × D.refuses before event desk.new) ⊎ ((before : _) × D.ends before desk.new) }
+{
+    for _ in rt.forever() {
+        if let Some(ending) = go_on(station, desk) {
+            return ending;
+        }
+    }
+    unreachable!()
+}
+
+/// Serves a carrier's connections, one after another, until its port has no more of them, its gate is shut, or the term is over. The
+/// desk is asked whether the term is over before each ask for a connection, each call of `serve` and each wait.
+pub fn work_carrier<R: Wait, P: Port, G: Gate, D: Desk>(
+    rt: &R,
+    station: &mut Station<P, G>,
+    desk: &mut D,
+) -> Ending
+    ensures actor { D.actor desk.new ≡ D.actor desk.old }
+    ensures works { Works (moment (stand station.old.link (P.told station.old.port) (G.passed station.old.gate)) (D.calls desk.old)) (moment (stand station.new.link (P.told station.new.port) (G.passed station.new.gate)) (D.calls desk.new)) result }
+    ensures shut { result ≡ Ending.GateShut → (before : _) × G.shuts before station.new.gate }
+    ensures over { result ≡ Ending.TermOver → ((before : _) × (event : AnEvent) × D.refuses before event desk.new) ⊎ ((before : _) × D.ends before desk.new) }
+{
+    work(rt, station, desk)
+}
+
+/// Serves the console's connections, one after another, until its port has no more of them, or the term is over. The desk is asked
+/// whether the term is over before each ask for a connection, each call of `serve` and each wait.
+pub fn work_console<R: Wait, P: Port, D: Desk>(
+    rt: &R,
+    station: &mut ConsoleStation<P>,
+    desk: &mut D,
+) -> Ending
+    ensures actor { D.actor desk.new ≡ D.actor desk.old }
+    ensures works { Works (moment (stand station.old.link (P.told station.old.port) None) (D.calls desk.old)) (moment (stand station.new.link (P.told station.new.port) None) (D.calls desk.new)) result }
+    ensures open { result ≡ Ending.GateShut → ⊥ }
+    ensures over { result ≡ Ending.TermOver → ((before : _) × (event : AnEvent) × D.refuses before event desk.new) ⊎ ((before : _) × D.ends before desk.new) }
+{
+    work(rt, station, desk)
+}

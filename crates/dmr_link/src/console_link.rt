@@ -6,6 +6,7 @@ ghost use Rattle.dmr_frames.specs.declared.frame.Cause.{Cause};
 ghost use Rattle.dmr_link.specs.Closing.{ended_of};
 ghost use Rattle.dmr_link.specs.Sessions.{Session, new_session, StandsFor, IsOver, sides, Serves, Cuts};
 ghost use Rattle.dmr_link.specs.Talks.{is_live};
+ghost use Rattle.dmr_link.specs.declared.desk.TermOver.{TermOver as ATermOver};
 ghost use Rattle.dmr_link.specs.declared.stream.Peer.TheVariants.{Operator};
 
 use crate::desk::{Desk, OpenGate, TermOver};
@@ -85,7 +86,7 @@ impl ConsoleLink {
     pub fn serve<W: Wire, D: Desk>(&mut self, port: &mut W, desk: &mut D) -> Ended
         ensures actor { D.actor desk.new ≡ D.actor desk.old }
         ensures serves { Serves self.old self.new (sides (W.told port.old) (D.calls desk.old) None) (sides (W.told port.new) (D.calls desk.new) None) result }
-        ensures over { result ≡ Ended.TermOver → (before : _) × (event : AnEvent) × D.refuses before event desk.new }
+        ensures over { result ≡ Ended.TermOver → (before : _) × (event : AnEvent) × (over : ATermOver) × D.refuses before event over desk.new }
         ensures open { result ≡ Ended.GateShut → ⊥ }
         ensures no_cause { (cause : Cause) → result ≡ Ended.BadFrame cause → ⊥ }
         // A link that isn't live answers how its connection was closed, and touches nothing.
@@ -104,7 +105,7 @@ impl ConsoleLink {
         ensures actor { D.actor desk.new ≡ D.actor desk.old }
         ensures cuts { is_live self.old ≡ true → Cuts self.old self.new (D.calls desk.old) (D.calls desk.new) }
         ensures done { is_live self.old ≡ true → IfOk result (λ _. IsOver self.new × (ended_of self.new.closing ≡ Ended.Closed)) }
-        ensures over { IfErr result (λ _. (is_live self.new ≡ true) × (before : _) × (event : AnEvent) × D.refuses before event desk.new) }
+        ensures over { IfErr result (λ over. (is_live self.new ≡ true) × (before : _) × (event : AnEvent) × D.refuses before event over desk.new) }
         ensures none { is_live self.old ≡ false → (result ≡ Ok tt) × (self.new ≡ self.old) × (desk.new ≡ desk.old) }
     {
         if !self.talk.is_live() {

@@ -83,7 +83,7 @@ impl Desk for ListDesk {
 
     ghost calls = { λ d. d.calls };
 
-    ghost refuses = { λ d event f. (f ≡ d) × (length d.calls ≡ d.limit) };
+    ghost refuses = { λ d event over f. (f ≡ d) × (length d.calls ≡ d.limit) × (over.entries ≡ d.limit) };
 
     ghost ends = { λ d f. (f ≡ d) × (length d.calls ≡ d.limit) };
 

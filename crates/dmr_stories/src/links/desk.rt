@@ -58,7 +58,7 @@ impl ListDesk {
     /// Tells the site an event, and keeps it with the answer, unless the term is over.
     fn take(&mut self, event: &Event) -> Result<Acts, TermOver>
         ensures ok { IfOk result (λ acts. self.new ≡ record self.old { calls = self.old.calls ++ record { event = event.now; acts = acts } ∷ [] }) }
-        ensures err { IfErr result (λ _. (self.new ≡ self.old) × (length self.old.calls ≡ self.old.limit)) }
+        ensures err { IfErr result (λ over. (self.new ≡ self.old) × (length self.old.calls ≡ self.old.limit) × (over.entries ≡ self.old.limit)) }
     {
         let entries = self.calls.len();
         if entries >= self.limit {

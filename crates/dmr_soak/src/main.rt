@@ -3,7 +3,8 @@
 //! What radios, carriers and operators do is written as octets, with flipped bits, faults and nonsense, and comes to the engine in
 //! pieces that are cut at random (`traffic`, `radios`). The model (`model`, `requests`, `burst`) was written from the rules as the
 //! documents tell them, apart from the definitions and the product's code: it says octet by octet what should be put out. A burst
-//! with at most three flipped bits must mean what the clean burst means; what one with more means is read by the product.
+//! with at most three flipped bits must mean what the clean burst means; what one with more means is read by the product. The program
+//! first tries the model itself on examples that the formats give (`vectors`).
 //! `--inputs N` runs so many inputs on each site, `--seed N` draws others, and `--counts` prints how often things happened.
 //!
 //! Each of these wrong rules, written into the model or the traffic, was tried with the usual seed. The run stopped at this input:
@@ -30,13 +31,13 @@ mod model;
 mod radios;
 mod requests;
 mod scene;
-#[cfg(test)]
-mod tests;
 mod traffic;
+mod vectors;
 
 use crate::model::{Link, Model};
 use crate::scene::{SIXTEEN_CARRIERS, Scene, TWO_CARRIERS};
 use crate::traffic::{Meaning, OPERATORS, Step, Traffic};
+use crate::vectors::{codes_as_the_formats, registers_as_shown};
 use dmr_link::{Engine, Input, Outputs};
 use dmr_pdu::{CarrierNo, OutOfMemory};
 use dmr_plan::Plan;
@@ -201,6 +202,11 @@ fn main(rt: HostRuntime) -> io::Result<ExitCode> {
         println!(rt; "usage: dmr_soak [--inputs N] [--seed N] [--counts], N from 1")?;
         return Ok(ExitCode::from(2));
     };
+    if !codes_as_the_formats() || !registers_as_shown(rt.alloc())? {
+        println!(rt; "the model is not what the formats say")?;
+        return Ok(ExitCode::from(1));
+    }
+    println!(rt; "the model codes, and answers a registration, as the formats say")?;
     for scene in [TWO_CARRIERS, SIXTEEN_CARRIERS] {
         if !show(&rt, &scene, wishes)? {
             return Ok(ExitCode::from(1));

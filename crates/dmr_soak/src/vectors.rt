@@ -1,0 +1,60 @@
+//! The model and the traffic against what was made apart from them. The program asks this before it draws anything.
+
+use crate::burst::{Pdu, burst_of, check_of};
+use crate::model::{Link, Model};
+use crate::scene::TWO_CARRIERS;
+use crate::traffic::{Meaning, Traffic};
+use dmr_pdu::OutOfMemory;
+use std::alloc::Global;
+
+/// Radio 1001 registers, and is told that it is registered.
+const REQUEST: Pdu = [0x9F, 0x00, 0x02, 0x0E, 0xFF, 0xFE, 0xC6, 0x00, 0x03, 0xE9];
+
+const ACCEPTED: Pdu = [0xA0, 0x00, 0x00, 0xC4, 0x00, 0x03, 0xE9, 0xFF, 0xFE, 0xC6];
+
+static REQUEST_BURST: [u8; 25] = [
+    0x0E, 0xB4, 0x9C, 0xDF, 0x34, 0xF2, 0x74, 0x9C, 0xEC, 0xBA, 0x5C, 0xB3, 0xB7, 0xC4, 0x0E, 0x88,
+    0x13, 0x8C, 0x9A, 0x38, 0xF9, 0x62, 0x48, 0xE1, 0x80,
+];
+
+static ACCEPTED_BURST: [u8; 25] = [
+    0x41, 0xC3, 0x02, 0x8A, 0x48, 0xFC, 0x8F, 0x40, 0x3D, 0xC0, 0x6F, 0x00, 0xED, 0xA0, 0xF7, 0x83,
+    0xE4, 0x97, 0x54, 0x2E, 0x40, 0x5C, 0xB8, 0x3C, 0xB0,
+];
+
+/// PDUs, and the check that the formats give of each.
+static CHECKS: [(Pdu, u16); 5] = [
+    ([0; 10], 0x5A5A),
+    (REQUEST, 0xC84F),
+    (ACCEPTED, 0xEFD8),
+    ([0xB1, 0x00, 0x00, 0x18, 0x00, 0x00, 0x5B, 0x00, 0x03, 0xE9], 0x8A16),
+    ([0x99, 0x00, 0x00, 0x00, 0x11, 0x12, 0x34, 0x00, 0x00, 0x00], 0xF613),
+];
+
+/// Whether the checks of five PDUs, and the bursts of two, are those that the formats give.
+pub fn codes_as_the_formats() -> bool {
+    CHECKS.iter().all(|(pdu, check)| check_of(pdu) == *check)
+        && burst_of(&REQUEST) == REQUEST_BURST
+        && burst_of(&ACCEPTED) == ACCEPTED_BURST
+}
+
+/// Whether a registration is spelled as the formats say, and answered as the README shows it.
+pub fn registers_as_shown(alloc: Global) -> Result<bool, OutOfMemory> {
+    let mut model = Model::new(alloc, &TWO_CARRIERS)?;
+    let mut traffic = Traffic::new(alloc, &TWO_CARRIERS, 42)?;
+    let mut text = Vec::new(alloc);
+    let control = TWO_CARRIERS.control_slot();
+    traffic.hear(control, REQUEST_BURST, Some(REQUEST))?;
+    let (octets, heard) = traffic.come(0, 28)?;
+    let is_spelled = octets.starts_with(&[0x02, 0x1A, 0x00]) && octets.ends_with(&REQUEST_BURST);
+    model.turn(0, Link::Open);
+    model.take(0, &Meaning::Hello, &mut text)?;
+    for meaning in heard.as_slice() {
+        model.take(0, meaning, &mut text)?;
+    }
+    model.take(0, &Meaning::Poll, &mut text)?;
+    let mut wanted = [0x81, 0x01, 0x01, 0x82, 0x1A, 0x00].to_vec(alloc)?;
+    wanted.extend_from_slice(&ACCEPTED_BURST)?;
+    wanted.extend_from_slice(&[0x83, 0x00])?;
+    Ok(is_spelled && text.as_slice() == wanted.as_slice())
+}

@@ -120,7 +120,7 @@ impl Default for Address {
     ghost is_default = { λ address. address ≡ 0 };
 
     fn default() -> Self {
-        Address { number: 0 }
+        Address::blank()
     }
 }
 

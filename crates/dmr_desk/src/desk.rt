@@ -163,7 +163,8 @@ impl<L: Ledger> SharedDesk<L> {
 
     /// Tells the site an event from a seat, and gives the site's answer, which the seat keeps with the event. It waits for the
     /// lock: one event is told at a time, whichever thread tells it. It takes no memory. `Err`: the journal has as many entries as
-    /// it may have; the site was not told, and nothing has changed.
+    /// it may have; the site was not told, and nothing has changed. The clauses say it of the seat alone: what becomes of site and
+    /// journal is behind the lock, and the report shows it.
     pub fn deposit<R: Wait>(
         &self,
         rt: &R,
@@ -184,8 +185,9 @@ impl<L: Ledger> SharedDesk<L> {
 
     /// Closes the desk, with its seats in any order. The report has the site, the journal, and the view of each actor, moved out of
     /// its seat; what it says, [`reports_account`](crate::reports_account) says in one place. It takes no memory. `Err`: a seat is
-    /// missing, of the least actor of which that is so; or else a seat differs from the journal, of the least such actor. Site,
-    /// journal and seats are gone then.
+    /// missing, of the least actor of which that is so; or else a seat differs from the journal, of the least such actor, or the book
+    /// is not the desk's, as [`CloseFault`] tells. Site, journal and seats are gone then. The clause says of some book that keeps what
+    /// every book keeps that this is so of it: the one that was behind the lock contracts cannot name.
     pub fn close<R: Wait>(self, _rt: &R, seats: Vec<Seat<L>>) -> Result<Report, CloseFault>
         requires { L.parts ≡ 18 }
         ensures ok { IfOk result (λ report. IsAudited self seats.items report) }

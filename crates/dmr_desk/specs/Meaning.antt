@@ -34,21 +34,22 @@ AllMean who [] notices = notices ≡ []
 AllMean who (s ∷ ss) notices =
     (earlier : List Notice) × (own : List Notice) × (notices ≡ earlier ++ own) × AllMean who ss earlier × Means who s.how s.came own
 
--- a connection: it means what was done of it, and then what is owed; the desk took the events of what was done, and no others; and the
--- octets that it took are the text of what was done, or, where a write failed or an event was kept at a cut, the first of it
+-- a connection: it means what was done of it, and then what is owed; the desk took the events of what was done, and no others; and
+-- the octets that it took are the text of what was done, or, where a write failed or an event was kept at a cut, the first of it
 pub record IsAccounted (who : Peer) (s : Session) (done owing : List Notice) : Type 0 where
   pub means : Means who s.how s.came (done ++ owing)
   pub events : events_in done ≡ map (λ d. d.event) s.calls
   pub taken : IsFirst s.how s.taken (text_of who done s.calls)
 
--- connections, the newest first: all of this was done of them, the oldest first, and of the newest this is still owed
+-- connections, the newest first: this was done of them, the oldest first, and this is owed of the newest, and of the others nothing
 abbrev pub AreAccounted : Peer → List Session → List Notice → List Notice → Type 0
 AreAccounted who [] done owing = (done ≡ []) × (owing ≡ [])
 AreAccounted who (s ∷ ss) done owing =
     (earlier : List Notice) × (own : List Notice) × (done ≡ earlier ++ own) × AreAccounted who ss earlier [] × IsAccounted who s own owing
 
--- ONE MEANING: what came on all connections of a link, one after another, means what was done, and then what the link owes; what was done
--- are the events that the desk took of them, in its order. It is so of each connection too, and each took its text, or a first part
+-- ONE MEANING: what came on all connections of a link, one after another, means what was done, and then what the link owes; the
+-- events of what was done are those that the desk took of these connections, in its order. So it is with each connection, and each
+-- took its text, or a first part
 pub record IsOneMeaning (link : Talk) (past : List Session) : Type 0 where
   pub done : List Notice
   pub means : AllMean link.who past (done ++ owed link)

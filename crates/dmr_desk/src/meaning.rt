@@ -10,9 +10,9 @@ ghost use Rattle.dmr_desk.specs.Work.{Doing, IsOrderly, Moment, Went, past_after
 
 use dmr_link::links_account;
 
-/// One record. Where a worker's steps are in order, all that its port answered in them, read in one go, gives the connections that
-/// the steps gave one after another, what a desk took of them aside. So nobody has to know where a call began to say what came on each
-/// connection, what it took and how it ended.
+/// One record. Where a worker's steps are in order, all that its port answered in them, read in one go, gives the connections
+/// that the steps gave one after another, what a desk took of them aside. So nobody has to know where a call began to say what
+/// came on each connection, what it took and how it ended.
 pub fn one_record()
     ensures steps { (who : APeer) (past : List Session) (doings : List Doing) → IsOrderly who past doings → IsOneRecord past doings }
     // Where the port tells its record, these are the connections that its answers since then give.
@@ -23,9 +23,9 @@ pub fn one_record()
         map in_record (past_after [] doings) ≡ read_on [] whole }
 {}
 
-/// One meaning. What came on all connections that a link stands for, one after another, means the events that the desk took of them,
-/// with the notices that are no events, and then what the link owes. Each connection took the text of its own part, or the first of
-/// it where a write failed or where it was cut with an event kept.
+/// One meaning. What came on all connections that a link stands for, one after another, means the events that the desk took of
+/// them, with the notices that are no events, and then what the link owes. Each connection took the text of its own part, or the
+/// first of it where a write failed or where it was cut with an event kept.
 pub fn one_meaning()
     ensures stands { (link : ATalk) (past : List Session) → StandsFor link past → IsOneMeaning link past }
     // A worker's link, after its steps.

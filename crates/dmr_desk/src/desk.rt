@@ -37,12 +37,13 @@ struct Locked<L: Ledger> {
 }
 
 impl<L: Ledger> Locked<L> {
-    /// Tells the site an event from a seat. `Err`: there is no room, and nothing has changed.
+    /// Tells the site an event from a seat. `Err`: there is no room, and nothing has changed; it has the number of the book's
+    /// entries.
     fn tell(&mut self, seat: &mut Seat<L>, event: &Event) -> Result<Acts, TermOver>
         ensures acts { IfOk result (λ acts. acts ≡ answer_to self.old.book event.now) }
         ensures entered { IfOk result (λ acts. self.new.book ≡ entered self.old.book seat.old.actor event.now acts) }
         ensures deposited { IfOk result (λ acts. seat.new ≡ deposited seat.old event.now acts) }
-        ensures over { OnErr result ((self.new.book ≡ self.old.book) × (seat.new ≡ seat.old)) }
+        ensures over { IfErr result (λ over. (self.new.book ≡ self.old.book) × (seat.new ≡ seat.old) × (over.entries ≡ length self.old.book.entries)) }
     {
         let Locked { book, total, .. } = self;
         seat.tell(book, total, event)
@@ -163,7 +164,8 @@ impl<L: Ledger> SharedDesk<L> {
 
     /// Tells the site an event from a seat, and gives the site's answer, which the seat keeps with the event. It waits for the
     /// lock: one event is told at a time, whichever thread tells it. It takes no memory. `Err`: the journal has as many entries as
-    /// it may have; the site was not told, and nothing has changed.
+    /// it may have; the site was not told, and nothing has changed. The clauses say it of the seat alone: what becomes of the site
+    /// and the journal is behind the lock, and the report shows it.
     pub fn deposit<R: Wait>(
         &self,
         rt: &R,
@@ -184,8 +186,9 @@ impl<L: Ledger> SharedDesk<L> {
 
     /// Closes the desk, with its seats in any order. The report has the site, the journal, and the view of each actor, moved out of
     /// its seat; what it says, [`reports_account`](crate::reports_account) says in one place. It takes no memory. `Err`: a seat is
-    /// missing, of the least actor of which that is so; or else a seat differs from the journal, of the least such actor. Site,
-    /// journal and seats are gone then.
+    /// missing, of the least actor of which that is so; or else a seat differs from the journal, of the least such actor, or the
+    /// book is not the desk's, as [`CloseFault`] tells. Site, journal and seats are gone then. The clause says so of some book that
+    /// keeps what every book keeps: the one that was behind the lock contracts cannot name.
     pub fn close<R: Wait>(self, _rt: &R, seats: Vec<Seat<L>>) -> Result<Report, CloseFault>
         requires { L.parts ≡ 18 }
         ensures ok { IfOk result (λ report. IsAudited self seats.items report) }

@@ -1,6 +1,6 @@
 //! A seat at the desk.
 
-ghost use Rattle.std.specs.Prelude.{◌≡◌, ◌+◌, [], length, IfOk, OnOk, OnErr};
+ghost use Rattle.std.specs.Prelude.{◌≡◌, ◌+◌, [], length, IfOk, IfErr, OnOk};
 ghost use Rattle.dmr_desk.specs.Pages.{answer_to, entered};
 ghost use Rattle.dmr_desk.specs.Sitting.{deposited};
 
@@ -59,7 +59,7 @@ impl<L: Ledger> Seat<L> {
     }
 
     /// Tells the book an event as this actor, counts it in the ledger, and keeps it with the answer. `Err`: the book or the seat
-    /// has no room, and nothing has changed.
+    /// has no room, and nothing has changed; it has the number of the book's entries.
     pub(crate) fn tell(
         &mut self,
         book: &mut Book,
@@ -70,7 +70,7 @@ impl<L: Ledger> Seat<L> {
         ensures entered { IfOk result (λ acts. book.new ≡ entered book.old self.old.actor event.now acts) }
         ensures deposited { IfOk result (λ acts. self.new ≡ deposited self.old event.now acts) }
         ensures counted { OnOk result (total.new.total ≡ total.old.total + 1) }
-        ensures over { OnErr result ((book.new ≡ book.old) × (self.new ≡ self.old) × (total.new.total ≡ total.old.total)) }
+        ensures over { IfErr result (λ over. (book.new ≡ book.old) × (self.new ≡ self.old) × (total.new.total ≡ total.old.total) × (over.entries ≡ length book.old.entries)) }
     {
         // Where the seat is full the book is full too, since each deposit is an entry. No contract says so: nothing ties the
         // limits of the two.

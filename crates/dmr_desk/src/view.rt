@@ -75,6 +75,10 @@ impl View {
 
 /// The view of no deposits. It takes no memory.
 impl MadeWith<Global> for View {
+    ghost use Rattle.std.specs.Prelude.{◌≡◌, []};
+
+    ghost is_made_with = { λ v. v ≡ [] };
+
     fn made_with(alloc: Global) -> Self {
         View {
             deposits: Vec::new(alloc),

@@ -5,7 +5,7 @@ ghost use Rattle.arrayvec.specs.ArrayVec.{array_vec_len};
 ghost use Rattle.dmr_desk.specs.Pace.{Paced};
 ghost use Rattle.dmr_desk.specs.Refusing.{IsLate, early_actor, first_over};
 ghost use Rattle.dmr_desk.specs.Sitting.{empty_seats};
-ghost use Rattle.dmr_desk.specs.Term.{AllDone, IsDone, IsTerm, IsTicked, done};
+ghost use Rattle.dmr_desk.specs.Term.{AllDone, IsDone, IsTerm, IsTicked, done, ended, started};
 ghost use Rattle.dmr_desk.specs.Work.{Stand};
 
 use crate::actors::LinkWork;
@@ -127,19 +127,16 @@ where
         → AllDone 0 stations (map (λ w. done (S.stand w.station) w.seat w.ending) all.carriers.items)
         → IsTicked (length stations) pacer (T.paced all.ticker.pacer) all.ticker.seat all.ticker.ending
         → IsDone (length stations + 1) console (done (C.stand all.console.station) all.console.seat all.console.ending)
-        → IsTerm (record { site = desk.site; limit = desk.limit; stations = stations; pacer = pacer; console = console })
-        (record {
-          site = t.report.site;
-          journal = t.report.journal;
-          views = t.report.views.items;
-          ends = t.ends.items;
-          stations = map (λ s. S.stand s) t.stations.items;
-          pacer = T.paced t.pacer;
-          console = C.stand t.console;
-        })) }
+        → IsTerm (started desk.site desk.limit stations pacer console) (ended t.report t.ends.items (map (λ s. S.stand s) t.stations.items) (T.paced t.pacer) (C.stand t.console))) }
     ensures shut { IfOk result (λ t. All (λ w. w.ending ≡ Ending.GateShut → S.shut w.station) all.carriers.items
         → (k : ℕ) (s : _) → slice_get t.stations.items k ≡ Some s → slice_get t.ends.items k ≡ Some Ending.GateShut → S.shut s) }
-    ensures late { IfErr result IsLate }
+    ensures open { IfOk result (λ t. (all.console.ending ≡ Ending.GateShut → C.shut all.console.station)
+        → slice_get t.ends.items (vec_len all.carriers + 1) ≡ Some Ending.GateShut → C.shut t.console) }
+    ensures late { IfErr result (λ fault. (stations : List Stand) (pacer : Option Paced) (console : Stand)
+        → AllDone 0 stations (map (λ w. done (S.stand w.station) w.seat w.ending) all.carriers.items)
+        → IsTicked (length stations) pacer (T.paced all.ticker.pacer) all.ticker.seat all.ticker.ending
+        → IsDone (length stations + 1) console (done (C.stand all.console.station) all.console.seat all.console.ending)
+        → IsLate (started desk.site desk.limit stations pacer console) fault) }
 {
     let AllWork {
         carriers,

@@ -116,6 +116,10 @@ below_limit false entries limit es k e h = absurd cc
 
 -- ---- what was handed back, taken apart
 
+pub map_same : {W S X D : Type 0} (f : S → X) (a : W → S) (p : D → X) (h : W → D) (ws : List W) → ((w : W) → f (a w) ≡ p (h w)) → map f (map a ws) ≡ map p (map h ws)
+map_same f a p h [] e = refl
+map_same f a p h (w ∷ ws) e = let t = map_same f a p h ws e in let q = e w in cc
+
 pub map_parts : {W X D : Type 0} (a : W → X) (p : D → X) (h : W → D) (ws : List W) → ((w : W) → a w ≡ p (h w)) → map a ws ≡ map p (map h ws)
 map_parts a p h [] e = refl
 map_parts a p h (w ∷ ws) e = let t = map_parts a p h ws e in let q = e w in cc

@@ -7,3 +7,5 @@ mod Working
 mod Crews
 mod OneRecord
 mod OneMeaning
+mod Terms
+mod Refusals

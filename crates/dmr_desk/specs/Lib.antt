@@ -7,3 +7,4 @@ pub mod Pace
 pub mod Work
 pub mod Term
 pub mod Meaning
+pub mod Refusing

@@ -24,8 +24,10 @@ mod laws;
 mod pace;
 mod report;
 mod room;
+mod run;
 mod seat;
 mod station;
+mod term;
 mod threads;
 mod view;
 mod work;
@@ -34,14 +36,18 @@ pub use at::SeatAt;
 pub use book::Book;
 pub use desk::{PARTS, SharedDesk};
 pub use ending::Ending;
-pub use fault::{CloseFault, OpenFault};
+pub use fault::{CloseFault, OpenFault, TermFault};
 pub use laws::reports_account;
 pub use pace::{Pace, Pacer, work_ticker};
 pub use report::{Journal, Report, Views};
+pub use run::run_term;
 pub use seat::Seat;
 pub use station::{ConsoleStation, Station};
+pub use term::Term;
 pub use view::View;
 pub use work::{work_carrier, work_console};
 
+#[cfg(test)]
+mod term_tests;
 #[cfg(test)]
 mod tests;

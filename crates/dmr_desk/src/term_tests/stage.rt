@@ -25,6 +25,7 @@ const ROOM: usize = 4096;
 const CONSOLE: usize = 3;
 
 /// What comes from a carrier, and what holds it.
+#[derive(Drop)]
 pub struct Carrier {
     /// Its connections: how many POLLs come behind its HELLO, and what the read behind them answers.
     pub connections: &'static [(usize, Got)],
@@ -35,6 +36,7 @@ pub struct Carrier {
 }
 
 /// What stands when the first term begins.
+#[derive(Drop)]
 pub struct Opening {
     /// The carriers, by number.
     pub carriers: [Carrier; 2],

@@ -61,14 +61,11 @@ pub const HUNDRED_POLLS: Opening = Opening {
     carriers: [
         Carrier {
             connections: &[(100, Got::End)],
-            gate: Hold::Free,
-            wait: Hold::Free,
+            ..NO_CARRIER
         },
         NO_CARRIER,
     ],
-    paces: &[],
-    pacer: Hold::Free,
-    operator: b"",
+    ..NOTHING_COMES
 };
 
 /// The terms of the stories.
@@ -81,17 +78,15 @@ pub static STORIES: [Story; 7] = [
                 Carrier {
                     connections: &[(1, Got::End)],
                     gate: Hold::Until(1, 4),
-                    wait: Hold::Free,
+                    ..NO_CARRIER
                 },
                 Carrier {
                     connections: &[(1, Got::End)],
                     gate: Hold::Until(0, 1),
-                    wait: Hold::Free,
+                    ..NO_CARRIER
                 },
             ],
-            paces: &[],
-            pacer: Hold::Free,
-            operator: b"",
+            ..NOTHING_COMES
         },
         terms: &[Want {
             limit: 100,
@@ -137,17 +132,15 @@ pub static STORIES: [Story; 7] = [
                 Carrier {
                     connections: &[(1, Got::End)],
                     gate: Hold::Shut,
-                    wait: Hold::Free,
+                    ..NO_CARRIER
                 },
                 Carrier {
                     connections: &[(1, Got::End)],
                     gate: Hold::Until(0, 1),
-                    wait: Hold::Free,
+                    ..NO_CARRIER
                 },
             ],
-            paces: &[],
-            pacer: Hold::Free,
-            operator: b"",
+            ..NOTHING_COMES
         },
         terms: &[
             Want {
@@ -179,18 +172,16 @@ pub static STORIES: [Story; 7] = [
             carriers: [
                 Carrier {
                     connections: &[(0, Got::Block), (0, Got::End)],
-                    gate: Hold::Free,
                     wait: Hold::Until(1, 6),
+                    ..NO_CARRIER
                 },
                 Carrier {
                     connections: &[(2, Got::End)],
                     gate: Hold::Until(0, 3),
-                    wait: Hold::Free,
+                    ..NO_CARRIER
                 },
             ],
-            paces: &[],
-            pacer: Hold::Free,
-            operator: b"",
+            ..NOTHING_COMES
         },
         terms: &[
             Want {
@@ -218,10 +209,9 @@ pub static STORIES: [Story; 7] = [
     Story {
         name: "ticks and an operator",
         opening: Opening {
-            carriers: [NO_CARRIER, NO_CARRIER],
             paces: &[Pace::Tick, Pace::NotYet, Pace::Tick, Pace::Finished],
-            pacer: Hold::Free,
             operator: b"status\n",
+            ..NOTHING_COMES
         },
         terms: &[Want {
             limit: 100,
@@ -237,10 +227,8 @@ pub static STORIES: [Story; 7] = [
     Story {
         name: "a tick that is not asked for at the limit",
         opening: Opening {
-            carriers: [NO_CARRIER, NO_CARRIER],
             paces: &[Pace::Tick, Pace::Tick],
-            pacer: Hold::Free,
-            operator: b"",
+            ..NOTHING_COMES
         },
         terms: &[
             Want {
@@ -268,13 +256,13 @@ pub static STORIES: [Story; 7] = [
                 Carrier {
                     connections: &[(0, Got::End)],
                     gate: Hold::Until(2, 1),
-                    wait: Hold::Free,
+                    ..NO_CARRIER
                 },
                 NO_CARRIER,
             ],
             paces: &[Pace::Tick],
             pacer: Hold::Until(0, 2),
-            operator: b"",
+            ..NOTHING_COMES
         },
         terms: &[
             Want {

@@ -21,7 +21,7 @@ pub enum Hold {
 }
 
 /// Counts the steps of an actor, and holds the first that may be held. An actor makes a step wherever its gate is to be entered,
-/// wherever the gate is left, its port is to wait, or its pacer is asked.
+/// wherever the gate is left, its port is silent, or its pacer is asked.
 #[derive(Drop)]
 pub struct Meeting<'a> {
     rt: &'a HostRuntime,
@@ -90,12 +90,12 @@ impl<'a> Gate for Meeting<'a> {
     }
 }
 
-/// A port in memory whose first wait may be held. It tells no record.
+/// A port in memory whose first silence may be held. It tells no record.
 #[derive(Drop)]
 pub struct MeetingPort<'a> {
     /// The port in memory.
     pub port: MemoryPort,
-    /// Holds the first wait.
+    /// Holds the first silence.
     pub meeting: Meeting<'a>,
 }
 
@@ -117,8 +117,11 @@ impl<'a> Port for MeetingPort<'a> {
     }
 
     fn wait(&mut self) -> Waited {
-        self.meeting.held_step();
-        self.port.wait()
+        let waited = self.port.wait();
+        if waited == Waited::Silent {
+            self.meeting.held_step();
+        }
+        waited
     }
 }
 

@@ -7,7 +7,7 @@ use dmr_core::Site;
 use dmr_link::{ConsoleLink, Link};
 use dmr_pdu::{CarrierNo, Lpcn};
 use dmr_plan::Plan;
-use dmr_wire::{Connect, Got, MemoryPort, Step};
+use dmr_wire::{Connect, Got, MemoryPort, Step, Waited};
 use std::alloc::Global;
 use std::sync::Wait;
 use std::sync::atomic::AtomicU64;
@@ -31,7 +31,7 @@ pub struct Carrier {
     pub connections: &'static [(usize, Got)],
     /// What holds the first entry of its gate.
     pub gate: Hold,
-    /// What holds the first wait of its port.
+    /// What holds the first silence of its port.
     pub wait: Hold,
 }
 
@@ -99,17 +99,19 @@ pub fn station_of<'a>(
     })
 }
 
-/// What the port of a carrier answers.
+/// What the port of a carrier answers. A connection comes at the second ask; its octets come after a wait, a frame with each read.
 fn carrier_steps(alloc: Global, number: u8, carrier: &Carrier) -> Result<Vec<Step>, Fail> {
     let mut steps = Vec::new(alloc);
     for (polls, end) in carrier.connections {
         let hello = [0x01, 0x04, 0x01, number, 0x00, number.wrapping_add(1)];
-        let mut octets = hello.to_vec(alloc)?;
-        for _ in 0..*polls {
-            octets.extend_from_slice(&[0x03, 0x00])?;
-        }
+        steps.push(Step::Connect(Connect::NotYet))?;
         steps.push(Step::Connect(Connect::Ready))?;
-        steps.push(Step::Feed(octets))?;
+        steps.push(Step::Read(Got::Block))?;
+        steps.push(Step::Wait(Waited::Again))?;
+        steps.push(Step::Feed(hello.to_vec(alloc)?))?;
+        for _ in 0..*polls {
+            steps.push(Step::Feed([0x03, 0x00].to_vec(alloc)?))?;
+        }
         steps.push(Step::Read(*end))?;
     }
     Ok(steps)

@@ -38,6 +38,7 @@ fn compare(
     want: &Want,
 ) -> Result<(), Fail> {
     assert_eq!(rt; outcome.entries, want.entries, "{name}: entries");
+    assert_eq!(rt; outcome.views.len(), want.actors.len(), "{name}: actors");
     for (actor, (ending, events, octets)) in want.actors.iter().enumerate() {
         if ending.is_some() {
             let ended = outcome.ends.as_slice().get(actor).copied();
@@ -68,9 +69,9 @@ fn every_limit(rt: HostRuntime) -> Result<(), Fail> {
         let mut stage = Stage::new(&rt, &steps, &HUNDRED_POLLS)?;
         let mut told = String::new(rt.alloc());
         let mut terms = 0;
-        for _ in 0..103 {
+        for number in 1..=103 {
             let outcome = stage.run(&rt, rt.alloc(), limit)?;
-            terms += 1;
+            terms = number;
             write_letters(&mut told, 0, &outcome.views)?;
             stage = outcome.stage;
             if !stage.is_live(0) {

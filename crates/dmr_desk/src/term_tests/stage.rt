@@ -38,8 +38,8 @@ pub struct Carrier {
 /// What stands when the first term begins.
 #[derive(Drop)]
 pub struct Opening {
-    /// The carriers, by number.
-    pub carriers: [Carrier; 2],
+    /// The two carriers, by number.
+    pub carriers: &'static [Carrier],
     /// What the pacer answers.
     pub paces: &'static [Pace],
     /// What holds the first of that.
@@ -143,10 +143,10 @@ impl<'a> Stage<'a> {
         opening: &Opening,
     ) -> Result<Self, Fail> {
         let alloc = rt.alloc();
-        let [first, second] = &opening.carriers;
         let mut stations = Vec::new(alloc);
-        stations.push(station_of(rt, steps, 0, first)?)?;
-        stations.push(station_of(rt, steps, 1, second)?)?;
+        for (number, carrier) in [0, 1].into_iter().zip(opening.carriers) {
+            stations.push(station_of(rt, steps, number, carrier)?)?;
+        }
         Ok(Stage {
             site: Site::new(alloc, Plan::read(alloc, SITE)?)?,
             stations,

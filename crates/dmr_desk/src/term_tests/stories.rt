@@ -16,7 +16,7 @@ pub struct Want {
     /// How many it has.
     pub entries: usize,
     /// What becomes of the two carriers, the ticker, and the console.
-    pub actors: [Part; 4],
+    pub actors: &'static [Part],
 }
 
 /// Terms, one after the other.
@@ -50,7 +50,7 @@ pub const NO_CARRIER: Carrier = Carrier {
 
 /// Nothing comes at all.
 pub const NOTHING_COMES: Opening = Opening {
-    carriers: [NO_CARRIER, NO_CARRIER],
+    carriers: &[NO_CARRIER, NO_CARRIER],
     paces: &[],
     pacer: Hold::Free,
     operator: b"",
@@ -58,7 +58,7 @@ pub const NOTHING_COMES: Opening = Opening {
 
 /// HELLO and 100 POLLs come from carrier 0: 102 entries.
 pub const HUNDRED_POLLS: Opening = Opening {
-    carriers: [
+    carriers: &[
         Carrier {
             connections: &[(100, Got::End)],
             ..NO_CARRIER
@@ -74,7 +74,7 @@ pub static STORIES: [Story; 7] = [
     Story {
         name: "two workers at once",
         opening: Opening {
-            carriers: [
+            carriers: &[
                 Carrier {
                     connections: &[(1, Got::End)],
                     gate: Hold::Until(1, 4),
@@ -91,7 +91,7 @@ pub static STORIES: [Story; 7] = [
         terms: &[Want {
             limit: 100,
             entries: 6,
-            actors: [
+            actors: &[
                 (FINISHED, &[(1, "UPL")], &[(1, "WFD")]),
                 (FINISHED, &[(1, "UPL")], &[(1, "WD")]),
                 NOTHING,
@@ -106,7 +106,7 @@ pub static STORIES: [Story; 7] = [
             Want {
                 limit: 100,
                 entries: 100,
-                actors: [
+                actors: &[
                     (TERM_OVER, &[(1, "U"), (99, "P")], &[(1, "W"), (99, "FD")]),
                     NOTHING_AT_THE_END,
                     NOTHING_AT_THE_END,
@@ -116,7 +116,7 @@ pub static STORIES: [Story; 7] = [
             Want {
                 limit: 100,
                 entries: 2,
-                actors: [
+                actors: &[
                     (FINISHED, &[(1, "PL")], &[(1, "W"), (100, "FD")]),
                     NOTHING,
                     NOTHING,
@@ -128,7 +128,7 @@ pub static STORIES: [Story; 7] = [
     Story {
         name: "a gate that is shut at once",
         opening: Opening {
-            carriers: [
+            carriers: &[
                 Carrier {
                     connections: &[(1, Got::End)],
                     gate: Hold::Shut,
@@ -146,7 +146,7 @@ pub static STORIES: [Story; 7] = [
             Want {
                 limit: 100,
                 entries: 3,
-                actors: [
+                actors: &[
                     (GATE_SHUT, &[], &[]),
                     (FINISHED, &[(1, "UPL")], &[(1, "WD")]),
                     NOTHING,
@@ -156,7 +156,7 @@ pub static STORIES: [Story; 7] = [
             Want {
                 limit: 100,
                 entries: 3,
-                actors: [
+                actors: &[
                     (FINISHED, &[(1, "UPL")], &[(1, "WFD")]),
                     (FINISHED, &[], &[(1, "WD")]),
                     NOTHING,
@@ -169,7 +169,7 @@ pub static STORIES: [Story; 7] = [
     Story {
         name: "silence while another fills the journal",
         opening: Opening {
-            carriers: [
+            carriers: &[
                 Carrier {
                     connections: &[(0, Got::Block), (0, Got::End)],
                     wait: Hold::Until(1, 6),
@@ -187,7 +187,7 @@ pub static STORIES: [Story; 7] = [
             Want {
                 limit: 4,
                 entries: 4,
-                actors: [
+                actors: &[
                     (TERM_OVER, &[(1, "U")], &[(1, "W")]),
                     (TERM_OVER, &[(1, "UPP")], &[(1, "WDD")]),
                     NOTHING_AT_THE_END,
@@ -197,7 +197,7 @@ pub static STORIES: [Story; 7] = [
             Want {
                 limit: 100,
                 entries: 4,
-                actors: [
+                actors: &[
                     (FINISHED, &[(1, "LUL")], &[(1, "WW")]),
                     (FINISHED, &[(1, "L")], &[(1, "WDD")]),
                     NOTHING,
@@ -216,7 +216,7 @@ pub static STORIES: [Story; 7] = [
         terms: &[Want {
             limit: 100,
             entries: 3,
-            actors: [
+            actors: &[
                 NOTHING,
                 NOTHING,
                 (FINISHED, &[(1, "TT")], &[]),
@@ -234,7 +234,7 @@ pub static STORIES: [Story; 7] = [
             Want {
                 limit: 1,
                 entries: 1,
-                actors: [
+                actors: &[
                     NOTHING_AT_THE_END,
                     NOTHING_AT_THE_END,
                     (TERM_OVER, &[(1, "T")], &[]),
@@ -244,7 +244,7 @@ pub static STORIES: [Story; 7] = [
             Want {
                 limit: 100,
                 entries: 1,
-                actors: [NOTHING, NOTHING, (FINISHED, &[(1, "T")], &[]), NOTHING],
+                actors: &[NOTHING, NOTHING, (FINISHED, &[(1, "T")], &[]), NOTHING],
             },
         ],
     },
@@ -252,7 +252,7 @@ pub static STORIES: [Story; 7] = [
     Story {
         name: "a tick that is dropped at the limit",
         opening: Opening {
-            carriers: [
+            carriers: &[
                 Carrier {
                     connections: &[(0, Got::End)],
                     gate: Hold::Until(2, 1),
@@ -268,7 +268,7 @@ pub static STORIES: [Story; 7] = [
             Want {
                 limit: 1,
                 entries: 1,
-                actors: [
+                actors: &[
                     (TERM_OVER, &[(1, "U")], &[(1, "W")]),
                     NOTHING_AT_THE_END,
                     (TERM_OVER, &[], &[]),
@@ -278,7 +278,7 @@ pub static STORIES: [Story; 7] = [
             Want {
                 limit: 100,
                 entries: 1,
-                actors: [
+                actors: &[
                     (FINISHED, &[(1, "L")], &[(1, "W")]),
                     NOTHING,
                     NOTHING,

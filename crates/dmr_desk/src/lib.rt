@@ -50,4 +50,6 @@ pub use view::View;
 pub use work::{work_carrier, work_console};
 
 #[cfg(test)]
+mod term_tests;
+#[cfg(test)]
 mod tests;

@@ -1,0 +1,120 @@
+//! Terms of a site of two carriers, over ports in memory.
+//!
+//! Each ends by itself, whatever the schedule: a hold gives up after some seconds. Expected octets are the frames of the link
+//! profile, and an independent coder made the burst in one of them.
+
+mod meeting;
+mod spelling;
+mod stage;
+mod stories;
+
+use self::spelling::{octets_of, spelled, write_letters};
+use self::stage::{Outcome, Stage, new_steps, station_of};
+use self::stories::{HUNDRED_POLLS, NO_CARRIER, NOTHING_COMES, STORIES, Want};
+use crate::{OpenFault, TermFault};
+use std::process::Abort;
+use std::test::Fail;
+
+/// Terms of which each actor's part is known, one after the other.
+#[test]
+fn terms(rt: HostRuntime) -> Result<(), Fail> {
+    for story in STORIES.iter() {
+        let steps = new_steps();
+        let mut stage = Stage::new(&rt, &steps, &story.opening)?;
+        for want in story.terms {
+            let outcome = stage.run(&rt, rt.alloc(), want.limit)?;
+            compare(&rt, story.name, &outcome, want)?;
+            stage = outcome.stage;
+        }
+    }
+    Ok(())
+}
+
+/// Compares what came of a term with what it was to bring.
+fn compare(
+    rt: &(impl Abort + AllocGlobal),
+    name: &str,
+    outcome: &Outcome<'_>,
+    want: &Want,
+) -> Result<(), Fail> {
+    assert_eq!(rt; outcome.entries, want.entries, "{name}: entries");
+    assert_eq!(rt; outcome.views.len(), want.actors.len(), "{name}: actors");
+    for (actor, (ending, events, octets)) in want.actors.iter().enumerate() {
+        if ending.is_some() {
+            let ended = outcome.ends.as_slice().get(actor).copied();
+            assert_eq!(rt; ended, *ending, "{name}: actor {actor}");
+        }
+        let mut told = String::new(rt.alloc());
+        write_letters(&mut told, actor, &outcome.views)?;
+        let events = spelled(rt.alloc(), *events)?;
+        assert_eq!(rt; told.as_str(), events.as_str(), "{name}: actor {actor}");
+        let octets = octets_of(rt.alloc(), *octets)?;
+        assert_eq!(rt;
+            outcome.stage.taken(actor),
+            octets.as_slice(),
+            "{name}: actor {actor}"
+        );
+    }
+    Ok(())
+}
+
+/// Whatever the limit, carrier 0's link is served to its end, in as many terms as its 102 entries need, and it makes no
+/// difference to what was told and written.
+#[test]
+fn every_limit(rt: HostRuntime) -> Result<(), Fail> {
+    let events = spelled(rt.alloc(), &[(1, "U"), (100, "P"), (1, "L")])?;
+    let octets = octets_of(rt.alloc(), &[(1, "W"), (100, "FD")])?;
+    for limit in 1..=102 {
+        let steps = new_steps();
+        let mut stage = Stage::new(&rt, &steps, &HUNDRED_POLLS)?;
+        let mut told = String::new(rt.alloc());
+        let mut terms = 0;
+        for number in 1..=103 {
+            let outcome = stage.run(&rt, rt.alloc(), limit)?;
+            terms = number;
+            write_letters(&mut told, 0, &outcome.views)?;
+            stage = outcome.stage;
+            if !stage.is_live(0) {
+                break;
+            }
+        }
+        assert_eq!(rt; terms, 101 / limit + 1, "limit {limit}");
+        assert_eq!(rt; told.as_str(), events.as_str(), "limit {limit}");
+        assert_eq!(rt; stage.taken(0), octets.as_slice(), "limit {limit}");
+    }
+    Ok(())
+}
+
+/// Stations that are not those of the plan's carriers, by number, are refused, and then limits.
+#[test]
+fn refusals(rt: HostRuntime) -> Result<(), Fail> {
+    let bad_limit = Some(TermFault::Open(OpenFault::BadLimit));
+    for (numbers, limit, want) in [
+        ("", 0, Some(TermFault::BadStations)),
+        ("0", 0, Some(TermFault::BadStations)),
+        ("1", 100, Some(TermFault::BadStations)),
+        ("10", 100_001, Some(TermFault::BadStations)),
+        ("00", 100, Some(TermFault::BadStations)),
+        ("011", 100, Some(TermFault::BadStations)),
+        ("012", 100, Some(TermFault::BadStations)),
+        ("01", 0, bad_limit),
+        ("01", 100_001, bad_limit),
+        ("01", 1, None),
+    ] {
+        let steps = new_steps();
+        let mut stage = Stage::new(&rt, &steps, &NOTHING_COMES)?;
+        stage.stations.clear();
+        for digit in numbers.bytes() {
+            let number = digit.wrapping_sub(b'0');
+            stage
+                .stations
+                .push(station_of(&rt, &steps, number, &NO_CARRIER)?)?;
+        }
+        assert_eq!(rt;
+            stage.run(&rt, rt.alloc(), limit).err(),
+            want,
+            "{numbers}, {limit}"
+        );
+    }
+    Ok(())
+}

@@ -1,0 +1,215 @@
+//! A site of two carriers, and what stands round it from term to term.
+
+use super::meeting::{Hold, Meeting, MeetingPacer, MeetingPort};
+use crate::{ConsoleStation, Ending, Pace, Station, Term, TermFault, Views, run_term};
+use arrayvec::ArrayVec;
+use dmr_core::Site;
+use dmr_link::{ConsoleLink, Link};
+use dmr_pdu::{CarrierNo, Lpcn};
+use dmr_plan::Plan;
+use dmr_wire::{Connect, Got, MemoryPort, Step, Waited};
+use std::alloc::Global;
+use std::sync::Wait;
+use std::sync::atomic::AtomicU64;
+use std::test::Fail;
+use std::thread::Threads;
+
+/// A site of carriers 0 and 1, with channels 1 and 2.
+const SITE: &str =
+    "system = 0x1234\nregi = 0xFFFEC6\ntsi = 0xFFFECA\nleave_bit = 0\nhang = 100\nmaximum = 3000\nahoy_wait = 8\nahoy_tries = 3\ngrant_copies = 1\nclear_copies = 1\nbackoff_low = 1\nbackoff_high = 8\ntick_ms = 60\nsilence = 100\nconsole_port = 7100\nradios = [[1000, 1999]]\ngroups = [91, 92, 93, 94]\ncontrol = 0\n[[carrier]]\nnumber = 0\nlpcn = 1\nport = 7101\n[[carrier]]\nnumber = 1\nlpcn = 2\nport = 7102\n";
+
+/// The room of a port's record: so many answers, and so many octets.
+const ROOM: usize = 4096;
+
+/// The console's number among the actors.
+const CONSOLE: usize = 3;
+
+/// What comes from a carrier, and what holds it.
+#[derive(Drop)]
+pub struct Carrier {
+    /// Its connections: how many POLLs come behind its HELLO, and what the read behind them answers.
+    pub connections: &'static [(usize, Got)],
+    /// What holds the first entry of its gate.
+    pub gate: Hold,
+    /// What holds the first silence of its port.
+    pub wait: Hold,
+}
+
+/// What stands when the first term begins.
+#[derive(Drop)]
+pub struct Opening {
+    /// The two carriers, by number.
+    pub carriers: &'static [Carrier],
+    /// What the pacer answers.
+    pub paces: &'static [Pace],
+    /// What holds the first of that.
+    pub pacer: Hold,
+    /// The octets of an operator. Where there are none, no operator comes.
+    pub operator: &'static [u8],
+}
+
+/// A carrier's station.
+type CarrierStation<'a> = Station<MeetingPort<'a>, Meeting<'a>>;
+
+/// What goes from term to term.
+#[derive(Drop)]
+pub struct Stage<'a> {
+    site: Site,
+    /// The stations.
+    pub stations: Vec<CarrierStation<'a>>,
+    pacer: MeetingPacer<'a>,
+    console: ConsoleStation<MemoryPort>,
+}
+
+/// What comes of a term.
+#[derive(Drop)]
+pub struct Outcome<'a> {
+    /// How many entries its journal has.
+    pub entries: usize,
+    /// Why each actor's worker ended.
+    pub ends: ArrayVec<Ending, 18>,
+    /// What each actor told the site.
+    pub views: Views,
+    /// What the next term begins with.
+    pub stage: Stage<'a>,
+}
+
+/// How many steps each of three actors has made, none yet: the carriers' and the ticker.
+pub fn new_steps() -> [AtomicU64; 3] {
+    [AtomicU64::new(0), AtomicU64::new(0), AtomicU64::new(0)]
+}
+
+/// The station of the carrier of this number.
+pub fn station_of<'a>(
+    rt: &'a HostRuntime,
+    steps: &'a [AtomicU64],
+    number: u8,
+    carrier: &Carrier,
+) -> Result<CarrierStation<'a>, Fail> {
+    let actor = usize::from(number);
+    let who = CarrierNo::try_new(u32::from(number)).ok_or("a carrier's number")?;
+    let lpcn = Lpcn::try_new(u32::from(number) + 1).ok_or("a channel")?;
+    Ok(Station {
+        link: Link::new(who, lpcn),
+        port: MeetingPort {
+            port: port_of(rt.alloc(), carrier_steps(rt.alloc(), number, carrier)?)?,
+            meeting: Meeting::new(rt, steps, actor, carrier.wait),
+        },
+        gate: Meeting::new(rt, steps, actor, carrier.gate),
+    })
+}
+
+/// What the port of a carrier answers. A connection comes at the second ask; its octets come after a wait, a frame with each read.
+fn carrier_steps(alloc: Global, number: u8, carrier: &Carrier) -> Result<Vec<Step>, Fail> {
+    let mut steps = Vec::new(alloc);
+    for (polls, end) in carrier.connections {
+        let hello = [0x01, 0x04, 0x01, number, 0x00, number.wrapping_add(1)];
+        steps.push(Step::Connect(Connect::NotYet))?;
+        steps.push(Step::Connect(Connect::Ready))?;
+        steps.push(Step::Read(Got::Block))?;
+        steps.push(Step::Wait(Waited::Again))?;
+        steps.push(Step::Feed(hello.to_vec(alloc)?))?;
+        for _ in 0..*polls {
+            steps.push(Step::Feed([0x03, 0x00].to_vec(alloc)?))?;
+        }
+        steps.push(Step::Read(*end))?;
+    }
+    Ok(steps)
+}
+
+/// What the console's port answers.
+fn console_steps(alloc: Global, operator: &[u8]) -> Result<Vec<Step>, Fail> {
+    let mut steps = Vec::new(alloc);
+    if !operator.is_empty() {
+        steps.push(Step::Connect(Connect::Ready))?;
+        steps.push(Step::Feed(operator.to_vec(alloc)?))?;
+    }
+    Ok(steps)
+}
+
+/// A port of these steps.
+fn port_of(alloc: Global, steps: Vec<Step>) -> Result<MemoryPort, Fail> {
+    match MemoryPort::new(alloc, steps, ROOM) {
+        Ok(port) => Ok(port),
+        Err((refused, _)) => Err(refused.into()),
+    }
+}
+
+impl<'a> Stage<'a> {
+    /// What stands when the first term begins, on a site on which nothing is up.
+    pub fn new(
+        rt: &'a HostRuntime,
+        steps: &'a [AtomicU64],
+        opening: &Opening,
+    ) -> Result<Self, Fail> {
+        let alloc = rt.alloc();
+        let mut stations = Vec::new(alloc);
+        for (number, carrier) in [0, 1].into_iter().zip(opening.carriers) {
+            stations.push(station_of(rt, steps, number, carrier)?)?;
+        }
+        Ok(Stage {
+            site: Site::new(alloc, Plan::read(alloc, SITE)?)?,
+            stations,
+            pacer: MeetingPacer {
+                paces: opening.paces,
+                meeting: Meeting::new(rt, steps, 2, opening.pacer),
+            },
+            console: ConsoleStation {
+                link: ConsoleLink::new(),
+                port: port_of(alloc, console_steps(alloc, opening.operator)?)?,
+            },
+        })
+    }
+
+    /// Runs a term.
+    pub fn run<R: Wait + Threads + Sync>(
+        self,
+        rt: &R,
+        alloc: Global,
+        limit: usize,
+    ) -> Result<Outcome<'a>, TermFault> {
+        let Term {
+            report,
+            ends,
+            stations,
+            pacer,
+            console,
+        } = run_term(
+            rt,
+            alloc,
+            self.site,
+            limit,
+            self.stations,
+            self.pacer,
+            self.console,
+        )?;
+        Ok(Outcome {
+            entries: report.journal.as_slice().len(),
+            ends,
+            views: report.views,
+            stage: Stage {
+                site: report.site,
+                stations,
+                pacer,
+                console,
+            },
+        })
+    }
+
+    /// All octets that the port of an actor has taken; the ticker has none.
+    pub fn taken(&self, actor: usize) -> &[u8] {
+        match self.stations.get(actor) {
+            Some(station) => station.port.port.taken(),
+            None if actor == CONSOLE => self.console.port.taken(),
+            None => &[],
+        }
+    }
+
+    /// Whether the link of a carrier is live.
+    pub fn is_live(&self, actor: usize) -> bool {
+        match self.stations.get(actor) {
+            Some(station) => station.link.live(),
+            None => false,
+        }
+    }
+}

@@ -1,0 +1,290 @@
+//! What comes in terms, and what they bring.
+
+use super::meeting::Hold;
+use super::spelling::Letters;
+use super::stage::{Carrier, Opening};
+use crate::{Ending, Pace};
+use dmr_wire::Got;
+
+/// Why an actor's worker ends, where the schedule makes no difference to it; its events; and what its port has taken till then.
+pub type Part = (Option<Ending>, Letters, Letters);
+
+/// What a term is to bring.
+pub struct Want {
+    /// How many entries it may have.
+    pub limit: usize,
+    /// How many it has.
+    pub entries: usize,
+    /// What becomes of the two carriers, the ticker, and the console.
+    pub actors: &'static [Part],
+}
+
+/// Terms, one after the other.
+pub struct Story {
+    /// Its name.
+    pub name: &'static str,
+    /// What stands when the first begins.
+    pub opening: Opening,
+    /// What they bring.
+    pub terms: &'static [Want],
+}
+
+const FINISHED: Option<Ending> = Some(Ending::Finished);
+
+const GATE_SHUT: Option<Ending> = Some(Ending::GateShut);
+
+const TERM_OVER: Option<Ending> = Some(Ending::TermOver);
+
+/// Nothing came to an actor, and it saw its end.
+const NOTHING: Part = (FINISHED, &[], &[]);
+
+/// Nothing came to an actor; it may have been told first that the term is over.
+const NOTHING_AT_THE_END: Part = (None, &[], &[]);
+
+/// No connection comes from a carrier, and nothing holds it.
+pub const NO_CARRIER: Carrier = Carrier {
+    connections: &[],
+    gate: Hold::Free,
+    wait: Hold::Free,
+};
+
+/// Nothing comes at all.
+pub const NOTHING_COMES: Opening = Opening {
+    carriers: &[NO_CARRIER, NO_CARRIER],
+    paces: &[],
+    pacer: Hold::Free,
+    operator: b"",
+};
+
+/// HELLO and 100 POLLs come from carrier 0: 102 entries.
+pub const HUNDRED_POLLS: Opening = Opening {
+    carriers: &[
+        Carrier {
+            connections: &[(100, Got::End)],
+            ..NO_CARRIER
+        },
+        NO_CARRIER,
+    ],
+    ..NOTHING_COMES
+};
+
+/// The terms of the stories.
+pub static STORIES: [Story; 7] = [
+    // Each carrier waits for the other: no one thread can serve them, in whatever order.
+    Story {
+        name: "two workers at once",
+        opening: Opening {
+            carriers: &[
+                Carrier {
+                    connections: &[(1, Got::End)],
+                    gate: Hold::Until(1, 4),
+                    ..NO_CARRIER
+                },
+                Carrier {
+                    connections: &[(1, Got::End)],
+                    gate: Hold::Until(0, 1),
+                    ..NO_CARRIER
+                },
+            ],
+            ..NOTHING_COMES
+        },
+        terms: &[Want {
+            limit: 100,
+            entries: 6,
+            actors: &[
+                (FINISHED, &[(1, "UPL")], &[(1, "WFD")]),
+                (FINISHED, &[(1, "UPL")], &[(1, "WD")]),
+                NOTHING,
+                NOTHING,
+            ],
+        }],
+    },
+    Story {
+        name: "a term that is over",
+        opening: HUNDRED_POLLS,
+        terms: &[
+            Want {
+                limit: 100,
+                entries: 100,
+                actors: &[
+                    (TERM_OVER, &[(1, "U"), (99, "P")], &[(1, "W"), (99, "FD")]),
+                    NOTHING_AT_THE_END,
+                    NOTHING_AT_THE_END,
+                    NOTHING_AT_THE_END,
+                ],
+            },
+            Want {
+                limit: 100,
+                entries: 2,
+                actors: &[
+                    (FINISHED, &[(1, "PL")], &[(1, "W"), (100, "FD")]),
+                    NOTHING,
+                    NOTHING,
+                    NOTHING,
+                ],
+            },
+        ],
+    },
+    Story {
+        name: "a gate that is shut at once",
+        opening: Opening {
+            carriers: &[
+                Carrier {
+                    connections: &[(1, Got::End)],
+                    gate: Hold::Shut,
+                    ..NO_CARRIER
+                },
+                Carrier {
+                    connections: &[(1, Got::End)],
+                    gate: Hold::Until(0, 1),
+                    ..NO_CARRIER
+                },
+            ],
+            ..NOTHING_COMES
+        },
+        terms: &[
+            Want {
+                limit: 100,
+                entries: 3,
+                actors: &[
+                    (GATE_SHUT, &[], &[]),
+                    (FINISHED, &[(1, "UPL")], &[(1, "WD")]),
+                    NOTHING,
+                    NOTHING,
+                ],
+            },
+            Want {
+                limit: 100,
+                entries: 3,
+                actors: &[
+                    (FINISHED, &[(1, "UPL")], &[(1, "WFD")]),
+                    (FINISHED, &[], &[(1, "WD")]),
+                    NOTHING,
+                    NOTHING,
+                ],
+            },
+        ],
+    },
+    // Carrier 0 waits, behind a read that would block, until carrier 1's third event was answered, which is the last entry.
+    Story {
+        name: "silence while another fills the journal",
+        opening: Opening {
+            carriers: &[
+                Carrier {
+                    connections: &[(0, Got::Block), (0, Got::End)],
+                    wait: Hold::Until(1, 6),
+                    ..NO_CARRIER
+                },
+                Carrier {
+                    connections: &[(2, Got::End)],
+                    gate: Hold::Until(0, 3),
+                    ..NO_CARRIER
+                },
+            ],
+            ..NOTHING_COMES
+        },
+        terms: &[
+            Want {
+                limit: 4,
+                entries: 4,
+                actors: &[
+                    (TERM_OVER, &[(1, "U")], &[(1, "W")]),
+                    (TERM_OVER, &[(1, "UPP")], &[(1, "WDD")]),
+                    NOTHING_AT_THE_END,
+                    NOTHING_AT_THE_END,
+                ],
+            },
+            Want {
+                limit: 100,
+                entries: 4,
+                actors: &[
+                    (FINISHED, &[(1, "LUL")], &[(1, "WW")]),
+                    (FINISHED, &[(1, "L")], &[(1, "WDD")]),
+                    NOTHING,
+                    NOTHING,
+                ],
+            },
+        ],
+    },
+    Story {
+        name: "ticks and an operator",
+        opening: Opening {
+            paces: &[Pace::Tick, Pace::NotYet, Pace::Tick, Pace::Finished],
+            operator: b"status\n",
+            ..NOTHING_COMES
+        },
+        terms: &[Want {
+            limit: 100,
+            entries: 3,
+            actors: &[
+                NOTHING,
+                NOTHING,
+                (FINISHED, &[(1, "TT")], &[]),
+                (FINISHED, &[(1, "S")], &[(1, "S")]),
+            ],
+        }],
+    },
+    Story {
+        name: "a tick that is not asked for at the limit",
+        opening: Opening {
+            paces: &[Pace::Tick, Pace::Tick],
+            ..NOTHING_COMES
+        },
+        terms: &[
+            Want {
+                limit: 1,
+                entries: 1,
+                actors: &[
+                    NOTHING_AT_THE_END,
+                    NOTHING_AT_THE_END,
+                    (TERM_OVER, &[(1, "T")], &[]),
+                    NOTHING_AT_THE_END,
+                ],
+            },
+            Want {
+                limit: 100,
+                entries: 1,
+                actors: &[NOTHING, NOTHING, (FINISHED, &[(1, "T")], &[]), NOTHING],
+            },
+        ],
+    },
+    // Carrier 0's first event is the last entry, after the ticker was told that the term is not over.
+    Story {
+        name: "a tick that is dropped at the limit",
+        opening: Opening {
+            carriers: &[
+                Carrier {
+                    connections: &[(0, Got::End)],
+                    gate: Hold::Until(2, 1),
+                    ..NO_CARRIER
+                },
+                NO_CARRIER,
+            ],
+            paces: &[Pace::Tick],
+            pacer: Hold::Until(0, 2),
+            ..NOTHING_COMES
+        },
+        terms: &[
+            Want {
+                limit: 1,
+                entries: 1,
+                actors: &[
+                    (TERM_OVER, &[(1, "U")], &[(1, "W")]),
+                    NOTHING_AT_THE_END,
+                    (TERM_OVER, &[], &[]),
+                    NOTHING_AT_THE_END,
+                ],
+            },
+            Want {
+                limit: 100,
+                entries: 1,
+                actors: &[
+                    (FINISHED, &[(1, "L")], &[(1, "W")]),
+                    NOTHING,
+                    NOTHING,
+                    NOTHING,
+                ],
+            },
+        ],
+    },
+];

@@ -6,3 +6,7 @@ pub mod Parities
 pub mod Codewords
 pub mod Meanings
 pub mod FunctionLemmas
+pub mod OddSums
+pub mod SumTable
+pub mod SumsOfWords
+pub mod CodeTable

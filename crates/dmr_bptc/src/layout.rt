@@ -1,8 +1,8 @@
 //! Where the cells of the code's grid stand in a word.
 
-ghost use Rattle.std.specs.Prelude.{◌≡◌, ℕ, ◌+◌, ◌*◌, ◌/◌, ◌%◌, ◌<◌};
+ghost use Rattle.std.specs.Prelude.{◌≡◌, ◌==◌, ℕ, ◌<◌};
 ghost use Rattle.dmr_bptc.specs.Bptc.{place_of};
-ghost use Rattle.dmr_bptc.specs.Lines.{IsLine, line_len, line_place};
+ghost use Rattle.dmr_bptc.specs.Lines.{IsLine, line_len, line_place, equations_of, mark};
 
 /// A row (0 to 12) of 15 cells, or a column (0 to 14) of 13 cells.
 #[derive(Clone, Copy)]
@@ -10,6 +10,12 @@ pub(crate) enum Line {
     Row(usize),
     Column(usize),
 }
+
+/// Which bit of a row is wrong, by the syndrome that the row has where that bit alone is wrong; 15 where none is.
+static WRONG_IN_ROW: [u8; 16] = [15, 14, 13, 10, 12, 6, 9, 4, 11, 0, 5, 7, 8, 1, 3, 2];
+
+/// Which bit of a column is wrong, by the syndrome that the column has where that bit alone is wrong; 15 where none is.
+static WRONG_IN_COLUMN: [u8; 16] = [15, 12, 11, 8, 10, 4, 7, 2, 9, 15, 3, 5, 6, 15, 1, 0];
 
 /// The place of the cell of a row and a column.
 fn place_at(row: usize, column: usize) -> usize
@@ -44,12 +50,16 @@ impl Line {
             Line::Column(column) => place_at(k, column),
         }
     }
-}
 
-/// The place of information bit `k`, 0 to 95.
-pub(crate) fn information_place(k: usize) -> usize
-    requires { k < 96 }
-    ensures { result ≡ place_of ((k + 3) / 11) ((k + 3) % 11) }
-{
-    place_at((k + 3) / 11, (k + 3) % 11)
+    /// The bit that alone is wrong where the line fails these equations, a bit for each as a syndrome has them; 15 where
+    /// there is none.
+    pub(crate) fn wrong_bit(self, failed: usize) -> usize
+        requires { failed < 16 }
+        ensures { (k : ℕ) → k < line_len self → (failed == mark (equations_of self) k) ≡ (k == result) }
+    {
+        match self {
+            Line::Row(_) => usize::from(WRONG_IN_ROW[failed]),
+            Line::Column(_) => usize::from(WRONG_IN_COLUMN[failed]),
+        }
+    }
 }

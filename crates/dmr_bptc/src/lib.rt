@@ -18,6 +18,7 @@ mod encoding;
 mod equations;
 mod law;
 mod layout;
+mod sums;
 
 pub use decoding::decode;
 pub use encoding::encode;

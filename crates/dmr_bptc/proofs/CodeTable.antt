@@ -1,0 +1,163 @@
+-- The table of codewords is that of the equations, the interleaving and the information's cells.
+use Rattle.std.proofs.Common.{◌≡◌, ◌==◌, ℕ, zero, suc, ◌+◌, ◌-◌, ◌*◌, ◌/◌, ◌%◌, ◌^◌, ◌<◌, ◌≤◌, Bool, true, false, ◌&&◌, List, [], ◌∷◌, length, get_or, refl, sym, ap, ◌∙◌, arith, ⊎_elim}
+use Rattle.std.specs.Int.{bit_at}
+use Rattle.std.proofs.Math.Nat.{zero-div}
+use Rattle.std.proofs.lemmas.Bool.{agree_below, agree_below_at, eqb-true, cases_lt}
+use Rattle.std.proofs.lemmas.List.{get_or_past}
+use Rattle.dmr_bits.specs.Bits.{octet_bit}
+use Rattle.dmr_bits.specs.Words.{word_bit}
+use Rattle.dmr_bits.specs.Packed.{packed_bit}
+use Rattle.dmr_bptc.specs.declared.encoding.TheConstants.{ENCODED}
+use Rattle.dmr_bptc.specs.Bptc.{row_equations, column_equations, cell, place_of, IsEncoding}
+use Rattle.dmr_bptc.specs.Lines.{syndrome}
+use Rattle.dmr_bptc.proofs.Lines.{satisfies-from_syndrome, row_indices, column_indices}
+use Rattle.dmr_bptc.proofs.Parities.{satisfies-same}
+use Rattle.dmr_bptc.proofs.OddSums.{odd_below, odd_below-same, odd_below-none, odd_below-one, and_false, satisfies-odd_below, added, added-bit, added_by}
+
+-- ---- the entries
+
+-- a number of an entry
+unfoldable pub code_entry : ℕ → ℕ → ℕ → ℕ
+code_entry part k value = get_or (get_or (get_or ENCODED k []) value []) part 0
+
+-- what one information bit adds
+unfoldable pub code_number : ℕ → ℕ → ℕ
+code_number part k = get_or (get_or (get_or ENCODED (k / 4) []) (2 ^ (3 - k % 4)) []) part 0
+
+-- the entries of a group of four add what its bits add
+unfoldable entries_agree : ℕ → ℕ → ℕ → Bool
+entries_agree part k count = agree_below (λ value. code_entry part k value == added_by (code_number part) k value) (λ _. true) count
+
+entries_right : agree_below (λ n. entries_agree (n % 4) (n / 4) 16) (λ _. true) 96 ≡ true
+unfolding entries_agree code_entry code_number added_by added
+entries_right = refl
+
+entries_agree-at : (part k count value : ℕ) → entries_agree part k count ≡ true → value < count → code_entry part k value ≡ added_by (code_number part) k value
+unfolding entries_agree
+entries_agree-at part k count value all lt = eqb-true _ _ (agree_below_at (λ value. code_entry part k value == added_by (code_number part) k value) (λ _. true) count value all lt)
+
+pub code_entry-is : (part k value : ℕ) → part < 4 → k < 24 → value < 16 → code_entry part k value ≡ added_by (code_number part) k value
+code_entry-is part k value part_lt k_lt lt =
+    let of_part : part ≡ (4 * k + part) % 4 = omega arith in
+    let of_group : k ≡ (4 * k + part) / 4 = omega arith in
+    entries_agree-at part k 16 value
+    ((λ i. entries_agree (of_part i) (of_group i) 16) ∙ agree_below_at (λ n. entries_agree (n % 4) (n / 4) 16) (λ _. true) 96 (4 * k + part) entries_right (omega arith)) lt
+
+-- ---- the codeword of one information bit
+
+-- bit `place` of the codeword of information bit k
+unfoldable pub code_bit : ℕ → ℕ → Bool
+code_bit k place = bit_at (code_number (place / 64) k) (63 - place % 64) == 1
+
+unfoldable rows_agree : ℕ → ℕ → Bool
+rows_agree k count = agree_below (λ row. syndrome row_equations (λ column. code_bit k (place_of row column)) == 0) (λ _. true) count
+
+rows_right : agree_below (λ k. rows_agree k 13) (λ _. true) 96 ≡ true
+unfolding rows_agree row_equations code_bit code_number
+rows_right = refl
+
+rows_agree-at : (k count row : ℕ) → rows_agree k count ≡ true → row < count → syndrome row_equations (λ column. code_bit k (place_of row column)) ≡ 0
+unfolding rows_agree
+rows_agree-at k count row all lt = eqb-true _ _ (agree_below_at (λ row. syndrome row_equations (λ column. code_bit k (place_of row column)) == 0) (λ _. true) count row all lt)
+
+unfoldable columns_agree : ℕ → ℕ → Bool
+columns_agree k count = agree_below (λ column. syndrome column_equations (λ row. code_bit k (place_of row column)) == 0) (λ _. true) count
+
+columns_right : agree_below (λ k. columns_agree k 15) (λ _. true) 96 ≡ true
+unfolding columns_agree column_equations code_bit code_number
+columns_right = refl
+
+columns_agree-at : (k count column : ℕ) → columns_agree k count ≡ true → column < count → syndrome column_equations (λ row. code_bit k (place_of row column)) ≡ 0
+unfolding columns_agree
+columns_agree-at k count column all lt = eqb-true _ _ (agree_below_at (λ column. syndrome column_equations (λ row. code_bit k (place_of row column)) == 0) (λ _. true) count column all lt)
+
+-- of the first so many codewords that of information bit j alone has a 1 in its cell
+unfoldable information_agrees : ℕ → ℕ → Bool
+information_agrees j count = agree_below (λ k. code_bit k (place_of ((j + 3) / 11) ((j + 3) % 11))) (λ k. j == k) count
+
+information_right : agree_below (λ j. information_agrees j 96) (λ _. true) 96 ≡ true
+unfolding information_agrees code_bit code_number
+information_right = refl
+
+information_agrees-at : (j count k : ℕ) → information_agrees j count ≡ true → k < count → code_bit k (place_of ((j + 3) / 11) ((j + 3) % 11)) ≡ (j == k)
+unfolding information_agrees
+information_agrees-at j count k all lt = agree_below_at (λ k. code_bit k (place_of ((j + 3) / 11) ((j + 3) % 11))) (λ k. j == k) count k all lt
+
+-- none of the first so many codewords has a 1 at a place
+unfoldable none_has : ℕ → ℕ → Bool
+none_has place count = agree_below (λ k. code_bit k place) (λ _. false) count
+
+none_has-at : (place count k : ℕ) → none_has place count ≡ true → k < count → code_bit k place ≡ false
+unfolding none_has
+none_has-at place count k all lt = agree_below_at (λ k. code_bit k place) (λ _. false) count k all lt
+
+free_right : none_has 0 96 ≡ true
+unfolding none_has code_bit code_number
+free_right = refl
+
+reserved_right : agree_below (λ column. none_has (place_of 0 column) 96) (λ _. true) 3 ≡ true
+unfolding none_has code_bit code_number
+reserved_right = refl
+
+behind_right : agree_below (λ n. none_has (196 + n) 96) (λ _. true) 60 ≡ true
+unfolding none_has code_bit code_number
+behind_right = refl
+
+-- ---- the sum of codewords
+
+-- bit `place` of the sum of the codewords of the information bits that are set
+abbrev pub sum_bit : List ℕ → ℕ → Bool
+sum_bit octets place = odd_below (λ k. octet_bit octets k && code_bit k place) 96
+
+none : (octets : List ℕ) (place : ℕ) → none_has place 96 ≡ true → sum_bit octets place ≡ false
+none octets place is = odd_below-none (λ k. octet_bit octets k && code_bit k place) 96 (λ k lt. ap (λ b. octet_bit octets k && b) (none_has-at place 96 k is lt) ∙ and_false (octet_bit octets k))
+
+four_words : (f : ℕ → ℕ) (n : ℕ) → n < 4 → get_or (f 0 ∷ f 1 ∷ f 2 ∷ f 3 ∷ []) n 0 ≡ f n
+four_words f zero lt = refl
+four_words f (suc zero) lt = refl
+four_words f (suc (suc zero)) lt = refl
+four_words f (suc (suc (suc zero))) lt = refl
+four_words f (suc (suc (suc (suc n)))) lt = absurd (omega arith)
+
+-- the words that the table's entries add up to
+abbrev pub code_words : List ℕ → List ℕ
+code_words octets = added (octet_bit octets) (code_number 0) 96 ∷ added (octet_bit octets) (code_number 1) 96 ∷ added (octet_bit octets) (code_number 2) 96 ∷ added (octet_bit octets) (code_number 3) 96 ∷ []
+
+packed_bit-code_words : (octets : List ℕ) (place : ℕ) → place < 256 → packed_bit (code_words octets) place ≡ sum_bit octets place
+unfolding code_bit
+packed_bit-code_words octets place lt =
+    ap (λ n. n / 2 ^ (63 - place % 64) % 2 == 1) (four_words (λ part. added (octet_bit octets) (code_number part) 96) (place / 64) (omega arith))
+    ∙ added-bit (octet_bit octets) (code_number (place / 64)) (63 - place % 64) 96
+
+pub code_words-behind : (octets : List ℕ) (q : ℕ) → 196 ≤ q → packed_bit (code_words octets) q ≡ false
+code_words-behind octets q le =
+    ⊎_elim
+    (λ (lt : q < 256).
+    let at : 196 + (q - 196) ≡ q = omega arith in
+    packed_bit-code_words octets q lt
+    ∙ none octets q (ap (λ place. none_has place 96) (sym at) ∙ agree_below_at (λ n. none_has (196 + n) 96) (λ _. true) 60 (q - 196) behind_right (omega arith)))
+    (λ (past : 256 ≤ q). let gone : get_or (code_words octets) (q / 64) 0 ≡ 0 = get_or_past (code_words octets) (q / 64) 0 (omega arith) in rw (gone, zero-div (2 ^ (63 - q % 64))) refl)
+    (cases_lt q 256)
+
+-- a word with the bits of those words is the encoding
+pub encoding-is : (octets : List ℕ) (word : List Bool) → length word ≡ 196 → ((q : ℕ) → word_bit word q ≡ packed_bit (code_words octets) q) → IsEncoding octets word
+encoding-is octets word len bits =
+    let is : (row column : ℕ) → cell word row column ≡ sum_bit octets (place_of row column) = λ row column. bits (place_of row column) ∙ packed_bit-code_words octets (place_of row column) (omega arith) in
+    record {
+      is_codeword = record {
+        len = len;
+        rows = λ row lt. satisfies-same row_equations (λ column. cell word row column) (λ column. sum_bit octets (place_of row column)) 15 row_indices (λ column _. is row column)
+            (satisfies-odd_below row_equations (octet_bit octets) (λ k column. code_bit k (place_of row column)) 96 (λ k k_lt.
+            satisfies-from_syndrome row_equations (λ column. code_bit k (place_of row column)) (rows_agree-at k 13 row (agree_below_at (λ k. rows_agree k 13) (λ _. true) 96 k rows_right k_lt) lt)));
+        columns = λ column lt. satisfies-same column_equations (λ row. cell word row column) (λ row. sum_bit octets (place_of row column)) 13 column_indices (λ row _. is row column)
+            (satisfies-odd_below column_equations (octet_bit octets) (λ k row. code_bit k (place_of row column)) 96 (λ k k_lt.
+            satisfies-from_syndrome column_equations (λ row. code_bit k (place_of row column)) (columns_agree-at k 15 column (agree_below_at (λ k. columns_agree k 15) (λ _. true) 96 k columns_right k_lt) lt)));
+      };
+      information = λ j lt. sym (
+          is ((j + 3) / 11) ((j + 3) % 11)
+          ∙ odd_below-same (λ k. octet_bit octets k && code_bit k (place_of ((j + 3) / 11) ((j + 3) % 11))) (λ k. octet_bit octets k && (j == k)) 96
+          (λ k k_lt. ap (λ b. octet_bit octets k && b) (information_agrees-at j 96 k (agree_below_at (λ j. information_agrees j 96) (λ _. true) 96 j information_right lt) k_lt))
+          ∙ odd_below-one (octet_bit octets) j 96 lt);
+      free = bits 0 ∙ packed_bit-code_words octets 0 (omega arith) ∙ none octets 0 free_right;
+      reserved = λ column lt. is 0 column ∙ none octets (place_of 0 column) (agree_below_at (λ column. none_has (place_of 0 column) 96) (λ _. true) 3 column reserved_right lt);
+    }

@@ -1,0 +1,51 @@
+-- What the sums of a word say of it: they are 0 exactly where it is a codeword.
+use Rattle.std.proofs.Common.{◌≡◌, ℕ, zero, suc, ◌+◌, ◌*◌, ◌/◌, ◌%◌, ◌^◌, ◌<◌, List, Bool, length, sym, ap, ◌∙◌, arith, pow-suc}
+use Rattle.std.proofs.Math.Nat.{zero-div}
+use Rattle.std.proofs.lemmas.Nat.{shr-shr}
+use Rattle.dmr_bptc.specs.Bptc.{cell, row_equations, column_equations, IsCodeword}
+use Rattle.dmr_bptc.specs.Lines.{syndrome, HasSameCells}
+use Rattle.dmr_bptc.proofs.Lines.{syndrome-zero, satisfies-from_syndrome, row_indices, column_indices}
+use Rattle.dmr_bptc.proofs.Parities.{satisfies-same}
+
+pow-four : (m : ℕ) → 2 ^ (4 + m) ≡ 16 * 2 ^ m
+pow-four m =
+    let e : 4 + m ≡ suc (suc (suc (suc m))) = omega arith in
+    ap (λ n. 2 ^ n) e ∙ omega (arith, pow-suc 2 m, pow-suc 2 (suc m), pow-suc 2 (suc (suc m)), pow-suc 2 (suc (suc (suc m))))
+
+-- a number whose digits to the base 16 are all 0 is 0
+digits_zero : (count n : ℕ) → n < 2 ^ (4 * count) → ((k : ℕ) → k < count → n / 2 ^ (4 * k) % 16 ≡ 0) → n ≡ 0
+digits_zero zero n lt digits = omega arith
+digits_zero (suc count) n lt digits =
+    let e : 4 * suc count ≡ 4 + 4 * count = omega arith in
+    let bound : 2 ^ (4 * suc count) ≡ 16 * 2 ^ (4 * count) = ap (λ m. 2 ^ m) e ∙ pow-four (4 * count) in
+    let rest : n / 16 ≡ 0 = digits_zero count (n / 16) (omega (arith, lt, bound)) (λ k k_lt.
+    let at : 4 + 4 * k ≡ 4 * suc k = omega arith in
+    ap (λ m. m % 16) (shr-shr n 4 (4 * k)) ∙ ap (λ m. n / 2 ^ m % 16) at ∙ digits (suc k) (omega arith)) in
+    let first : n / 2 ^ (4 * 0) % 16 ≡ 0 = digits 0 (omega arith) in
+    omega (arith, rest, first)
+
+module _ (word : List Bool) (columns rows : ℕ) (len : length word ≡ 196)
+    (columns_are : (column : ℕ) → column < 15 → columns / 2 ^ (4 * column) % 16 ≡ syndrome column_equations (λ row. cell word row column))
+    (rows_are : (row : ℕ) → row < 13 → rows / 2 ^ (4 * row) % 16 ≡ syndrome row_equations (λ column. cell word row column)) where
+  pub codeword-from_sums : columns ≡ 0 → rows ≡ 0 → IsCodeword word
+  codeword-from_sums no_columns no_rows = record {
+    len = len;
+    rows = λ row lt. satisfies-from_syndrome row_equations (λ column. cell word row column)
+        (sym (rows_are row lt) ∙ ap (λ n. n / 2 ^ (4 * row) % 16) no_rows ∙ ap (λ n. n % 16) (zero-div (2 ^ (4 * row))));
+    columns = λ column lt. satisfies-from_syndrome column_equations (λ row. cell word row column)
+        (sym (columns_are column lt) ∙ ap (λ n. n / 2 ^ (4 * column) % 16) no_columns ∙ ap (λ n. n % 16) (zero-div (2 ^ (4 * column))));
+  }
+
+  pub sums-from_codeword : columns < 2 ^ 60 → rows < 2 ^ 52 → IsCodeword word → (columns ≡ 0) × (rows ≡ 0)
+  sums-from_codeword columns_lt rows_lt is = (
+    digits_zero 15 columns columns_lt (λ k lt. columns_are k lt ∙ syndrome-zero column_equations (λ row. cell word row k) (is.columns k lt)),
+    digits_zero 13 rows rows_lt (λ k lt. rows_are k lt ∙ syndrome-zero row_equations (λ column. cell word k column) (is.rows k lt)),
+  )
+
+-- a word with the cells of a codeword is one
+pub codeword-same : (x y : List Bool) → length x ≡ 196 → HasSameCells x y → IsCodeword y → IsCodeword x
+codeword-same x y len same is = record {
+  len = len;
+  rows = λ row lt. satisfies-same row_equations (λ column. cell x row column) (λ column. cell y row column) 15 row_indices (λ k k_lt. same row k lt k_lt) (is.rows row lt);
+  columns = λ column lt. satisfies-same column_equations (λ row. cell x row column) (λ row. cell y row column) 13 column_indices (λ k k_lt. same k column k_lt lt) (is.columns column lt);
+}

@@ -1,5 +1,5 @@
 -- What all workers did is a term.
-use Rattle.std.proofs.Common.{◌≡◌, ℕ, zero, suc, ◌+◌, ◌≤◌, ◌<◌, ltb, Bool, true, false, if◌then◌else◌, List, [], ◌∷◌, ◌++◌, Option, Some, None, length, map, slice_get, refl, sym, ◌∙◌, ap, subst, arith, length-append, append_assoc}
+use Rattle.std.proofs.Common.{◌≡◌, ℕ, zero, suc, ◌+◌, ◌≤◌, ◌<◌, ltb, Bool, true, false, if◌then◌else◌, List, [], ◌∷◌, ◌++◌, Option, Some, None, length, map, slice_get, refl, sym, ◌∙◌, ap, subst, arith, length-append}
 use Rattle.std.specs.Prelude.{◌≢◌, All, Contains}
 use Rattle.std.proofs.lemmas.Bool.Decides.{nat_tests}
 use Rattle.std.proofs.lemmas.List.{length-map}
@@ -115,6 +115,10 @@ below_limit true entries limit es k e h = (grind (arith, nat_tests), first_at 0 
 below_limit false entries limit es k e h = absurd cc
 
 -- ---- what was handed back, taken apart
+
+pub map_same : {W S X D : Type 0} (f : S → X) (a : W → S) (p : D → X) (h : W → D) (ws : List W) → ((w : W) → f (a w) ≡ p (h w)) → map f (map a ws) ≡ map p (map h ws)
+map_same f a p h [] e = refl
+map_same f a p h (w ∷ ws) e = let t = map_same f a p h ws e in let q = e w in cc
 
 pub map_parts : {W X D : Type 0} (a : W → X) (p : D → X) (h : W → D) (ws : List W) → ((w : W) → a w ≡ p (h w)) → map a ws ≡ map p (map h ws)
 map_parts a p h [] e = refl

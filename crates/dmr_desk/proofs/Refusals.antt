@@ -1,14 +1,12 @@
 -- Stations of a plan, and faults.
-use Rattle.std.proofs.Common.{◌≡◌, ℕ, zero, suc, ◌+◌, ◌≤◌, Bool, true, false, cond, if◌then◌else◌, List, [], ◌∷◌, Option, Some, None, Result, Ok, Err, length, map, refl, sym, ◌∙◌, ap, subst, arith}
-use Rattle.std.specs.Prelude.{◌-◌, ◌↔◌, IsTrue, IfOk, IfErr, OnOk, drop}
+use Rattle.std.proofs.Common.{◌≡◌, ℕ, zero, suc, ◌+◌, ◌≤◌, Bool, true, false, cond, List, [], ◌∷◌, Option, Some, Result, Ok, Err, length, map, refl, sym, ◌∙◌, ap, arith}
+use Rattle.std.specs.Prelude.{IfOk, IfErr, OnOk}
 use Rattle.std.proofs.lemmas.List.{length-map}
 use Rattle.dmr_core.specs.Facts.{has_carrier}
 use Rattle.dmr_plan.specs.declared.settings.Settings.{Settings}
-use Rattle.dmr_desk.specs.declared.fault.OpenFault.{OpenFault}
-use Rattle.dmr_desk.specs.declared.fault.OpenFault.TheVariants.{BadLimit, BadActors, OutOfMemory}
 use Rattle.dmr_desk.specs.declared.fault.TermFault.{TermFault}
 use Rattle.dmr_desk.specs.declared.fault.TermFault.TheVariants.{BadStations, Open, NoThread, Audit, Early}
-use Rattle.dmr_desk.specs.Opening.{IsLimit, IsRefused}
+use Rattle.dmr_desk.specs.Opening.{IsLimit}
 use Rattle.dmr_desk.specs.Term.{Start}
 use Rattle.dmr_desk.specs.Refusing.{AreStations, IsFaultFor, IsLate, IsTermFault, number_of, numbers_from, numbers_of}
 use Rattle.dmr_desk.specs.Work.{Stand}

@@ -1,5 +1,5 @@
 -- When there is no term.
-use Rattle.std.specs.Prelude.{◌≡◌, ◌≢◌, ◌<◌, ℕ, zero, suc, ◌+◌, ltb, Bool, List, [], ◌∷◌, Option, Some, None, map, length, slice_get, if◌then◌else◌}
+use Rattle.std.specs.Prelude.{◌≡◌, ◌≢◌, ◌<◌, ℕ, zero, suc, ◌+◌, ltb, List, [], ◌∷◌, Option, Some, None, map, length, slice_get, if◌then◌else◌}
 use Rattle.dmr_core.specs.Facts.{has_carrier}
 use Rattle.dmr_plan.specs.declared.settings.Settings.{Settings}
 use Rattle.dmr_link.specs.declared.stream.Peer.{Peer}

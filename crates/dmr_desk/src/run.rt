@@ -101,9 +101,12 @@ where
     }
 }
 
-/// Runs a term: a thread for each station, one for the ticker and one for the console, round one locked site. It ends when all workers
-/// have ended; then the desk is closed, and its journal compared with what each worker was answered. The stations are those of the
-/// plan's carriers, one for each, in the order of their numbers. All its memory is taken before a thread starts.
+/// Runs a term: a worker for each station, one for the ticker and one for the console, each in a thread of its own, round one locked
+/// site, whose journal may have `limit` entries. The stations are those of the plan's carriers, one for each, in the order of their
+/// numbers; the actors are the stations, then the ticker, then the console. The term is over when all workers have ended: then the desk
+/// is closed, and its journal compared with what each worker was answered. All memory is taken before a thread is started, and each
+/// thread that was started is waited for. `Err`: the first fault that applies, in the order of [`TermFault`]; what was handed in is used
+/// up.
 pub fn run_term<P, G, T, C, R>(
     rt: &R,
     alloc: Global,

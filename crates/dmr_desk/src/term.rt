@@ -22,7 +22,7 @@ use std::sync::Wait;
 use std::sync::ledger::Ledger;
 use std::thread::Threads;
 
-/// A term that was audited.
+/// What a term leaves, when all its workers have ended and the desk's report was given.
 #[derive(Drop)]
 pub struct Term<S, T, C> {
     /// The site, the journal, and what each actor told the site.
@@ -71,7 +71,7 @@ pub struct Back<S, L: Ledger> {
     pub ends: ArrayVec<Ending, 18>,
 }
 
-/// Takes apart what the carriers' workers handed back.
+/// Takes apart what the carriers' workers handed back, and puts it behind what is there.
 fn gather<S: Drop, L: Ledger>(mut works: Vec<LinkWork<S, L>>, back: Back<S, L>) -> Back<S, L>
     requires stations { vec_len back.stations + vec_len works ≤ vec_capacity back.stations }
     requires seats { vec_len back.seats + vec_len works ≤ vec_capacity back.seats }
@@ -130,7 +130,8 @@ fn gather_all<S: Drop, T: Drop, C: Drop, L: Ledger>(
     (back, ticker.pacer, console.station)
 }
 
-/// Closes the desk with what the workers left, and says who ended early.
+/// Closes the desk with the seats that the workers left. `back` has room for what they handed back. `Err`: the desk gave no report; or
+/// else a worker ended early, the least such actor.
 pub fn finish<S, T, C, L, R>(
     rt: &R,
     desk: SharedDesk<L>,
@@ -189,8 +190,8 @@ where
     }
 }
 
-/// Runs the workers, each in a thread of its own, from new seats: one for each station, then the ticker's, then the console's. `None`
-/// where a thread could not be started.
+/// Runs the workers, each in a thread of its own, from new seats: one for each station, then the ticker's, then the console's. `room` is
+/// for what the stations' workers hand back. `None` where a thread could not be started; those that were started have ended by then.
 pub fn run_threads<S, T, C, L, R>(
     rt: &R,
     desk: &SharedDesk<L>,

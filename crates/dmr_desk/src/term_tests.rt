@@ -1,7 +1,7 @@
 //! Terms of a site of two carriers, over ports in memory.
 //!
-//! Each ends by itself, whatever the schedule: a hold gives up after some seconds. Expected octets are the frames of the link
-//! profile, and an independent coder made the burst in one of them.
+//! Each ends by itself, whatever the schedule: a hold gives up after some seconds. What is to be written is known from the frames
+//! of the link profile and the texts of the console; an independent coder made the one burst.
 
 mod meeting;
 mod spelling;

@@ -10,14 +10,19 @@ use std::thread;
 use std::time::Duration;
 
 /// What holds the first step of its kind.
-#[derive(Clone, Copy, Debug)]
+#[derive(Clone, Copy)]
 pub enum Hold {
     /// Nothing.
     Free,
     /// It is refused.
     Shut,
-    /// It waits until the actor of this number has made so many steps.
-    Until(usize, u64),
+    /// It waits until another has come so far.
+    Until {
+        /// The other's number.
+        actor: usize,
+        /// How many steps it has made by then. An event that it handed in by its gate, and that was answered, is two.
+        steps: u64,
+    },
 }
 
 /// Counts the steps of an actor, and holds the first that may be held. An actor makes a step wherever its gate is to be entered,
@@ -56,7 +61,7 @@ impl<'a> Meeting<'a> {
         match hold {
             Hold::Free => true,
             Hold::Shut => false,
-            Hold::Until(actor, steps) => self.waits_for(actor, steps),
+            Hold::Until { actor, steps } => self.waits_for(actor, steps),
         }
     }
 

@@ -70,19 +70,20 @@ pub const HUNDRED_POLLS: Opening = Opening {
 
 /// The terms of the stories.
 pub static STORIES: [Story; 7] = [
-    // Each carrier waits for the other: no one thread can serve them, in whatever order.
+    // Carrier 1's first event waits until carrier 0 is at its gate, and carrier 0's until carrier 1 was answered twice: no one
+    // thread can serve them, in whatever order.
     Story {
         name: "two workers at once",
         opening: Opening {
             carriers: &[
                 Carrier {
                     connections: &[(1, Got::End)],
-                    gate: Hold::Until(1, 4),
+                    gate: Hold::Until { actor: 1, steps: 4 },
                     ..NO_CARRIER
                 },
                 Carrier {
                     connections: &[(1, Got::End)],
-                    gate: Hold::Until(0, 1),
+                    gate: Hold::Until { actor: 0, steps: 1 },
                     ..NO_CARRIER
                 },
             ],
@@ -136,7 +137,7 @@ pub static STORIES: [Story; 7] = [
                 },
                 Carrier {
                     connections: &[(1, Got::End)],
-                    gate: Hold::Until(0, 1),
+                    gate: Hold::Until { actor: 0, steps: 1 },
                     ..NO_CARRIER
                 },
             ],
@@ -165,19 +166,20 @@ pub static STORIES: [Story; 7] = [
             },
         ],
     },
-    // Carrier 0 waits, behind a read that would block, until carrier 1's third event was answered, which is the last entry.
+    // Carrier 1's first event waits until carrier 0 is up and silent; the silence lasts until carrier 1 was answered three times,
+    // which is the last entry.
     Story {
         name: "silence while another fills the journal",
         opening: Opening {
             carriers: &[
                 Carrier {
                     connections: &[(0, Got::Block), (0, Got::End)],
-                    wait: Hold::Until(1, 6),
+                    wait: Hold::Until { actor: 1, steps: 6 },
                     ..NO_CARRIER
                 },
                 Carrier {
                     connections: &[(2, Got::End)],
-                    gate: Hold::Until(0, 3),
+                    gate: Hold::Until { actor: 0, steps: 3 },
                     ..NO_CARRIER
                 },
             ],
@@ -248,20 +250,21 @@ pub static STORIES: [Story; 7] = [
             },
         ],
     },
-    // Carrier 0's first event is the last entry, after the ticker was told that the term is not over.
+    // Carrier 0's first event waits until the pacer is asked, and the pacer's tick until that event was answered, which is the
+    // last entry.
     Story {
         name: "a tick that is dropped at the limit",
         opening: Opening {
             carriers: &[
                 Carrier {
                     connections: &[(0, Got::End)],
-                    gate: Hold::Until(2, 1),
+                    gate: Hold::Until { actor: 2, steps: 1 },
                     ..NO_CARRIER
                 },
                 NO_CARRIER,
             ],
             paces: &[Pace::Tick],
-            pacer: Hold::Until(0, 2),
+            pacer: Hold::Until { actor: 0, steps: 2 },
             ..NOTHING_COMES
         },
         terms: &[

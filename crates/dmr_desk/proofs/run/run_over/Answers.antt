@@ -1,4 +1,4 @@
-use Rattle.std.proofs.Common.{◌≡◌, ℕ, List, map, length, vec_len, ap, ◌∙◌, sym, refl}
+use Rattle.std.proofs.Common.{◌≡◌, map, length, vec_len, ◌∙◌, sym}
 use Rattle.std.proofs.lemmas.List.{length-map}
 use Rattle.dmr_desk.proofs.Refusals.{if_ok_map, if_err_map, late_fault, on_ok}
 use Rattle.dmr_desk.proofs.run.run_over.Goals as goal

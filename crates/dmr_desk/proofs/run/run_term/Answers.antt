@@ -1,4 +1,4 @@
-use Rattle.std.proofs.Common.{◌≡◌, ◌∙◌, map, refl, sym, true, false, arith}
+use Rattle.std.proofs.Common.{◌≡◌, ◌∙◌, refl, sym, true, false, arith}
 use Rattle.dmr_desk.specs.Opening.{IsLimit}
 use Rattle.dmr_desk.specs.Refusing.{number_of}
 use Rattle.dmr_desk.specs.Work.{stand}

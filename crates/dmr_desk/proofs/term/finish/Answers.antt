@@ -13,11 +13,11 @@ returns-in-None-clause-term g c = λ stations pacer console all ticked worked.
     let back = c.gather_all-back.ensures in
     let told : early_actor (length c.in-Ok.report.journal) c.args.desk.limit c.gather_all-back.result.0.ends.items ≡ None = rw c.requires.limit (sym c.early.ensures ∙ c.in-None.is) in
     rw (back.pacer, back.console) (is_term _ _ (has_run c.args.desk _ c.in-Ok.report _ _ stations ds pacer _ last_tick.seat last_tick.ending console (done (g.C.Serving.stand last.station) last.seat last.ending)
-      c.in-Ok.ensures.ok
-      (back.seats ∙ ap (λ x. x ++ last_tick.seat ∷ last.seat ∷ []) (map_parts _ _ _ ws (λ w. refl)))
-      (back.ends ∙ ap (λ x. x ++ last_tick.ending ∷ last.ending ∷ []) (map_parts _ _ _ ws (λ w. refl)))
-      (ap (map (λ s. g.S.Serving.stand s)) back.stations ∙ map_same _ _ _ _ ws (λ w. refl))
-      all ticked worked) told)
+    c.in-Ok.ensures.ok
+    (back.seats ∙ ap (λ x. x ++ last_tick.seat ∷ last.seat ∷ []) (map_parts _ _ _ ws (λ w. refl)))
+    (back.ends ∙ ap (λ x. x ++ last_tick.ending ∷ last.ending ∷ []) (map_parts _ _ _ ws (λ w. refl)))
+    (ap (map (λ s. g.S.Serving.stand s)) back.stations ∙ map_same _ _ _ _ ws (λ w. refl))
+    all ticked worked) told)
 
 pub returns-in-Some-clause-late : goal.returns-in-Some-clause-late
 returns-in-Some-clause-late g c = λ stations pacer console all ticked worked.
@@ -28,11 +28,11 @@ returns-in-Some-clause-late g c = λ stations pacer console all ticked worked.
     let back = c.gather_all-back.ensures in
     let told : early_actor (length c.in-Ok.report.journal) c.args.desk.limit c.gather_all-back.result.0.ends.items ≡ Some c.in-Some.actor = rw c.requires.limit (sym c.early.ensures ∙ c.in-Some.is) in
     is_early _ _ _ (has_run c.args.desk _ c.in-Ok.report _ _ stations ds pacer _ last_tick.seat last_tick.ending console (done (g.C.Serving.stand last.station) last.seat last.ending)
-      c.in-Ok.ensures.ok
-      (back.seats ∙ ap (λ x. x ++ last_tick.seat ∷ last.seat ∷ []) (map_parts _ _ _ ws (λ w. refl)))
-      (back.ends ∙ ap (λ x. x ++ last_tick.ending ∷ last.ending ∷ []) (map_parts _ _ _ ws (λ w. refl)))
-      (ap (map (λ s. g.S.Serving.stand s)) back.stations ∙ map_same _ _ _ _ ws (λ w. refl))
-      all ticked worked) told
+    c.in-Ok.ensures.ok
+    (back.seats ∙ ap (λ x. x ++ last_tick.seat ∷ last.seat ∷ []) (map_parts _ _ _ ws (λ w. refl)))
+    (back.ends ∙ ap (λ x. x ++ last_tick.ending ∷ last.ending ∷ []) (map_parts _ _ _ ws (λ w. refl)))
+    (ap (map (λ s. g.S.Serving.stand s)) back.stations ∙ map_same _ _ _ _ ws (λ w. refl))
+    all ticked worked) told
 
 pub returns-in-Err-clause-late : goal.returns-in-Err-clause-late
 returns-in-Err-clause-late g c = λ stations pacer console all ticked worked.

@@ -1,7 +1,5 @@
-use Rattle.std.proofs.Common.{rules, ◌≡◌, List, [], ◌∷◌, ◌++◌, ◌+◌, ℕ, length, ap, arith, refl, sym, ◌∙◌, subst}
-use Rattle.dmr_desk.specs.Sitting.{Sitting, empty_seats}
-use Rattle.dmr_desk.specs.Term.{IsNew, AreNew}
-use Rattle.dmr_desk.proofs.Crews.{new_but_last, new_then, all_new_then, empty_new, crew_of}
+use Rattle.std.proofs.Common.{rules, ◌∙◌}
+use Rattle.dmr_desk.proofs.Crews.{new_then, all_new_then, crew_of}
 use Rattle.dmr_desk.proofs.term.run_threads.Goals as goal
 
 pub invariant_of-crew : goal.invariant_of-crew

@@ -1,9 +1,7 @@
-use Rattle.std.proofs.Common.{rules, ◌≡◌, ℕ, ◌+◌, List, [], ◌∷◌, ◌++◌, map, length, Some, None, ap, ◌∙◌, sym, refl, subst}
+use Rattle.std.proofs.Common.{◌≡◌, length, ◌∙◌, sym}
 use Rattle.std.proofs.lemmas.List.{map-append}
 use Rattle.std.proofs.lemmas.List.Elements.{All-push}
 use Rattle.dmr_desk.specs.declared.ending.Ending.TheVariants.{GateShut}
-use Rattle.dmr_desk.specs.Sitting.{Sitting}
-use Rattle.dmr_desk.specs.Term.{IsDone, AllDone, IsNew, AreNew, done}
 use Rattle.dmr_desk.proofs.Crews.{all_done_snoc, new_but_last, last_number}
 use Rattle.dmr_desk.proofs.threads.+run_all.Goals as goal
 

@@ -1,6 +1,6 @@
 //! The desk: a book behind a lock, and seats round it.
 
-ghost use Rattle.std.specs.Prelude.{◌≡◌, ◌≤◌, ◌+◌, length, IfOk, IfErr, OnOk, OnErr};
+ghost use Rattle.std.specs.Prelude.{◌≡◌, ◌≤◌, ◌+◌, ℕ, length, IfOk, IfErr, OnOk, OnErr};
 ghost use Rattle.dmr_desk.specs.Pages.{AreKept, Pages, answer_to, entered};
 ghost use Rattle.dmr_desk.specs.Sitting.{deposited, empty_seats};
 ghost use Rattle.dmr_desk.specs.Opening.{IsLimit, IsNumber, IsRefused};
@@ -49,12 +49,18 @@ impl<L: Ledger> Locked<L> {
         seat.tell(book, total, event)
     }
 
-    /// The report of the book and these seats, where the book is of this site and limit and each seat has what the journal
-    /// has of its actor.
-    fn audit(self, opening: &Site, limit: usize, seats: Vec<Seat<L>>) -> Result<Report, CloseFault>
+    /// The report of the book and these seats, where there is one seat of each of so many actors, the book is of this site and
+    /// limit, and each seat has what the journal has of its actor.
+    fn audit(
+        self,
+        opening: &Site,
+        limit: usize,
+        number: u8,
+        seats: Vec<Seat<L>>,
+    ) -> Result<Report, CloseFault>
         requires { L.parts ≡ 18 }
-        ensures ok { IfOk result (λ report. IsAudited (record { site = opening.now; limit = limit }) seats.items report) }
-        ensures fault { IfErr result (λ fault. IsFault (record { site = opening.now; limit = limit }) seats.items self.book fault) }
+        ensures ok { IfOk result (λ report. IsAudited (record { site = opening.now; limit = limit; actors = number }) seats.items report) }
+        ensures fault { IfErr result (λ fault. IsFault (record { site = opening.now; limit = limit; actors = number }) seats.items self.book self.actors fault) }
     {
         let Locked {
             book,
@@ -62,7 +68,7 @@ impl<L: Ledger> Locked<L> {
             rest,
             actors,
         } = self;
-        let (views, mut all) = gathered(seats, rest, actors)?;
+        let (views, mut all) = gathered(seats, rest, actors, number)?;
         total.audit(&mut all);
         audited(book, views, opening, limit)
     }
@@ -90,13 +96,15 @@ fn seats_for<L: Ledger>(
     Ok(seats)
 }
 
-/// One site that many threads tell events to, one at a time. Contracts see the site at its opening and the most entries that
-/// the journal may have. What is behind the lock they cannot name; what it was is shown by the report, when the desk is closed.
+/// One site that many threads tell events to, one at a time. Contracts see the site at its opening, the most entries that the
+/// journal may have, and the number of actors. What is behind the lock they cannot name; what it was is shown by the report, when
+/// the desk is closed.
 #[derive(Drop)]
 pub struct SharedDesk<L: Ledger> {
     locked: Mutex<Locked<L>>,
     opening: Site,
     limit: usize,
+    actors: u8,
 }
 
 impl<L: Ledger> Model for SharedDesk<L> {
@@ -104,7 +112,7 @@ impl<L: Ledger> Model for SharedDesk<L> {
 
     ghost Value = { Opened };
 
-    ghost view = { λ d. record { site = d.opening; limit = d.limit } };
+    ghost view = { λ d. record { site = d.opening; limit = d.limit; actors = d.actors } };
 }
 
 impl<L: Ledger> SharedDesk<L> {
@@ -123,7 +131,7 @@ impl<L: Ledger> SharedDesk<L> {
         requires parts { blank.parts ≡ L.parts }
         requires eighteen { blank.parts ≡ 18 }
         ensures numbers { OnOk result (IsLimit limit × IsNumber actors) }
-        ensures desk { IfOk result (λ opened. opened.0 ≡ record { site = site; limit = limit }) }
+        ensures desk { IfOk result (λ opened. opened.0 ≡ record { site = site; limit = limit; actors = actors }) }
         ensures seats { IfOk result (λ opened. opened.1.items ≡ empty_seats actors) }
         ensures fault { IfErr result (λ refused. IsRefused limit actors refused.0) }
         ensures site { IfErr result (λ refused. refused.1 ≡ site) }
@@ -154,6 +162,7 @@ impl<L: Ledger> SharedDesk<L> {
                         locked,
                         opening,
                         limit,
+                        actors,
                     },
                     seats,
                 ))
@@ -192,15 +201,16 @@ impl<L: Ledger> SharedDesk<L> {
     pub fn close<R: Wait>(self, _rt: &R, seats: Vec<Seat<L>>) -> Result<Report, CloseFault>
         requires { L.parts ≡ 18 }
         ensures ok { IfOk result (λ report. IsAudited self seats.items report) }
-        ensures fault { IfErr result (λ fault. (pages : Pages) × AreKept pages × IsFault self seats.items pages fault) }
+        ensures fault { IfErr result (λ fault. (pages : Pages) × (held : ℕ) × AreKept pages × IsFault self seats.items pages held fault) }
     {
         let SharedDesk {
             locked,
             opening,
             limit,
+            actors,
         } = self;
         let locked = locked.into_inner();
         locked.book.keeps();
-        locked.audit(&opening, limit, seats)
+        locked.audit(&opening, limit, actors, seats)
     }
 }

@@ -1,6 +1,6 @@
 //! The desk: a book behind a lock, and seats round it.
 
-ghost use Rattle.std.specs.Prelude.{◌≡◌, ◌≤◌, ◌+◌, ℕ, length, IfOk, IfErr, OnOk, OnErr};
+ghost use Rattle.std.specs.Prelude.{◌≡◌, ◌≤◌, ◌+◌, ℕ, length, IfOk, IfErr, OnOk};
 ghost use Rattle.dmr_desk.specs.Pages.{AreKept, Pages, answer_to, entered};
 ghost use Rattle.dmr_desk.specs.Sitting.{deposited, empty_seats};
 ghost use Rattle.dmr_desk.specs.Opening.{IsLimit, IsNumber, IsRefused};
@@ -44,6 +44,7 @@ impl<L: Ledger> Locked<L> {
         ensures entered { IfOk result (λ acts. self.new.book ≡ entered self.old.book seat.old.actor event.now acts) }
         ensures deposited { IfOk result (λ acts. seat.new ≡ deposited seat.old event.now acts) }
         ensures over { IfErr result (λ over. (self.new.book ≡ self.old.book) × (seat.new ≡ seat.old) × (over.entries ≡ length self.old.book.entries)) }
+        ensures among { IfErr result (λ over. length seat.old.deposits ≤ over.entries) }
     {
         let Locked { book, total, .. } = self;
         seat.tell(book, total, event)
@@ -173,8 +174,8 @@ impl<L: Ledger> SharedDesk<L> {
 
     /// Tells the site an event from a seat, and gives the site's answer, which the seat keeps with the event. It waits for the
     /// lock: one event is told at a time, whichever thread tells it. It takes no memory. `Err`: the journal has as many entries as
-    /// it may have; the site was not told, and nothing has changed. The clauses say it of the seat alone: what becomes of the site
-    /// and the journal is behind the lock, and the report shows it.
+    /// it may have, which are no fewer than were deposited from the seat; the site was not told, and nothing has changed. The
+    /// clauses say what becomes of the seat: what becomes of the site and the journal is behind the lock, and the report shows it.
     pub fn deposit<R: Wait>(
         &self,
         rt: &R,
@@ -182,7 +183,7 @@ impl<L: Ledger> SharedDesk<L> {
         event: Event,
     ) -> Result<Acts, TermOver>
         ensures ok { IfOk result (λ acts. seat.new ≡ deposited seat.old event acts) }
-        ensures over { OnErr result (seat.new ≡ seat.old) }
+        ensures over { IfErr result (λ over. (seat.new ≡ seat.old) × (length seat.old.deposits ≤ over.entries)) }
     {
         self.locked.lock(rt).tell(seat, &event)
     }

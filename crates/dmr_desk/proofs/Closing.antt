@@ -2,6 +2,7 @@
 use Rattle.std.proofs.Common.{◌≡◌, ℕ, inl, inr, List, length, reverse, arith, Some, Result, Ok, Err, refl, sym, ap, ◌∙◌, subst}
 use Rattle.std.specs.Prelude.{slice_get, Contains, IfErr}
 use Rattle.std.proofs.lemmas.Option.{same_Some, slice_get_within}
+use Rattle.dmr_core.specs.State.{State}
 use Rattle.dmr_core.specs.declared.entry.Entry.{Entry}
 use Rattle.dmr_link.specs.declared.desk.Deposit.{Deposit}
 use Rattle.dmr_desk.specs.declared.report.Report.{Report}
@@ -11,19 +12,19 @@ use Rattle.dmr_desk.specs.Pages.{Pages, AreKept, site_after}
 use Rattle.dmr_link.specs.Runs.{IsSafe}
 use Rattle.dmr_desk.specs.Sitting.{Sitting, Opened}
 use Rattle.dmr_desk.specs.Views.{view_of}
-use Rattle.dmr_desk.specs.Audited.{AreGathered, IsFault, IsMissing, IsOf, IsOther, IsAudited, IsReported, SameBelow, all_told}
+use Rattle.dmr_desk.specs.Audited.{AreGathered, IsFault, IsMissing, IsOpenedWith, IsOther, IsAudited, IsReported, SameBelow, all_told}
 use Rattle.dmr_desk.proofs.Counts.{no_others}
 
-pub missing_fault : (desk : Opened) (seats : List Sitting) (pages : Pages) (fault : CloseFault) → IsMissing seats fault → IsFault desk seats pages fault
-missing_fault desk seats pages (SeatMissing actor) is = is
-missing_fault desk seats pages (Differs actor) is = absurd is
+pub missing_fault : (desk : Opened) (seats : List Sitting) (pages : Pages) (held : ℕ) (fault : CloseFault) → IsMissing seats desk.actors held fault → IsFault desk seats pages held fault
+missing_fault desk seats pages held (SeatMissing actor) is = is
+missing_fault desk seats pages held (Differs actor) is = (is.1, inl (is.0, λ of. is.2 of.1))
 
-pub other_fault : (desk : Opened) (seats : List Sitting) (views : List (List Deposit)) (pages : Pages) (fault : CloseFault) → AreGathered seats views → IsOther desk views pages fault → IsFault desk seats pages fault
-other_fault desk seats views pages (SeatMissing actor) g is = absurd is
-other_fault desk seats views pages (Differs actor) g is = (
-  λ lower below. let m = g.as_many in g.has lower (omega arith),
+other_fault : (desk : Opened) (seats : List Sitting) (views : List (List Deposit)) (pages : Pages) (held : ℕ) (fault : CloseFault) → AreGathered seats views → length views ≡ desk.actors → IsOther desk.site desk.limit views pages fault → IsFault desk seats pages held fault
+other_fault desk seats views pages held (SeatMissing actor) g count is = absurd is
+other_fault desk seats views pages held (Differs actor) g count is = (
+  λ lower below. g.has lower (omega arith),
   elim is [
-    | inl copies ↦ inl copies
+    | inl copies ↦ inl (copies.0, λ of. copies.1 of.0)
     | inr differs ↦
         let found = g.has actor differs.0 in
         let seat = found.0 in
@@ -37,14 +38,14 @@ other_fault desk seats views pages (Differs actor) g is = (
   ],
 )
 
-pub other_result : (desk : Opened) (seats : List Sitting) (views : List (List Deposit)) (pages : Pages) (result : Result Report CloseFault) → AreGathered seats views → IfErr result (IsOther desk views pages) → IfErr result (IsFault desk seats pages)
-other_result desk seats views pages (Ok report) g is = is
-other_result desk seats views pages (Err fault) g is = other_fault desk seats views pages fault g is
+pub other_result : (desk : Opened) (seats : List Sitting) (views : List (List Deposit)) (pages : Pages) (held : ℕ) (result : Result Report CloseFault) → AreGathered seats views → length views ≡ desk.actors → IfErr result (IsOther desk.site desk.limit views pages) → IfErr result (IsFault desk seats pages held)
+other_result desk seats views pages held (Ok report) g count is = is
+other_result desk seats views pages held (Err fault) g count is = other_fault desk seats views pages held fault g count is
 
 -- a report of what a book has, at the very site and limit that it was opened with
-of_book : (pages : Pages) (report : Report) → AreKept pages → IsSafe pages.opening.plan pages.opening.facts (reverse pages.entries) → report.site ≡ site_after pages.opening pages.entries → report.journal ≡ pages.entries → SameBelow (length report.views.items) report.views.items pages.entries → length pages.entries ≡ all_told report.views.items → IsReported (record { site = pages.opening; limit = pages.limit }) report.views.items report
+of_book : (pages : Pages) (report : Report) → AreKept pages → IsSafe pages.opening.plan pages.opening.facts (reverse pages.entries) → report.site ≡ site_after pages.opening pages.entries → report.journal ≡ pages.entries → SameBelow (length report.views.items) report.views.items pages.entries → length pages.entries ≡ all_told report.views.items → IsReported pages.opening pages.limit report.views.items report
 of_book pages report kept safe site journal same count =
-    let P : List Entry → Type 0 = λ entries. IsReported (record { site = pages.opening; limit = pages.limit }) report.views.items (record { site = site_after pages.opening entries; journal = entries; views = report.views }) in
+    let P : List Entry → Type 0 = λ entries. IsReported pages.opening pages.limit report.views.items (record { site = site_after pages.opening entries; journal = entries; views = report.views }) in
     let base : P pages.entries = record {
       legal = kept.legal;
       safe = safe;
@@ -53,13 +54,14 @@ of_book pages report kept safe site journal same count =
       views_are = refl;
       told = record { each = same; others = no_others report.views.items pages.entries same count };
     } in
-    let Q : Report → Type 0 = λ r. IsReported (record { site = pages.opening; limit = pages.limit }) report.views.items r in
+    let Q : Report → Type 0 = λ r. IsReported pages.opening pages.limit report.views.items r in
     subst Q (λ i. record { site = sym site i; journal = sym journal i; views = report.views }) base
 
-pub reported : (desk : Opened) (pages : Pages) (report : Report) → AreKept pages → IsSafe pages.opening.plan pages.opening.facts (reverse pages.entries) → IsOf desk pages → report.site ≡ site_after pages.opening pages.entries → report.journal ≡ pages.entries → SameBelow (length report.views.items) report.views.items pages.entries → length pages.entries ≡ all_told report.views.items → IsReported desk report.views.items report
-reported desk pages report kept safe is_of site journal same count =
-    let P : Opened → Type 0 = λ d. IsReported d report.views.items report in
-    subst P (λ i. record { site = is_of.0 i; limit = is_of.1 i }) (of_book pages report kept safe site journal same count)
+pub reported : (opening : State) (limit : ℕ) (pages : Pages) (report : Report) → AreKept pages → IsSafe pages.opening.plan pages.opening.facts (reverse pages.entries) → IsOpenedWith pages opening limit → report.site ≡ site_after pages.opening pages.entries → report.journal ≡ pages.entries → SameBelow (length report.views.items) report.views.items pages.entries → length pages.entries ≡ all_told report.views.items → IsReported opening limit report.views.items report
+reported opening limit pages report kept safe is_of site journal same count =
+    let P : State → Type 0 = λ s. IsReported s pages.limit report.views.items report in
+    let Q : ℕ → Type 0 = λ n. IsReported opening n report.views.items report in
+    subst Q is_of.1 (subst P is_of.0 (of_book pages report kept safe site journal same count))
 
 -- what a seat has is what the journal has of its actor
 pub seat_has_view : (desk : Opened) (seats : List Sitting) (report : Report) → IsAudited desk seats report → (seat : Sitting) → Contains seats seat → seat.deposits ≡ view_of seat.actor report.journal

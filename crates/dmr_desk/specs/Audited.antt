@@ -2,6 +2,7 @@
 use Rattle.std.specs.Prelude.{◌≡◌, ◌≢◌, ◌⊎◌, ◌<◌, ◌≤◌, ◌+◌, ℕ, List, [], ◌∷◌, length, reverse, slice_get, Some, Contains, All}
 use Rattle.dmr_core.specs.declared.entry.Entry.{Entry}
 use Rattle.dmr_core.specs.Journal.{IsLegal}
+use Rattle.dmr_core.specs.State.{State}
 use Rattle.dmr_link.specs.Runs.{IsSafe}
 use Rattle.dmr_link.specs.declared.desk.Deposit.{Deposit}
 use Rattle.dmr_desk.specs.declared.report.Report.{Report}
@@ -22,24 +23,25 @@ pub record AreViews (views : List (List Deposit)) (journal : List Entry) : Type 
   pub each : (actor : ℕ) → actor < length views → slice_get views actor ≡ Some (view_of actor journal)
   pub others : All (λ (entry : Entry). entry.actor < length views) journal
 
--- the report of a desk, with these views: its journal is legal from the desk's site, its acts are safe, and it has at most as many
--- entries as the limit; the site is the one that it leaves; the views are what it has of their actors
-pub record IsReported (desk : Opened) (views : List (List Deposit)) (report : Report) : Type 0 where
-  pub legal : IsLegal desk.site.plan desk.site.facts (reverse report.journal)
-  pub safe : IsSafe desk.site.plan desk.site.facts (reverse report.journal)
-  pub within : length report.journal ≤ desk.limit
-  pub site : report.site ≡ site_after desk.site report.journal
+-- a report from this opening site and with this limit, with these views: its journal is legal from that site, its acts are safe, and
+-- it has at most as many entries as the limit; the site is the one that it leaves; the views are what it has of their actors
+pub record IsReported (opening : State) (limit : ℕ) (views : List (List Deposit)) (report : Report) : Type 0 where
+  pub legal : IsLegal opening.plan opening.facts (reverse report.journal)
+  pub safe : IsSafe opening.plan opening.facts (reverse report.journal)
+  pub within : length report.journal ≤ limit
+  pub site : report.site ≡ site_after opening report.journal
   pub views_are : report.views.items ≡ views
   pub told : AreViews views report.journal
 
--- the report of a desk that was closed with these seats
+-- the report of a desk that was closed with these seats: each of its actors has a view
 pub record IsAudited (desk : Opened) (seats : List Sitting) (report : Report) : Type 0 where
-  pub reported : IsReported desk report.views.items report
+  pub reported : IsReported desk.site desk.limit report.views.items report
   pub gathered : AreGathered seats report.views.items
+  pub actors : length report.views.items ≡ desk.actors
 
 -- the book was opened with this site and this limit
-abbrev pub IsOf : Opened → Pages → Type 0
-IsOf desk pages = (pages.opening ≡ desk.site) × (pages.limit ≡ desk.limit)
+abbrev pub IsOpenedWith : Pages → State → ℕ → Type 0
+IsOpenedWith pages opening limit = (pages.opening ≡ opening) × (pages.limit ≡ limit)
 
 -- the view of each actor below a number is what the journal has of it
 abbrev pub SameBelow : ℕ → List (List Deposit) → List Entry → Type 0
@@ -51,22 +53,30 @@ IsDiffering views journal actor =
     (actor < length views) × (slice_get views actor ≢ Some (view_of actor journal)) × SameBelow actor views journal
 
 -- why views are refused: the book is of another site or limit, or a view is not what its journal has of the actor
-abbrev pub IsOther : Opened → List (List Deposit) → Pages → CloseFault → Type 0
-IsOther desk views pages (SeatMissing actor) = ⊥
-IsOther desk views pages (Differs actor) = ((actor ≡ 0) × ¬ IsOf desk pages) ⊎ IsDiffering views pages.entries actor
+abbrev pub IsOther : State → ℕ → List (List Deposit) → Pages → CloseFault → Type 0
+IsOther opening limit views pages (SeatMissing actor) = ⊥
+IsOther opening limit views pages (Differs actor) = ((actor ≡ 0) × ¬ IsOpenedWith pages opening limit) ⊎ IsDiffering views pages.entries actor
 
--- no seat of this actor is there, and one of each lower number is
-abbrev pub IsMissing : List Sitting → CloseFault → Type 0
-IsMissing seats (SeatMissing actor) = ¬ HasSeat seats actor × ((lower : ℕ) → lower < actor → HasSeat seats lower)
-IsMissing seats (Differs actor) = ⊥
+-- an actor below the number has no seat among these, and each of a lower number has one
+abbrev pub IsLeastMissing : List Sitting → ℕ → ℕ → Type 0
+IsLeastMissing seats actors actor = (actor < actors) × ¬ HasSeat seats actor × NoneMissing seats actor
 
--- why there is no report: a seat is missing, that of the least such actor; or else the book is of another site or limit, or what
--- was deposited from an actor's seat is not what the journal has of it, the least such actor
-abbrev pub IsFault : Opened → List Sitting → Pages → CloseFault → Type 0
-IsFault desk seats pages (SeatMissing actor) = ¬ HasSeat seats actor × ((lower : ℕ) → lower < actor → HasSeat seats lower)
-IsFault desk seats pages (Differs actor) =
-    NoneMissing seats
-    × (((actor ≡ 0) × ¬ IsOf desk pages)
+-- why seats are refused: one is missing, that of the least such actor; or else there are not so many seats at this desk
+abbrev pub IsMissing : List Sitting → ℕ → ℕ → CloseFault → Type 0
+IsMissing seats actors held (SeatMissing actor) = IsLeastMissing seats actors actor
+IsMissing seats actors held (Differs actor) = (actor ≡ 0) × NoneMissing seats actors × (held ≢ actors)
+
+-- what was behind the lock is this desk's: a book that was opened with its site and its limit, and the number of its seats
+abbrev pub IsOf : Opened → Pages → ℕ → Type 0
+IsOf desk pages held = IsOpenedWith pages desk.site desk.limit × (held ≡ desk.actors)
+
+-- why there is no report: a seat is missing, that of the least such actor; or else what was behind the lock is not this desk's, or
+-- what was deposited from an actor's seat is not what the journal has of it, the least such actor
+abbrev pub IsFault : Opened → List Sitting → Pages → ℕ → CloseFault → Type 0
+IsFault desk seats pages held (SeatMissing actor) = IsLeastMissing seats desk.actors actor
+IsFault desk seats pages held (Differs actor) =
+    NoneMissing seats desk.actors
+    × (((actor ≡ 0) × ¬ IsOf desk pages held)
     ⊎ ((seat : Sitting) × Contains seats seat × (seat.actor ≡ actor) × (seat.deposits ≢ view_of actor pages.entries)
     × ((other : Sitting) → Contains seats other → other.actor < actor → other.deposits ≡ view_of other.actor pages.entries)))
 

@@ -1,5 +1,5 @@
 -- Seats, and the desk that they stand round.
-use Rattle.std.specs.Prelude.{◌≡◌, ◌<◌, ◌++◌, ℕ, zero, suc, List, [], ◌∷◌, length, Contains}
+use Rattle.std.specs.Prelude.{◌≡◌, ◌<◌, ◌++◌, ℕ, zero, suc, List, [], ◌∷◌, Contains}
 use Rattle.dmr_core.specs.declared.event.Event.{Event}
 use Rattle.dmr_core.specs.declared.act.Acts.{Acts}
 use Rattle.dmr_core.specs.State.{State}
@@ -14,18 +14,19 @@ pub record Sitting : Type 0 where
 abbrev pub deposited : Sitting → Event → Acts → Sitting
 deposited seat event acts = record { actor = seat.actor; deposits = seat.deposits ++ record { event = event; acts = acts } ∷ [] }
 
--- a desk: the site when it was opened, and the most entries that its journal may have
+-- a desk: the site when it was opened, the most entries that its journal may have, and how many actors it has
 pub record Opened : Type 0 where
   pub site : State
   pub limit : ℕ
+  pub actors : ℕ
 
 -- a seat of this actor is among them
 abbrev pub HasSeat : List Sitting → ℕ → Type 0
 HasSeat seats actor = (seat : Sitting) × Contains seats seat × (seat.actor ≡ actor)
 
--- none is missing among so many: each actor below their number has a seat
-abbrev pub NoneMissing : List Sitting → Type 0
-NoneMissing seats = (actor : ℕ) → actor < length seats → HasSeat seats actor
+-- none is missing: each actor below this number has a seat
+abbrev pub NoneMissing : List Sitting → ℕ → Type 0
+NoneMissing seats actors = (actor : ℕ) → actor < actors → HasSeat seats actor
 
 -- the seats of the actors below a number, in order, from which nothing was deposited yet
 abbrev pub empty_seats : ℕ → List Sitting

@@ -1,6 +1,6 @@
 //! The desk: a book behind a lock, and seats round it.
 
-ghost use Rattle.std.specs.Prelude.{◌≡◌, ◌≤◌, ◌+◌, length, IfOk, IfErr, OnOk, OnErr};
+ghost use Rattle.std.specs.Prelude.{◌≡◌, ◌≤◌, ◌+◌, ℕ, length, IfOk, IfErr, OnOk};
 ghost use Rattle.dmr_desk.specs.Pages.{AreKept, Pages, answer_to, entered};
 ghost use Rattle.dmr_desk.specs.Sitting.{deposited, empty_seats};
 ghost use Rattle.dmr_desk.specs.Opening.{IsLimit, IsNumber, IsRefused};
@@ -44,17 +44,24 @@ impl<L: Ledger> Locked<L> {
         ensures entered { IfOk result (λ acts. self.new.book ≡ entered self.old.book seat.old.actor event.now acts) }
         ensures deposited { IfOk result (λ acts. seat.new ≡ deposited seat.old event.now acts) }
         ensures over { IfErr result (λ over. (self.new.book ≡ self.old.book) × (seat.new ≡ seat.old) × (over.entries ≡ length self.old.book.entries)) }
+        ensures among { IfErr result (λ over. length seat.old.deposits ≤ over.entries) }
     {
         let Locked { book, total, .. } = self;
         seat.tell(book, total, event)
     }
 
-    /// The report of the book and these seats, where the book is of this site and limit and each seat has what the journal
-    /// has of its actor.
-    fn audit(self, opening: &Site, limit: usize, seats: Vec<Seat<L>>) -> Result<Report, CloseFault>
+    /// The report of the book and these seats, where there is one seat of each of so many actors, the book is of this site and
+    /// limit, and each seat has what the journal has of its actor.
+    fn audit(
+        self,
+        opening: &Site,
+        limit: usize,
+        number: u8,
+        seats: Vec<Seat<L>>,
+    ) -> Result<Report, CloseFault>
         requires { L.parts ≡ 18 }
-        ensures ok { IfOk result (λ report. IsAudited (record { site = opening.now; limit = limit }) seats.items report) }
-        ensures fault { IfErr result (λ fault. IsFault (record { site = opening.now; limit = limit }) seats.items self.book fault) }
+        ensures ok { IfOk result (λ report. IsAudited (record { site = opening.now; limit = limit; actors = number }) seats.items report) }
+        ensures fault { IfErr result (λ fault. IsFault (record { site = opening.now; limit = limit; actors = number }) seats.items self.book self.actors fault) }
     {
         let Locked {
             book,
@@ -62,7 +69,7 @@ impl<L: Ledger> Locked<L> {
             rest,
             actors,
         } = self;
-        let (views, mut all) = gathered(seats, rest, actors)?;
+        let (views, mut all) = gathered(seats, rest, actors, number)?;
         total.audit(&mut all);
         audited(book, views, opening, limit)
     }
@@ -90,13 +97,15 @@ fn seats_for<L: Ledger>(
     Ok(seats)
 }
 
-/// One site that many threads tell events to, one at a time. Contracts see the site at its opening and the most entries that
-/// the journal may have. What is behind the lock they cannot name; what it was is shown by the report, when the desk is closed.
+/// One site that many threads tell events to, one at a time. Contracts see the site at its opening, the most entries that the
+/// journal may have, and the number of actors. What is behind the lock they cannot name; what it was is shown by the report, when
+/// the desk is closed.
 #[derive(Drop)]
 pub struct SharedDesk<L: Ledger> {
     locked: Mutex<Locked<L>>,
     opening: Site,
     limit: usize,
+    actors: u8,
 }
 
 impl<L: Ledger> Model for SharedDesk<L> {
@@ -104,7 +113,7 @@ impl<L: Ledger> Model for SharedDesk<L> {
 
     ghost Value = { Opened };
 
-    ghost view = { λ d. record { site = d.opening; limit = d.limit } };
+    ghost view = { λ d. record { site = d.opening; limit = d.limit; actors = d.actors } };
 }
 
 impl<L: Ledger> SharedDesk<L> {
@@ -123,7 +132,7 @@ impl<L: Ledger> SharedDesk<L> {
         requires parts { blank.parts ≡ L.parts }
         requires eighteen { blank.parts ≡ 18 }
         ensures numbers { OnOk result (IsLimit limit × IsNumber actors) }
-        ensures desk { IfOk result (λ opened. opened.0 ≡ record { site = site; limit = limit }) }
+        ensures desk { IfOk result (λ opened. opened.0 ≡ record { site = site; limit = limit; actors = actors }) }
         ensures seats { IfOk result (λ opened. opened.1.items ≡ empty_seats actors) }
         ensures fault { IfErr result (λ refused. IsRefused limit actors refused.0) }
         ensures site { IfErr result (λ refused. refused.1 ≡ site) }
@@ -154,6 +163,7 @@ impl<L: Ledger> SharedDesk<L> {
                         locked,
                         opening,
                         limit,
+                        actors,
                     },
                     seats,
                 ))
@@ -164,8 +174,8 @@ impl<L: Ledger> SharedDesk<L> {
 
     /// Tells the site an event from a seat, and gives the site's answer, which the seat keeps with the event. It waits for the
     /// lock: one event is told at a time, whichever thread tells it. It takes no memory. `Err`: the journal has as many entries as
-    /// it may have; the site was not told, and nothing has changed. The clauses say it of the seat alone: what becomes of the site
-    /// and the journal is behind the lock, and the report shows it.
+    /// it may have, which are no fewer than were deposited from the seat; the site was not told, and nothing has changed. The
+    /// clauses say what becomes of the seat: what becomes of the site and the journal is behind the lock, and the report shows it.
     pub fn deposit<R: Wait>(
         &self,
         rt: &R,
@@ -173,7 +183,7 @@ impl<L: Ledger> SharedDesk<L> {
         event: Event,
     ) -> Result<Acts, TermOver>
         ensures ok { IfOk result (λ acts. seat.new ≡ deposited seat.old event acts) }
-        ensures over { OnErr result (seat.new ≡ seat.old) }
+        ensures over { IfErr result (λ over. (seat.new ≡ seat.old) × (length seat.old.deposits ≤ over.entries)) }
     {
         self.locked.lock(rt).tell(seat, &event)
     }
@@ -192,15 +202,16 @@ impl<L: Ledger> SharedDesk<L> {
     pub fn close<R: Wait>(self, _rt: &R, seats: Vec<Seat<L>>) -> Result<Report, CloseFault>
         requires { L.parts ≡ 18 }
         ensures ok { IfOk result (λ report. IsAudited self seats.items report) }
-        ensures fault { IfErr result (λ fault. (pages : Pages) × AreKept pages × IsFault self seats.items pages fault) }
+        ensures fault { IfErr result (λ fault. (pages : Pages) × (held : ℕ) × AreKept pages × IsFault self seats.items pages held fault) }
     {
         let SharedDesk {
             locked,
             opening,
             limit,
+            actors,
         } = self;
         let locked = locked.into_inner();
         locked.book.keeps();
-        locked.audit(&opening, limit, seats)
+        locked.audit(&opening, limit, actors, seats)
     }
 }

@@ -13,7 +13,7 @@ ghost use Rattle.dmr_desk.specs.declared.report.Report.{Report as AReport};
 /// What the report says that [`close`](crate::SharedDesk::close) gives of a desk, for these seats. The journal is legal from the
 /// site that the desk was opened with: each entry has the one answer of the site machine. It has at most as many entries as the
 /// limit of the desk, and the site that is handed back is of the same plan, with the facts that the journal leaves. There are as
-/// many views as seats, and a seat for each actor below that number. What was deposited from a seat is its actor's view, and is
+/// many views, and as many seats, as the desk has actors, and a seat for each actor. What was deposited from a seat is its actor's view, and is
 /// exactly what the journal has of the actor, in the journal's order; no entry is of another actor. The safety laws hold of the
 /// journal.
 pub fn reports_account()
@@ -21,6 +21,7 @@ pub fn reports_account()
     ensures within { (desk : Opened) (seats : List Sitting) (report : AReport) → IsAudited desk seats report → length report.journal ≤ desk.limit }
     ensures site { (desk : Opened) (seats : List Sitting) (report : AReport) → IsAudited desk seats report → report.site ≡ record { plan = desk.site.plan; facts = facts_after desk.site.plan desk.site.facts (reverse report.journal) } }
     ensures as_many { (desk : Opened) (seats : List Sitting) (report : AReport) → IsAudited desk seats report → length report.views.items ≡ length seats }
+    ensures actors { (desk : Opened) (seats : List Sitting) (report : AReport) → IsAudited desk seats report → length report.views.items ≡ desk.actors }
     ensures every_actor { (desk : Opened) (seats : List Sitting) (report : AReport) (actor : ℕ) → IsAudited desk seats report → actor < length seats → HasSeat seats actor }
     ensures views { (desk : Opened) (seats : List Sitting) (report : AReport) (seat : Sitting) → IsAudited desk seats report → Contains seats seat → (slice_get report.views.items seat.actor ≡ Some seat.deposits) × (seat.deposits ≡ view_of seat.actor report.journal) }
     ensures others { (desk : Opened) (seats : List Sitting) (report : AReport) → IsAudited desk seats report → All (λ (entry : AnEntry). entry.actor < length seats) report.journal }

@@ -1,6 +1,6 @@
 //! A seat at the desk.
 
-ghost use Rattle.std.specs.Prelude.{◌≡◌, ◌+◌, [], length, IfOk, IfErr, OnOk};
+ghost use Rattle.std.specs.Prelude.{◌≡◌, ◌≤◌, ◌+◌, [], length, IfOk, IfErr, OnOk};
 ghost use Rattle.dmr_desk.specs.Pages.{answer_to, entered};
 ghost use Rattle.dmr_desk.specs.Sitting.{deposited};
 
@@ -69,9 +69,12 @@ impl<L: Ledger> Seat<L> {
         ensures acts { IfOk result (λ acts. acts ≡ answer_to book.old event.now) }
         ensures entered { IfOk result (λ acts. book.new ≡ entered book.old self.old.actor event.now acts) }
         ensures deposited { IfOk result (λ acts. self.new ≡ deposited self.old event.now acts) }
+        ensures among { length self.old.deposits ≤ total.old.total }
         ensures counted { OnOk result (total.new.total ≡ total.old.total + 1) }
         ensures over { IfErr result (λ over. (book.new ≡ book.old) × (self.new ≡ self.old) × (total.new.total ≡ total.old.total) × (over.entries ≡ length book.old.entries)) }
     {
+        // It counts nothing, and tells that the seat's part is no more than the total.
+        total.audit(&mut self.share);
         // Where the seat is full the book is full too, since each deposit is an entry. No contract says so: nothing ties the
         // limits of the two.
         if self.deposits.len() >= self.limit {

@@ -16,6 +16,9 @@ returns-clause-site c = λ desk seats report is. is.reported.site
 pub returns-clause-as_many : goal.returns-clause-as_many
 returns-clause-as_many c = λ desk seats report is. is.gathered.as_many
 
+pub returns-clause-actors : goal.returns-clause-actors
+returns-clause-actors c = λ desk seats report is. is.actors
+
 pub returns-clause-every_actor : goal.returns-clause-every_actor
 returns-clause-every_actor c = λ desk seats report actor is below.
     let P : ℕ → Type 0 = λ n. actor < n in

@@ -48,9 +48,10 @@ pub record IsEarly (start : Start) (actor : ℕ) : Type 0 where
 pub record IsUnaudited (start : Start) (fault : CloseFault) : Type 0 where
   pub seats : List Sitting
   pub pages : Pages
+  pub held : ℕ
   pub each : (actor : ℕ) → actor < length start.stations + 2 → HasSeat seats actor
   pub kept : AreKept pages
-  pub refused : IsFault (record { site = start.site; limit = start.limit }) seats pages fault
+  pub refused : IsFault (record { site = start.site; limit = start.limit; actors = length start.stations + 2 }) seats pages held fault
 
 -- what may be wrong where the stations are right: the first that applies
 abbrev pub IsFaultFor : Start → TermFault → Type 0

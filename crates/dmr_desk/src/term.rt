@@ -147,6 +147,7 @@ where
     R: Wait,
     requires whole { L.parts ≡ 18 }
     requires limit { desk.limit ≡ limit }
+    requires actors { desk.actors ≡ vec_len all.carriers + 2 }
     requires few { vec_len all.carriers ≤ 16 }
     requires stations { back.stations.items ≡ [] }
     requires seats { back.seats.items ≡ [] }

@@ -1,4 +1,5 @@
-use Rattle.std.proofs.Common.{◌≡◌, List, [], ◌∷◌, ◌++◌, map, length, Some, None, ap, ◌∙◌, sym, refl}
+use Rattle.std.proofs.Common.{arith, ◌≡◌, ◌+◌, List, [], ◌∷◌, ◌++◌, map, length, Some, None, ap, ◌∙◌, sym, refl}
+use Rattle.std.proofs.lemmas.List.{length-map}
 use Rattle.dmr_desk.specs.Refusing.{early_actor}
 use Rattle.dmr_desk.specs.Term.{Done, done}
 use Rattle.dmr_desk.proofs.Terms.{has_run, is_term, is_early, is_unaudited, map_same, map_parts, shut_at, last_shut}
@@ -42,8 +43,9 @@ returns-in-Err-clause-late g c = λ stations pacer console all ticked worked.
     let last = c.args.all.console in
     let back = c.gather_all-back.ensures in
     let refused = c.in-Err.ensures.fault in
-    is_unaudited c.args.desk _ refused.0 _ stations ds pacer _ last_tick.seat last_tick.ending console (done (g.C.Serving.stand last.station) last.seat last.ending)
-    refused.1 refused.2
+    let many : c.args.desk.actors ≡ length ds + 2 = let n = length-map ws (λ w. done (g.S.Serving.stand w.station) w.seat w.ending) in let r = c.requires.actors in omega arith in
+    is_unaudited c.args.desk _ refused.0 refused.1 _ stations ds pacer _ last_tick.seat last_tick.ending console (done (g.C.Serving.stand last.station) last.seat last.ending)
+    many refused.2 refused.3
     (back.seats ∙ ap (λ x. x ++ last_tick.seat ∷ last.seat ∷ []) (map_parts _ _ _ ws (λ w. refl)))
     all ticked worked
 

@@ -13,6 +13,8 @@
 //!
 //! That no entry is of anybody else needs no comparison. A desk and its seats share the parts of a ledger, in which each deposit
 //! counts one; when all parts are together, the journal is exactly as long as all seats' lists.
+//!
+//! What a worker's connections mean, all together, [`one_record`] and [`one_meaning`] say.
 #![tactic(auto)]
 
 mod actors;

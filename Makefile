@@ -2,7 +2,7 @@
 # make build   the proved program, at build/dmr_trunk
 # make test    the whole gate: every proof, the must-fail edits and the tests, and each program's stored run (docs/GATE.md)
 # make wrong-bodies [CRATE=name]   every wrong body that must be refused, those outside the gate too
-# make bench   words decoded per second, beside a baseline, on this machine
+# make bench   words decoded, encoded and checked per second, beside two coders in C, on this machine; and all words with three flips
 # make soak    a million random inputs through the engine, on two sites, compared with a reference model, by the proved program (some seconds, once it is proved)
 .PHONY: demo build test wrong-bodies bench soak
 
@@ -22,7 +22,8 @@ wrong-bodies:
 bench:
 	@date -u +%Y-%m-%d
 	@sed -n 's/^model name[^:]*: *//p' /proc/cpuinfo | uniq -c
-	@cd crates/dmr_bench && rt run -- --time
+	@cd crates/dmr_bench && rt run -- --flips
+	@tools/bench/compare
 
 soak:
 	@cd crates/dmr_soak && rt run -- --inputs 500000 --counts

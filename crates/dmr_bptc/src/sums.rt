@@ -39,13 +39,22 @@ pub(crate) fn sums_of(word: &Word196) -> Sums
     let mut rows = 0;
     let mut high = 0;
     let mut low = 0;
-    for k in 0..49 {
-        let added = &SUMS[k][word.four_bits(k)];
-        columns ^= added[0];
-        rows ^= added[1];
-        high ^= added[2];
-        low ^= added[3];
+    for k in 0..3 {
+        let part = word.part(k);
+        for j in 0..16 {
+            let added = &SUMS[16 * k + j][((part >> (60 - 4 * j)) & 0xF) as usize];
+            columns ^= added[0];
+            rows ^= added[1];
+            high ^= added[2];
+            low ^= added[3];
+        }
     }
+    // Places 192 to 195.
+    let added = &SUMS[48][((word.part(3) >> 60) & 0xF) as usize];
+    columns ^= added[0];
+    rows ^= added[1];
+    high ^= added[2];
+    low ^= added[3];
     Sums {
         columns,
         rows,

@@ -1,62 +1,85 @@
-use Rattle.std.proofs.Common.{◌≡◌, ℕ, ◌+◌, ◌*◌, ◌/◌, ◌%◌, ◌^◌, ◌<◌, [], ◌∷◌, List, Bool, refl, bit_xor, ap, ◌∙◌, arith}
+use Rattle.std.proofs.Common.{◌≡◌, ℕ, ◌+◌, ◌-◌, ◌*◌, ◌/◌, ◌%◌, ◌^◌, ◌<◌, [], ◌∷◌, List, Bool, refl, bit_and, bit_xor, ap, sym, subst, ◌∙◌, arith}
+use Rattle.std.proofs.lemmas.Nat.{and_mask}
 use Rattle.dmr_bits.specs.Bits.{spelled}
 use Rattle.dmr_bits.specs.Words.{word_bit}
 use Rattle.dmr_bits.specs.Packed.{packed_bit}
+use Rattle.dmr_bits.proofs.BitLemmas.{spelled-lt, spelled-field}
 use Rattle.dmr_bptc.proofs.OddSums.{added, added_by, added-four}
 use Rattle.dmr_bptc.proofs.SumTable.{sum_number, sum_entry, sum_entry-is, columns-are, rows-are, columns-lt, rows-lt, information-is}
 use Rattle.dmr_bptc.proofs.sums.sums_of.Goals as goal
 
 pub loop-k-init : goal.loop-k-init
 unfolding added
-loop-k-init c = record {
-  columns = refl;
-  rows = refl;
-  high = refl;
-  low = refl;
-  len = λ lt. absurd (omega arith);
-}
+loop-k-init c = record { columns = refl; rows = refl; high = refl; low = refl }
 
-step : (word : List Bool) (part k value sum : ℕ) → part < 4 → k < 49 → value < 16 → value ≡ spelled (word_bit word) (4 * k) 4 → sum ≡ added (word_bit word) (sum_number part) (4 * k)
-    → bit_xor sum (sum_entry part k value) ≡ added (word_bit word) (sum_number part) (4 * (k + 1))
-step word part k value sum part_lt k_lt small is so_far =
-    ap (λ x. bit_xor x (sum_entry part k value)) so_far
-    ∙ added-four (word_bit word) (sum_number part) k (sum_entry part k value) (sum_entry-is part k value part_lt k_lt small ∙ ap (added_by (sum_number part) k) is)
+-- four bits in a word of 64
+four_of_part : (bit : ℕ → Bool) (k j part : ℕ) → j < 16 → part ≡ spelled bit (64 * k) 64 → bit_and (part / 2 ^ (60 - 4 * j)) 15 ≡ spelled bit (4 * (16 * k + j)) 4
+four_of_part bit k j part lt is =
+    and_mask (part / 2 ^ (60 - 4 * j)) 4
+    ∙ ap (λ n. n / 2 ^ (60 - 4 * j) % 2 ^ 4) is
+    ∙ spelled-field bit (64 * k) 64 (4 * (16 * k + j)) 4 (60 - 4 * j) (omega arith) (omega arith)
 
-pub loop-k-preserved : goal.loop-k-preserved
+step : (word : List Bool) (number k j part sum : ℕ) → number < 4 → 16 * k + j < 49 → j < 16 → part ≡ spelled (word_bit word) (64 * k) 64
+    → sum ≡ added (word_bit word) (sum_number number) (4 * (16 * k + j))
+    → bit_xor sum (sum_entry number (16 * k + j) (bit_and (part / 2 ^ (60 - 4 * j)) 15)) ≡ added (word_bit word) (sum_number number) (4 * (16 * k + j + 1))
+step word number k j part sum number_lt group_lt lt is so_far =
+    let value : bit_and (part / 2 ^ (60 - 4 * j)) 15 ≡ spelled (word_bit word) (4 * (16 * k + j)) 4 = four_of_part (word_bit word) k j part lt is in
+    let small : bit_and (part / 2 ^ (60 - 4 * j)) 15 < 16 = omega (arith, value, spelled-lt (word_bit word) (4 * (16 * k + j)) 4) in
+    ap (λ x. bit_xor x (sum_entry number (16 * k + j) (bit_and (part / 2 ^ (60 - 4 * j)) 15))) so_far
+    ∙ added-four (word_bit word) (sum_number number) (16 * k + j) (sum_entry number (16 * k + j) (bit_and (part / 2 ^ (60 - 4 * j)) 15))
+    (sum_entry-is number (16 * k + j) (bit_and (part / 2 ^ (60 - 4 * j)) 15) number_lt group_lt small ∙ ap (added_by (sum_number number) (16 * k + j)) value)
+
+next : (word : List Bool) (number k j part sum : ℕ) → number < 4 → k < 3 → j < 16 → part ≡ spelled (word_bit word) (64 * k) 64
+    → sum ≡ added (word_bit word) (sum_number number) (4 * (16 * k + j))
+    → bit_xor sum (sum_entry number (16 * k + j) (bit_and (part / 2 ^ (60 - 4 * j)) 15)) ≡ added (word_bit word) (sum_number number) (4 * (16 * k + (j + 1)))
+next word number k j part sum number_lt k_lt lt is so_far =
+    let e : 16 * k + j + 1 ≡ 16 * k + (j + 1) = omega arith in
+    step word number k j part sum number_lt (omega arith) lt is so_far ∙ ap (λ n. added (word_bit word) (sum_number number) (4 * n)) e
+
+-- the places behind the third word
+last : (word : List Bool) (number k part sum : ℕ) → number < 4 → k ≡ 3 → part ≡ spelled (word_bit word) (64 * 3) 64
+    → sum ≡ added (word_bit word) (sum_number number) (64 * k)
+    → bit_xor sum (sum_entry number 48 (bit_and (part / 2 ^ 60) 15)) ≡ added (word_bit word) (sum_number number) 196
+last word number k part sum number_lt at_end is so_far =
+    let e : 64 * k ≡ 4 * (16 * 3 + 0) = omega arith in
+    step word number 3 0 part sum number_lt (omega arith) (omega arith) is (so_far ∙ ap (added (word_bit word) (sum_number number)) e)
+
+pub loop-j-preserved : goal.loop-j-preserved
 unfolding sum_entry
-loop-k-preserved c = record {
-  columns = step c.args.word.now 0 c.loop-k.k c.four_bits.result c.loop-k.columns (omega arith) (omega arith) c.four_bits.ensures.small c.four_bits.ensures.is c.loop-k.invariant.columns;
-  rows = step c.args.word.now 1 c.loop-k.k c.four_bits.result c.loop-k.rows (omega arith) (omega arith) c.four_bits.ensures.small c.four_bits.ensures.is c.loop-k.invariant.rows;
-  high = step c.args.word.now 2 c.loop-k.k c.four_bits.result c.loop-k.high (omega arith) (omega arith) c.four_bits.ensures.small c.four_bits.ensures.is c.loop-k.invariant.high;
-  low = step c.args.word.now 3 c.loop-k.k c.four_bits.result c.loop-k.low (omega arith) (omega arith) c.four_bits.ensures.small c.four_bits.ensures.is c.loop-k.invariant.low;
-  len = λ _. c.four_bits.ensures.len;
+loop-j-preserved c = record {
+  columns = next c.args.word.now 0 c.loop-k.k c.loop-j.j c.part-part.result c.loop-j.columns (omega arith) (omega arith) (omega arith) c.part-part.ensures.is c.loop-j.invariant.columns;
+  rows = next c.args.word.now 1 c.loop-k.k c.loop-j.j c.part-part.result c.loop-j.rows (omega arith) (omega arith) (omega arith) c.part-part.ensures.is c.loop-j.invariant.rows;
+  high = next c.args.word.now 2 c.loop-k.k c.loop-j.j c.part-part.result c.loop-j.high (omega arith) (omega arith) (omega arith) c.part-part.ensures.is c.loop-j.invariant.high;
+  low = next c.args.word.now 3 c.loop-k.k c.loop-j.j c.part-part.result c.loop-j.low (omega arith) (omega arith) (omega arith) c.part-part.ensures.is c.loop-j.invariant.low;
 }
 
 pub returns-clause-columns : goal.returns-clause-columns
+unfolding sum_entry
 returns-clause-columns c = λ column lt.
-    let at_end : 4 * c.loop-k.k ≡ 196 = omega arith in
-    ap (λ n. n / 2 ^ (4 * column) % 16) (c.loop-k.invariant.columns ∙ ap (added (word_bit c.args.word.now) (sum_number 0)) at_end)
+    ap (λ n. n / 2 ^ (4 * column) % 16) (last c.args.word.now 0 c.loop-k.k c.part.result c.loop-k.columns (omega arith) (omega arith) c.part.ensures.is c.loop-k.invariant.columns)
     ∙ columns-are c.args.word.now column lt
 
 pub returns-clause-rows : goal.returns-clause-rows
+unfolding sum_entry
 returns-clause-rows c = λ row lt.
-    let at_end : 4 * c.loop-k.k ≡ 196 = omega arith in
-    ap (λ n. n / 2 ^ (4 * row) % 16) (c.loop-k.invariant.rows ∙ ap (added (word_bit c.args.word.now) (sum_number 1)) at_end)
+    ap (λ n. n / 2 ^ (4 * row) % 16) (last c.args.word.now 1 c.loop-k.k c.part.result c.loop-k.rows (omega arith) (omega arith) c.part.ensures.is c.loop-k.invariant.rows)
     ∙ rows-are c.args.word.now row lt
 
 pub returns-clause-small_columns : goal.returns-clause-small_columns
+unfolding sum_entry
 returns-clause-small_columns c =
-    let at_end : 4 * c.loop-k.k ≡ 196 = omega arith in
-    omega (arith, c.loop-k.invariant.columns ∙ ap (added (word_bit c.args.word.now) (sum_number 0)) at_end, columns-lt (word_bit c.args.word.now))
+    subst (λ n. n < 2 ^ 60) (sym (last c.args.word.now 0 c.loop-k.k c.part.result c.loop-k.columns (omega arith) (omega arith) c.part.ensures.is c.loop-k.invariant.columns)) (columns-lt (word_bit c.args.word.now))
 
 pub returns-clause-small_rows : goal.returns-clause-small_rows
+unfolding sum_entry
 returns-clause-small_rows c =
-    let at_end : 4 * c.loop-k.k ≡ 196 = omega arith in
-    omega (arith, c.loop-k.invariant.rows ∙ ap (added (word_bit c.args.word.now) (sum_number 1)) at_end, rows-lt (word_bit c.args.word.now))
+    subst (λ n. n < 2 ^ 52) (sym (last c.args.word.now 1 c.loop-k.k c.part.result c.loop-k.rows (omega arith) (omega arith) c.part.ensures.is c.loop-k.invariant.rows)) (rows-lt (word_bit c.args.word.now))
 
 pub returns-clause-information : goal.returns-clause-information
+unfolding sum_entry
 returns-clause-information c = λ k lt.
-    let at_end : 4 * c.loop-k.k ≡ 196 = omega arith in
-    let high : c.loop-k.high ≡ added (word_bit c.args.word.now) (sum_number 2) 196 = c.loop-k.invariant.high ∙ ap (added (word_bit c.args.word.now) (sum_number 2)) at_end in
-    let low : c.loop-k.low ≡ added (word_bit c.args.word.now) (sum_number 3) 196 = c.loop-k.invariant.low ∙ ap (added (word_bit c.args.word.now) (sum_number 3)) at_end in
-    (λ i. packed_bit (high i ∷ low i ∷ []) k) ∙ information-is c.args.word.now k lt
+    (λ i. packed_bit
+    (last c.args.word.now 2 c.loop-k.k c.part.result c.loop-k.high (omega arith) (omega arith) c.part.ensures.is c.loop-k.invariant.high i
+    ∷ last c.args.word.now 3 c.loop-k.k c.part.result c.loop-k.low (omega arith) (omega arith) c.part.ensures.is c.loop-k.invariant.low i
+    ∷ []) k)
+    ∙ information-is c.args.word.now k lt

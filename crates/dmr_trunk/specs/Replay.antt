@@ -101,9 +101,10 @@ abbrev pub status_of : ReplayFault → ℕ
 status_of fault.OutOfMemory = 4
 status_of fault = 1
 
--- a status that the program ends with: all went through, a file or the output is at fault, the words are refused, no memory
+-- a status that the program ends with: all went through, a file or the output is at fault, the words are refused, an audit found a
+-- difference, no memory or no thread
 abbrev pub IsStatus : ℕ → Type 0
-IsStatus status = (status ≡ 0) ⊎ (status ≡ 1) ⊎ (status ≡ 2) ⊎ (status ≡ 4)
+IsStatus status = (status ≡ 0) ⊎ (status ≡ 1) ⊎ (status ≡ 2) ⊎ (status ≡ 3) ⊎ (status ≡ 4)
 
 -- the files of two paths, as they were given for these, give a text, and the writer got the whole of it
 pub record AreReplayed (gave : Text → Option (List ℕ) → Type 0) (site_path script_path : Text) (old new : Option (List ℕ)) : Type 0 where

@@ -1,15 +1,22 @@
 //! The site controller of a DMR Tier III trunked radio site.
 //!
 //! `dmr_trunk --site FILE --script FILE` replays a script over the site of a site file and prints what was put out for
-//! each carrier. The words are read in `words`, files come from `files`, and scripts are read in `script`; `replay` runs a
-//! script's inputs through the engine of `dmr_link`, and is the program but for its words and files.
+//! each carrier. `dmr_trunk --site FILE --serve` serves the site over TCP. The words are read in `words`, files come from
+//! `files`, and scripts are read in `script`; `replay` runs a script's inputs through the engine of `dmr_link`. `serve` opens a
+//! `port` for each carrier and for operators, has a `pacer` for the ticks, and runs terms of `dmr_desk` over them; what it does
+//! is said in `notes`.
 #![tactic(auto)]
 
 mod files;
+mod notes;
+mod pacer;
+mod port;
 mod replay;
 #[cfg(test)]
 mod rows;
 mod script;
+mod serve;
+mod serving;
 mod status;
 mod words;
 
@@ -18,13 +25,19 @@ ghost use Rattle.dmr_trunk.specs.Replay.{AreReplayed, IsDone, IsReplayed, IsRepl
 
 use crate::files::{FileSource, SystemFiles};
 use crate::replay::replay;
+use crate::serving::serve_file;
 use crate::status::{out_of_memory, words_refused};
 use crate::words::{Job, choose};
 use dmr_pdu::OutOfMemory;
+use log::Log;
 use std::alloc::Global;
 use std::io::Write;
+use std::net::Net;
 use std::process::ExitCode;
 use std::rt::Env;
+use std::sync::Wait;
+use std::thread::Threads;
+use std::time::Clock;
 use std::{env, io};
 
 /// The words as texts.
@@ -75,7 +88,8 @@ fn replay_files<S: FileSource, W: Write, E: Write>(
 }
 
 /// Does a job with the files of a source, and answers the exit status.
-fn do_job<S: FileSource, W: Write, E: Write>(
+fn do_job<R: Net + Log + Clock + Wait + Threads + Sync, S: FileSource, W: Write, E: Write>(
+    rt: &R,
     alloc: Global,
     files: &S,
     job: Job<'_>,
@@ -87,11 +101,13 @@ fn do_job<S: FileSource, W: Write, E: Write>(
 {
     match job {
         Job::Script { site, script } => replay_files(alloc, files, site, script, out, err),
+        Job::Serve { site, terms } => serve_file(rt, alloc, files, site, terms, err),
     }
 }
 
 /// Does what the words ask for with the files of a source, and answers the exit status.
-fn run_words<S: FileSource, W: Write, E: Write>(
+fn run_words<R: Net + Log + Clock + Wait + Threads + Sync, S: FileSource, W: Write, E: Write>(
+    rt: &R,
     alloc: Global,
     files: &S,
     words: &[String],
@@ -104,18 +120,18 @@ fn run_words<S: FileSource, W: Write, E: Write>(
 {
     let texts = texts_of(alloc, words)?;
     match choose(alloc, texts.as_slice(), err) {
-        Ok(job) => do_job(alloc, files, job, out, err),
+        Ok(job) => do_job(rt, alloc, files, job, out, err),
         Err(status) => Ok(status),
     }
 }
 
 /// Reads the words and does what they ask for; answers the exit status.
-fn run_program<R: AllocGlobal + Env, S: FileSource, W: Write, E: Write>(
-    rt: &R,
-    files: &S,
-    out: &mut W,
-    err: &mut E,
-) -> u8
+fn run_program<
+    R: AllocGlobal + Env + Net + Log + Clock + Wait + Threads + Sync,
+    S: FileSource,
+    W: Write,
+    E: Write,
+>(rt: &R, files: &S, out: &mut W, err: &mut E) -> u8
     ensures status { IsStatus result }
     // At status 0 there were words that name two files, these gave a text, and `out` got the whole of it.
     ensures ok { result ≡ 0 → IsReplayedBySome (S.gave files.now) (W.contents out.old) (W.contents out.new) }
@@ -135,7 +151,7 @@ fn run_program<R: AllocGlobal + Env, S: FileSource, W: Write, E: Write>(
     let Ok(words) = words.collect::<Vec<String>>(rt.alloc()) else {
         return out_of_memory(err);
     };
-    match run_words(rt.alloc(), files, words.as_slice(), out, err) {
+    match run_words(rt, rt.alloc(), files, words.as_slice(), out, err) {
         Ok(status) => status,
         Err(OutOfMemory) => out_of_memory(err),
     }

@@ -7,9 +7,9 @@ use log::{Log, info, warn};
 use mio::unix::SourceFd;
 use mio::{Events, Interest, Poll, Token};
 use std::alloc::Global;
-use std::fmt;
 use std::net::{Net, SocketAddr};
 use std::time::Duration;
+use std::{fmt, io};
 
 /// The descriptor of standard error.
 const STANDARD_ERROR: i32 = 2;
@@ -144,10 +144,17 @@ impl<'a, R: Log> Notes<'a, R> {
         }
     }
 
-    /// Connections that come cannot be taken, for now.
-    pub fn cannot_accept(&mut self, whose: Whose, error: &std::io::Error) {
+    /// Connections cannot be taken, for now.
+    pub fn cannot_accept(&mut self, whose: Whose, error: &io::Error) {
         if self.is_ready() {
-            warn!(*self.rt; target: TARGET, "{whose}: cannot take a connection: {error}");
+            warn!(*self.rt; target: TARGET, "{whose}: cannot take connections: {error}");
+        }
+    }
+
+    /// Connections can be taken again.
+    pub fn accepts_again(&mut self, whose: Whose) {
+        if self.is_ready() {
+            info!(*self.rt; target: TARGET, "{whose}: takes connections again");
         }
     }
 

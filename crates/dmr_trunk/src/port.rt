@@ -1,6 +1,7 @@
 //! A TCP port: connections to a socket that listens, one after another.
 
-ghost use Rattle.std.specs.Prelude.{◌≡◌, None};
+ghost use Rattle.std.specs.Prelude.{None, length};
+ghost use Rattle.dmr_wire.specs.Told.{GotWithin, PutWithin};
 
 use crate::notes::{Cause, Notes, Whose};
 use dmr_pdu::OutOfMemory;
@@ -38,7 +39,9 @@ struct Connection {
 
 impl Connection {
     /// Reads once, without waiting.
-    fn read(&mut self, octets: &mut [u8]) -> Got {
+    fn read(&mut self, octets: &mut [u8]) -> Got
+        ensures { GotWithin result (length octets.new) }
+    {
         self.unread = 0;
         match self.stream.read(octets) {
             Ok(0) => {
@@ -61,7 +64,9 @@ impl Connection {
     }
 
     /// Writes once, without waiting.
-    fn write(&mut self, octets: &[u8]) -> Put {
+    fn write(&mut self, octets: &[u8]) -> Put
+        ensures { PutWithin result (length octets.now) }
+    {
         match self.stream.write(octets) {
             Ok(count) => Put::Octets(count),
             Err(error) => match error.kind() {
@@ -107,7 +112,7 @@ pub struct SocketPort<'a, R> {
     connection: Option<Connection>,
     silence: u16,
     notes: Notes<'a, R>,
-    // The last connection could not be taken, which has been noted.
+    // Connections cannot be taken, which has been noted.
     refuses: bool,
 }
 
@@ -225,11 +230,19 @@ impl<'a, R: Log> SocketPort<'a, R> {
         true
     }
 
-    /// Notes, once in a row, that a connection could not be taken.
+    /// Notes, once in a row, that connections cannot be taken.
     fn note_refusal(&mut self, error: &io::Error) {
         if !self.refuses {
             self.refuses = true;
             self.notes.cannot_accept(self.whose, error);
+        }
+    }
+
+    /// Notes that they can be taken again, where they could not.
+    fn note_no_refusal(&mut self) {
+        if self.refuses {
+            self.refuses = false;
+            self.notes.accepts_again(self.whose);
         }
     }
 
@@ -246,7 +259,9 @@ impl<'a, R: Log> SocketPort<'a, R> {
     }
 
     /// Writes once, without waiting.
-    fn write_now(&mut self, octets: &[u8]) -> Put {
+    fn write_now(&mut self, octets: &[u8]) -> Put
+        ensures { PutWithin result (length octets.now) }
+    {
         match &mut self.connection {
             Some(connection) => connection.write(octets),
             None => Put::Fault,
@@ -268,7 +283,9 @@ impl<'a, R: Log> SocketPort<'a, R> {
     }
 
     /// Writes once some octets are taken, or the connection has had its waits.
-    fn write_late(&mut self, octets: &[u8]) -> Put {
+    fn write_late(&mut self, octets: &[u8]) -> Put
+        ensures { PutWithin result (length octets.now) }
+    {
         for _ in 0..=WRITE_WAITS {
             if !self.wait_to_write() {
                 return Put::Block;
@@ -313,14 +330,16 @@ impl<R: Log> Port for SocketPort<'_, R> {
         self.let_go();
         match self.listener.accept() {
             Ok((stream, from)) => {
-                self.refuses = false;
+                self.note_no_refusal();
                 if self.take(stream, from) {
                     return Connect::Ready;
                 }
             }
             Err(error) => {
-                if error.kind() != ErrorKind::WouldBlock && error.kind() != ErrorKind::Interrupted {
-                    self.note_refusal(&error);
+                match error.kind() {
+                    ErrorKind::WouldBlock => self.note_no_refusal(),
+                    ErrorKind::Interrupted => {}
+                    _ => self.note_refusal(&error),
                 }
                 self.wait_once();
             }

@@ -15,7 +15,7 @@ use Rattle.dmr_trunk.specs.declared.replay.ReplayFault.TheVariants as fault
 use Rattle.dmr_trunk.specs.Inputs.{put_out, told}
 use Rattle.dmr_trunk.specs.Script.{Given, inputs_of, script_of}
 use Rattle.dmr_trunk.specs.declared.words.Job.{Job}
-use Rattle.dmr_trunk.specs.declared.words.Job.TheVariants.{Script}
+use Rattle.dmr_trunk.specs.declared.words.Job.TheVariants.{Script, Serve}
 use Rattle.dmr_trunk.specs.Words.{AskFor}
 use Rattle.clap.specs.Words.{Text}
 
@@ -114,9 +114,18 @@ pub record AreReplayed (gave : Text → Option (List ℕ) → Type 0) (site_path
   pub script_given : gave script_path script
   pub printed : IsPrinted (outcome site script) old new
 
--- a job was done: its two files were replayed
+-- the site file of a path, as it was given for this, has a plan, which is what was served; nothing was printed
+pub record IsServed (gave : Text → Option (List ℕ) → Type 0) (site_path : Text) (old new : Option (List ℕ)) : Type 0 where
+  pub site : List ℕ
+  pub plan : Settings
+  pub site_given : gave site_path (Some site)
+  pub planned : plan_in site ≡ Ok plan
+  pub quiet : new ≡ old
+
+-- a job was done: its two files were replayed, or the site of its site file was served
 abbrev pub IsDone : (Text → Option (List ℕ) → Type 0) → Job → Option (List ℕ) → Option (List ℕ) → Type 0
 IsDone gave (Script site script) old new = AreReplayed gave site.now script.now old new
+IsDone gave (Serve site terms) old new = IsServed gave site.now old new
 
 -- the words are taken, and what they ask for was done
 pub record IsReplayed (gave : Text → Option (List ℕ) → Type 0) (words : List Text) (old new : Option (List ℕ)) : Type 0 where

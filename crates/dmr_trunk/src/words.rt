@@ -1,14 +1,14 @@
 //! The words of the command line.
 
-ghost use Rattle.std.specs.Prelude.{◌≡◌, ◌≢◌, ◌⊎◌, IfErr, IfOk, codes, false, is_some, map, true};
+ghost use Rattle.std.specs.Prelude.{◌≡◌, ◌≢◌, ◌⊎◌, IfErr, IfNone, IfOk, IfSome, [], codes, false, is_some, map, true};
 ghost use Rattle.clap.specs.Built.{IsParsedFrom, IsPlainArg, TakesValue};
-ghost use Rattle.clap.specs.Words.{app_of, first_value, found_of, kind_of, rule_of};
+ghost use Rattle.clap.specs.Words.{app_of, first_value, found_of, kind_of, one_text, rule_of};
 ghost use Rattle.clap.specs.declared.parser.matches.ArgMatches.{ArgMatches};
-ghost use Rattle.dmr_trunk.specs.Words.{AreRefused, AskFor, command, file_option};
+ghost use Rattle.dmr_trunk.specs.Words.{AreRefused, AskFor, HasRead, IsAsked, IsNotOne, command, faults_in, script_option, serve_flag, site_option, terms_option};
 
 use crate::status::{MEMORY, WORDS, out_of_memory, words_refused};
 use clap::error::ErrorKind;
-use clap::{Arg, ArgAction, Command, Error};
+use clap::{Arg, ArgAction, ArgMatches, Command, Error};
 use dmr_pdu::OutOfMemory;
 use std::alloc::Global;
 use std::io::Write;
@@ -20,27 +20,6 @@ pub enum Job<'a> {
     Script { site: &'a str, script: &'a str },
     /// Serve the site of a site file, whose path it is, over TCP: so many terms, or without end where they are 0.
     Serve { site: &'a str, terms: u32 },
-}
-
-/// Why there is no job.
-#[derive(Drop)]
-enum Refusal {
-    /// The word reader refuses the words, or memory ran out.
-    Words(Error),
-    /// There is neither a script nor `--serve`, or there are both.
-    NotOne,
-}
-
-impl From<Error> for Refusal {
-    fn from(error: Error) -> Refusal {
-        Refusal::Words(error)
-    }
-}
-
-impl From<OutOfMemory> for Refusal {
-    fn from(error: OutOfMemory) -> Refusal {
-        Refusal::Words(Error::from(error))
-    }
 }
 
 /// Reads the program's words, of which the first is its own name.
@@ -55,13 +34,13 @@ pub fn choose<'a, E: Write>(alloc: Global, words: &'a [&'a str], err: &mut E) ->
     ensures status { IfErr result (λ status. (status ≡ MEMORY)
         ⊎ ((status ≡ WORDS) × AreRefused (map (λ word. word.now) words.entry.now))) }
 {
-    match job_of(alloc, words) {
-        Ok(job) => Ok(job),
-        Err(Refusal::Words(error)) => Err(tell_refusal(&error, err)),
-        Err(Refusal::NotOne) => Err(words_refused(
-            err,
-            "dmr_trunk: give either --script or --serve",
-        )),
+    let found = match read_words(alloc, words) {
+        Ok(found) => found,
+        Err(error) => return Err(tell_refusal(&error, err)),
+    };
+    match job_in(&found) {
+        Some(job) => Ok(job),
+        None => Err(words_refused(err, "dmr_trunk: give either --script or --serve")),
     }
 }
 
@@ -78,19 +57,34 @@ fn tell_refusal<E: Write>(error: &Error, err: &mut E) -> u8
     }
 }
 
-/// What the words ask for.
-fn job_of<'a>(alloc: Global, words: &'a [&'a str]) -> Result<Job<'a>, Refusal> {
-    let found = command(alloc)?.try_get_matches_from(words)?;
+/// Reads the words by the command line.
+fn read_words<'a>(alloc: Global, words: &'a [&'a str]) -> Result<ArgMatches<'a>, Error>
+    ensures found { IfOk result (HasRead (map (λ word. word.now) words.entry.now)) }
+    ensures refused { IfErr result (λ e. (kind_of e ≡ ErrorKind.OutOfMemory)
+        ⊎ (faults_in (map (λ word. word.now) words.entry.now) ≢ [])) }
+{
+    command(alloc)?.try_get_matches_from(words)
+}
+
+/// What was found in the words asks for; `None` where there is neither a script nor `--serve`, or there are both.
+fn job_in<'a>(found: &ArgMatches<'a>) -> Option<Job<'a>>
+    requires { is_some (first_value (found_of found.now) (codes "site")) ≡ true }
+    ensures job { IfSome result (IsAsked (first_value (found_of found.now)) (one_text (found_of found.now))) }
+    ensures none { IfNone result (IsNotOne (first_value (found_of found.now)) (one_text (found_of found.now))) }
+{
     let site = found.get_str("site").unwrap_or("");
     match (found.get_str("script"), found.get_flag("serve")) {
-        (Some(script), false) => Ok(Job::Script { site, script }),
-        (None, true) => Ok(Job::Serve {
+        (Some(script), false) => Some(Job::Script { site, script }),
+        (None, true) => Some(Job::Serve {
             site,
             terms: found.get_one::<u32>("terms").unwrap_or(0),
         }),
-        _ => Err(Refusal::NotOne),
+        _ => None,
     }
 }
+
+/// How many terms may be asked for.
+const MOST_TERMS: i64 = 1_000_000;
 
 /// What `--help` says of the program.
 const ABOUT: &str =
@@ -110,28 +104,14 @@ Status: 0 done; 1 a file, a port or the output; 2 the words; 3 an audit; 4 memor
 dmr_trunk(1) has more.";
 
 /// The command line as the word reader wants it. A parse of it has a value of the site file.
-fn command<'a>(alloc: Global) -> Result<Command<'a>, OutOfMemory> {
-    let site = Arg::new(alloc, "site")
-        .long("site")
-        .value_name("FILE")
-        .required(true)
-        .action(ArgAction::Set)
-        .help("The site file: carriers, ports, radios, groups and times");
-    let script = Arg::new(alloc, "script")
-        .long("script")
-        .value_name("FILE")
-        .action(ArgAction::Set)
-        .help("Replay this script, and print what goes out");
-    let serve = Arg::new(alloc, "serve")
-        .long("serve")
-        .action(ArgAction::SetTrue)
-        .help("Serve the site's carriers and operators over TCP");
-    let terms = Arg::new(alloc, "terms")
-        .long("terms")
-        .value_name("N")
-        .value_parser(clap::value_parser!(u32).range(0..=1_000_000))
-        .default_value("0")
-        .help("End after this many audited terms, 1 to 1000000; 0: no end");
+fn command<'a>(alloc: Global) -> Result<Command<'a>, OutOfMemory>
+    ensures app { IfOk result (λ c. app_of c ≡ command) }
+    ensures site { IfOk result (λ c. (m : ArgMatches) → IsParsedFrom c m → is_some (first_value (found_of m) (codes "site")) ≡ true) }
+{
+    let site = site_option(alloc);
+    let script = script_option(alloc);
+    let serve = serve_flag(alloc);
+    let terms = terms_option(alloc);
     Command::new(alloc, "dmr_trunk")
         .about(ABOUT)
         .after_help(EXAMPLES)
@@ -139,4 +119,59 @@ fn command<'a>(alloc: Global) -> Result<Command<'a>, OutOfMemory> {
         .arg(script)?
         .arg(serve)?
         .arg(terms)
+}
+
+/// The option `--site FILE`, which has to be given.
+fn site_option<'a>(alloc: Global) -> Arg<'a>
+    ensures rule { rule_of result ≡ site_option }
+    ensures id { result.id.now ≡ codes "site" }
+    ensures plain { IsPlainArg result × (result.global ≡ false) }
+    ensures value { TakesValue result }
+{
+    Arg::new(alloc, "site")
+        .long("site")
+        .value_name("FILE")
+        .required(true)
+        .action(ArgAction::Set)
+        .help("The site file: carriers, ports, radios, groups and times")
+}
+
+/// The option `--terms N`.
+fn terms_option<'a>(alloc: Global) -> Arg<'a>
+    ensures rule { rule_of result ≡ terms_option }
+    ensures id { result.id.now ≡ codes "terms" }
+    ensures plain { IsPlainArg result × (result.global ≡ false) }
+{
+    Arg::new(alloc, "terms")
+        .long("terms")
+        .value_name("N")
+        .value_parser(clap::value_parser!(u32).range(0..=MOST_TERMS))
+        .action(ArgAction::Set)
+        .default_value("0")
+        .help("End after this many audited terms, 1 to 1000000; 0: no end")
+}
+
+/// The flag `--serve`.
+fn serve_flag<'a>(alloc: Global) -> Arg<'a>
+    ensures rule { rule_of result ≡ serve_flag }
+    ensures id { result.id.now ≡ codes "serve" }
+    ensures plain { IsPlainArg result × (result.global ≡ false) }
+{
+    Arg::new(alloc, "serve")
+        .long("serve")
+        .action(ArgAction::SetTrue)
+        .help("Serve the site's carriers and operators over TCP")
+}
+
+/// The option `--script FILE`.
+fn script_option<'a>(alloc: Global) -> Arg<'a>
+    ensures rule { rule_of result ≡ script_option }
+    ensures id { result.id.now ≡ codes "script" }
+    ensures plain { IsPlainArg result × (result.global ≡ false) }
+{
+    Arg::new(alloc, "script")
+        .long("script")
+        .value_name("FILE")
+        .action(ArgAction::Set)
+        .help("Replay this script, and print what goes out")
 }

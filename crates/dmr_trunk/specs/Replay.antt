@@ -114,18 +114,18 @@ pub record AreReplayed (gave : Text → Option (List ℕ) → Type 0) (site_path
   pub script_given : gave script_path script
   pub printed : IsPrinted (outcome site script) old new
 
--- the site file of a path, as it was given for this, has a plan, which is what was served; nothing was printed
-pub record IsServed (gave : Text → Option (List ℕ) → Type 0) (site_path : Text) (old new : Option (List ℕ)) : Type 0 where
+-- the site file of a path, as it was given for this, has a plan
+pub record HasPlan (gave : Text → Option (List ℕ) → Type 0) (site_path : Text) : Type 0 where
   pub site : List ℕ
   pub plan : Settings
-  pub site_given : gave site_path (Some site)
+  pub given : gave site_path (Some site)
   pub planned : plan_in site ≡ Ok plan
-  pub quiet : new ≡ old
 
--- a job was done: its two files were replayed, or the site of its site file was served
+-- a job was done: its two files were replayed, or its site file had a plan, whose site was
+-- served, and nothing was printed
 abbrev pub IsDone : (Text → Option (List ℕ) → Type 0) → Job → Option (List ℕ) → Option (List ℕ) → Type 0
 IsDone gave (Script site script) old new = AreReplayed gave site.now script.now old new
-IsDone gave (Serve site terms) old new = IsServed gave site.now old new
+IsDone gave (Serve site terms) old new = HasPlan gave site.now × (new ≡ old)
 
 -- the words are taken, and what they ask for was done
 pub record IsReplayed (gave : Text → Option (List ℕ) → Type 0) (words : List Text) (old new : Option (List ℕ)) : Type 0 where

@@ -1,9 +1,9 @@
 -- What the words of the command line ask for.
-use Rattle.std.specs.Prelude.{◌≡◌, ◌≢◌, ◌⊎◌, ℕ, List, [], ◌∷◌, Option, Some, None, Result, Ok, Err, Bool, true, is_some, codes, ◌^◌, ◌<◌}
+use Rattle.std.specs.Prelude.{◌≡◌, ◌≢◌, ◌⊎◌, ℕ, List, [], ◌∷◌, Option, Some, None, Result, Ok, Err, Bool, true, is_some, codes, pos, ◌^◌, ◌<◌}
 use Rattle.std.specs.Str.Parse.{IsNumeral, digits_value, without_leading_plus}
 use Rattle.clap.specs.Words.{App, Kinds, Rule, Text, fault_of, first_of, first_value, found_of, matches_of, new_app, new_rule, one_of, one_text, with_rule}
 use Rattle.clap.specs.declared.builder.action.ArgAction.TheVariants.{Set, SetTrue}
-use Rattle.clap.specs.declared.builder.value_parser.ValueParser.TheVariants.{Unsigned}
+use Rattle.clap.specs.declared.builder.value_parser.ValueParser.TheVariants.{Signed}
 use Rattle.clap.specs.declared.parser.matches.ArgMatches.{ArgMatches}
 use Rattle.dmr_trunk.specs.declared.words.Job.{Job}
 use Rattle.dmr_trunk.specs.declared.words.Job.TheVariants.{Script, Serve}
@@ -38,7 +38,7 @@ terms_option = record (new_rule (codes "terms")) {
   action = Some Set;
   value_names = 1;
   defaults = codes "0" ∷ [];
-  parser = Some (Unsigned 0 1000000);
+  parser = Some (Signed (pos 0) (pos 1000000));
 }
 
 -- the program's command line: `dmr_trunk --site FILE [--script FILE] [--serve] [--terms N]`

@@ -1,7 +1,7 @@
 //! Serving the site of a site file: the file, and the statuses and texts of what may go wrong.
 
-ghost use Rattle.std.specs.Prelude.{◌≡◌, IfOk};
-ghost use Rattle.dmr_trunk.specs.Replay.{IsStatus};
+ghost use Rattle.std.specs.Prelude.{◌≡◌, ◌⊎◌, IfOk};
+ghost use Rattle.dmr_trunk.specs.Replay.{HasPlan, IsStatus};
 
 use crate::files::FileSource;
 use crate::replay::{ReplayFault, plan_of};
@@ -21,7 +21,9 @@ use std::time::Clock;
 
 impl ServeFault {
     /// The exit status.
-    pub fn status(&self) -> u8 {
+    pub fn status(&self) -> u8
+        ensures { (result ≡ FAULT) ⊎ (result ≡ AUDIT) ⊎ (result ≡ MEMORY) }
+    {
         match self {
             ServeFault::CannotListen(_) | ServeFault::NoPoll => FAULT,
             ServeFault::Term(TermFault::NoThread | TermFault::Open(OpenFault::OutOfMemory)) => {
@@ -66,7 +68,9 @@ fn read_site<'a, S: FileSource>(
     alloc: Global,
     files: &S,
     site: &'a str,
-) -> Result<Result<Plan, ReplayFault<'a>>, OutOfMemory> {
+) -> Result<Result<Plan, ReplayFault<'a>>, OutOfMemory>
+    ensures { IfOk result (λ read. IfOk read (λ _. HasPlan (S.gave files.now) site.now)) }
+{
     match files.octets_of(site)? {
         Some(octets) => Ok(plan_of(alloc, octets.as_slice())),
         None => Ok(Err(ReplayFault::CannotRead(site))),
@@ -88,6 +92,8 @@ where
     S: FileSource,
     E: Write,
     ensures status { IfOk result IsStatus }
+    // At status 0 the file of the path, as the source gave it, has a plan.
+    ensures ok { IfOk result (λ status. status ≡ OK → HasPlan (S.gave files.now) site.now) }
 {
     let plan = match read_site(alloc, files, site)? {
         Ok(plan) => plan,

@@ -1,12 +1,14 @@
 //! The words of the command line.
 
-ghost use Rattle.std.specs.Prelude.{◌≡◌, ◌≢◌, ◌⊎◌, IfErr, IfNone, IfOk, IfSome, [], codes, false, is_some, map, true};
+ghost use Rattle.std.specs.Prelude.{◌≡◌, ◌≢◌, ◌⊎◌, IfErr, IfNone, IfOk, IfSome, [], codes, false, is_some, map, pos, true};
 ghost use Rattle.clap.specs.Built.{IsParsedFrom, IsPlainArg, TakesValue};
-ghost use Rattle.clap.specs.Words.{app_of, first_value, found_of, kind_of, one_text, rule_of};
+ghost use Rattle.clap.specs.Words.{app_of, args_of, first_value, found_of, groups_of, kind_of, new_app, one_text, rule_of};
+ghost use Rattle.clap.specs.declared.builder.command.Command.TheViews.{out-Command};
 ghost use Rattle.clap.specs.declared.parser.matches.ArgMatches.{ArgMatches};
 ghost use Rattle.dmr_trunk.specs.Words.{AreRefused, AskFor, HasRead, IsAsked, IsNotOne, command, faults_in, script_option, serve_flag, site_option, terms_option};
 
 use crate::status::{MEMORY, WORDS, out_of_memory, words_refused};
+use clap::builder::ValueParser;
 use clap::error::ErrorKind;
 use clap::{Arg, ArgAction, ArgMatches, Command, Error};
 use dmr_pdu::OutOfMemory;
@@ -112,13 +114,18 @@ fn command<'a>(alloc: Global) -> Result<Command<'a>, OutOfMemory>
     let script = script_option(alloc);
     let serve = serve_flag(alloc);
     let terms = terms_option(alloc);
+    titled(alloc).arg(site)?.arg(script)?.arg(serve)?.arg(terms)
+}
+
+/// A command line of this program's name, with what `--help` says of it, and no option yet.
+fn titled<'a>(alloc: Global) -> Command<'a>
+    ensures app { app_of result ≡ new_app (codes "dmr_trunk") }
+    ensures empty { (args_of result ≡ []) × (groups_of result ≡ []) }
+    ensures local { ((out-Command result).has_globals ≡ false) × ((out-Command result).subcommand_negates_reqs ≡ false) }
+{
     Command::new(alloc, "dmr_trunk")
         .about(ABOUT)
         .after_help(EXAMPLES)
-        .arg(site)?
-        .arg(script)?
-        .arg(serve)?
-        .arg(terms)
 }
 
 /// The option `--site FILE`, which has to be given.
@@ -136,6 +143,13 @@ fn site_option<'a>(alloc: Global) -> Arg<'a>
         .help("The site file: carriers, ports, radios, groups and times")
 }
 
+/// What N of `--terms N` has to be.
+fn terms_parser<'a>() -> ValueParser<'a>
+    ensures { result ≡ ValueParser.Signed (pos 0) (pos 1000000) }
+{
+    clap::value_parser!(u32).range(0..=MOST_TERMS)
+}
+
 /// The option `--terms N`.
 fn terms_option<'a>(alloc: Global) -> Arg<'a>
     ensures rule { rule_of result ≡ terms_option }
@@ -145,7 +159,7 @@ fn terms_option<'a>(alloc: Global) -> Arg<'a>
     Arg::new(alloc, "terms")
         .long("terms")
         .value_name("N")
-        .value_parser(clap::value_parser!(u32).range(0..=MOST_TERMS))
+        .value_parser(terms_parser())
         .action(ArgAction::Set)
         .default_value("0")
         .help("End after this many audited terms, 1 to 1000000; 0: no end")

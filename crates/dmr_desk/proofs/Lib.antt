@@ -5,3 +5,5 @@ mod Closing
 mod Ticking
 mod Working
 mod Crews
+mod Terms
+mod Refusals

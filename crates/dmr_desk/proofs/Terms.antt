@@ -1,6 +1,6 @@
 -- What all workers did is a term.
 use Rattle.std.proofs.Common.{◌≡◌, ℕ, zero, suc, ◌+◌, ◌≤◌, ◌<◌, ltb, Bool, true, false, if◌then◌else◌, List, [], ◌∷◌, ◌++◌, Option, Some, None, length, map, slice_get, refl, sym, ◌∙◌, ap, subst, arith, length-append}
-use Rattle.std.specs.Prelude.{All, Contains}
+use Rattle.std.specs.Prelude.{◌≢◌, All, Contains}
 use Rattle.std.proofs.lemmas.Bool.Decides.{nat_tests}
 use Rattle.std.proofs.lemmas.List.{length-map}
 use Rattle.std.proofs.lemmas.List.Elements.{Contains-append_right, All-tail, All-head}
@@ -9,19 +9,21 @@ use Rattle.dmr_link.specs.declared.desk.Deposit.{Deposit}
 use Rattle.dmr_desk.specs.declared.ending.Ending.{Ending}
 use Rattle.dmr_desk.specs.declared.ending.Ending.TheVariants as ending
 use Rattle.dmr_desk.specs.declared.report.Report.{Report}
-use Rattle.dmr_desk.specs.Audited.{IsAudited}
+use Rattle.dmr_desk.specs.declared.fault.CloseFault.{CloseFault}
+use Rattle.dmr_desk.specs.Audited.{IsAudited, IsFault}
 use Rattle.dmr_desk.specs.Pace.{Paced}
-use Rattle.dmr_desk.specs.Refusing.{first_over, early_actor}
-use Rattle.dmr_desk.specs.Sitting.{Sitting, Opened}
+use Rattle.dmr_desk.specs.Pages.{Pages, AreKept}
+use Rattle.dmr_desk.specs.Refusing.{IsEarly, IsUnaudited, first_over, early_actor}
+use Rattle.dmr_desk.specs.Sitting.{Sitting, Opened, HasSeat}
 use Rattle.dmr_desk.specs.Views.{view_of}
 use Rattle.dmr_desk.specs.Work.{Stand}
-use Rattle.dmr_desk.specs.Term.{HasWorked, HasTicked, IsTerm, Done, IsDone, AllDone, IsTicked}
+use Rattle.dmr_desk.specs.Term.{HasWorked, HasTicked, Start, End, started, ended, HasRun, IsTerm, Done, IsDone, AllDone, IsTicked}
 use Rattle.dmr_desk.proofs.Closing.{seat_has_view}
 use Rattle.dmr_desk.proofs.Crews.{all_done_length}
 
 -- ---- each seat has the view of its actor
 
-AllViews : List Entry → List Sitting → Type 0
+abbrev AllViews : List Entry → List Sitting → Type 0
 AllViews journal [] = Unit {0}
 AllViews journal (x ∷ xs) = (x.deposits ≡ view_of x.actor journal) × AllViews journal xs
 
@@ -90,33 +92,61 @@ over_at_limit : (b : Bool) (entries limit : ℕ) (es : List Ending) (k : ℕ) �
 over_at_limit true entries limit es k e h g = absurd (no_over es 0 k h g)
 over_at_limit false entries limit es k e h g = grind (arith, nat_tests)
 
+-- no ending up to this place is TermOver, where the first is not, nor one of those behind it
+none_below : (e : Ending) (es : List Ending) (i : ℕ) → e ≢ ending.TermOver → ((j : ℕ) → j < i → slice_get es j ≢ Some ending.TermOver) → (j : ℕ) → j < suc i → slice_get (e ∷ es) j ≢ Some ending.TermOver
+none_below e es i first rest zero below g = first (same_some e ending.TermOver g)
+none_below e es i first rest (suc j) below g = rest j (omega arith) g
+
+-- the place of the first that ended so
+abbrev FirstAt : ℕ → ℕ → List Ending → Type 0
+FirstAt n k es = (i : ℕ) × (k ≡ n + i) × (slice_get es i ≡ Some ending.TermOver) × ((j : ℕ) → j < i → slice_get es j ≢ Some ending.TermOver)
+
+first_behind : (n k : ℕ) (e : Ending) (es : List Ending) → e ≢ ending.TermOver → FirstAt (n + 1) k es → FirstAt n k (e ∷ es)
+first_behind n k e es other r = let same = r.1 in (suc r.0, omega arith, r.2, none_below e es r.0 other r.3)
+
+first_at : (n k : ℕ) (es : List Ending) → first_over n es ≡ Some k → FirstAt n k es
+first_at n k [] h = absurd cc
+first_at n k (ending.TermOver ∷ es) h = let same : n ≡ k = same_some n k h in (0, omega arith, refl, λ j below. absurd (omega arith))
+first_at n k (ending.Finished ∷ es) h = first_behind n k ending.Finished es (λ e. cc) (first_at (n + 1) k es h)
+first_at n k (ending.GateShut ∷ es) h = first_behind n k ending.GateShut es (λ e. cc) (first_at (n + 1) k es h)
+
+below_limit : (b : Bool) (entries limit : ℕ) (es : List Ending) (k : ℕ) → ltb entries limit ≡ b → (if b then first_over 0 es else None) ≡ Some k → (entries < limit) × FirstAt 0 k es
+below_limit true entries limit es k e h = (grind (arith, nat_tests), first_at 0 k es h)
+below_limit false entries limit es k e h = absurd cc
+
 -- ---- what was handed back, taken apart
 
 pub map_same : {W S X D : Type 0} (f : S → X) (a : W → S) (p : D → X) (h : W → D) (ws : List W) → ((w : W) → f (a w) ≡ p (h w)) → map f (map a ws) ≡ map p (map h ws)
 map_same f a p h [] e = refl
 map_same f a p h (w ∷ ws) e = let t = map_same f a p h ws e in let q = e w in cc
 
-pub two_more : {W X D : Type 0} (a : W → X) (p : D → X) (h : W → D) (ws : List W) (x y : X) → ((w : W) → a w ≡ p (h w))
-    → (map a ws ++ x ∷ []) ++ y ∷ [] ≡ map p (map h ws) ++ x ∷ y ∷ []
-two_more a p h [] x y e = refl
-two_more a p h (w ∷ ws) x y e = let t = two_more a p h ws x y e in let q = e w in cc
+pub map_parts : {W X D : Type 0} (a : W → X) (p : D → X) (h : W → D) (ws : List W) → ((w : W) → a w ≡ p (h w)) → map a ws ≡ map p (map h ws)
+map_parts a p h [] e = refl
+map_parts a p h (w ∷ ws) e = let t = map_parts a p h ws e in let q = e w in cc
 
 -- where a worker ended at a shut gate, its station's was
 pub shut_at : {W S : Type 0} (station : W → S) (ending_of : W → Ending) (shut : S → Type 0) (ws : List W) (rest : List Ending)
     → All (λ w. ending_of w ≡ ending.GateShut → shut (station w)) ws → (k : ℕ) (s : S) → slice_get (map station ws) k ≡ Some s → slice_get (map ending_of ws ++ rest) k ≡ Some ending.GateShut → shut s
 shut_at station ending_of shut [] rest all k s gs ge = absurd cc
 shut_at station ending_of shut (w ∷ ws) rest all zero s gs ge =
-    subst shut (same_some (station w) s gs) (All-head _ w ws all (same_some (ending_of w) ending.GateShut ge))
-shut_at station ending_of shut (w ∷ ws) rest all (suc k) s gs ge = shut_at station ending_of shut ws rest (All-tail _ w ws all) k s gs ge
+    subst shut (same_some (station w) s gs) (All-head (λ x. ending_of x ≡ ending.GateShut → shut (station x)) w ws all (same_some (ending_of w) ending.GateShut ge))
+shut_at station ending_of shut (w ∷ ws) rest all (suc k) s gs ge = shut_at station ending_of shut ws rest (All-tail (λ x. ending_of x ≡ ending.GateShut → shut (station x)) w ws all) k s gs ge
+
+-- the last ending
+pub last_shut : {W : Type 0} (ending_of : W → Ending) (ws : List W) (first last : Ending) (n : ℕ) → length ws ≡ n → slice_get (map ending_of ws ++ first ∷ last ∷ []) (n + 1) ≡ Some ending.GateShut → last ≡ ending.GateShut
+last_shut ending_of ws first last n count g =
+    let m : length (map ending_of ws) ≡ n = length-map ws ending_of ∙ count in
+    let P : ℕ → Type 0 = λ k. slice_get (map ending_of ws ++ first ∷ last ∷ []) (k + 1) ≡ Some last in
+    let at : slice_get (map ending_of ws ++ first ∷ last ∷ []) (n + 1) ≡ Some last = subst P m (get_next (map ending_of ws) first last []) in
+    same_some last ending.GateShut (sym at ∙ g)
 
 -- ---- the whole
 
-pub term_holds : (desk : Opened) (seats : List Sitting) (report : Report) (ends : List Ending) (stations ss : List Stand) (ds : List Done) (before after : Option Paced) (ts : Sitting) (te : Ending) (s : Stand) (d : Done)
+pub has_run : (desk : Opened) (seats : List Sitting) (report : Report) (ends : List Ending) (stations ss : List Stand) (ds : List Done) (before after : Option Paced) (ts : Sitting) (te : Ending) (s : Stand) (d : Done)
     → IsAudited desk seats report → seats ≡ map (λ d. d.seat) ds ++ ts ∷ d.seat ∷ [] → ends ≡ map (λ d. d.ending) ds ++ te ∷ d.ending ∷ [] → stations ≡ map (λ d. d.at) ds
-    → AllDone 0 ss ds → IsTicked (length ss) before after ts te → IsDone (length ss + 1) s d → early_actor (length report.journal) desk.limit ends ≡ None
-    → IsTerm (record { site = desk.site; limit = desk.limit; stations = ss; pacer = before; console = s })
-      (record { site = report.site; journal = report.journal; views = report.views.items; ends = ends; stations = stations; pacer = after; console = d.at })
-term_holds desk seats report ends stations ss ds before after ts te s d is es ee et all ticked worked early =
+    → AllDone 0 ss ds → IsTicked (length ss) before after ts te → IsDone (length ss + 1) s d
+    → HasRun (started desk.site desk.limit ss before s) (ended report ends stations after d.at)
+has_run desk seats report ends stations ss ds before after ts te s d is es ee et all ticked worked =
     let journal : List Entry = report.journal in
     let n : length ds ≡ length ss = all_done_length 0 ss ds all in
     let ne : length (map (λ (x : Done). x.ending) ds) ≡ length ss = length-map ds (λ (x : Done). x.ending) ∙ n in
@@ -146,6 +176,61 @@ term_holds desk seats report ends stations ss ds before after ts te s d is es ee
       console = λ e g.
           let got : slice_get ends (length ss + 1) ≡ Some d.ending = rw (ee, ← ne) (get_next (map (λ (x : Done). x.ending) ds) te d.ending []) in
           worked_as s s d.at d.at d.seat.deposits (view_of (length ss + 1) journal) d.ending e refl refl (last.1.0 ∙ ap (λ (m : ℕ). view_of m journal) worked.0) (same_some d.ending e (sym got ∙ g)) worked.1;
-      ended = ap length ee ∙ length-append (map (λ (x : Done). x.ending) ds) (te ∷ d.ending ∷ []) ∙ ap (λ (k : ℕ). k + 2) ne;
-      over = λ k g. let h : desk.limit ≤ length journal = over_at_limit (ltb (length journal) desk.limit) (length journal) desk.limit ends k refl early g in let w = is.reported.within in omega arith;
+      all_ended = ap length ee ∙ length-append (map (λ (x : Done). x.ending) ds) (te ∷ d.ending ∷ []) ∙ ap (λ (k : ℕ). k + 2) ne;
+    }
+
+-- where nobody ended early, it is a term
+pub is_term : (start : Start) (end : End) → HasRun start end → early_actor (length end.journal) start.limit end.ends ≡ None → IsTerm start end
+is_term start end run early = record {
+  run = run;
+  over = λ k g. let h : start.limit ≤ length end.journal = over_at_limit (ltb (length end.journal) start.limit) (length end.journal) start.limit end.ends k refl early g in let w = run.within in omega arith;
+}
+
+pub is_early : (start : Start) (end : End) (actor : ℕ) → HasRun start end → early_actor (length end.journal) start.limit end.ends ≡ Some actor → IsEarly start actor
+is_early start end actor run early =
+    let both = below_limit (ltb (length end.journal) start.limit) (length end.journal) start.limit end.ends actor refl early in
+    let first = both.1 in
+    let same : first.0 ≡ actor = let e = first.1 in omega arith in
+    let P : ℕ → Type 0 = λ k. slice_get end.ends k ≡ Some ending.TermOver in
+    let Q : ℕ → Type 0 = λ k. (j : ℕ) → j < k → slice_get end.ends j ≢ Some ending.TermOver in
+    record { end = end; run = run; below = both.0; told = subst P same first.2; least = subst Q same first.3 }
+
+-- ---- the seats
+
+abbrev AreOf : ℕ → List Sitting → Type 0
+AreOf n [] = Unit {0}
+AreOf n (x ∷ xs) = (x.actor ≡ n) × AreOf (n + 1) xs
+
+of_all : (n : ℕ) (ss : List Stand) (ds : List Done) (x y : Sitting) → AllDone n ss ds → x.actor ≡ n + length ss → y.actor ≡ n + length ss + 1 → AreOf n (map (λ d. d.seat) ds ++ x ∷ y ∷ [])
+of_all n [] [] x y all ex ey = (omega arith, (omega arith, tt))
+of_all n (s ∷ ss) (d ∷ ds) x y all ex ey = (all.0.0, of_all (n + 1) ss ds x y all.1 (omega arith) (omega arith))
+of_all n [] (d ∷ ds) x y all ex ey = absurd all
+of_all n (s ∷ ss) [] x y all ex ey = absurd all
+
+seat_behind : (x : Sitting) (xs : List Sitting) (actor : ℕ) → HasSeat xs actor → HasSeat (x ∷ xs) actor
+seat_behind x xs actor h = (h.0, Contains-append_right (x ∷ []) xs h.0 h.1, h.2)
+
+has_seat : (n i : ℕ) (xs : List Sitting) → AreOf n xs → i < length xs → HasSeat xs (n + i)
+has_seat n i [] of low = absurd (omega arith)
+has_seat n zero (x ∷ xs) of low = let z : n ≡ n + 0 = omega arith in (x, (0, omega arith, refl), of.0 ∙ z)
+has_seat n (suc i) (x ∷ xs) of low =
+    let m : n + 1 + i ≡ n + suc i = omega arith in
+    let P : ℕ → Type 0 = HasSeat (x ∷ xs) in subst P m (seat_behind x xs (n + 1 + i) (has_seat (n + 1) i xs of.1 (omega arith)))
+
+pub is_unaudited : (desk : Opened) (seats : List Sitting) (pages : Pages) (fault : CloseFault) (ss : List Stand) (ds : List Done) (before after : Option Paced) (ts : Sitting) (te : Ending) (s : Stand) (d : Done)
+    → AreKept pages → IsFault desk seats pages fault → seats ≡ map (λ d. d.seat) ds ++ ts ∷ d.seat ∷ []
+    → AllDone 0 ss ds → IsTicked (length ss) before after ts te → IsDone (length ss + 1) s d → IsUnaudited (started desk.site desk.limit ss before s) fault
+is_unaudited desk seats pages fault ss ds before after ts te s d kept refused es all ticked worked =
+    let all_of : AreOf 0 (map (λ x. x.seat) ds ++ ts ∷ d.seat ∷ []) = of_all 0 ss ds ts d.seat all (let e = ticked.0 in omega arith) (let e = worked.0 in omega arith) in
+    let A : List Sitting → Type 0 = AreOf 0 in
+    let ns : length (map (λ (x : Done). x.seat) ds) ≡ length ss = length-map ds (λ (x : Done). x.seat) ∙ all_done_length 0 ss ds all in
+    let many : length seats ≡ length ss + 2 = ap length es ∙ length-append (map (λ (x : Done). x.seat) ds) (ts ∷ d.seat ∷ []) ∙ ap (λ (k : ℕ). k + 2) ns in
+    record {
+      seats = seats;
+      pages = pages;
+      each = λ actor below.
+          let z : 0 + actor ≡ actor = omega arith in
+          let P : ℕ → Type 0 = HasSeat seats in subst P z (has_seat 0 actor seats (subst A (sym es) all_of) (omega arith));
+      kept = kept;
+      refused = refused;
     }

@@ -1,5 +1,5 @@
 -- A worker's steps, one after another.
-use Rattle.std.proofs.Common.{◌≡◌, ℕ, ◌+◌, ◌-◌, ◌≤◌, cond, List, [], ◌∷◌, ◌++◌, Option, Some, None, refl, sym, ◌∙◌, ap, subst, append_assoc, arith, true, false, Bool, ◌||◌, length, map}
+use Rattle.std.proofs.Common.{◌≡◌, ℕ, ◌+◌, ◌-◌, cond, List, [], ◌∷◌, ◌++◌, Option, None, refl, sym, ◌∙◌, ap, subst, append_assoc, arith, true, false, Bool, ◌||◌, length, map}
 use Rattle.std.specs.Prelude.{nat_lt}
 use Rattle.std.proofs.lemmas.List.{append-nil}
 use Rattle.dmr_wire.specs.Told.{Answer, Opened, NotYet, Finished, Came, InputEnded, ReadInterrupted, ReadBlocked, ReadFailed, Took, WriteInterrupted, WriteBlocked, WriteFailed, Again, Silent, Tells}
@@ -7,19 +7,17 @@ use Rattle.dmr_link.specs.declared.desk.Deposit.{Deposit}
 use Rattle.dmr_link.specs.declared.ended.Ended.{Ended}
 use Rattle.dmr_link.specs.declared.ended.Ended.TheVariants as ended
 use Rattle.dmr_link.specs.declared.stream.Peer.{Peer}
-use Rattle.dmr_link.specs.declared.stream.Stream.{Stream}
 use Rattle.dmr_link.specs.declared.talk.Talk.{Talk}
 use Rattle.dmr_link.specs.Happenings.{Happening, Answered, Handed, Passed, answers_in, deposits_in, passages_in}
 use Rattle.dmr_link.specs.Passages.{Passage, Passes}
 use Rattle.dmr_link.specs.Peers.{is_going}
 use Rattle.dmr_link.specs.Recorded.{silenced}
-use Rattle.dmr_link.specs.Sessions.{How, Going, InputOver, ReadFaulty, WriteFaulty, CutAfter, how_then, Session, new_session, with_how, with_calls, Hearing, hearing, in_writing, took, heard, all_heard, IsClosed, IsQuiet, IsOver, StandsFor, served, is_kept, is_lost, how_cut, cut_past, EndsAs, Happens, Serves, Cuts}
+use Rattle.dmr_link.specs.Sessions.{How, Going, InputOver, ReadFaulty, WriteFaulty, CutAfter, how_then, Session, new_session, with_how, with_calls, Hearing, hearing, in_writing, took, heard, all_heard, IsQuiet, IsOver, StandsFor, served, is_kept, is_lost, how_cut, cut_past, EndsAs, Happens, Serves, Cuts}
 use Rattle.dmr_link.specs.Talks.{is_live}
 use Rattle.dmr_link.proofs.Linked.{dead_over, over_dead}
 use Rattle.dmr_link.proofs.Moved.{happens_more, happens_none}
-use Rattle.dmr_desk.specs.declared.ending.Ending.{Ending}
 use Rattle.dmr_desk.specs.declared.ending.Ending.TheVariants as ending
-use Rattle.dmr_desk.specs.Work.{Stand, Moment, moment, sides_at, Answers, Turns, Doing, Asked, Served, Waited, happened_in, happened_of, handing, past_then, past_after, calls_of, IsAsk, IsWait, Rests, MayBegin, MayWait, StopsAt, IsCall, IsOrderly, Went, EndsFor, Works, Waiting as IsWaiting, Going as IsGoing, GoesOn}
+use Rattle.dmr_desk.specs.Work.{Stand, Moment, moment, sides_at, Answers, Turns, Doing, Asked, Served, Waited, happened_in, happened_of, handing, past_then, past_after, calls_of, IsAsk, StopsAt, IsCall, IsOrderly, Went, Works, Waiting as IsWaiting, Going as IsGoing}
 
 -- ---- one step more
 
@@ -153,7 +151,7 @@ went_ready m n mid o g dead answers turns stands =
     let P : Option (List Answer) → Type 0 = λ told. Tells n.at.told (Opened ∷ []) told in (
       Asked Opened ∷ g.0,
       went_asking m n (moment o n.calls) g Opened dead tt (turns.who ∙ ap (λ (l : Talk). l.who) answers.talk) (subst P (sym turns.told) answers.told) (turns.passed ∙ answers.passed) refl
-      (λ past h. stands past (still_stands n.at.talk mid.talk past answers.talk h)),
+          (λ past h. stands past (still_stands n.at.talk mid.talk past answers.talk h)),
       λ live. tt,
     )
 

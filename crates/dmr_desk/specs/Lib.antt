@@ -6,3 +6,4 @@ pub mod Audited
 pub mod Pace
 pub mod Work
 pub mod Term
+pub mod Refusing

@@ -1,15 +1,20 @@
 -- When there is no term.
-use Rattle.std.specs.Prelude.{◌≡◌, ℕ, zero, suc, ◌+◌, ltb, Bool, List, [], ◌∷◌, Option, Some, None, map, if◌then◌else◌}
+use Rattle.std.specs.Prelude.{◌≡◌, ◌≢◌, ◌<◌, ℕ, zero, suc, ◌+◌, ltb, List, [], ◌∷◌, Option, Some, None, map, length, slice_get, if◌then◌else◌}
 use Rattle.dmr_core.specs.Facts.{has_carrier}
 use Rattle.dmr_plan.specs.declared.settings.Settings.{Settings}
 use Rattle.dmr_link.specs.declared.stream.Peer.{Peer}
 use Rattle.dmr_link.specs.declared.stream.Peer.TheVariants.{Carrier, Operator}
 use Rattle.dmr_desk.specs.declared.ending.Ending.{Ending}
 use Rattle.dmr_desk.specs.declared.ending.Ending.TheVariants as ending
-use Rattle.dmr_desk.specs.declared.fault.OpenFault.TheVariants.{BadLimit, BadActors}
+use Rattle.dmr_desk.specs.declared.fault.CloseFault.{CloseFault}
+use Rattle.dmr_desk.specs.declared.fault.OpenFault.TheVariants.{BadLimit, BadActors, OutOfMemory}
 use Rattle.dmr_desk.specs.declared.fault.TermFault.{TermFault}
-use Rattle.dmr_desk.specs.declared.fault.TermFault.TheVariants.{BadStations, Open, Audit, Early}
+use Rattle.dmr_desk.specs.declared.fault.TermFault.TheVariants.{BadStations, Open, NoThread, Audit, Early}
+use Rattle.dmr_desk.specs.Audited.{IsFault}
 use Rattle.dmr_desk.specs.Opening.{IsLimit}
+use Rattle.dmr_desk.specs.Pages.{Pages, AreKept}
+use Rattle.dmr_desk.specs.Sitting.{Sitting, HasSeat}
+use Rattle.dmr_desk.specs.Term.{Start, End, HasRun}
 use Rattle.dmr_desk.specs.Work.{Stand}
 
 -- the numbers that the plan's carriers have among these many from this one on, the least first
@@ -30,23 +35,45 @@ number_of Operator = None
 abbrev pub AreStations : Settings → List Stand → Type 0
 AreStations plan stations = map (λ (s : Stand). number_of s.talk.who) stations ≡ map (λ (n : ℕ). Some n) (numbers_of plan)
 
--- what may be wrong where the stations are right
-abbrev pub IsFaultFor : ℕ → TermFault → Type 0
-IsFaultFor limit BadStations = ⊥
-IsFaultFor limit (Open BadLimit) = ¬ IsLimit limit
-IsFaultFor limit (Open BadActors) = ⊥
-IsFaultFor limit fault = IsLimit limit
+-- of actors that have all done their part, this is the least that ended because the term was over, though the journal was below its
+-- limit
+pub record IsEarly (start : Start) (actor : ℕ) : Type 0 where
+  pub end : End
+  pub run : HasRun start end
+  pub below : length end.journal < start.limit
+  pub told : slice_get end.ends actor ≡ Some ending.TermOver
+  pub least : (lower : ℕ) → lower < actor → slice_get end.ends lower ≢ Some ending.TermOver
+
+-- a desk that was opened with the site and the limit, and got the seats of all actors back, gave no report
+pub record IsUnaudited (start : Start) (fault : CloseFault) : Type 0 where
+  pub seats : List Sitting
+  pub pages : Pages
+  pub each : (actor : ℕ) → actor < length start.stations + 2 → HasSeat seats actor
+  pub kept : AreKept pages
+  pub refused : IsFault (record { site = start.site; limit = start.limit }) seats pages fault
+
+-- what may be wrong where the stations are right: the first that applies
+abbrev pub IsFaultFor : Start → TermFault → Type 0
+IsFaultFor start BadStations = ⊥
+IsFaultFor start (Open BadLimit) = ¬ IsLimit start.limit
+IsFaultFor start (Open BadActors) = ⊥
+IsFaultFor start (Open OutOfMemory) = IsLimit start.limit
+IsFaultFor start NoThread = IsLimit start.limit
+IsFaultFor start (Audit fault) = IsLimit start.limit × IsUnaudited start fault
+IsFaultFor start (Early actor) = IsLimit start.limit × IsEarly start actor
 
 -- why there is no term: the first that applies
-abbrev pub IsTermFault : Settings → List Stand → ℕ → TermFault → Type 0
-IsTermFault plan stations limit BadStations = ¬ AreStations plan stations
-IsTermFault plan stations limit fault = AreStations plan stations × IsFaultFor limit fault
+abbrev pub IsTermFault : Start → TermFault → Type 0
+IsTermFault start BadStations = ¬ AreStations start.site.plan start.stations
+IsTermFault start fault = AreStations start.site.plan start.stations × IsFaultFor start fault
+
+-- ---- on the way
 
 -- a fault that is met when threads have run
-abbrev pub IsLate : TermFault → Type 0
-IsLate (Audit fault) = Unit {0}
-IsLate (Early actor) = Unit {0}
-IsLate fault = ⊥
+abbrev pub IsLate : Start → TermFault → Type 0
+IsLate start (Audit fault) = IsUnaudited start fault
+IsLate start (Early actor) = IsEarly start actor
+IsLate start fault = ⊥
 
 -- the first that ended because the term was over
 abbrev pub first_over : ℕ → List Ending → Option ℕ

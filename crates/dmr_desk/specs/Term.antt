@@ -7,6 +7,7 @@ use Rattle.dmr_link.specs.Runs.{IsSafe}
 use Rattle.dmr_link.specs.declared.desk.Deposit.{Deposit}
 use Rattle.dmr_desk.specs.declared.ending.Ending.{Ending}
 use Rattle.dmr_desk.specs.declared.ending.Ending.TheVariants as ending
+use Rattle.dmr_desk.specs.declared.report.Report.{Report}
 use Rattle.dmr_desk.specs.Pace.{Paced, Ticks}
 use Rattle.dmr_desk.specs.Pages.{site_after}
 use Rattle.dmr_desk.specs.Sitting.{Sitting}
@@ -43,25 +44,44 @@ pub record End : Type 0 where
   pub pacer : Option Paced
   pub console : Stand
 
--- A TERM. The actors are the stations by number, then the ticker, then the console
-pub record IsTerm (start : Start) (end : End) : Type 0 where
+-- what a term begins with, and what it ends with
+abbrev pub started : State → ℕ → List Stand → Option Paced → Stand → Start
+started site limit stations pacer console = record { site = site; limit = limit; stations = stations; pacer = pacer; console = console }
+
+abbrev pub ended : Report → List Ending → List Stand → Option Paced → Stand → End
+ended report ends stations pacer console = record {
+  site = report.site;
+  journal = report.journal;
+  views = report.views.items;
+  ends = ends;
+  stations = stations;
+  pacer = pacer;
+  console = console;
+}
+
+-- WHAT WAS DONE. The actors are the stations, in their order, then the ticker, then the console
+pub record HasRun (start : Start) (end : End) : Type 0 where
   -- the journal is legal from the site handed in, safe, and has at most `limit` entries; the site handed back is as it leaves it
   pub legal : IsLegal start.site.plan start.site.facts (reverse end.journal)
   pub safe : IsSafe start.site.plan start.site.facts (reverse end.journal)
   pub within : length end.journal ≤ start.limit
   pub site : end.site ≡ site_after start.site end.journal
-  -- each actor's list is its view of the journal, and no entry is of another actor
+  -- each actor has a view, which is what the journal has of it, and no entry is of anybody else
   pub actors : length end.views ≡ length start.stations + 2
   pub views : (k : ℕ) → k < length end.views → slice_get end.views k ≡ Some (view_of k end.journal)
   pub nobody : All (λ (entry : Entry). entry.actor < length end.views) end.journal
-  -- each actor did its part, and its view is what its desk took
+  -- each station was handed back, and each actor has ended
   pub handed_back : length end.stations ≡ length start.stations
+  pub all_ended : length end.ends ≡ length start.stations + 2
+  -- each actor did its part, and its view is what its desk took
   pub carriers : (k : ℕ) (s t : Stand) (e : Ending) → slice_get start.stations k ≡ Some s → slice_get end.stations k ≡ Some t → slice_get end.ends k ≡ Some e
       → HasWorked s t (view_of k end.journal) e
   pub ticker : (e : Ending) → slice_get end.ends (length start.stations) ≡ Some e → HasTicked start.pacer end.pacer (view_of (length start.stations) end.journal) e
   pub console : (e : Ending) → slice_get end.ends (length start.stations + 1) ≡ Some e → HasWorked start.console end.console (view_of (length start.stations + 1) end.journal) e
-  -- a worker ended because the term was over only where it was
-  pub ended : length end.ends ≡ length start.stations + 2
+
+-- A TERM: all this was done, and a worker ended because the term was over only where it was
+pub record IsTerm (start : Start) (end : End) : Type 0 where
+  pub run : HasRun start end
   pub over : (k : ℕ) → slice_get end.ends k ≡ Some ending.TermOver → length end.journal ≡ start.limit
 
 -- ---- on the way

@@ -8,6 +8,8 @@
 //! - [`close`](SharedDesk::close) takes the desk and all its seats, and gives a [`Report`]: the site, the [`Journal`], and each
 //!   actor's [`View`]. It compares each seat with the journal. What a report says stands in one place, in the contract of
 //!   [`reports_account`].
+//! - A worker serves the connections of one [`Station`], or of the [`ConsoleStation`], from a seat, or hands in the ticks of a
+//!   [`Pacer`]. [`run_term`] gives each of them a thread round one desk, waits for all, closes the desk, and gives a [`Term`].
 //!
 //! That no entry is of anybody else needs no comparison. A desk and its seats share the parts of a ledger, in which each deposit
 //! counts one; when all parts are together, the journal is exactly as long as all seats' lists.
@@ -24,8 +26,10 @@ mod laws;
 mod pace;
 mod report;
 mod room;
+mod run;
 mod seat;
 mod station;
+mod term;
 mod threads;
 mod view;
 mod work;
@@ -34,12 +38,14 @@ pub use at::SeatAt;
 pub use book::Book;
 pub use desk::{PARTS, SharedDesk};
 pub use ending::Ending;
-pub use fault::{CloseFault, OpenFault};
+pub use fault::{CloseFault, OpenFault, TermFault};
 pub use laws::reports_account;
 pub use pace::{Pace, Pacer, work_ticker};
 pub use report::{Journal, Report, Views};
+pub use run::run_term;
 pub use seat::Seat;
 pub use station::{ConsoleStation, Station};
+pub use term::Term;
 pub use view::View;
 pub use work::{work_carrier, work_console};
 

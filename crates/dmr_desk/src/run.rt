@@ -3,7 +3,7 @@
 ghost use Rattle.std.specs.Prelude.{◌≡◌, ◌+◌, ◌-◌, ◌≤◌, ◌↔◌, ℕ, IfErr, IfOk, IsTrue, None, OnOk, Some, map, slice_get, vec_len};
 ghost use Rattle.dmr_desk.specs.Opening.{IsLimit};
 ghost use Rattle.dmr_desk.specs.Refusing.{AreStations, IsFaultFor, IsTermFault, number_of, numbers_from};
-ghost use Rattle.dmr_desk.specs.Term.{IsTerm};
+ghost use Rattle.dmr_desk.specs.Term.{IsTerm, ended, started};
 ghost use Rattle.dmr_desk.specs.Work.{stand};
 
 use crate::desk::{PARTS, SharedDesk};
@@ -68,25 +68,11 @@ where
     requires parts { blank.parts ≡ L.parts }
     requires eighteen { blank.parts ≡ 18 }
     requires few { vec_len stations ≤ 16 }
-    ensures term { IfOk result (λ t. IsTerm
-        (record {
-          site = site;
-          limit = limit;
-          stations = map (λ s. S.stand s) stations.items;
-          pacer = T.paced pacer;
-          console = C.stand console;
-        })
-        (record {
-          site = t.report.site;
-          journal = t.report.journal;
-          views = t.report.views.items;
-          ends = t.ends.items;
-          stations = map (λ s. S.stand s) t.stations.items;
-          pacer = T.paced t.pacer;
-          console = C.stand t.console;
-        })) }
+    ensures term { IfOk result (λ t. IsTerm (started site limit (map (λ s. S.stand s) stations.items) (T.paced pacer) (C.stand console))
+        (ended t.report t.ends.items (map (λ s. S.stand s) t.stations.items) (T.paced t.pacer) (C.stand t.console))) }
     ensures shut { IfOk result (λ t. (k : ℕ) (s : _) → slice_get t.stations.items k ≡ Some s → slice_get t.ends.items k ≡ Some Ending.GateShut → S.shut s) }
-    ensures fault { IfErr result (IsFaultFor limit) }
+    ensures open { IfOk result (λ t. slice_get t.ends.items (vec_len stations + 1) ≡ Some Ending.GateShut → C.shut t.console) }
+    ensures fault { IfErr result (IsFaultFor (started site limit (map (λ s. S.stand s) stations.items) (T.paced pacer) (C.stand console))) }
     ensures limit { OnOk result (IsLimit limit) }
 {
     let count = stations.len();
@@ -115,9 +101,12 @@ where
     }
 }
 
-/// Runs a term: a thread for each station, one for the ticker and one for the console, round one locked site. It ends when all workers
-/// have ended; then the desk is closed, and its journal compared with what each worker was answered. The stations are those of the
-/// plan's carriers, one for each, in the order of their numbers. All its memory is taken before a thread starts.
+/// Runs a term: a worker for each station, one for the ticker and one for the console, each in a thread of its own, round one locked
+/// site, whose journal may have `limit` entries. The stations are those of the plan's carriers, one for each, in the order of their
+/// numbers; the actors are the stations, then the ticker, then the console. The term is over when all workers have ended: then the desk
+/// is closed, and its journal compared with what each worker was answered. All memory is taken before a thread is started, and each
+/// thread that was started is waited for. `Err`: the first fault that applies, in the order of [`TermFault`]; what was handed in is used
+/// up.
 pub fn run_term<P, G, T, C, R>(
     rt: &R,
     alloc: Global,
@@ -133,25 +122,11 @@ where
     T: Pacer + Send + Drop,
     C: Port + Send + Drop,
     R: Wait + Threads + Sync,
-    ensures term { IfOk result (λ t. IsTerm
-        (record {
-          site = site;
-          limit = limit;
-          stations = map (λ s. stand s.link (P.told s.port) (G.passed s.gate)) stations.items;
-          pacer = T.paced pacer;
-          console = stand console.link (C.told console.port) None;
-        })
-        (record {
-          site = t.report.site;
-          journal = t.report.journal;
-          views = t.report.views.items;
-          ends = t.ends.items;
-          stations = map (λ s. stand s.link (P.told s.port) (G.passed s.gate)) t.stations.items;
-          pacer = T.paced t.pacer;
-          console = stand t.console.link (C.told t.console.port) None;
-        })) }
+    ensures term { IfOk result (λ t. IsTerm (started site limit (map (λ s. stand s.link (P.told s.port) (G.passed s.gate)) stations.items) (T.paced pacer) (stand console.link (C.told console.port) None))
+        (ended t.report t.ends.items (map (λ s. stand s.link (P.told s.port) (G.passed s.gate)) t.stations.items) (T.paced t.pacer) (stand t.console.link (C.told t.console.port) None))) }
     ensures shut { IfOk result (λ t. (k : ℕ) (s : _) → slice_get t.stations.items k ≡ Some s → slice_get t.ends.items k ≡ Some Ending.GateShut → (before : _) × G.shuts before s.gate) }
-    ensures fault { IfErr result (IsTermFault site.plan (map (λ s. stand s.link (P.told s.port) (G.passed s.gate)) stations.items) limit) }
+    ensures open { IfOk result (λ t. slice_get t.ends.items (vec_len stations + 1) ≡ Some Ending.GateShut → ⊥) }
+    ensures fault { IfErr result (IsTermFault (started site limit (map (λ s. stand s.link (P.told s.port) (G.passed s.gate)) stations.items) (T.paced pacer) (stand console.link (C.told console.port) None))) }
     ensures fits { OnOk result (AreStations site.plan (map (λ s. stand s.link (P.told s.port) (G.passed s.gate)) stations.items) × IsLimit limit) }
 {
     if !are_stations(site.plan(), 16, stations.as_slice()) {

@@ -2,6 +2,7 @@
 
 ghost use Rattle.std.specs.Prelude.{◌≡◌, true, false, not, [], ◌∷◌, IfOk, IfErr, List};
 ghost use Rattle.dmr_core.specs.declared.event.Event.{Event as AnEvent};
+ghost use Rattle.dmr_link.specs.declared.desk.TermOver.{TermOver as ATermOver};
 ghost use Rattle.dmr_wire.specs.Told.{Tells, of_connect, of_wait};
 ghost use Rattle.dmr_link.specs.Sessions.{Session, new_session, StandsFor, IsOver, Serves, Cuts};
 ghost use Rattle.dmr_link.specs.Talks.{is_live};
@@ -56,7 +57,7 @@ pub trait Serving {
     fn serve<D: Desk>(&mut self, desk: &mut D) -> Ended
         ensures actor { D.actor desk.new ≡ D.actor desk.old }
         ensures serves { Serves (stand self.old).talk (stand self.new).talk (sides_at (stand self.old) (D.calls desk.old)) (sides_at (stand self.new) (D.calls desk.new)) result }
-        ensures over { result ≡ Ended.TermOver → (before : _) × (event : AnEvent) × D.refuses before event desk.new }
+        ensures over { result ≡ Ended.TermOver → (before : _) × (event : AnEvent) × (over : ATermOver) × D.refuses before event over desk.new }
         ensures shut { result ≡ Ended.GateShut → shut self.new };
 
     /// Waits on the port.
@@ -70,7 +71,7 @@ pub trait Serving {
         ensures turns { Turns (stand self.old) (stand self.new) }
         ensures cuts { Cuts (stand self.old).talk (stand self.new).talk (D.calls desk.old) (D.calls desk.new) }
         ensures done { IfOk result (λ _. IsOver (stand self.new).talk) }
-        ensures over { IfErr result (λ _. (before : _) × (event : AnEvent) × D.refuses before event desk.new) };
+        ensures over { IfErr result (λ over. (before : _) × (event : AnEvent) × D.refuses before event over desk.new) };
 }
 
 impl<P: Port, G: Gate> Serving for Station<P, G> {

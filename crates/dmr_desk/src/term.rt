@@ -1,11 +1,11 @@
 //! A term: the workers of a site, each in a thread of its own, round one locked site.
 
-ghost use Rattle.std.specs.Prelude.{◌≡◌, ◌+◌, ◌≤◌, ◌++◌, ◌∷◌, [], ℕ, All, List, Option, Some, IfOk, IfErr, IfSome, map, slice_get, vec_len, vec_capacity, length};
+ghost use Rattle.std.specs.Prelude.{◌≡◌, ◌+◌, ◌≤◌, ◌<◌, ◌++◌, ◌∷◌, [], ℕ, All, List, Option, Some, IfOk, IfErr, IfSome, map, slice_get, vec_len, vec_capacity, length};
 ghost use Rattle.arrayvec.specs.ArrayVec.{array_vec_len};
 ghost use Rattle.dmr_desk.specs.Pace.{Paced};
 ghost use Rattle.dmr_desk.specs.Refusing.{IsLate, early_actor, first_over};
 ghost use Rattle.dmr_desk.specs.Sitting.{empty_seats};
-ghost use Rattle.dmr_desk.specs.Term.{AllDone, IsDone, IsTerm, IsTicked, done};
+ghost use Rattle.dmr_desk.specs.Term.{AllDone, IsDone, IsTerm, IsTicked, done, ended, started};
 ghost use Rattle.dmr_desk.specs.Work.{Stand};
 
 use crate::actors::LinkWork;
@@ -13,7 +13,7 @@ use crate::desk::SharedDesk;
 use crate::ending::Ending;
 use crate::fault::TermFault;
 use crate::pace::Pacer;
-use crate::report::Report;
+use crate::report::{Journal, Report};
 use crate::seat::Seat;
 use crate::station::Serving;
 use crate::threads::{AllWork, Crew, Others, start};
@@ -22,7 +22,7 @@ use std::sync::Wait;
 use std::sync::ledger::Ledger;
 use std::thread::Threads;
 
-/// A term that was audited.
+/// What a term leaves, when all its workers have ended and the desk's report was given.
 #[derive(Drop)]
 pub struct Term<S, T, C> {
     /// The site, the journal, and what each actor told the site.
@@ -50,18 +50,17 @@ fn first_told(from: u8, ends: &[Ending]) -> Option<u8>
 }
 
 /// The least actor that was told that the term is over, though the journal is below its limit.
-fn early(entries: usize, limit: usize, ends: &[Ending]) -> Option<u8>
-    requires { length ends.now ≤ 18 }
-    ensures { result ≡ early_actor entries limit ends.now }
+fn early(journal: &Journal, limit: usize, ends: &ArrayVec<Ending, 18>) -> Option<u8>
+    ensures { result ≡ early_actor (length journal.now) limit ends.now.items }
 {
-    if entries < limit {
-        first_told(0, ends)
+    if journal.as_slice().len() < limit {
+        first_told(0, ends.as_slice())
     } else {
         None
     }
 }
 
-/// What the carriers' workers handed back, each kind in a list of its own.
+/// What workers handed back, each kind in a list of its own.
 #[derive(Drop)]
 pub struct Back<S, L: Ledger> {
     /// The stations.
@@ -72,7 +71,7 @@ pub struct Back<S, L: Ledger> {
     pub ends: ArrayVec<Ending, 18>,
 }
 
-/// Takes apart what the carriers' workers handed back.
+/// Takes apart what the carriers' workers handed back, and puts it behind what is there.
 fn gather<S: Drop, L: Ledger>(mut works: Vec<LinkWork<S, L>>, back: Back<S, L>) -> Back<S, L>
     requires stations { vec_len back.stations + vec_len works ≤ vec_capacity back.stations }
     requires seats { vec_len back.seats + vec_len works ≤ vec_capacity back.seats }
@@ -101,7 +100,38 @@ fn gather<S: Drop, L: Ledger>(mut works: Vec<LinkWork<S, L>>, back: Back<S, L>) 
     back
 }
 
-/// Closes the desk with what the workers left, and says who ended early.
+/// Takes apart what all workers handed back: the carriers', then the ticker, then the console's.
+fn gather_all<S: Drop, T: Drop, C: Drop, L: Ledger>(
+    all: AllWork<S, T, C, L>,
+    back: Back<S, L>,
+) -> (Back<S, L>, T, C)
+    requires few { vec_len all.carriers ≤ 16 }
+    requires stations { back.stations.items ≡ [] }
+    requires seats { back.seats.items ≡ [] }
+    requires ends { back.ends.items ≡ [] }
+    requires room { vec_len all.carriers ≤ vec_capacity back.stations }
+    requires seats_room { vec_len all.carriers + 2 ≤ vec_capacity back.seats }
+    ensures stations { result.0.stations.items ≡ map (λ w. w.station) all.carriers.items }
+    ensures seats { result.0.seats.items ≡ map (λ w. w.seat) all.carriers.items ++ all.ticker.seat ∷ all.console.seat ∷ [] }
+    ensures ends { result.0.ends.items ≡ map (λ w. w.ending) all.carriers.items ++ all.ticker.ending ∷ all.console.ending ∷ [] }
+    ensures pacer { result.1 ≡ all.ticker.pacer }
+    ensures console { result.2 ≡ all.console.station }
+{
+    let AllWork {
+        carriers,
+        ticker,
+        console,
+    } = all;
+    let mut back = gather(carriers, back);
+    back.seats.push_reserved(ticker.seat);
+    back.seats.push_reserved(console.seat);
+    back.ends.push(ticker.ending);
+    back.ends.push(console.ending);
+    (back, ticker.pacer, console.station)
+}
+
+/// Closes the desk with the seats that the workers left. `back` has room for what they handed back. `Err`: the desk gave no report; or
+/// else a worker ended early, the least such actor.
 pub fn finish<S, T, C, L, R>(
     rt: &R,
     desk: SharedDesk<L>,
@@ -127,53 +157,41 @@ where
         → AllDone 0 stations (map (λ w. done (S.stand w.station) w.seat w.ending) all.carriers.items)
         → IsTicked (length stations) pacer (T.paced all.ticker.pacer) all.ticker.seat all.ticker.ending
         → IsDone (length stations + 1) console (done (C.stand all.console.station) all.console.seat all.console.ending)
-        → IsTerm (record { site = desk.site; limit = desk.limit; stations = stations; pacer = pacer; console = console })
-        (record {
-          site = t.report.site;
-          journal = t.report.journal;
-          views = t.report.views.items;
-          ends = t.ends.items;
-          stations = map (λ s. S.stand s) t.stations.items;
-          pacer = T.paced t.pacer;
-          console = C.stand t.console;
-        })) }
+        → IsTerm (started desk.site desk.limit stations pacer console) (ended t.report t.ends.items (map (λ s. S.stand s) t.stations.items) (T.paced t.pacer) (C.stand t.console))) }
     ensures shut { IfOk result (λ t. All (λ w. w.ending ≡ Ending.GateShut → S.shut w.station) all.carriers.items
         → (k : ℕ) (s : _) → slice_get t.stations.items k ≡ Some s → slice_get t.ends.items k ≡ Some Ending.GateShut → S.shut s) }
-    ensures late { IfErr result IsLate }
+    ensures open { IfOk result (λ t. (all.console.ending ≡ Ending.GateShut → C.shut all.console.station)
+        → slice_get t.ends.items (vec_len all.carriers + 1) ≡ Some Ending.GateShut → C.shut t.console) }
+    ensures late { IfErr result (λ fault. (stations : List Stand) (pacer : Option Paced) (console : Stand)
+        → AllDone 0 stations (map (λ w. done (S.stand w.station) w.seat w.ending) all.carriers.items)
+        → IsTicked (length stations) pacer (T.paced all.ticker.pacer) all.ticker.seat all.ticker.ending
+        → IsDone (length stations + 1) console (done (C.stand all.console.station) all.console.seat all.console.ending)
+        → IsLate (started desk.site desk.limit stations pacer console) fault) }
 {
-    let AllWork {
-        carriers,
-        ticker,
-        console,
-    } = all;
+    let (back, pacer, console) = gather_all(all, back);
     let Back {
         stations,
-        mut seats,
-        mut ends,
-    } = gather(carriers, back);
-    seats.push_reserved(ticker.seat);
-    seats.push_reserved(console.seat);
-    ends.push(ticker.ending);
-    ends.push(console.ending);
+        seats,
+        ends,
+    } = back;
     let report = match desk.close(rt, seats) {
         Ok(report) => report,
         Err(fault) => return Err(TermFault::Audit(fault)),
     };
-    let entries = report.journal.as_slice().len();
-    match early(entries, limit, ends.as_slice()) {
+    match early(&report.journal, limit, &ends) {
         Some(actor) => Err(TermFault::Early(actor)),
         None => Ok(Term {
             report,
             ends,
             stations,
-            pacer: ticker.pacer,
-            console: console.station,
+            pacer,
+            console,
         }),
     }
 }
 
-/// Runs the workers, each in a thread of its own, from new seats: one for each station, then the ticker's, then the console's. `None`
-/// where a thread could not be started.
+/// Runs the workers, each in a thread of its own, from new seats: one for each station, then the ticker's, then the console's. `room` is
+/// for what the stations' workers hand back. `None` where a thread could not be started; those that were started have ended by then.
 pub fn run_threads<S, T, C, L, R>(
     rt: &R,
     desk: &SharedDesk<L>,

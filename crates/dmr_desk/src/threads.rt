@@ -198,7 +198,8 @@ pub struct Crew<S, T, C, L: Ledger> {
     ghost fits: { vec_len stations ≤ vec_capacity room },
 }
 
-/// As `run_all`.
+/// Starts the workers of all that the crew has, and waits for them. `None` where a thread could not be started; those that were started
+/// have ended by then.
 fn run_crew<'s, E, S, T, C, L, R>(
     rt: &'s R,
     scope: &'s Scope<'s, E>,
@@ -227,7 +228,8 @@ where
     run_all(rt, scope, desk, stations, seats, others, room)
 }
 
-/// Runs all workers, each in a thread of its own, and waits for them. `None` where a thread could not be started.
+/// Runs all workers, each in a thread of its own, and waits for them. `None` where a thread could not be started; those that were started
+/// have ended by then.
 pub fn start<S, T, C, L, R>(
     rt: &R,
     desk: &SharedDesk<L>,

@@ -2,6 +2,7 @@
 
 ghost use Rattle.std.specs.Prelude.{◌≡◌, ◌⊎◌, true, false, None, Some};
 ghost use Rattle.dmr_core.specs.declared.event.Event.{Event as AnEvent};
+ghost use Rattle.dmr_link.specs.declared.desk.TermOver.{TermOver as ATermOver};
 ghost use Rattle.dmr_link.specs.Talks.{is_live};
 ghost use Rattle.dmr_desk.specs.Work.{stand, moment, Going, Waiting, GoesOn, Works};
 
@@ -38,7 +39,7 @@ fn wait<S: Serving, D: Desk>(station: &mut S, desk: &mut D) -> Option<Ending>
     ensures actor { D.actor desk.new ≡ D.actor desk.old }
     ensures goes { (m : _) → Waiting m (moment (S.stand station.old) (D.calls desk.old)) → GoesOn m (moment (S.stand station.new) (D.calls desk.new)) result }
     ensures shut { result ≡ Some Ending.GateShut → ⊥ }
-    ensures over { result ≡ Some Ending.TermOver → ((before : _) × (event : AnEvent) × D.refuses before event desk.new) ⊎ ((before : _) × D.ends before desk.new) }
+    ensures over { result ≡ Some Ending.TermOver → ((before : _) × (event : AnEvent) × (over : ATermOver) × D.refuses before event over desk.new) ⊎ ((before : _) × D.ends before desk.new) }
 {
     if desk.over() {
         return Some(Ending::TermOver);
@@ -58,7 +59,7 @@ fn serve<S: Serving, D: Desk>(station: &mut S, desk: &mut D) -> Option<Ending>
     ensures actor { D.actor desk.new ≡ D.actor desk.old }
     ensures goes { (m : _) → Going m (moment (S.stand station.old) (D.calls desk.old)) → GoesOn m (moment (S.stand station.new) (D.calls desk.new)) result }
     ensures shut { result ≡ Some Ending.GateShut → S.shut station.new }
-    ensures over { result ≡ Some Ending.TermOver → ((before : _) × (event : AnEvent) × D.refuses before event desk.new) ⊎ ((before : _) × D.ends before desk.new) }
+    ensures over { result ≡ Some Ending.TermOver → ((before : _) × (event : AnEvent) × (over : ATermOver) × D.refuses before event over desk.new) ⊎ ((before : _) × D.ends before desk.new) }
 {
     if desk.over() {
         return Some(Ending::TermOver);
@@ -78,7 +79,7 @@ fn go_on<S: Serving, D: Desk>(station: &mut S, desk: &mut D) -> Option<Ending>
     ensures actor { D.actor desk.new ≡ D.actor desk.old }
     ensures goes { (m : _) → Going m (moment (S.stand station.old) (D.calls desk.old)) → GoesOn m (moment (S.stand station.new) (D.calls desk.new)) result }
     ensures shut { result ≡ Some Ending.GateShut → S.shut station.new }
-    ensures over { result ≡ Some Ending.TermOver → ((before : _) × (event : AnEvent) × D.refuses before event desk.new) ⊎ ((before : _) × D.ends before desk.new) }
+    ensures over { result ≡ Some Ending.TermOver → ((before : _) × (event : AnEvent) × (over : ATermOver) × D.refuses before event over desk.new) ⊎ ((before : _) × D.ends before desk.new) }
 {
     if station.live() {
         serve(station, desk)
@@ -92,7 +93,7 @@ pub fn work<R: Wait, S: Serving, D: Desk>(rt: &R, station: &mut S, desk: &mut D)
     ensures actor { D.actor desk.new ≡ D.actor desk.old }
     ensures works { Works (moment (S.stand station.old) (D.calls desk.old)) (moment (S.stand station.new) (D.calls desk.new)) result }
     ensures shut { result ≡ Ending.GateShut → S.shut station.new }
-    ensures over { result ≡ Ending.TermOver → ((before : _) × (event : AnEvent) × D.refuses before event desk.new) ⊎ ((before : _) × D.ends before desk.new) }
+    ensures over { result ≡ Ending.TermOver → ((before : _) × (event : AnEvent) × (over : ATermOver) × D.refuses before event over desk.new) ⊎ ((before : _) × D.ends before desk.new) }
 {
     for _ in rt.forever() {
         if let Some(ending) = go_on(station, desk) {
@@ -112,7 +113,7 @@ pub fn work_carrier<R: Wait, P: Port, G: Gate, D: Desk>(
     ensures actor { D.actor desk.new ≡ D.actor desk.old }
     ensures works { Works (moment (stand station.old.link (P.told station.old.port) (G.passed station.old.gate)) (D.calls desk.old)) (moment (stand station.new.link (P.told station.new.port) (G.passed station.new.gate)) (D.calls desk.new)) result }
     ensures shut { result ≡ Ending.GateShut → (before : _) × G.shuts before station.new.gate }
-    ensures over { result ≡ Ending.TermOver → ((before : _) × (event : AnEvent) × D.refuses before event desk.new) ⊎ ((before : _) × D.ends before desk.new) }
+    ensures over { result ≡ Ending.TermOver → ((before : _) × (event : AnEvent) × (over : ATermOver) × D.refuses before event over desk.new) ⊎ ((before : _) × D.ends before desk.new) }
 {
     work(rt, station, desk)
 }
@@ -127,7 +128,7 @@ pub fn work_console<R: Wait, P: Port, D: Desk>(
     ensures actor { D.actor desk.new ≡ D.actor desk.old }
     ensures works { Works (moment (stand station.old.link (P.told station.old.port) None) (D.calls desk.old)) (moment (stand station.new.link (P.told station.new.port) None) (D.calls desk.new)) result }
     ensures open { result ≡ Ending.GateShut → ⊥ }
-    ensures over { result ≡ Ending.TermOver → ((before : _) × (event : AnEvent) × D.refuses before event desk.new) ⊎ ((before : _) × D.ends before desk.new) }
+    ensures over { result ≡ Ending.TermOver → ((before : _) × (event : AnEvent) × (over : ATermOver) × D.refuses before event over desk.new) ⊎ ((before : _) × D.ends before desk.new) }
 {
     work(rt, station, desk)
 }

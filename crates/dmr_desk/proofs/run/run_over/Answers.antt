@@ -1,11 +1,11 @@
-use Rattle.std.proofs.Common.{rules, ◌≡◌, ℕ, List, map, length, ap, ◌∙◌, sym, refl}
+use Rattle.std.proofs.Common.{◌≡◌, map, length, vec_len, ◌∙◌, sym}
 use Rattle.std.proofs.lemmas.List.{length-map}
-use Rattle.dmr_desk.proofs.Refusals.{if_ok_map, late_result}
+use Rattle.dmr_desk.proofs.Refusals.{if_ok_map, if_err_map, late_fault, on_ok}
 use Rattle.dmr_desk.proofs.run.run_over.Goals as goal
 
 pub returns-in-Some-clause-term : goal.returns-in-Some-clause-term
 returns-in-Some-clause-term g c =
-    let n : length (map (λ s. g.S.Serving.stand s) c.args.stations.items) ≡ length c.args.stations.items = length-map c.args.stations.items (λ s. g.S.Serving.stand s) in
+    let n : vec_len c.args.stations ≡ length (map (λ s. g.S.Serving.stand s) c.args.stations.items) = c.args.stations.ok.0 ∙ sym (length-map c.args.stations.items (λ s. g.S.Serving.stand s)) in
     if_ok_map c.finish.result _ _
     (λ t h. let k = h _ _ _ (rw c.in-Some.is at c.run_threads.ensures.carriers) (rw (n, c.in-Some.is) at c.run_threads.ensures.ticker) (rw (n, c.in-Some.is) at c.run_threads.ensures.console) in rw c.in-Ok.ensures.desk at k)
     c.finish.ensures.term
@@ -13,5 +13,15 @@ returns-in-Some-clause-term g c =
 pub returns-in-Some-clause-shut : goal.returns-in-Some-clause-shut
 returns-in-Some-clause-shut g c = if_ok_map c.finish.result _ _ (λ t h. h (rw c.in-Some.is at c.run_threads.ensures.shut)) c.finish.ensures.shut
 
+pub returns-in-Some-clause-open : goal.returns-in-Some-clause-open
+returns-in-Some-clause-open g c = if_ok_map c.finish.result _ _ (λ t h. rw (rw c.in-Some.is at c.run_threads.ensures.len) at h (rw c.in-Some.is at c.run_threads.ensures.open)) c.finish.ensures.open
+
 pub returns-in-Some-clause-fault : goal.returns-in-Some-clause-fault
-returns-in-Some-clause-fault g c = late_result c.args.limit c.finish.result (rw c.in-Ok.is at c.open.ensures.numbers).0 c.finish.ensures.late
+returns-in-Some-clause-fault g c =
+    let n : vec_len c.args.stations ≡ length (map (λ s. g.S.Serving.stand s) c.args.stations.items) = c.args.stations.ok.0 ∙ sym (length-map c.args.stations.items (λ s. g.S.Serving.stand s)) in
+    if_err_map c.finish.result _ _
+    (λ fault h. late_fault _ fault (rw c.in-Ok.is at c.open.ensures.numbers).0 (let k = h _ _ _ (rw c.in-Some.is at c.run_threads.ensures.carriers) (rw (n, c.in-Some.is) at c.run_threads.ensures.ticker) (rw (n, c.in-Some.is) at c.run_threads.ensures.console) in rw c.in-Ok.ensures.desk at k))
+    c.finish.ensures.late
+
+pub returns-in-Some-clause-limit : goal.returns-in-Some-clause-limit
+returns-in-Some-clause-limit g c = on_ok c.finish.result _ (rw c.in-Ok.is at c.open.ensures.numbers).0

@@ -1,34 +1,61 @@
-use Rattle.std.proofs.Common.{rules, ◌≡◌, List, [], ◌∷◌, ◌++◌, map, Some, None, ap, ◌∙◌, sym, refl, length, append_assoc}
-use Rattle.dmr_desk.specs.Work.{Stand}
+use Rattle.std.proofs.Common.{◌≡◌, List, [], ◌∷◌, ◌++◌, map, length, Some, None, ap, ◌∙◌, sym, refl}
 use Rattle.dmr_desk.specs.Refusing.{early_actor}
-use Rattle.dmr_desk.specs.Sitting.{Sitting}
 use Rattle.dmr_desk.specs.Term.{Done, done}
-use Rattle.dmr_desk.proofs.Terms.{term_holds, map_same, two_more, shut_at}
+use Rattle.dmr_desk.proofs.Terms.{has_run, is_term, is_early, is_unaudited, map_same, map_parts, shut_at, last_shut}
 use Rattle.dmr_desk.proofs.term.finish.Goals as goal
 
 pub returns-in-None-clause-term : goal.returns-in-None-clause-term
-returns-in-None-clause-term g c = λ stations pacer console all t k.
+returns-in-None-clause-term g c = λ stations pacer console all ticked worked.
     let ws = c.args.all.carriers.items in
     let ds : List Done = map (λ w. done (g.S.Serving.stand w.station) w.seat w.ending) ws in
+    let last_tick = c.args.all.ticker in
     let last = c.args.all.console in
-    let es = c.push-2.ensures.items ∙ ap (λ x. x ++ last.ending ∷ []) (c.push.ensures.items ∙ ap (λ x. x ++ c.args.all.ticker.ending ∷ []) (c.gather-stations.ensures.ends ∙ ap (λ x. x ++ map (λ w. w.ending) ws) c.requires.ends)) in
-    let ss = c.push_reserved-2.ensures.items ∙ ap (λ x. x ++ last.seat ∷ []) (c.push_reserved.ensures.items ∙ ap (λ x. x ++ c.args.all.ticker.seat ∷ []) (c.gather-stations.ensures.seats ∙ ap (λ x. x ++ map (λ w. w.seat) ws) c.requires.seats)) in
-    let st = c.gather-stations.ensures.stations ∙ ap (λ x. x ++ map (λ w. w.station) ws) c.requires.stations in
-    let n : c.len.result ≡ length c.in-Ok.report.journal = search rules in
-    let q : early_actor c.len.result c.args.limit c.as_slice.result.now ≡ None = sym c.early.ensures ∙ c.in-None.is in
-    let told : early_actor (length c.in-Ok.report.journal) c.args.desk.limit c.push-2.new.self.items ≡ None = rw (n, c.as_slice.ensures.value, ← c.requires.limit) at q in
-    term_holds c.args.desk _ c.in-Ok.report _ _ stations ds pacer _ c.args.all.ticker.seat c.args.all.ticker.ending console (done (g.C.Serving.stand last.station) last.seat last.ending)
+    let back = c.gather_all-back.ensures in
+    let told : early_actor (length c.in-Ok.report.journal) c.args.desk.limit c.gather_all-back.result.0.ends.items ≡ None = rw c.requires.limit (sym c.early.ensures ∙ c.in-None.is) in
+    rw (back.pacer, back.console) (is_term _ _ (has_run c.args.desk _ c.in-Ok.report _ _ stations ds pacer _ last_tick.seat last_tick.ending console (done (g.C.Serving.stand last.station) last.seat last.ending)
     c.in-Ok.ensures.ok
-    (ss ∙ two_more _ _ _ ws c.args.all.ticker.seat last.seat (λ w. refl))
-    (es ∙ two_more _ _ _ ws c.args.all.ticker.ending last.ending (λ w. refl))
-    (ap (map (λ s. g.S.Serving.stand s)) st ∙ map_same _ _ _ _ ws (λ w. refl))
-    all t k told
+    (back.seats ∙ ap (λ x. x ++ last_tick.seat ∷ last.seat ∷ []) (map_parts _ _ _ ws (λ w. refl)))
+    (back.ends ∙ ap (λ x. x ++ last_tick.ending ∷ last.ending ∷ []) (map_parts _ _ _ ws (λ w. refl)))
+    (ap (map (λ s. g.S.Serving.stand s)) back.stations ∙ map_same _ _ _ _ ws (λ w. refl))
+    all ticked worked) told)
+
+pub returns-in-Some-clause-late : goal.returns-in-Some-clause-late
+returns-in-Some-clause-late g c = λ stations pacer console all ticked worked.
+    let ws = c.args.all.carriers.items in
+    let ds : List Done = map (λ w. done (g.S.Serving.stand w.station) w.seat w.ending) ws in
+    let last_tick = c.args.all.ticker in
+    let last = c.args.all.console in
+    let back = c.gather_all-back.ensures in
+    let told : early_actor (length c.in-Ok.report.journal) c.args.desk.limit c.gather_all-back.result.0.ends.items ≡ Some c.in-Some.actor = rw c.requires.limit (sym c.early.ensures ∙ c.in-Some.is) in
+    is_early _ _ _ (has_run c.args.desk _ c.in-Ok.report _ _ stations ds pacer _ last_tick.seat last_tick.ending console (done (g.C.Serving.stand last.station) last.seat last.ending)
+    c.in-Ok.ensures.ok
+    (back.seats ∙ ap (λ x. x ++ last_tick.seat ∷ last.seat ∷ []) (map_parts _ _ _ ws (λ w. refl)))
+    (back.ends ∙ ap (λ x. x ++ last_tick.ending ∷ last.ending ∷ []) (map_parts _ _ _ ws (λ w. refl)))
+    (ap (map (λ s. g.S.Serving.stand s)) back.stations ∙ map_same _ _ _ _ ws (λ w. refl))
+    all ticked worked) told
+
+pub returns-in-Err-clause-late : goal.returns-in-Err-clause-late
+returns-in-Err-clause-late g c = λ stations pacer console all ticked worked.
+    let ws = c.args.all.carriers.items in
+    let ds : List Done = map (λ w. done (g.S.Serving.stand w.station) w.seat w.ending) ws in
+    let last_tick = c.args.all.ticker in
+    let last = c.args.all.console in
+    let back = c.gather_all-back.ensures in
+    let refused = c.in-Err.ensures.fault in
+    is_unaudited c.args.desk _ refused.0 _ stations ds pacer _ last_tick.seat last_tick.ending console (done (g.C.Serving.stand last.station) last.seat last.ending)
+    refused.1 refused.2
+    (back.seats ∙ ap (λ x. x ++ last_tick.seat ∷ last.seat ∷ []) (map_parts _ _ _ ws (λ w. refl)))
+    all ticked worked
 
 pub returns-in-None-clause-shut : goal.returns-in-None-clause-shut
 returns-in-None-clause-shut g c = λ all place s gs ge.
     let ws = c.args.all.carriers.items in
-    let last = c.args.all.console in
-    let es = c.push-2.ensures.items ∙ ap (λ x. x ++ last.ending ∷ []) (c.push.ensures.items ∙ ap (λ x. x ++ c.args.all.ticker.ending ∷ []) (c.gather-stations.ensures.ends ∙ ap (λ x. x ++ map (λ w. w.ending) ws) c.requires.ends)) in
-    let st = c.gather-stations.ensures.stations ∙ ap (λ x. x ++ map (λ w. w.station) ws) c.requires.stations in
-    let more = es ∙ append_assoc (map (λ w. w.ending) ws) (c.args.all.ticker.ending ∷ []) (last.ending ∷ []) in
-    shut_at (λ w. w.station) (λ w. w.ending) (λ x. g.S.Serving.shut x) ws _ all place s (rw st at gs) (rw more at ge)
+    let back = c.gather_all-back.ensures in
+    shut_at (λ w. w.station) (λ w. w.ending) (λ x. g.S.Serving.shut x) ws _ all place s (rw back.stations at gs) (rw back.ends at ge)
+
+pub returns-in-None-clause-open : goal.returns-in-None-clause-open
+returns-in-None-clause-open g c = λ shut ge.
+    let all = c.args.all in
+    let back = c.gather_all-back.ensures in
+    let same = last_shut (λ w. w.ending) all.carriers.items all.ticker.ending all.console.ending _ (sym all.carriers.ok.0) (rw back.ends at ge) in
+    rw back.console (shut same)

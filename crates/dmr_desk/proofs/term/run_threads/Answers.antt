@@ -1,14 +1,12 @@
-use Rattle.std.proofs.Common.{rules, ◌≡◌, List, [], ◌∷◌, ◌++◌, ◌+◌, ℕ, length, ap, arith, refl, sym, ◌∙◌, subst}
-use Rattle.dmr_desk.specs.Sitting.{Sitting, empty_seats}
-use Rattle.dmr_desk.specs.Term.{IsNew, AreNew}
-use Rattle.dmr_desk.proofs.Crews.{new_but_last, new_then, all_new_then, empty_new, crew_of}
+use Rattle.std.proofs.Common.{rules, ◌∙◌}
+use Rattle.dmr_desk.proofs.Crews.{new_then, all_new_then, crew_of}
 use Rattle.dmr_desk.proofs.term.run_threads.Goals as goal
 
 pub invariant_of-crew : goal.invariant_of-crew
 invariant_of-crew g c =
     let k = crew_of _ _ _ _ _ _ c.requires.seats (rw c.in_ok-console_seat.was at c.pop.ensures.items) (rw c.in_ok-pacer_seat.was at c.pop-2.ensures.items) in
     record {
-      each = k.0;
+      each = c.pop-2.new.self.ok.0 ∙ k.0;
       new = all_new_then _ _ k.1;
       pacer = new_then _ _ k.2;
       console = new_then _ _ k.3;

@@ -1,8 +1,7 @@
-use Rattle.std.proofs.Common.{rules, ◌≡◌, ℕ, ◌+◌, List, [], ◌∷◌, ◌++◌, map, length, Some, None, ap, ◌∙◌, sym, refl, subst}
+use Rattle.std.proofs.Common.{◌≡◌, length, ◌∙◌, sym}
 use Rattle.std.proofs.lemmas.List.{map-append}
 use Rattle.std.proofs.lemmas.List.Elements.{All-push}
-use Rattle.dmr_desk.specs.Sitting.{Sitting}
-use Rattle.dmr_desk.specs.Term.{IsDone, AllDone, IsNew, AreNew, done}
+use Rattle.dmr_desk.specs.declared.ending.Ending.TheVariants.{GateShut}
 use Rattle.dmr_desk.proofs.Crews.{all_done_snoc, new_but_last, last_number}
 use Rattle.dmr_desk.proofs.threads.+run_all.Goals as goal
 
@@ -17,7 +16,8 @@ returns-in-Some-rest-clause-carriers g t c =
     let o = rw c.in-Ok.is at c.spawn_with.ensures.ok in
     let k = rw o at c.join-work.ensures in
     let kept = rw c.of.ensures at k in
-    let number = last_number _ _ _ _ _ _ (λ s. g.S.Serving.stand s) c.requires.each c.in-Some.ensures.items c.in-Some-pop.ensures.items c.requires.new in
+    let each : length c.args.seats.items ≡ length c.args.stations.items = sym c.args.seats.ok.0 ∙ c.requires.each ∙ c.args.stations.ok.0 in
+    let number = last_number _ _ _ _ _ _ (λ s. g.S.Serving.stand s) each c.in-Some.ensures.items c.in-Some-pop.ensures.items c.requires.new in
     rw (c.in-Some.ensures.items, c.push_reserved.ensures.items, map-append, map-append)
     (all_done_snoc 0 _ _ _ _ (rw c.in-Some-rest.is at c.run_all-rest.ensures.carriers) (kept.0.0 ∙ c.actor.ensures ∙ number, kept.0.1))
 
@@ -25,4 +25,4 @@ pub returns-in-Some-rest-clause-shut : goal.returns-in-Some-rest-clause-shut
 returns-in-Some-rest-clause-shut g t c =
     let o = rw c.in-Ok.is at c.spawn_with.ensures.ok in
     let k = rw o at c.join-work.ensures in
-    rw c.push_reserved.ensures.items (All-push _ _ _ (rw c.in-Some-rest.is at c.run_all-rest.ensures.shut) k.1)
+    rw c.push_reserved.ensures.items (All-push (λ w. w.ending ≡ GateShut → g.S.Serving.shut w.station) _ _ (rw c.in-Some-rest.is at c.run_all-rest.ensures.shut) k.1)

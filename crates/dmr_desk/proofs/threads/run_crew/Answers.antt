@@ -1,5 +1,4 @@
-use Rattle.std.proofs.Common.{rules, ◌≡◌}
-use Rattle.dmr_desk.proofs.Crews.{new_if, all_new_if}
+use Rattle.dmr_desk.proofs.Crews.{all_new_if}
 use Rattle.dmr_desk.proofs.threads.run_crew.Goals as goal
 
 pub run_all-requires-clause-new : goal.run_all-requires-clause-new

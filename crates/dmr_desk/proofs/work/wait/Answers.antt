@@ -1,6 +1,4 @@
-use Rattle.std.proofs.Common.{true, sym, ap, ◌∙◌, ◌≡◌}
-use Rattle.dmr_link.specs.Talks.{is_live}
-use Rattle.dmr_desk.specs.Work.{Moment, Stand, moment, Waiting}
+use Rattle.dmr_desk.specs.Work.{Stand, moment, Waiting}
 use Rattle.dmr_desk.proofs.Working.{same_calls, went_again, went_cut, went_cut_over}
 use Rattle.dmr_desk.proofs.work.wait.Goals as goal
 

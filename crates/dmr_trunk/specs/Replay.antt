@@ -1,5 +1,5 @@
 -- What a replay prints, or why it prints nothing.
-use Rattle.std.specs.Prelude.{◌≡◌, ◌⊎◌, ⊤, ℕ, Bool, true, false, List, [], ◌∷◌, ◌++◌, Option, Some, None, Result, Ok, Err, if◌then◌else◌, codes, flat_map}
+use Rattle.std.specs.Prelude.{◌≡◌, ◌⊎◌, ⊤, ℕ, Bool, true, false, List, [], ◌∷◌, ◌++◌, Option, Some, None, Result, Ok, Err, IsOk, if◌then◌else◌, codes, flat_map}
 use Rattle.std.specs.List.{range_with_len}
 use Rattle.std.specs.Fmt.{decimal}
 use Rattle.std.specs.Io.KnownBytes.{Appends}
@@ -114,12 +114,16 @@ pub record AreReplayed (gave : Text → Option (List ℕ) → Type 0) (site_path
   pub script_given : gave script_path script
   pub printed : IsPrinted (outcome site script) old new
 
+-- a site file that could be read has a plan
+abbrev pub IsPlanned : Option (List ℕ) → Type 0
+IsPlanned None = ⊥
+IsPlanned (Some site) = IsOk (plan_in site)
+
 -- the site file of a path, as it was given for this, has a plan
 pub record HasPlan (gave : Text → Option (List ℕ) → Type 0) (site_path : Text) : Type 0 where
-  pub site : List ℕ
-  pub plan : Settings
-  pub given : gave site_path (Some site)
-  pub planned : plan_in site ≡ Ok plan
+  pub site : Option (List ℕ)
+  pub given : gave site_path site
+  pub planned : IsPlanned site
 
 -- a job was done: its two files were replayed, or its site file had a plan, whose site was
 -- served, and nothing was printed

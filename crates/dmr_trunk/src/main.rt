@@ -20,10 +20,10 @@ mod serving;
 mod status;
 mod words;
 
-ghost use Rattle.std.specs.Prelude.{◌≡◌, IfOk, map, option_map, string_bytes};
-ghost use Rattle.dmr_trunk.specs.Replay.{AreReplayed, IsDone, IsReplayed, IsReplayedBySome, IsStatus};
+ghost use Rattle.std.specs.Prelude.{◌≡◌, IfOk, map, string_bytes};
+ghost use Rattle.dmr_trunk.specs.Replay.{AreReplayed, HasPlan, IsDone, IsReplayed, IsReplayedBySome, IsStatus};
 
-use crate::files::{FileSource, SystemFiles};
+use crate::files::{FileSource, SystemFiles, slice_of};
 use crate::replay::replay;
 use crate::serving::serve_file;
 use crate::status::{out_of_memory, words_refused};
@@ -49,16 +49,6 @@ fn texts_of(alloc: Global, words: &[String]) -> Result<Vec<&str>, OutOfMemory>
         texts.push(word.as_str())?;
     }
     Ok(texts)
-}
-
-/// The octets of a file that could be read.
-fn slice_of(octets: &Option<Vec<u8>>) -> Option<&[u8]>
-    ensures { option_map (λ o. o.now) result ≡ option_map (λ o. o.items) octets.now }
-{
-    match octets {
-        Some(octets) => Some(octets.as_slice()),
-        None => None,
-    }
 }
 
 /// Replays the script of one path over the site file of another, and answers the exit status.
@@ -87,6 +77,23 @@ fn replay_files<S: FileSource, W: Write, E: Write>(
     ))
 }
 
+/// Serves the site of the site file of a path, and answers the exit status. Nothing is printed to standard output.
+fn serve_path<R: Net + Log + Clock + Wait + Threads + Sync, S: FileSource, E: Write>(
+    rt: &R,
+    alloc: Global,
+    files: &S,
+    site: &str,
+    terms: u32,
+    err: &mut E,
+) -> Result<u8, OutOfMemory>
+    ensures status { IfOk result IsStatus }
+    // At status 0 the file of the path, as the source gave it, has a plan.
+    ensures ok { IfOk result (λ status. status ≡ 0 → HasPlan (S.gave files.now) site.now) }
+{
+    let site_octets = files.octets_of(site)?;
+    Ok(serve_file(rt, alloc, site, slice_of(&site_octets), terms, err))
+}
+
 /// Does a job with the files of a source, and answers the exit status.
 fn do_job<R: Net + Log + Clock + Wait + Threads + Sync, S: FileSource, W: Write, E: Write>(
     rt: &R,
@@ -101,7 +108,7 @@ fn do_job<R: Net + Log + Clock + Wait + Threads + Sync, S: FileSource, W: Write,
 {
     match job {
         Job::Script { site, script } => replay_files(alloc, files, site, script, out, err),
-        Job::Serve { site, terms } => serve_file(rt, alloc, files, site, terms, err),
+        Job::Serve { site, terms } => serve_path(rt, alloc, files, site, terms, err),
     }
 }
 

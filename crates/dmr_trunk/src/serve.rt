@@ -6,7 +6,7 @@ use crate::notes::{Notes, Whose};
 use crate::pacer::ClockPacer;
 use crate::port::{PortFault, SocketPort};
 use dmr_core::Site;
-use dmr_desk::{ConsoleStation, Station, TermFault, run_term};
+use dmr_desk::{ConsoleStation, Station, Term, TermFault, run_term};
 use dmr_link::{ConsoleLink, Link, OpenGate};
 use dmr_pdu::{CarrierNo, OutOfMemory};
 use dmr_plan::Plan;
@@ -143,12 +143,19 @@ fn serve_term<'a, R: Log + Clock + Wait + Threads + Sync>(
     } = standing;
     match run_term(rt, alloc, site, limit, stations, pacer, console) {
         Ok(term) => {
-            notes.term_ended(term.report.journal.as_slice().len());
+            let Term {
+                report,
+                ends: _,
+                stations,
+                pacer,
+                console,
+            } = term;
+            notes.term_ended(report.journal.as_slice().len());
             Ok(Standing {
-                site: term.report.site,
-                stations: term.stations,
-                pacer: term.pacer,
-                console: term.console,
+                site: report.site,
+                stations,
+                pacer,
+                console,
                 notes,
             })
         }

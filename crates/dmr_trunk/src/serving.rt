@@ -1,14 +1,12 @@
 //! Serving the site of a site file: the file, and the statuses and texts of what may go wrong.
 
-ghost use Rattle.std.specs.Prelude.{◌≡◌, ◌⊎◌, IfOk};
-ghost use Rattle.dmr_trunk.specs.Replay.{HasPlan, IsStatus};
+ghost use Rattle.std.specs.Prelude.{◌≡◌, ◌⊎◌, IfOk, option_map};
+ghost use Rattle.dmr_trunk.specs.Replay.{IsPlanned, IsStatus};
 
-use crate::files::FileSource;
 use crate::replay::{ReplayFault, plan_of};
 use crate::serve::{ServeFault, serve};
 use crate::status::{AUDIT, FAULT, MEMORY, OK};
 use dmr_desk::{CloseFault, OpenFault, TermFault};
-use dmr_pdu::OutOfMemory;
 use dmr_plan::Plan;
 use log::Log;
 use std::alloc::Global;
@@ -63,50 +61,56 @@ fn write_term_fault<W: fmt::Write>(fault: TermFault, f: &mut fmt::Formatter<W>) 
     }
 }
 
-/// Reads a site file.
-fn read_site<'a, S: FileSource>(
+/// The plan of a site file, if it could be read.
+fn plan_in<'a>(
     alloc: Global,
-    files: &S,
-    site: &'a str,
-) -> Result<Result<Plan, ReplayFault<'a>>, OutOfMemory>
-    ensures { IfOk result (λ read. IfOk read (λ _. HasPlan (S.gave files.now) site.now)) }
+    site_name: &'a str,
+    site: Option<&[u8]>,
+) -> Result<Plan, ReplayFault<'a>>
+    ensures plan { IfOk result (λ _. IsPlanned (option_map (λ o. o.now) site.entry)) }
 {
-    match files.octets_of(site)? {
-        Some(octets) => Ok(plan_of(alloc, octets.as_slice())),
-        None => Ok(Err(ReplayFault::CannotRead(site))),
+    plan_of(alloc, site.ok_or(ReplayFault::CannotRead(site_name))?)
+}
+
+/// Serves the site of a plan, and answers the exit status. What goes wrong is told to `err`.
+fn serve_plan<R, E>(rt: &R, alloc: Global, plan: Plan, terms: u32, err: &mut E) -> u8
+where
+    R: Net + Log + Clock + Wait + Threads + Sync,
+    E: Write,
+    ensures status { IsStatus result }
+{
+    match serve(rt, alloc, plan, terms) {
+        Ok(()) => OK,
+        Err(fault) => {
+            let _ = writeln!(err, "dmr_trunk: {fault}");
+            fault.status()
+        }
     }
 }
 
-/// Serves the site of the site file of a path, and answers the exit status. What goes wrong is told to `err` as one line; that it
-/// could not be written there is passed over.
-pub fn serve_file<R, S, E>(
+/// Serves the site of a site file, and answers the exit status. The file comes as its octets, or None where it could not be read,
+/// beside the name that a fault calls it by. What goes wrong is told to `err` as one line; that it could not be written there is
+/// passed over.
+pub fn serve_file<R, E>(
     rt: &R,
     alloc: Global,
-    files: &S,
-    site: &str,
+    site_name: &str,
+    site: Option<&[u8]>,
     terms: u32,
     err: &mut E,
-) -> Result<u8, OutOfMemory>
+) -> u8
 where
     R: Net + Log + Clock + Wait + Threads + Sync,
-    S: FileSource,
     E: Write,
-    ensures status { IfOk result IsStatus }
-    // At status 0 the file of the path, as the source gave it, has a plan.
-    ensures ok { IfOk result (λ status. status ≡ OK → HasPlan (S.gave files.now) site.now) }
+    ensures status { IsStatus result }
+    // At status 0 the file has a plan.
+    ensures ok { result ≡ OK → IsPlanned (option_map (λ o. o.now) site.entry) }
 {
-    let plan = match read_site(alloc, files, site)? {
-        Ok(plan) => plan,
+    match plan_in(alloc, site_name, site) {
+        Ok(plan) => serve_plan(rt, alloc, plan, terms, err),
         Err(fault) => {
             let _ = writeln!(err, "dmr_trunk: {fault}");
-            return Ok(fault.status());
-        }
-    };
-    match serve(rt, alloc, plan, terms) {
-        Ok(()) => Ok(OK),
-        Err(fault) => {
-            let _ = writeln!(err, "dmr_trunk: {fault}");
-            Ok(fault.status())
+            fault.status()
         }
     }
 }

@@ -1,9 +1,9 @@
 -- Worked values of command lines. The first word is the program's name.
-use Rattle.std.proofs.Common.{◌≡◌, List, [], ◌∷◌, Some, codes, refl}
+use Rattle.std.proofs.Common.{◌≡◌, List, [], ◌∷◌, Some, None, codes, refl}
 use Rattle.clap.specs.Words.{Text}
 use Rattle.clap.proofs.OnLiterals.{clap_on_literals}
-use Rattle.clap.specs.declared.error.kind.ErrorKind.TheVariants.{ArgumentConflict, DisplayHelp, InvalidValue, MissingRequiredArgument, UnknownArgument}
-use Rattle.dmr_trunk.specs.Words.{faults_in, value_in}
+use Rattle.clap.specs.declared.error.kind.ErrorKind.TheVariants.{ArgumentConflict, DisplayHelp, InvalidValue, MissingRequiredArgument, UnknownArgument, ValueValidation}
+use Rattle.dmr_trunk.specs.Words.{faults_in, one_in, value_in}
 
 abbrev both : List Text
 both = codes "dmr_trunk" ∷ codes "--site" ∷ codes "a.toml" ∷ codes "--script" ∷ codes "b.txt" ∷ []
@@ -31,9 +31,45 @@ site_by_equals : value_in by_equals (codes "site") ≡ Some (codes "a.toml")
 unfolding clap_on_literals value_in
 site_by_equals = refl
 
-no_script : faults_in (codes "dmr_trunk" ∷ codes "--site" ∷ codes "a.toml" ∷ []) ≡ MissingRequiredArgument ∷ []
+no_site : faults_in (codes "dmr_trunk" ∷ codes "--script" ∷ codes "b.txt" ∷ []) ≡ MissingRequiredArgument ∷ []
 unfolding clap_on_literals faults_in
-no_script = refl
+no_site = refl
+
+-- where a script is given and nothing is served, the flag says so, and there are 0 terms
+flag_of_both : one_in both (codes "serve") ≡ Some (codes "false")
+unfolding clap_on_literals one_in
+flag_of_both = refl
+
+terms_of_both : one_in both (codes "terms") ≡ Some (codes "0")
+unfolding clap_on_literals one_in
+terms_of_both = refl
+
+abbrev served : List Text
+served = codes "dmr_trunk" ∷ codes "--site" ∷ codes "a.toml" ∷ codes "--serve" ∷ codes "--terms" ∷ codes "12" ∷ []
+
+taken_served : faults_in served ≡ []
+unfolding clap_on_literals faults_in
+taken_served = refl
+
+flag_of_served : one_in served (codes "serve") ≡ Some (codes "true")
+unfolding clap_on_literals one_in
+flag_of_served = refl
+
+terms_of_served : one_in served (codes "terms") ≡ Some (codes "12")
+unfolding clap_on_literals one_in
+terms_of_served = refl
+
+script_of_served : value_in served (codes "script") ≡ None
+unfolding clap_on_literals value_in
+script_of_served = refl
+
+most_terms : faults_in (codes "dmr_trunk" ∷ codes "--site" ∷ codes "a.toml" ∷ codes "--serve" ∷ codes "--terms" ∷ codes "1000000" ∷ []) ≡ []
+unfolding clap_on_literals faults_in
+most_terms = refl
+
+too_many_terms : faults_in (codes "dmr_trunk" ∷ codes "--site" ∷ codes "a.toml" ∷ codes "--serve" ∷ codes "--terms" ∷ codes "1000001" ∷ []) ≡ ValueValidation ∷ []
+unfolding clap_on_literals faults_in
+too_many_terms = refl
 
 no_file : faults_in (codes "dmr_trunk" ∷ codes "--script" ∷ codes "b.txt" ∷ codes "--site" ∷ []) ≡ InvalidValue ∷ []
 unfolding clap_on_literals faults_in

@@ -1,5 +1,5 @@
 -- What a replay prints, or why it prints nothing.
-use Rattle.std.specs.Prelude.{◌≡◌, ◌⊎◌, ⊤, ℕ, Bool, true, false, List, [], ◌∷◌, ◌++◌, Option, Some, None, Result, Ok, Err, if◌then◌else◌, codes, flat_map}
+use Rattle.std.specs.Prelude.{◌≡◌, ◌⊎◌, ⊤, ℕ, Bool, true, false, List, [], ◌∷◌, ◌++◌, Option, Some, None, Result, Ok, Err, IsOk, if◌then◌else◌, codes, flat_map}
 use Rattle.std.specs.List.{range_with_len}
 use Rattle.std.specs.Fmt.{decimal}
 use Rattle.std.specs.Io.KnownBytes.{Appends}
@@ -15,7 +15,7 @@ use Rattle.dmr_trunk.specs.declared.replay.ReplayFault.TheVariants as fault
 use Rattle.dmr_trunk.specs.Inputs.{put_out, told}
 use Rattle.dmr_trunk.specs.Script.{Given, inputs_of, script_of}
 use Rattle.dmr_trunk.specs.declared.words.Job.{Job}
-use Rattle.dmr_trunk.specs.declared.words.Job.TheVariants.{Script}
+use Rattle.dmr_trunk.specs.declared.words.Job.TheVariants.{Script, Serve}
 use Rattle.dmr_trunk.specs.Words.{AskFor}
 use Rattle.clap.specs.Words.{Text}
 
@@ -101,9 +101,10 @@ abbrev pub status_of : ReplayFault → ℕ
 status_of fault.OutOfMemory = 4
 status_of fault = 1
 
--- a status that the program ends with: all went through, a file or the output is at fault, the words are refused, no memory
+-- a status that the program ends with: all went through, a file or the output is at fault, the words are refused, an audit found a
+-- difference, no memory or no thread
 abbrev pub IsStatus : ℕ → Type 0
-IsStatus status = (status ≡ 0) ⊎ (status ≡ 1) ⊎ (status ≡ 2) ⊎ (status ≡ 4)
+IsStatus status = (status ≡ 0) ⊎ (status ≡ 1) ⊎ (status ≡ 2) ⊎ (status ≡ 3) ⊎ (status ≡ 4)
 
 -- the files of two paths, as they were given for these, give a text, and the writer got the whole of it
 pub record AreReplayed (gave : Text → Option (List ℕ) → Type 0) (site_path script_path : Text) (old new : Option (List ℕ)) : Type 0 where
@@ -113,9 +114,22 @@ pub record AreReplayed (gave : Text → Option (List ℕ) → Type 0) (site_path
   pub script_given : gave script_path script
   pub printed : IsPrinted (outcome site script) old new
 
--- a job was done: its two files were replayed
+-- a site file that could be read has a plan
+abbrev pub IsPlanned : Option (List ℕ) → Type 0
+IsPlanned None = ⊥
+IsPlanned (Some site) = IsOk (plan_in site)
+
+-- the site file of a path, as it was given for this, has a plan
+pub record HasPlan (gave : Text → Option (List ℕ) → Type 0) (site_path : Text) : Type 0 where
+  pub site : Option (List ℕ)
+  pub given : gave site_path site
+  pub planned : IsPlanned site
+
+-- a job was done: its two files were replayed, or its site file had a plan, whose site was
+-- served, and nothing was printed
 abbrev pub IsDone : (Text → Option (List ℕ) → Type 0) → Job → Option (List ℕ) → Option (List ℕ) → Type 0
 IsDone gave (Script site script) old new = AreReplayed gave site.now script.now old new
+IsDone gave (Serve site terms) old new = HasPlan gave site.now × (new ≡ old)
 
 -- the words are taken, and what they ask for was done
 pub record IsReplayed (gave : Text → Option (List ℕ) → Type 0) (words : List Text) (old new : Option (List ℕ)) : Type 0 where

@@ -1,22 +1,49 @@
 -- What the words of the command line ask for.
-use Rattle.std.specs.Prelude.{◌≡◌, ◌≢◌, List, [], Option, Some, true, codes}
-use Rattle.clap.specs.Words.{App, Kinds, Rule, Text, fault_of, first_of, matches_of, new_app, new_rule, with_rule}
-use Rattle.clap.specs.declared.builder.action.ArgAction.TheVariants.{Set}
+use Rattle.std.specs.Prelude.{◌≡◌, ◌≢◌, ◌⊎◌, ℕ, List, [], ◌∷◌, Option, Some, None, Result, Ok, Err, Bool, true, is_some, codes, pos, ◌^◌, ◌<◌}
+use Rattle.std.specs.Str.Parse.{IsNumeral, digits_value, without_leading_plus}
+use Rattle.clap.specs.Words.{App, Kinds, Rule, Text, fault_of, first_of, first_value, found_of, matches_of, new_app, new_rule, one_of, one_text, with_rule}
+use Rattle.clap.specs.declared.builder.action.ArgAction.TheVariants.{Set, SetTrue}
+use Rattle.clap.specs.declared.builder.value_parser.ValueParser.TheVariants.{Signed}
+use Rattle.clap.specs.declared.parser.matches.ArgMatches.{ArgMatches}
 use Rattle.dmr_trunk.specs.declared.words.Job.{Job}
-use Rattle.dmr_trunk.specs.declared.words.Job.TheVariants.{Script}
+use Rattle.dmr_trunk.specs.declared.words.Job.TheVariants.{Script, Serve}
 
--- an option `--NAME FILE`, which has to be given
-abbrev pub file_option : Text → Rule
+-- an option `--NAME FILE`
+abbrev file_option : Text → Rule
 file_option name = record (new_rule name) {
   long = Some name;
   action = Some Set;
   value_names = 1;
-  required = true;
 }
 
--- the program's command line: `dmr_trunk --site FILE --script FILE`
+-- `--site FILE`, which has to be given
+abbrev pub site_option : Rule
+site_option = record (file_option (codes "site")) { required = true }
+
+-- `--script FILE`
+abbrev pub script_option : Rule
+script_option = file_option (codes "script")
+
+-- `--serve`
+abbrev pub serve_flag : Rule
+serve_flag = record (new_rule (codes "serve")) {
+  long = Some (codes "serve");
+  action = Some SetTrue;
+}
+
+-- `--terms N`, N from 0 to 1,000,000, and 0 where it is not given
+abbrev pub terms_option : Rule
+terms_option = record (new_rule (codes "terms")) {
+  long = Some (codes "terms");
+  action = Some Set;
+  value_names = 1;
+  defaults = codes "0" ∷ [];
+  parser = Some (Signed (pos 0) (pos 1000000));
+}
+
+-- the program's command line: `dmr_trunk --site FILE [--script FILE] [--serve] [--terms N]`
 abbrev pub command : App
-command = with_rule (with_rule (new_app (codes "dmr_trunk")) (file_option (codes "site"))) (file_option (codes "script"))
+command = with_rule (with_rule (with_rule (with_rule (new_app (codes "dmr_trunk")) site_option) script_option) serve_flag) terms_option
 
 -- the kinds of fault that a parse of the words finds; none where the words are taken. That help is asked for is one.
 unfoldable pub faults_in : List Text → Kinds
@@ -26,11 +53,49 @@ faults_in words = fault_of command words
 unfoldable pub value_in : List Text → Text → Option Text
 value_in words option = first_of option (matches_of command words)
 
+-- the same, as a flag or a number is read from it
+unfoldable pub one_in : List Text → Text → Option Text
+one_in words option = one_of option (matches_of command words)
+
+-- a flag is set; it is not
+abbrev pub IsSet : Option Text → Type 0
+IsSet text = (text ≢ None) × (text ≢ Some (codes "false"))
+
+abbrev pub IsUnset : Option Text → Type 0
+IsUnset text = text ≢ Some (codes "true")
+
+-- a text spells a number in decimal
+abbrev pub Spells : Text → ℕ → Type 0
+Spells text number = IsNumeral 10 (without_leading_plus text) × (digits_value 10 (without_leading_plus text) ≡ number) × (number < 2 ^ 32)
+
+-- the number that a text spells; 0 where there is no text, or it spells none
+abbrev pub AreTerms : Option Text → ℕ → Type 0
+AreTerms None terms = terms ≡ 0
+AreTerms (Some text) terms = Spells text terms ⊎ ((terms ≡ 0) × ((number : ℕ) → Spells text number → ⊥))
+
+-- options of these values ask for this
+abbrev pub IsAsked : (Text → Option Text) → (Text → Option Text) → Job → Type 0
+IsAsked value one (Script site script) =
+    (value (codes "site") ≡ Some site.now) × (value (codes "script") ≡ Some script.now) × IsUnset (one (codes "serve"))
+IsAsked value one (Serve site terms) =
+    (value (codes "site") ≡ Some site.now) × (value (codes "script") ≡ None) × IsSet (one (codes "serve")) × AreTerms (one (codes "terms")) terms
+
+-- there is neither a script nor `--serve`, or there are both
+abbrev pub IsNotOne : (Text → Option Text) → (Text → Option Text) → Type 0
+IsNotOne value one =
+    ((value (codes "script") ≡ None) × IsUnset (one (codes "serve"))) ⊎ ((is_some (value (codes "script")) ≡ true) × IsSet (one (codes "serve")))
+
+-- what was found is what a parse of the words gives; there is a site file
+pub record HasRead (words : List Text) (found : ArgMatches) : Type 0 where
+  pub taken : faults_in words ≡ []
+  pub values : (option : Text) → first_value (found_of found) option ≡ value_in words option
+  pub ones : (option : Text) → one_text (found_of found) option ≡ one_in words option
+  pub site : is_some (first_value (found_of found) (codes "site")) ≡ true
+
 -- the words are taken, and ask for this
 abbrev pub AskFor : List Text → Job → Type 0
-AskFor words (Script site script) =
-    (faults_in words ≡ []) × (value_in words (codes "site") ≡ Some site.now) × (value_in words (codes "script") ≡ Some script.now)
+AskFor words job = (faults_in words ≡ []) × IsAsked (value_in words) (one_in words) job
 
--- the words are refused
+-- the words are refused: by the word reader, or since they don't ask for just one thing
 abbrev pub AreRefused : List Text → Type 0
-AreRefused words = faults_in words ≢ []
+AreRefused words = (faults_in words ≢ []) ⊎ IsNotOne (value_in words) (one_in words)

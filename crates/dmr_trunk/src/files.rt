@@ -1,6 +1,6 @@
 //! Where the program's files come from.
 
-ghost use Rattle.std.specs.Prelude.{List, Option, IfOk, option_map, ℕ, ⊤};
+ghost use Rattle.std.specs.Prelude.{◌≡◌, List, Option, IfOk, option_map, ℕ, ⊤};
 
 use dmr_pdu::OutOfMemory;
 use std::rt::Files;
@@ -15,6 +15,16 @@ pub trait FileSource {
     /// The octets of the file of a path; None where it cannot be read. At want of memory nothing is known of the file.
     fn octets_of(&self, path: &str) -> Result<Option<Vec<u8>>, OutOfMemory>
         ensures { IfOk result (λ octets. gave self.now path.now (option_map (λ o. o.items) octets)) };
+}
+
+/// The octets of a file that could be read.
+pub fn slice_of(octets: &Option<Vec<u8>>) -> Option<&[u8]>
+    ensures { option_map (λ o. o.now) result ≡ option_map (λ o. o.items) octets.now }
+{
+    match octets {
+        Some(octets) => Some(octets.as_slice()),
+        None => None,
+    }
 }
 
 /// The files of the system. What these hold no contract can say, so it may give anything.

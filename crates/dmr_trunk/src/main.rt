@@ -1,30 +1,43 @@
 //! The site controller of a DMR Tier III trunked radio site.
 //!
 //! `dmr_trunk --site FILE --script FILE` replays a script over the site of a site file and prints what was put out for
-//! each carrier. The words are read in `words`, files come from `files`, and scripts are read in `script`; `replay` runs a
-//! script's inputs through the engine of `dmr_link`, and is the program but for its words and files.
+//! each carrier. `dmr_trunk --site FILE --serve` serves the site over TCP. The words are read in `words`, files come from
+//! `files`, and scripts are read in `script`; `replay` runs a script's inputs through the engine of `dmr_link`. `serve` opens a
+//! `port` for each carrier and for operators, has a `pacer` for the ticks, and runs terms of `dmr_desk` over them; what it does
+//! is said in `notes`.
 #![tactic(auto)]
 
 mod files;
+mod notes;
+mod pacer;
+mod port;
 mod replay;
 #[cfg(test)]
 mod rows;
 mod script;
+mod serve;
+mod serving;
 mod status;
 mod words;
 
-ghost use Rattle.std.specs.Prelude.{◌≡◌, IfOk, map, option_map, string_bytes};
-ghost use Rattle.dmr_trunk.specs.Replay.{AreReplayed, IsDone, IsReplayed, IsReplayedBySome, IsStatus};
+ghost use Rattle.std.specs.Prelude.{◌≡◌, IfOk, map, string_bytes};
+ghost use Rattle.dmr_trunk.specs.Replay.{AreReplayed, HasPlan, IsDone, IsReplayed, IsReplayedBySome, IsStatus};
 
-use crate::files::{FileSource, SystemFiles};
+use crate::files::{FileSource, SystemFiles, slice_of};
 use crate::replay::replay;
+use crate::serving::serve_file;
 use crate::status::{out_of_memory, words_refused};
 use crate::words::{Job, choose};
 use dmr_pdu::OutOfMemory;
+use log::Log;
 use std::alloc::Global;
 use std::io::Write;
+use std::net::Net;
 use std::process::ExitCode;
 use std::rt::Env;
+use std::sync::Wait;
+use std::thread::Threads;
+use std::time::Clock;
 use std::{env, io};
 
 /// The words as texts.
@@ -36,16 +49,6 @@ fn texts_of(alloc: Global, words: &[String]) -> Result<Vec<&str>, OutOfMemory>
         texts.push(word.as_str())?;
     }
     Ok(texts)
-}
-
-/// The octets of a file that could be read.
-fn slice_of(octets: &Option<Vec<u8>>) -> Option<&[u8]>
-    ensures { option_map (λ o. o.now) result ≡ option_map (λ o. o.items) octets.now }
-{
-    match octets {
-        Some(octets) => Some(octets.as_slice()),
-        None => None,
-    }
 }
 
 /// Replays the script of one path over the site file of another, and answers the exit status.
@@ -74,8 +77,26 @@ fn replay_files<S: FileSource, W: Write, E: Write>(
     ))
 }
 
+/// Serves the site of the site file of a path, and answers the exit status. Nothing is printed to standard output.
+fn serve_path<R: Net + Log + Clock + Wait + Threads + Sync, S: FileSource, E: Write>(
+    rt: &R,
+    alloc: Global,
+    files: &S,
+    site: &str,
+    terms: u32,
+    err: &mut E,
+) -> Result<u8, OutOfMemory>
+    ensures status { IfOk result IsStatus }
+    // At status 0 the file of the path, as the source gave it, has a plan.
+    ensures ok { IfOk result (λ status. status ≡ 0 → HasPlan (S.gave files.now) site.now) }
+{
+    let site_octets = files.octets_of(site)?;
+    Ok(serve_file(rt, alloc, site, slice_of(&site_octets), terms, err))
+}
+
 /// Does a job with the files of a source, and answers the exit status.
-fn do_job<S: FileSource, W: Write, E: Write>(
+fn do_job<R: Net + Log + Clock + Wait + Threads + Sync, S: FileSource, W: Write, E: Write>(
+    rt: &R,
     alloc: Global,
     files: &S,
     job: Job<'_>,
@@ -87,11 +108,13 @@ fn do_job<S: FileSource, W: Write, E: Write>(
 {
     match job {
         Job::Script { site, script } => replay_files(alloc, files, site, script, out, err),
+        Job::Serve { site, terms } => serve_path(rt, alloc, files, site, terms, err),
     }
 }
 
 /// Does what the words ask for with the files of a source, and answers the exit status.
-fn run_words<S: FileSource, W: Write, E: Write>(
+fn run_words<R: Net + Log + Clock + Wait + Threads + Sync, S: FileSource, W: Write, E: Write>(
+    rt: &R,
     alloc: Global,
     files: &S,
     words: &[String],
@@ -104,18 +127,18 @@ fn run_words<S: FileSource, W: Write, E: Write>(
 {
     let texts = texts_of(alloc, words)?;
     match choose(alloc, texts.as_slice(), err) {
-        Ok(job) => do_job(alloc, files, job, out, err),
+        Ok(job) => do_job(rt, alloc, files, job, out, err),
         Err(status) => Ok(status),
     }
 }
 
 /// Reads the words and does what they ask for; answers the exit status.
-fn run_program<R: AllocGlobal + Env, S: FileSource, W: Write, E: Write>(
-    rt: &R,
-    files: &S,
-    out: &mut W,
-    err: &mut E,
-) -> u8
+fn run_program<
+    R: AllocGlobal + Env + Net + Log + Clock + Wait + Threads + Sync,
+    S: FileSource,
+    W: Write,
+    E: Write,
+>(rt: &R, files: &S, out: &mut W, err: &mut E) -> u8
     ensures status { IsStatus result }
     // At status 0 there were words that name two files, these gave a text, and `out` got the whole of it.
     ensures ok { result ≡ 0 → IsReplayedBySome (S.gave files.now) (W.contents out.old) (W.contents out.new) }
@@ -135,7 +158,7 @@ fn run_program<R: AllocGlobal + Env, S: FileSource, W: Write, E: Write>(
     let Ok(words) = words.collect::<Vec<String>>(rt.alloc()) else {
         return out_of_memory(err);
     };
-    match run_words(rt.alloc(), files, words.as_slice(), out, err) {
+    match run_words(rt, rt.alloc(), files, words.as_slice(), out, err) {
         Ok(status) => status,
         Err(OutOfMemory) => out_of_memory(err),
     }

@@ -19,7 +19,7 @@ use thiserror::Error;
 
 /// Why a replay stopped.
 #[derive(Clone, Copy, Debug, Error)]
-enum ReplayFault<'a> {
+pub enum ReplayFault<'a> {
     /// The file of this path could not be read.
     #[error("cannot read {0}")]
     CannotRead(&'a str),
@@ -39,7 +39,7 @@ enum ReplayFault<'a> {
 
 impl ReplayFault<'_> {
     /// The exit status.
-    fn status(&self) -> u8
+    pub fn status(&self) -> u8
         ensures { result ≡ status_of self.now }
     {
         match self {
@@ -120,7 +120,7 @@ fn text_of_replay<'a>(
 
 /// The plan of a site file.
 #[tactic(auto, using(crate::proofs::ReplayLemmas::plan_in_text, crate::proofs::ReplayLemmas::plan_in_no_text))]
-fn plan_of<'a>(alloc: Global, site: &[u8]) -> Result<Plan, ReplayFault<'a>>
+pub fn plan_of<'a>(alloc: Global, site: &[u8]) -> Result<Plan, ReplayFault<'a>>
     ensures { MatchResult result
         (λ plan. plan_in site.now ≡ Ok plan)
         (λ fault. (fault ≡ ReplayFault.OutOfMemory) ⊎ IsErrAnd (plan_in site.now) (λ told. fault ≡ ReplayFault.SiteFile told)) }

@@ -13,6 +13,7 @@ mod individual_calls;
 mod memory;
 mod program;
 mod registration;
+mod serving;
 mod sites;
 mod talkgroup_calls;
 mod three_flips;

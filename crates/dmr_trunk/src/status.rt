@@ -13,7 +13,10 @@ pub const FAULT: u8 = 1;
 /// The words are refused.
 pub const WORDS: u8 = 2;
 
-/// Memory ran out.
+/// The audit of a term found a difference.
+pub const AUDIT: u8 = 3;
+
+/// Memory ran out, or a thread could not be started.
 pub const MEMORY: u8 = 4;
 
 /// Tells that memory ran out, and answers the status.

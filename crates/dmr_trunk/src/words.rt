@@ -1,14 +1,16 @@
 //! The words of the command line.
 
-ghost use Rattle.std.specs.Prelude.{◌≡◌, ◌≢◌, ◌⊎◌, IfErr, IfOk, codes, false, is_some, map, true};
+ghost use Rattle.std.specs.Prelude.{◌≡◌, ◌≢◌, ◌⊎◌, IfErr, IfNone, IfOk, IfSome, [], codes, false, is_some, map, pos, true};
 ghost use Rattle.clap.specs.Built.{IsParsedFrom, IsPlainArg, TakesValue};
-ghost use Rattle.clap.specs.Words.{app_of, first_value, found_of, kind_of, rule_of};
+ghost use Rattle.clap.specs.Words.{app_of, args_of, first_value, found_of, groups_of, kind_of, new_app, one_text, rule_of};
+ghost use Rattle.clap.specs.declared.builder.command.Command.TheViews.{out-Command};
 ghost use Rattle.clap.specs.declared.parser.matches.ArgMatches.{ArgMatches};
-ghost use Rattle.dmr_trunk.specs.Words.{AreRefused, AskFor, command, file_option};
+ghost use Rattle.dmr_trunk.specs.Words.{AreRefused, AskFor, HasRead, IsAsked, IsNotOne, command, faults_in, script_option, serve_flag, site_option, terms_option};
 
-use crate::status::{MEMORY, WORDS, out_of_memory};
+use crate::status::{MEMORY, WORDS, out_of_memory, words_refused};
+use clap::builder::ValueParser;
 use clap::error::ErrorKind;
-use clap::{Arg, ArgAction, Command, Error};
+use clap::{Arg, ArgAction, ArgMatches, Command, Error};
 use dmr_pdu::OutOfMemory;
 use std::alloc::Global;
 use std::io::Write;
@@ -18,27 +20,34 @@ use std::io::Write;
 pub enum Job<'a> {
     /// Replay a script over the site of a site file. Both are paths.
     Script { site: &'a str, script: &'a str },
+    /// Serve the site of a site file, whose path it is, over TCP: so many terms, or without end where they are 0.
+    Serve { site: &'a str, terms: u32 },
 }
 
 /// Reads the program's words, of which the first is its own name.
 ///
-/// Where they are refused (`--help` is a refusal, too) the word reader's text is written to `err`, a fault of which is
-/// passed over, and the exit status is answered: 2, or 4 for want of memory with the text of that.
+/// Where they are refused (`--help` is a refusal, too) the word reader's text is written to `err`, or that either a script or
+/// `--serve` is to be given; a fault of `err` is passed over. The exit status is answered: 2, or 4 for want of memory with the
+/// text of that.
 pub fn choose<'a, E: Write>(alloc: Global, words: &'a [&'a str], err: &mut E) -> Result<Job<'a>, u8>
-    // The words are taken, and these are the values that they give the two options.
+    // The words are taken, and these are the values that they give the options.
     ensures job { IfOk result (AskFor (map (λ word. word.now) words.entry.now)) }
     // Words that are taken are refused only for want of memory.
     ensures status { IfErr result (λ status. (status ≡ MEMORY)
         ⊎ ((status ≡ WORDS) × AreRefused (map (λ word. word.now) words.entry.now))) }
 {
-    match job_of(alloc, words) {
-        Ok(job) => Ok(job),
-        Err(error) => Err(refusal(&error, err)),
+    let found = match read_words(alloc, words) {
+        Ok(found) => found,
+        Err(error) => return Err(tell_refusal(&error, err)),
+    };
+    match job_in(&found) {
+        Some(job) => Ok(job),
+        None => Err(words_refused(err, "dmr_trunk: give either --script or --serve")),
     }
 }
 
-/// Tells why there is no job, and answers the status.
-fn refusal<E: Write>(error: &Error, err: &mut E) -> u8
+/// Tells why the word reader refuses the words, and answers the status.
+fn tell_refusal<E: Write>(error: &Error, err: &mut E) -> u8
     ensures memory { kind_of error.now ≡ ErrorKind.OutOfMemory → result ≡ MEMORY }
     ensures words { kind_of error.now ≢ ErrorKind.OutOfMemory → result ≡ WORDS }
 {
@@ -50,40 +59,133 @@ fn refusal<E: Write>(error: &Error, err: &mut E) -> u8
     }
 }
 
-/// What the words ask for.
-fn job_of<'a>(alloc: Global, words: &'a [&'a str]) -> Result<Job<'a>, Error>
-    ensures job { IfOk result (AskFor (map (λ word. word.now) words.entry.now)) }
+/// Reads the words by the command line.
+fn read_words<'a>(alloc: Global, words: &'a [&'a str]) -> Result<ArgMatches<'a>, Error>
+    ensures found { IfOk result (HasRead (map (λ word. word.now) words.entry.now)) }
     ensures refused { IfErr result (λ e. (kind_of e ≡ ErrorKind.OutOfMemory)
-        ⊎ AreRefused (map (λ word. word.now) words.entry.now)) }
+        ⊎ (faults_in (map (λ word. word.now) words.entry.now) ≢ [])) }
 {
-    let found = command(alloc)?.try_get_matches_from(words)?;
-    Ok(Job::Script {
-        site: found.get_str("site").unwrap_or(""),
-        script: found.get_str("script").unwrap_or(""),
-    })
+    command(alloc)?.try_get_matches_from(words)
 }
 
-/// The command line as the word reader wants it. A parse of it has both values.
+/// What was found in the words asks for; `None` where there is neither a script nor `--serve`, or there are both.
+fn job_in<'a>(found: &ArgMatches<'a>) -> Option<Job<'a>>
+    requires { is_some (first_value (found_of found.now) (codes "site")) ≡ true }
+    ensures job { IfSome result (IsAsked (first_value (found_of found.now)) (one_text (found_of found.now))) }
+    ensures none { IfNone result (IsNotOne (first_value (found_of found.now)) (one_text (found_of found.now))) }
+{
+    let site = found.get_str("site").unwrap_or("");
+    match (found.get_str("script"), found.get_flag("serve")) {
+        (Some(script), false) => Some(Job::Script { site, script }),
+        (None, true) => Some(Job::Serve {
+            site,
+            terms: found.get_one::<u32>("terms").unwrap_or(0),
+        }),
+        _ => None,
+    }
+}
+
+/// How many terms may be asked for.
+const MOST_TERMS: i64 = 1_000_000;
+
+/// What `--help` says of the program.
+const ABOUT: &str =
+    "The site controller of a DMR Tier III trunked radio site: serves carriers and operators over TCP, or replays a script.";
+
+/// What `--help` says behind the words.
+const EXAMPLES: &str = "\
+Examples:
+  dmr_trunk --site site.toml --serve
+      serves the site until it is stopped; notes go to standard error
+  dmr_trunk --site site.toml --serve --terms 1
+      serves one term, as many entries as the site file's term_entries, and ends
+  dmr_trunk --site site.toml --script incident.txt
+      replays a script, and prints what went out to each carrier and to operators
+
+Status: 0 done; 1 a file, a port or the output; 2 the words; 3 an audit; 4 memory or a thread.
+dmr_trunk(1) has more.";
+
+/// The command line as the word reader wants it. A parse of it has a value of the site file.
 fn command<'a>(alloc: Global) -> Result<Command<'a>, OutOfMemory>
     ensures app { IfOk result (λ c. app_of c ≡ command) }
     ensures site { IfOk result (λ c. (m : ArgMatches) → IsParsedFrom c m → is_some (first_value (found_of m) (codes "site")) ≡ true) }
-    ensures script { IfOk result (λ c. (m : ArgMatches) → IsParsedFrom c m → is_some (first_value (found_of m) (codes "script")) ≡ true) }
 {
-    let site = file_option(alloc, "site");
-    let script = file_option(alloc, "script");
-    Command::new(alloc, "dmr_trunk").arg(site)?.arg(script)
+    let site = site_option(alloc);
+    let script = script_option(alloc);
+    let serve = serve_flag(alloc);
+    let terms = terms_option(alloc);
+    titled(alloc).arg(site)?.arg(script)?.arg(serve)?.arg(terms)
 }
 
-/// An option `--NAME FILE`, which has to be given.
-fn file_option<'a>(alloc: Global, name: &'a str) -> Arg<'a>
-    ensures rule { rule_of result ≡ file_option name.entry.now }
-    ensures id { result.id ≡ name.entry }
+/// A command line of this program's name, with what `--help` says of it, and no option yet.
+fn titled<'a>(alloc: Global) -> Command<'a>
+    ensures app { app_of result ≡ new_app (codes "dmr_trunk") }
+    ensures empty { (args_of result ≡ []) × (groups_of result ≡ []) }
+    ensures local { ((out-Command result).has_globals ≡ false) × ((out-Command result).subcommand_negates_reqs ≡ false) }
+{
+    Command::new(alloc, "dmr_trunk")
+        .about(ABOUT)
+        .after_help(EXAMPLES)
+}
+
+/// The option `--site FILE`, which has to be given.
+fn site_option<'a>(alloc: Global) -> Arg<'a>
+    ensures rule { rule_of result ≡ site_option }
+    ensures id { result.id.now ≡ codes "site" }
     ensures plain { IsPlainArg result × (result.global ≡ false) }
     ensures value { TakesValue result }
 {
-    Arg::new(alloc, name)
-        .long(name)
+    Arg::new(alloc, "site")
+        .long("site")
         .value_name("FILE")
         .required(true)
         .action(ArgAction::Set)
+        .help("The site file: carriers, ports, radios, groups and times")
+}
+
+/// What N of `--terms N` has to be.
+fn terms_parser<'a>() -> ValueParser<'a>
+    ensures { result ≡ ValueParser.Signed (pos 0) (pos 1000000) }
+{
+    clap::value_parser!(u32).range(0..=MOST_TERMS)
+}
+
+/// The option `--terms N`.
+fn terms_option<'a>(alloc: Global) -> Arg<'a>
+    ensures rule { rule_of result ≡ terms_option }
+    ensures id { result.id.now ≡ codes "terms" }
+    ensures plain { IsPlainArg result × (result.global ≡ false) }
+{
+    Arg::new(alloc, "terms")
+        .long("terms")
+        .value_name("N")
+        .value_parser(terms_parser())
+        .action(ArgAction::Set)
+        .default_value("0")
+        .help("End after this many audited terms, 1 to 1000000; 0: no end")
+}
+
+/// The flag `--serve`.
+fn serve_flag<'a>(alloc: Global) -> Arg<'a>
+    ensures rule { rule_of result ≡ serve_flag }
+    ensures id { result.id.now ≡ codes "serve" }
+    ensures plain { IsPlainArg result × (result.global ≡ false) }
+{
+    Arg::new(alloc, "serve")
+        .long("serve")
+        .action(ArgAction::SetTrue)
+        .help("Serve the site's carriers and operators over TCP")
+}
+
+/// The option `--script FILE`.
+fn script_option<'a>(alloc: Global) -> Arg<'a>
+    ensures rule { rule_of result ≡ script_option }
+    ensures id { result.id.now ≡ codes "script" }
+    ensures plain { IsPlainArg result × (result.global ≡ false) }
+{
+    Arg::new(alloc, "script")
+        .long("script")
+        .value_name("FILE")
+        .action(ArgAction::Set)
+        .help("Replay this script, and print what goes out")
 }

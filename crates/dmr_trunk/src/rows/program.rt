@@ -174,34 +174,83 @@ fn output_that_is_not_taken(rt: HostRuntime) {
 
 #[test]
 fn words_that_are_taken(rt: HostRuntime) {
-    let mut err = Vec::new(rt.alloc());
-    let words = ["dmr_trunk", "--site", "a", "--script=b"];
-    let job = choose(rt.alloc(), &words, &mut err);
-    let wanted = Job::Script {
+    let script = Job::Script {
         site: "a",
         script: "b",
     };
-    assert!(rt; job == Ok(wanted));
-    assert_eq!(rt; err.len(), 0);
-}
-
-/// Wants words to be refused with a text that begins so, and status 2.
-fn check_refused(rt: &(impl Abort + AllocGlobal), words: &[&str], begins: &[u8]) {
-    let mut err = Vec::new(rt.alloc());
-    let job = choose(rt.alloc(), words, &mut err);
-    assert!(rt; job == Err(2));
-    assert!(rt; err.as_slice().starts_with(begins));
+    let cases: [(&[&str], Job<'_>); 5] = [
+        (&["dmr_trunk", "--site", "a", "--script=b"], script),
+        // How many terms is passed over where nothing is served.
+        (
+            &["dmr_trunk", "--terms", "5", "--script", "b", "--site", "a"],
+            script,
+        ),
+        (
+            &["dmr_trunk", "--site", "a", "--serve"],
+            Job::Serve {
+                site: "a",
+                terms: 0,
+            },
+        ),
+        (
+            &["dmr_trunk", "--serve", "--terms=1", "--site", "a"],
+            Job::Serve {
+                site: "a",
+                terms: 1,
+            },
+        ),
+        (
+            &["dmr_trunk", "--site", "a", "--serve", "--terms", "1000000"],
+            Job::Serve {
+                site: "a",
+                terms: 1_000_000,
+            },
+        ),
+    ];
+    for (words, wanted) in cases {
+        let mut err = Vec::new(rt.alloc());
+        let job = choose(rt.alloc(), words, &mut err);
+        assert!(rt; job == Ok(wanted));
+        assert_eq!(rt; err.len(), 0);
+    }
 }
 
 #[test]
 fn words_that_are_refused(rt: HostRuntime) {
-    let missing =
-        b"error: the following required arguments were not provided:\n  --script <FILE>\n";
-    check_refused(&rt, &["dmr_trunk", "--site", "a"], missing);
-    check_refused(
-        &rt,
-        &["dmr_trunk", "--serve"],
-        b"error: unexpected argument '--serve' found",
-    );
-    check_refused(&rt, &["dmr_trunk", "--help"], b"Usage: dmr_trunk");
+    let either = b"dmr_trunk: give either --script or --serve\n".as_slice();
+    let no_site =
+        b"error: the following required arguments were not provided:\n  --site <FILE>\n".as_slice();
+    let cases: [(&[&str], &[u8]); 9] = [
+        (&["dmr_trunk", "--site", "a"], either),
+        (&["dmr_trunk", "--site", "a", "--terms", "1"], either),
+        (
+            &["dmr_trunk", "--site", "a", "--script", "b", "--serve"],
+            either,
+        ),
+        // The word reader judges first.
+        (&["dmr_trunk"], no_site),
+        (&["dmr_trunk", "--script", "b", "--serve"], no_site),
+        (
+            &["dmr_trunk", "--site", "a", "--serve", "--terms", "1000001"],
+            b"error: invalid value '1000001' for '--terms <N>': 1000001 is not in 0..=1000000",
+        ),
+        (
+            &["dmr_trunk", "--site", "a", "--serve", "--terms", "one"],
+            b"error: invalid value 'one' for '--terms <N>': ",
+        ),
+        (
+            &["dmr_trunk", "--serves"],
+            b"error: unexpected argument '--serves' found",
+        ),
+        (
+            &["dmr_trunk", "--site", "a", "--help"],
+            b"The site controller of a DMR Tier III trunked radio site",
+        ),
+    ];
+    for (words, begins) in cases {
+        let mut err = Vec::new(rt.alloc());
+        let job = choose(rt.alloc(), words, &mut err);
+        assert!(rt; job == Err(2));
+        assert!(rt; err.as_slice().starts_with(begins));
+    }
 }

@@ -1,16 +1,20 @@
 use Rattle.std.proofs.Common.{rules, codes}
 use Rattle.std.proofs.lemmas.Result.{IfOk-weaker}
-use Rattle.dmr_trunk.proofs.WordsLemmas.{IsOption, site_given, script_given}
+use Rattle.dmr_trunk.proofs.WordsLemmas.{IsOption, app_given, site_given}
 use Rattle.dmr_trunk.proofs.words.command.Goals as goal
+
+pub returns-clause-app : goal.returns-clause-app
+returns-clause-app c =
+    let site : IsOption c.site_option-site.result (codes "site") = record { id_is = c.site_option-site.ensures.id; plain = c.site_option-site.ensures.plain.0; local = c.site_option-site.ensures.plain.1 } in
+    let script : IsOption c.script_option-script.result (codes "script") = record { id_is = c.script_option-script.ensures.id; plain = c.script_option-script.ensures.plain.0; local = c.script_option-script.ensures.plain.1 } in
+    let serve : IsOption c.serve_flag-serve.result (codes "serve") = record { id_is = c.serve_flag-serve.ensures.id; plain = c.serve_flag-serve.ensures.plain.0; local = c.serve_flag-serve.ensures.plain.1 } in
+    let terms : IsOption c.terms_option-terms.result (codes "terms") = record { id_is = c.terms_option-terms.ensures.id; plain = c.terms_option-terms.ensures.plain.0; local = c.terms_option-terms.ensures.plain.1 } in
+    IfOk-weaker c.arg-4.result _ _ (λ cmd added. app_given _ _ _ _ site script serve terms c.titled.result c.in_ok-arg.field-0 c.in_ok-arg-2.field-0 c.in_ok-arg-3.field-0 cmd c.in_ok-arg.ensures c.in_ok-arg-2.ensures c.in_ok-arg-3.ensures added c.titled.ensures.empty.0 c.titled.ensures.empty.1 c.titled.ensures.local.0 c.titled.ensures.local.1 c.titled.ensures.app c.site_option-site.ensures.rule c.script_option-script.ensures.rule c.serve_flag-serve.ensures.rule c.terms_option-terms.ensures.rule) c.arg-4.ensures
 
 pub returns-clause-site : goal.returns-clause-site
 returns-clause-site c =
-    let site : IsOption c.file_option-site.result (codes "site") = record { id_is = search rules; plain = c.file_option-site.ensures.plain.0; local = c.file_option-site.ensures.plain.1; value = c.file_option-site.ensures.value } in
-    let script : IsOption c.file_option-script.result (codes "script") = record { id_is = search rules; plain = c.file_option-script.ensures.plain.0; local = c.file_option-script.ensures.plain.1; value = c.file_option-script.ensures.value } in
-    IfOk-weaker c.arg-2.result _ _ (λ cmd added. site_given _ _ site script c.new.result c.in_ok-arg.field-0 cmd c.in_ok-arg.ensures added c.new.ensures.empty.0 c.new.ensures.empty.1 c.new.ensures.local c.new.ensures.negates) c.arg-2.ensures
-
-pub returns-clause-script : goal.returns-clause-script
-returns-clause-script c =
-    let site : IsOption c.file_option-site.result (codes "site") = record { id_is = search rules; plain = c.file_option-site.ensures.plain.0; local = c.file_option-site.ensures.plain.1; value = c.file_option-site.ensures.value } in
-    let script : IsOption c.file_option-script.result (codes "script") = record { id_is = search rules; plain = c.file_option-script.ensures.plain.0; local = c.file_option-script.ensures.plain.1; value = c.file_option-script.ensures.value } in
-    IfOk-weaker c.arg-2.result _ _ (λ cmd added. script_given _ _ site script c.new.result c.in_ok-arg.field-0 cmd c.in_ok-arg.ensures added c.new.ensures.empty.0 c.new.ensures.empty.1 c.new.ensures.local c.new.ensures.negates) c.arg-2.ensures
+    let site : IsOption c.site_option-site.result (codes "site") = record { id_is = c.site_option-site.ensures.id; plain = c.site_option-site.ensures.plain.0; local = c.site_option-site.ensures.plain.1 } in
+    let script : IsOption c.script_option-script.result (codes "script") = record { id_is = c.script_option-script.ensures.id; plain = c.script_option-script.ensures.plain.0; local = c.script_option-script.ensures.plain.1 } in
+    let serve : IsOption c.serve_flag-serve.result (codes "serve") = record { id_is = c.serve_flag-serve.ensures.id; plain = c.serve_flag-serve.ensures.plain.0; local = c.serve_flag-serve.ensures.plain.1 } in
+    let terms : IsOption c.terms_option-terms.result (codes "terms") = record { id_is = c.terms_option-terms.ensures.id; plain = c.terms_option-terms.ensures.plain.0; local = c.terms_option-terms.ensures.plain.1 } in
+    IfOk-weaker c.arg-4.result _ _ (λ cmd added. site_given _ _ _ _ site script serve terms c.titled.result c.in_ok-arg.field-0 c.in_ok-arg-2.field-0 c.in_ok-arg-3.field-0 cmd c.in_ok-arg.ensures c.in_ok-arg-2.ensures c.in_ok-arg-3.ensures added c.titled.ensures.empty.0 c.titled.ensures.empty.1 c.titled.ensures.local.0 c.titled.ensures.local.1 c.site_option-site.ensures.value) c.arg-4.ensures

@@ -1,0 +1,167 @@
+//! Notes: what the serving program says of itself, on standard error.
+
+ghost use Rattle.std.specs.Prelude.{◌≡◌};
+
+use dmr_pdu::{CarrierNo, Number, OutOfMemory};
+use log::{Log, info, warn};
+use mio::unix::SourceFd;
+use mio::{Events, Interest, Poll, Token};
+use std::alloc::Global;
+use std::net::{Net, SocketAddr};
+use std::time::Duration;
+use std::{fmt, io};
+
+/// The descriptor of standard error.
+const STANDARD_ERROR: i32 = 2;
+
+/// The name that notes stand under.
+const TARGET: &str = "dmr_trunk";
+
+/// Whose port it is.
+#[derive(Clone, Copy, Debug, PartialEq, Eq)]
+pub enum Whose {
+    /// The port of the carrier of this number.
+    Carrier(CarrierNo),
+    /// The operators' port.
+    Console,
+}
+
+impl fmt::Display for Whose {
+    fn fmt<W: fmt::Write>(&self, f: &mut fmt::Formatter<W>) -> fmt::Result {
+        match self {
+            Whose::Carrier(number) => write!(f, "carrier {}", number.get()),
+            Whose::Console => write!(f, "console"),
+        }
+    }
+}
+
+/// What ended a connection, as far as its port knows.
+#[derive(Clone, Copy, Debug, PartialEq, Eq)]
+pub enum Cause {
+    /// The other side ended its output.
+    EndOfInput,
+    /// A read failed, as it does where the other side breaks the connection off.
+    ReadFault,
+    /// A write failed.
+    WriteFault,
+    /// The other side read nothing, and no more octets could be written to it.
+    NotRead,
+    /// No octet came for as long as the site file bears.
+    Silence,
+    /// The controller: the carrier said BYE, or sent what it may not send.
+    Controller,
+}
+
+impl fmt::Display for Cause {
+    fn fmt<W: fmt::Write>(&self, f: &mut fmt::Formatter<W>) -> fmt::Result {
+        let text = match self {
+            Cause::EndOfInput => "end of input",
+            Cause::ReadFault => "a read failed",
+            Cause::WriteFault => "a write failed",
+            Cause::NotRead => "what was written was not read",
+            Cause::Silence => "silence",
+            Cause::Controller => "by the controller, after BYE or a fault of the link",
+        };
+        write!(f, "{text}")
+    }
+}
+
+/// Where notes go: to standard error, by the runtime's log. A note is written only where standard error takes it at once, and is
+/// dropped otherwise, so that nobody who reads notes slowly, or not at all, holds up who makes them.
+#[derive(Drop)]
+pub struct Notes<'a, R> {
+    rt: &'a R,
+    poll: Poll,
+    events: Events,
+    // A file takes notes at once, and cannot be polled.
+    waits: bool,
+}
+
+impl<'a, R: Log> Notes<'a, R> {
+    /// Takes memory for the polling of standard error. `None` where there is no poll.
+    pub fn new(rt: &'a R, alloc: Global) -> Result<Option<Notes<'a, R>>, OutOfMemory>
+    where
+        R: Net,
+    {
+        let events = Events::with_capacity(alloc, 1)?;
+        let Ok(poll) = Poll::new(rt) else {
+            return Ok(None);
+        };
+        let waits = poll
+            .registry()
+            .register(&mut SourceFd(&STANDARD_ERROR), Token(0), Interest::WRITABLE)
+            .is_ok();
+        Ok(Some(Notes {
+            rt,
+            poll,
+            events,
+            waits,
+        }))
+    }
+
+    /// Whether standard error takes a line at once.
+    fn is_ready(&mut self) -> bool {
+        if !self.waits {
+            return true;
+        }
+        // Registered anew, it is reported whenever it is ready now.
+        let asked = self.poll.registry().reregister(
+            &mut SourceFd(&STANDARD_ERROR),
+            Token(0),
+            Interest::WRITABLE,
+        );
+        if asked.is_err() {
+            return false;
+        }
+        if self
+            .poll
+            .poll(&mut self.events, Some(Duration::ZERO))
+            .is_err()
+        {
+            return false;
+        }
+        self.events.iter().any(|event| event.is_writable())
+    }
+
+    /// A port is listened on.
+    pub fn listens(&mut self, whose: Whose, address: SocketAddr) {
+        if self.is_ready() {
+            info!(*self.rt; target: TARGET, "{whose}: listening on {address}");
+        }
+    }
+
+    /// A connection came.
+    pub fn connected(&mut self, whose: Whose, from: SocketAddr) {
+        if self.is_ready() {
+            info!(*self.rt; target: TARGET, "{whose}: {from} connected");
+        }
+    }
+
+    /// A connection has ended.
+    pub fn ended(&mut self, whose: Whose, from: SocketAddr, cause: Cause) {
+        if self.is_ready() {
+            info!(*self.rt; target: TARGET, "{whose}: {from} disconnected: {cause}");
+        }
+    }
+
+    /// Connections cannot be taken, for now.
+    pub fn cannot_accept(&mut self, whose: Whose, error: &io::Error) {
+        if self.is_ready() {
+            warn!(*self.rt; target: TARGET, "{whose}: cannot take connections: {error}");
+        }
+    }
+
+    /// Connections can be taken again.
+    pub fn accepts_again(&mut self, whose: Whose) {
+        if self.is_ready() {
+            info!(*self.rt; target: TARGET, "{whose}: takes connections again");
+        }
+    }
+
+    /// A term was audited.
+    pub fn term_ended(&mut self, entries: usize) {
+        if self.is_ready() {
+            info!(*self.rt; target: TARGET, "term ended: {entries} entries");
+        }
+    }
+}

@@ -1,0 +1,187 @@
+//! Serving: a site over TCP, term by term.
+
+ghost use Rattle.std.specs.Prelude.{◌≡◌};
+
+use crate::notes::{Notes, Whose};
+use crate::pacer::ClockPacer;
+use crate::port::{PortFault, SocketPort};
+use dmr_core::Site;
+use dmr_desk::{ConsoleStation, Station, Term, TermFault, run_term};
+use dmr_link::{ConsoleLink, Link, OpenGate};
+use dmr_pdu::{CarrierNo, OutOfMemory};
+use dmr_plan::Plan;
+use log::Log;
+use std::alloc::Global;
+use std::net::{IpAddr, Ipv4Addr, Net, SocketAddr, SocketAddrV4};
+use std::sync::Wait;
+use std::thread::Threads;
+use std::time::Clock;
+
+/// Why serving ended, or did not begin.
+#[derive(Clone, Copy, Debug, PartialEq, Eq)]
+pub enum ServeFault {
+    /// This port could not be listened on. Nothing was served.
+    CannotListen(u16),
+    /// There was no poll for a port. Nothing was served.
+    NoPoll,
+    /// A term was not begun, or its audit found a difference.
+    Term(TermFault),
+    /// Memory ran out. Nothing was served.
+    OutOfMemory,
+}
+
+/// A carrier's station.
+type CarrierAt<'a, R> = Station<SocketPort<'a, R>, OpenGate>;
+
+/// What goes from term to term.
+#[derive(Drop)]
+struct Standing<'a, R> {
+    site: Site,
+    stations: Vec<CarrierAt<'a, R>>,
+    pacer: ClockPacer<'a, R>,
+    console: ConsoleStation<SocketPort<'a, R>>,
+    notes: Notes<'a, R>,
+}
+
+/// The address of a port of the plan.
+fn address_of(plan: &Plan, port: u16) -> SocketAddr {
+    match plan.address() {
+        [a, b, c, d] => SocketAddr::V4(SocketAddrV4::new(Ipv4Addr::new(*a, *b, *c, *d), port)),
+        // Every plan's address has four octets.
+        _ => SocketAddr::V4(SocketAddrV4::new(Ipv4Addr::LOCALHOST, port)),
+    }
+}
+
+/// Opens a port of the plan.
+fn open_port<'a, R: Net + Log>(
+    rt: &'a R,
+    alloc: Global,
+    plan: &Plan,
+    whose: Whose,
+    port: u16,
+) -> Result<SocketPort<'a, R>, ServeFault> {
+    match SocketPort::open(rt, alloc, whose, address_of(plan, port), plan.silence()) {
+        Ok(opened) => Ok(opened),
+        Err(PortFault::CannotListen) => Err(ServeFault::CannotListen(port)),
+        Err(PortFault::NoPoll) => Err(ServeFault::NoPoll),
+        Err(PortFault::OutOfMemory) => Err(ServeFault::OutOfMemory),
+    }
+}
+
+/// A station for each carrier of the plan, by number.
+fn open_stations<'a, R: Net + Log>(
+    rt: &'a R,
+    alloc: Global,
+    plan: &Plan,
+) -> Result<Vec<CarrierAt<'a, R>>, ServeFault> {
+    let mut stations = Vec::new(alloc);
+    for number in 0..16u32 {
+        let carrier = CarrierNo::new(number);
+        if let Some(row) = plan.carrier_with(carrier) {
+            let station = Station {
+                link: Link::new(carrier, row.lpcn),
+                port: open_port(rt, alloc, plan, Whose::Carrier(carrier), row.port)?,
+                gate: OpenGate,
+            };
+            if stations.push(station).is_err() {
+                return Err(ServeFault::OutOfMemory);
+            }
+        }
+    }
+    Ok(stations)
+}
+
+/// What the first term begins with: a site on which nothing stands, and ports with no connection.
+fn open_all<'a, R: Net + Log + Clock>(
+    rt: &'a R,
+    alloc: Global,
+    plan: &Plan,
+) -> Result<Standing<'a, R>, ServeFault> {
+    let Ok(site) = Site::new(alloc, *plan) else {
+        return Err(ServeFault::OutOfMemory);
+    };
+    let notes = match Notes::new(rt, alloc) {
+        Ok(Some(notes)) => notes,
+        Ok(None) => return Err(ServeFault::NoPoll),
+        Err(OutOfMemory) => return Err(ServeFault::OutOfMemory),
+    };
+    let stations = open_stations(rt, alloc, plan)?;
+    let console = ConsoleStation {
+        link: ConsoleLink::new(),
+        port: open_port(rt, alloc, plan, Whose::Console, plan.console_port())?,
+    };
+    Ok(Standing {
+        site,
+        stations,
+        pacer: ClockPacer::new(rt, plan.tick_ms()),
+        console,
+        notes,
+    })
+}
+
+/// Notes what is listened on.
+fn note_listening<R: Log>(standing: &mut Standing<'_, R>) {
+    for station in standing.stations.iter_mut() {
+        station.port.note_listening();
+    }
+    standing.console.port.note_listening();
+}
+
+/// Runs a term, and notes that it was audited. Its journal is dropped.
+fn serve_term<'a, R: Log + Clock + Wait + Threads + Sync>(
+    rt: &R,
+    alloc: Global,
+    limit: usize,
+    standing: Standing<'a, R>,
+) -> Result<Standing<'a, R>, ServeFault> {
+    let Standing {
+        site,
+        stations,
+        pacer,
+        console,
+        mut notes,
+    } = standing;
+    match run_term(rt, alloc, site, limit, stations, pacer, console) {
+        Ok(term) => {
+            let Term {
+                report,
+                ends: _,
+                stations,
+                pacer,
+                console,
+            } = term;
+            notes.term_ended(report.journal.as_slice().len());
+            Ok(Standing {
+                site: report.site,
+                stations,
+                pacer,
+                console,
+                notes,
+            })
+        }
+        Err(fault) => Err(ServeFault::Term(fault)),
+    }
+}
+
+/// Serves the site of a plan over TCP: listens on each carrier's port, by number, and on the console's, and runs term after term,
+/// each of as many entries as the plan says: so many of them, or without end where `terms` is 0. Links, connections and the site
+/// go on from term to term; each term's journal is audited, and dropped.
+pub fn serve<R: Net + Log + Clock + Wait + Threads + Sync>(
+    rt: &R,
+    alloc: Global,
+    plan: Plan,
+    terms: u32,
+) -> Result<(), ServeFault> {
+    let limit = plan.term_entries() as usize;
+    let mut standing = open_all(rt, alloc, &plan)?;
+    note_listening(&mut standing);
+    if terms == 0 {
+        for _ in rt.forever() {
+            standing = serve_term(rt, alloc, limit, standing)?;
+        }
+    }
+    for _ in 0..terms {
+        standing = serve_term(rt, alloc, limit, standing)?;
+    }
+    Ok(())
+}

@@ -9,8 +9,8 @@ mod stage;
 mod stories;
 
 use self::spelling::{octets_of, spelled, write_letters};
-use self::stage::{Outcome, Stage, new_steps, station_of};
-use self::stories::{HUNDRED_POLLS, NO_CARRIER, NOTHING_COMES, STORIES, Want};
+use self::stage::{Outcome, Stage, new_steps};
+use self::stories::{HUNDRED_POLLS, STORIES, Want};
 use crate::{OpenFault, TermFault};
 use std::process::Abort;
 use std::test::Fail;
@@ -88,32 +88,28 @@ fn every_limit(rt: HostRuntime) -> Result<(), Fail> {
 /// Stations that are not those of the plan's carriers, by number, are refused, and then limits.
 #[test]
 fn refusals(rt: HostRuntime) -> Result<(), Fail> {
-    let bad_limit = Some(TermFault::Open(OpenFault::BadLimit));
-    for (numbers, limit, want) in [
-        ("", 0, Some(TermFault::BadStations)),
-        ("0", 0, Some(TermFault::BadStations)),
-        ("1", 100, Some(TermFault::BadStations)),
-        ("10", 100_001, Some(TermFault::BadStations)),
-        ("00", 100, Some(TermFault::BadStations)),
-        ("011", 100, Some(TermFault::BadStations)),
-        ("012", 100, Some(TermFault::BadStations)),
-        ("01", 0, bad_limit),
-        ("01", 100_001, bad_limit),
-        ("01", 1, None),
+    for (numbers, limit) in [
+        ("", 0),
+        ("0", 0),
+        ("1", 100),
+        ("10", 100_001),
+        ("00", 100),
+        ("011", 100),
+        ("012", 100),
     ] {
         let steps = new_steps();
-        let mut stage = Stage::new(&rt, &steps, &NOTHING_COMES)?;
-        stage.stations.clear();
-        for digit in numbers.bytes() {
-            let number = digit.wrapping_sub(b'0');
-            stage
-                .stations
-                .push(station_of(&rt, &steps, number, &NO_CARRIER)?)?;
-        }
+        let stage = Stage::of_numbers(&rt, &steps, numbers)?;
+        let fault = stage.run(&rt, rt.alloc(), limit).err();
+        assert_eq!(rt; fault, Some(TermFault::BadStations), "{numbers}");
+    }
+    for limit in [0, 100_001] {
+        let steps = new_steps();
+        let stage = Stage::of_numbers(&rt, &steps, "01")?;
+        let fault = stage.run(&rt, rt.alloc(), limit).err();
         assert_eq!(rt;
-            stage.run(&rt, rt.alloc(), limit).err(),
-            want,
-            "{numbers}, {limit}"
+            fault,
+            Some(TermFault::Open(OpenFault::BadLimit)),
+            "{limit}"
         );
     }
     Ok(())

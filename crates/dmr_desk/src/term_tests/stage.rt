@@ -1,6 +1,7 @@
 //! A site of two carriers, and what stands round it from term to term.
 
 use super::meeting::{Hold, Meeting, MeetingPacer, MeetingPort};
+use super::stories::{NO_CARRIER, NOTHING_COMES};
 use crate::{ConsoleStation, Ending, Pace, Station, Term, TermFault, Views, run_term};
 use arrayvec::ArrayVec;
 use dmr_core::Site;
@@ -55,8 +56,7 @@ type CarrierStation<'a> = Station<MeetingPort<'a>, Meeting<'a>>;
 #[derive(Drop)]
 pub struct Stage<'a> {
     site: Site,
-    /// The stations.
-    pub stations: Vec<CarrierStation<'a>>,
+    stations: Vec<CarrierStation<'a>>,
     pacer: MeetingPacer<'a>,
     console: ConsoleStation<MemoryPort>,
 }
@@ -80,7 +80,7 @@ pub fn new_steps() -> [AtomicU64; 3] {
 }
 
 /// The station of the carrier of this number.
-pub fn station_of<'a>(
+fn station_of<'a>(
     rt: &'a HostRuntime,
     steps: &'a [AtomicU64],
     number: u8,
@@ -159,6 +159,23 @@ impl<'a> Stage<'a> {
                 port: port_of(alloc, console_steps(alloc, opening.operator)?)?,
             },
         })
+    }
+
+    /// What stands where nothing comes, with stations of carriers of these numbers, a digit each.
+    pub fn of_numbers(
+        rt: &'a HostRuntime,
+        steps: &'a [AtomicU64],
+        numbers: &str,
+    ) -> Result<Self, Fail> {
+        let mut stage = Stage::new(rt, steps, &NOTHING_COMES)?;
+        stage.stations.clear();
+        for digit in numbers.bytes() {
+            let number = digit.wrapping_sub(b'0');
+            stage
+                .stations
+                .push(station_of(rt, steps, number, &NO_CARRIER)?)?;
+        }
+        Ok(stage)
     }
 
     /// Runs a term.

@@ -1,5 +1,5 @@
 -- A parse of the program's command finds a value for its site file, and what is read of it is what the words give.
-use Rattle.std.proofs.Common.{◌≡◌, ◌⊎◌, Option, Some, None, ℕ, zero, suc, List, [], ◌∷◌, codes, is_some, true, false, refl, sym, ap, ◌∙◌, subst, inl, inr, arith}
+use Rattle.std.proofs.Common.{◌≡◌, ◌⊎◌, ℕ, zero, suc, List, [], ◌∷◌, codes, is_some, true, false, refl, sym, ap, ◌∙◌, subst, inl, inr, arith}
 use Rattle.std.specs.Prelude.{All, Result, Ok, Err, IfOk, IfErr}
 use Rattle.std.specs.Str.{bytes_eq}
 use Rattle.std.proofs.lemmas.Bool.{false≢true}

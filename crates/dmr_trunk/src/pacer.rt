@@ -7,7 +7,7 @@ use std::thread;
 use std::time::{Clock, Duration, Instant};
 
 /// How many milliseconds it sleeps at most, so that the end of a term is not waited for much longer.
-const NAP: u64 = 100;
+const NAP: u64 = 25;
 
 /// Says that a tick is due whenever the time of one has passed by the system's clock that never goes back. Each tick is due one
 /// tick's time after the one before it was due, however late that one was asked for: no time is lost, and ticks that were missed

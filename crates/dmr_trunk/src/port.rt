@@ -18,6 +18,10 @@ use std::time::Duration;
 /// How many milliseconds a wait lasts at most.
 const WAIT: u64 = 100;
 
+/// How many parts a wait for octets or for a connection has. After each the worker asks whether its term is over, so that the others,
+/// who wait for the last worker when a term ends, do not wait long.
+const PARTS: u8 = 4;
+
 /// How many waits a connection's writes may take between two reads.
 const WRITE_WAITS: u8 = 50;
 
@@ -29,8 +33,9 @@ const LAST_READS: usize = 16;
 struct Connection {
     stream: TcpStream,
     from: SocketAddr,
-    /// How many waits in a row brought no octet.
+    /// How many waits in a row brought no octet, and how many parts of the one that goes on.
     silent: u16,
+    parts: u8,
     /// How many waits its writes have taken since the last read.
     unread: u8,
     /// What ended it, once it is known.
@@ -50,6 +55,7 @@ impl Connection {
             }
             Ok(count) => {
                 self.silent = 0;
+                self.parts = 0;
                 Got::Octets(count)
             }
             Err(error) => match error.kind() {
@@ -80,6 +86,21 @@ impl Connection {
         }
     }
 
+    /// Counts a part of a wait that brought nothing. Whether the other side has been silent for so many waits.
+    fn is_silent(&mut self, silence: u16) -> bool {
+        self.parts = self.parts.saturating_add(1);
+        if self.parts < PARTS {
+            return false;
+        }
+        self.parts = 0;
+        self.silent = self.silent.saturating_add(1);
+        if self.silent < silence {
+            return false;
+        }
+        self.ended = Some(Cause::Silence);
+        true
+    }
+
     /// Ends the output, and reads what came and was not read. What is closed with octets unread breaks the connection off, and the
     /// other side may lose what was last written to it, as a REFUSED.
     fn finish(&mut self) {
@@ -101,7 +122,7 @@ impl Connection {
 /// has ended.
 ///
 /// It polls the connection where there is one, and else the socket that listens, so nothing that others do ends a wait for the
-/// connection's octets. Each wait lasts 100 ms at most. A connection from which no octet came in a number of waits in a row is
+/// connection's octets. A wait lasts 100 ms, and is made in parts of 25 ms. A connection from which no octet came in a number of waits in a row is
 /// silent. Writes wait too, 50 times between two reads; the one that would have to wait longer would block.
 #[derive(Drop)]
 pub struct SocketPort<'a, R> {
@@ -179,12 +200,10 @@ impl<'a, R: Log> SocketPort<'a, R> {
         }
     }
 
-    /// Waits until something happens to what is polled, 100 ms at most. Whether anything did.
-    fn wait_once(&mut self) -> bool {
-        match self
-            .poll
-            .poll(&mut self.events, Some(Duration::from_millis(WAIT)))
-        {
+    /// Waits until something happens to what is polled, so many milliseconds at most. Whether anything did.
+    fn wait_once(&mut self, milliseconds: u64) -> bool {
+        let most = Duration::from_millis(milliseconds);
+        match self.poll.poll(&mut self.events, Some(most)) {
             Ok(()) => self.events.iter().next().is_some(),
             Err(_) => false,
         }
@@ -218,6 +237,7 @@ impl<'a, R: Log> SocketPort<'a, R> {
             stream,
             from,
             silent: 0,
+            parts: 0,
             unread: 0,
             ended: None,
         });
@@ -278,7 +298,7 @@ impl<'a, R: Log> SocketPort<'a, R> {
             return false;
         }
         connection.unread += 1;
-        self.wait_once();
+        self.wait_once(WAIT);
         true
     }
 
@@ -341,23 +361,21 @@ impl<R: Log> Port for SocketPort<'_, R> {
                     ErrorKind::Interrupted => {}
                     _ => self.note_refusal(&error),
                 }
-                self.wait_once();
+                self.wait_once(WAIT / u64::from(PARTS));
             }
         }
         Connect::NotYet
     }
 
     fn wait(&mut self) -> Waited {
-        let happened = self.wait_once();
+        let happened = self.wait_once(WAIT / u64::from(PARTS));
         let Some(connection) = &mut self.connection else {
             return Waited::Silent;
         };
         if happened {
             return Waited::Again;
         }
-        connection.silent = connection.silent.saturating_add(1);
-        if connection.silent >= self.silence {
-            connection.ended = Some(Cause::Silence);
+        if connection.is_silent(self.silence) {
             return Waited::Silent;
         }
         Waited::Again

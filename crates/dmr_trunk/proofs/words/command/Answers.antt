@@ -1,4 +1,4 @@
-use Rattle.std.proofs.Common.{rules, codes}
+use Rattle.std.proofs.Common.{codes}
 use Rattle.std.proofs.lemmas.Result.{IfOk-weaker}
 use Rattle.dmr_trunk.proofs.WordsLemmas.{IsOption, app_given, site_given}
 use Rattle.dmr_trunk.proofs.words.command.Goals as goal

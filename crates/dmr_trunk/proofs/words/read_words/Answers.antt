@@ -1,4 +1,4 @@
-use Rattle.std.proofs.Common.{map, codes, rules}
+use Rattle.std.proofs.Common.{map}
 use Rattle.std.proofs.lemmas.Result.{IfOk-weaker}
 use Rattle.dmr_trunk.proofs.WordsLemmas.{all_read, all_refused, is_free}
 use Rattle.dmr_trunk.proofs.words.read_words.Goals as goal

@@ -40,8 +40,8 @@ least_held radios from None below = nothing_in (held_from radios from) (λ radio
     let under = All-contains (λ r. r < from) radios radio below held.0 in
     omega (arith, held.1, under))
 least_held radios from (Some least) is = (
-    held_from-contains radios from least (is.stands, is.reaches),
-    λ k d within.
+  held_from-contains radios from least (is.stands, is.reaches),
+  λ k d within.
       let held = held_from-held radios from _ (Contains-get_or (held_from radios from) k d within) in
-      All-contains (λ r. from ≤ r → least ≤ r) radios _ is.below held.0 held.1
-  )
+      All-contains (λ r. from ≤ r → least ≤ r) radios _ is.below held.0 held.1,
+)

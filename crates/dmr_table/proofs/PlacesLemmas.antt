@@ -23,9 +23,9 @@ pub non_decreasing : (ps : List Place) → AreAscending ps → IsNonDecreasingBy
 non_decreasing ps up i j d le within = elim (cases_lt i j) [
   | inl before ↦ omega (arith, up i j d before within)
   | inr after ↦
-    let same : i ≡ j = omega (arith, le, after) in
-    let ranks : rank_of (get_or ps i d) ≡ rank_of (get_or ps j d) = ap (λ k. rank_of (get_or ps k d)) same in
-    omega (arith, ranks)
+      let same : i ≡ j = omega (arith, le, after) in
+      let ranks : rank_of (get_or ps i d) ≡ rank_of (get_or ps j d) = ap (λ k. rank_of (get_or ps k d)) same in
+      omega (arith, ranks)
 ]
 
 -- a partition point is a gap
@@ -44,25 +44,25 @@ all_pairs_insert {X} R xs i y all within below above a b d before in_range =
       | inl b_below ↦ rw (get_or-insert_below xs i y d a (omega (arith, before, b_below)) within, get_or-insert_below xs i y d b b_below within) (all a b d before (omega (arith, b_below, within)))
       | inr b_from ↦ elim (cases_lt i b) [
         | inl b_above ↦
-          let up : b ≡ (b - 1) + 1 = omega (arith, b_above) in
-          let there : get_or (insert xs i y) b d ≡ get_or xs (b - 1) d = ap (λ k. get_or (insert xs i y) k d) up ∙ get_or-insert_above xs i y d (b - 1) (omega (arith, b_above)) within in
-          rw there (elim (cases_lt a i) [
-            | inl a_below ↦ rw (get_or-insert_below xs i y d a a_below within) (all a (b - 1) d (omega (arith, a_below, b_above)) (omega (arith, in_range, long, b_above)))
-            | inr a_from ↦ elim (cases_lt i a) [
-              | inl a_above ↦
-                let up_a : a ≡ (a - 1) + 1 = omega (arith, a_above) in
-                let there_a : get_or (insert xs i y) a d ≡ get_or xs (a - 1) d = ap (λ k. get_or (insert xs i y) k d) up_a ∙ get_or-insert_above xs i y d (a - 1) (omega (arith, a_above)) within in
-                rw there_a (all (a - 1) (b - 1) d (omega (arith, before, a_above)) (omega (arith, in_range, long, b_above)))
-              | inr a_to ↦
-                let here : i ≡ a = omega (arith, a_from, a_to) in
-                let there_a : get_or (insert xs i y) a d ≡ y = ap (λ k. get_or (insert xs i y) k d) (sym here) ∙ get_or-insert_at xs i y d within in
-                rw there_a (above (b - 1) d (omega (arith, b_above)) (omega (arith, in_range, long, b_above)))
-            ]
-          ])
+            let up : b ≡ (b - 1) + 1 = omega (arith, b_above) in
+            let there : get_or (insert xs i y) b d ≡ get_or xs (b - 1) d = ap (λ k. get_or (insert xs i y) k d) up ∙ get_or-insert_above xs i y d (b - 1) (omega (arith, b_above)) within in
+            rw there (elim (cases_lt a i) [
+              | inl a_below ↦ rw (get_or-insert_below xs i y d a a_below within) (all a (b - 1) d (omega (arith, a_below, b_above)) (omega (arith, in_range, long, b_above)))
+              | inr a_from ↦ elim (cases_lt i a) [
+                | inl a_above ↦
+                    let up_a : a ≡ (a - 1) + 1 = omega (arith, a_above) in
+                    let there_a : get_or (insert xs i y) a d ≡ get_or xs (a - 1) d = ap (λ k. get_or (insert xs i y) k d) up_a ∙ get_or-insert_above xs i y d (a - 1) (omega (arith, a_above)) within in
+                    rw there_a (all (a - 1) (b - 1) d (omega (arith, before, a_above)) (omega (arith, in_range, long, b_above)))
+                | inr a_to ↦
+                    let here : i ≡ a = omega (arith, a_from, a_to) in
+                    let there_a : get_or (insert xs i y) a d ≡ y = ap (λ k. get_or (insert xs i y) k d) (sym here) ∙ get_or-insert_at xs i y d within in
+                    rw there_a (above (b - 1) d (omega (arith, b_above)) (omega (arith, in_range, long, b_above)))
+              ]
+            ])
         | inr b_to ↦
-          let here : i ≡ b = omega (arith, b_from, b_to) in
-          let there : get_or (insert xs i y) b d ≡ y = ap (λ k. get_or (insert xs i y) k d) (sym here) ∙ get_or-insert_at xs i y d within in
-          rw (there, get_or-insert_below xs i y d a (omega (arith, before, here)) within) (below a d (omega (arith, before, here)))
+            let here : i ≡ b = omega (arith, b_from, b_to) in
+            let there : get_or (insert xs i y) b d ≡ y = ap (λ k. get_or (insert xs i y) k d) (sym here) ∙ get_or-insert_at xs i y d within in
+            rw (there, get_or-insert_below xs i y d a (omega (arith, before, here)) within) (below a d (omega (arith, before, here)))
       ]
     ]
 
@@ -102,8 +102,10 @@ module _ {X : Type 0} (f : X → ℕ) (xs : List X) (ps : List Place) (few : len
     where
       longer : (q : Place) → IsPlaceIn f xs q → IsPlaceIn f (xs ++ y ∷ []) q
       longer q is = record { within = omega (arith, is.within, length_push xs y); same = λ d. ap f (get_or_append_left xs (y ∷ []) d q.index is.within) ∙ is.same d }
+
       new : IsPlaceIn f (xs ++ y ∷ []) p
       new = record { within = omega (arith, index, length_push xs y); same = λ d. ap (λ n. f (get_or (xs ++ y ∷ []) n d)) index ∙ ap f (get_or_push xs y d (length xs) refl) ∙ sym key }
+
       older : (n : ℕ) → n < length xs → (j : ℕ) × (j < length (insert ps i p)) × ((d : Place) → (get_or (insert ps i p) j d).index ≡ n)
       older n before =
           let there = are.all n before in
@@ -111,6 +113,7 @@ module _ {X : Type 0} (f : X → ℕ) (xs : List X) (ps : List Place) (few : len
             | inl below ↦ (there.0, omega (arith, there.1, length-insert ps i p gap.within), λ d. ap (λ (q : Place). q.index) (get_or-insert_below ps i p d there.0 below gap.within) ∙ there.2 d)
             | inr above ↦ (there.0 + 1, omega (arith, there.1, length-insert ps i p gap.within), λ d. ap (λ (q : Place). q.index) (get_or-insert_above ps i p d there.0 above gap.within) ∙ there.2 d)
           ]
+
       newest : (n : ℕ) → n ≡ length xs → (j : ℕ) × (j < length (insert ps i p)) × ((d : Place) → (get_or (insert ps i p) j d).index ≡ n)
       newest n last = (i, omega (arith, gap.within, length-insert ps i p gap.within), λ d. ap (λ (q : Place). q.index) (get_or-insert_at ps i p d gap.within) ∙ index ∙ sym last)
 
@@ -120,18 +123,18 @@ module _ {X : Type 0} (f : X → ℕ) (xs : List X) (ps : List Place) (few : len
     within = (are.each i e first.within).within;
     passes = λ d. eq-eqb _ _ ((are.each i e first.within).same d ∙ here);
     earlier = λ k d before. not_same (f (get_or xs k d)) key (λ same.
-      let there = place_of k d (omega (arith, before, (are.each i e first.within).within)) in
-      let is = there.2 e in
-      elim (cases_lt there.0 i) [
-        | inl below ↦ omega (arith, first.gap.below there.0 e below, is.0, is.1, same)
-        | inr from ↦ elim (cases_lt i there.0) [
-          | inl above ↦ omega (arith, are.ascending i there.0 e above there.1, is.0, is.1, same, here, before)
-          | inr to ↦
-            let eq : i ≡ there.0 = omega (arith, from, to) in
-            let index : (get_or ps i e).index ≡ (get_or ps there.0 e).index = ap (λ n. (get_or ps n e).index) eq in
-            omega (arith, index, is.0, before)
-        ]
-      ]);
+        let there = place_of k d (omega (arith, before, (are.each i e first.within).within)) in
+        let is = there.2 e in
+        elim (cases_lt there.0 i) [
+          | inl below ↦ omega (arith, first.gap.below there.0 e below, is.0, is.1, same)
+          | inr from ↦ elim (cases_lt i there.0) [
+            | inl above ↦ omega (arith, are.ascending i there.0 e above there.1, is.0, is.1, same, here, before)
+            | inr to ↦
+                let eq : i ≡ there.0 = omega (arith, from, to) in
+                let index : (get_or ps i e).index ≡ (get_or ps there.0 e).index = ap (λ n. (get_or ps n e).index) eq in
+                omega (arith, index, is.0, before)
+          ]
+        ]);
   }
 
   -- where the first place from a key on is of another key, no entry has the key
@@ -158,8 +161,8 @@ module _ {X : Type 0} (f : X → ℕ) (xs : List X) (ps : List Place) (few : len
         stands = ((get_or ps i e).index, here.within, sym read);
         reaches = omega (arith, first.gap.above i e (omega arith) first.within, own, here.within, few);
         below = λ k d within from.
-          let there = place_of k d within in
-          let is = there.2 e in
-          let ranks : rank_of (get_or ps i e) ≤ rank_of (get_or ps there.0 e) = non_decreasing ps are.ascending i there.0 e (elim (cases_lt there.0 i) [ inl below ↦ absurd (omega (arith, first.gap.below there.0 e below, is.0, is.1, from)) | inr after ↦ after ]) there.1 in
-          omega (arith, ranks, own, is.0, is.1, within, few);
+            let there = place_of k d within in
+            let is = there.2 e in
+            let ranks : rank_of (get_or ps i e) ≤ rank_of (get_or ps there.0 e) = non_decreasing ps are.ascending i there.0 e (elim (cases_lt there.0 i) [ inl below ↦ absurd (omega (arith, first.gap.below there.0 e below, is.0, is.1, from)) | inr after ↦ after ]) there.1 in
+            omega (arith, ranks, own, is.0, is.1, within, few);
       }

@@ -27,11 +27,11 @@ lowered_order n p q p_other q_other p_small q_small up = elim (cases_lt p.index 
     | inr q_from ↦ omega (arith, lowered_before n p p_before, lowered_behind n q (omega (arith, q_from, q_other)), up, p_small, q_small)
   ]
   | inr p_from ↦
-    let p_moved = lowered_behind n p (omega (arith, p_from, p_other)) in
-    elim (cases_lt q.index n) [
-      | inl q_before ↦ omega (arith, p_moved, lowered_before n q q_before, up, p_from, p_small, q_small)
-      | inr q_from ↦ omega (arith, p_moved, lowered_behind n q (omega (arith, q_from, q_other)), up)
-    ]
+      let p_moved = lowered_behind n p (omega (arith, p_from, p_other)) in
+      elim (cases_lt q.index n) [
+        | inl q_before ↦ omega (arith, p_moved, lowered_before n q q_before, up, p_from, p_small, q_small)
+        | inr q_from ↦ omega (arith, p_moved, lowered_behind n q (omega (arith, q_from, q_other)), up)
+      ]
 ]
 
 -- what is read of a list after each element was changed
@@ -85,11 +85,11 @@ module _ {X : Type 0} (f : X → ℕ) (xs : List X) (ps : List Place) (few : len
       let long = length-remove xs n there in
       elim (cases_lt p.index n) [
         | inl before ↦
-          let same = lowered_before n p before in
-          record { within = omega (arith, same, before, there, long); same = λ d. ap (λ m. f (get_or (remove xs n) m d)) same ∙ ap f (get_or-remove_below xs n d p.index before there) ∙ other.1.same d }
+            let same = lowered_before n p before in
+            record { within = omega (arith, same, before, there, long); same = λ d. ap (λ m. f (get_or (remove xs n) m d)) same ∙ ap f (get_or-remove_below xs n d p.index before there) ∙ other.1.same d }
         | inr from ↦
-          let moved = lowered_behind n p (omega (arith, from, other.0)) in
-          record { within = omega (arith, moved, other.1.within, long); same = λ d. ap f (get_or-remove_above xs n d (lowered n p).index (omega (arith, moved, from, other.0)) there) ∙ ap (λ m. f (get_or xs m d)) moved ∙ other.1.same d }
+            let moved = lowered_behind n p (omega (arith, from, other.0)) in
+            record { within = omega (arith, moved, other.1.within, long); same = λ d. ap f (get_or-remove_above xs n d (lowered n p).index (omega (arith, moved, from, other.0)) there) ∙ ap (λ m. f (get_or xs m d)) moved ∙ other.1.same d }
       ]
 
   -- where the place of an entry stands that was at m before
@@ -100,18 +100,18 @@ module _ {X : Type 0} (f : X → ℕ) (xs : List X) (ps : List Place) (few : len
       elim (cases_lt there.0 i) [
         | inl before ↦ (there.0, omega (arith, before, within, long), λ d. ap (λ (p : Place). p.index) (get_or-remove_below ps i d there.0 before within) ∙ there.2 d)
         | inr from ↦
-          let behind : i < there.0 = apart there.0 there.2 from in
-          let up : (there.0 - 1) + 1 ≡ there.0 = omega (arith, behind) in
-          (there.0 - 1, omega (arith, behind, there.1, long), λ d. ap (λ (p : Place). p.index) (get_or-remove_above ps i d (there.0 - 1) (omega (arith, behind)) within ∙ ap (λ k. get_or ps k d) up) ∙ there.2 d)
+            let behind : i < there.0 = apart there.0 there.2 from in
+            let up : (there.0 - 1) + 1 ≡ there.0 = omega (arith, behind) in
+            (there.0 - 1, omega (arith, behind, there.1, long), λ d. ap (λ (p : Place). p.index) (get_or-remove_above ps i d (there.0 - 1) (omega (arith, behind)) within ∙ ap (λ k. get_or ps k d) up) ∙ there.2 d)
       ]
     where
       apart : (j : ℕ) → ((d : Place) → (get_or ps j d).index ≡ m) → i ≤ j → i < j
       apart j at_m from = elim (cases_lt i j) [
         | inl behind ↦ behind
         | inr to ↦
-          let blank : Place = record { key = 0; index = 0 } in
-          let same : j ≡ i = omega (arith, from, to) in
-          absurd (other (sym (at_m blank) ∙ ap (λ k. (get_or ps k blank).index) same ∙ is blank))
+            let blank : Place = record { key = 0; index = 0 } in
+            let same : j ≡ i = omega (arith, from, to) in
+            absurd (other (sym (at_m blank) ∙ ap (λ k. (get_or ps k blank).index) same ∙ is blank))
       ]
 
   -- what is left are the places of the entries that are left
@@ -125,18 +125,26 @@ module _ {X : Type 0} (f : X → ℕ) (xs : List X) (ps : List Place) (few : len
     where
       blank : Place
       blank = record { key = 0; index = 0 }
+
       at_front : (m : ℕ) → m < n → (k : ℕ) × (k < length (map (lowered n) (remove ps i))) × ((d : Place) → (get_or (map (lowered n) (remove ps i)) k d).index ≡ m)
       at_front m before =
-          let left = left_at m (omega (arith, before, removed_within blank)) (λ same. omega (arith, same, before)) in
-          (left.0, omega (arith, left.1, length_mapped (lowered n) (remove ps i)), λ d.
-            ap (λ (p : Place). p.index) (read_mapped (lowered n) (remove ps i) left.0 d d left.1) ∙ lowered_before n (get_or (remove ps i) left.0 d) (omega (arith, left.2 d, before)) ∙ left.2 d)
+          let left = left_at m (omega (arith, before, removed_within blank)) (λ same. omega (arith, same, before)) in (
+            left.0,
+            omega (arith, left.1, length_mapped (lowered n) (remove ps i)),
+            λ d.
+                ap (λ (p : Place). p.index) (read_mapped (lowered n) (remove ps i) left.0 d d left.1) ∙ lowered_before n (get_or (remove ps i) left.0 d) (omega (arith, left.2 d, before)) ∙ left.2 d,
+          )
+
       at_back : (m : ℕ) → n ≤ m → m + 1 < length xs → (k : ℕ) × (k < length (map (lowered n) (remove ps i))) × ((d : Place) → (get_or (map (lowered n) (remove ps i)) k d).index ≡ m)
       at_back m from in_range =
-          let left = left_at (m + 1) in_range (λ same. omega (arith, same, from)) in
-          (left.0, omega (arith, left.1, length_mapped (lowered n) (remove ps i)), λ d.
-            let moved = lowered_behind n (get_or (remove ps i) left.0 d) (omega (arith, left.2 d, from)) in
-            let index : (lowered n (get_or (remove ps i) left.0 d)).index ≡ m = omega (arith, moved, left.2 d) in
-            ap (λ (p : Place). p.index) (read_mapped (lowered n) (remove ps i) left.0 d d left.1) ∙ index)
+          let left = left_at (m + 1) in_range (λ same. omega (arith, same, from)) in (
+            left.0,
+            omega (arith, left.1, length_mapped (lowered n) (remove ps i)),
+            λ d.
+                let moved = lowered_behind n (get_or (remove ps i) left.0 d) (omega (arith, left.2 d, from)) in
+                let index : (lowered n (get_or (remove ps i) left.0 d)).index ≡ m = omega (arith, moved, left.2 d) in
+                ap (λ (p : Place). p.index) (read_mapped (lowered n) (remove ps i) left.0 d d left.1) ∙ index,
+          )
 
 -- the same, for a place that was read
 pub places_left : {X : Type 0} (f : X → ℕ) (xs : List X) (ps : List Place) → length xs ≤ 65536 → ArePlaces f xs ps → (i : ℕ) → i < length ps → (p : Place) → p ≡ get_or ps i p → X → ArePlaces f (remove xs p.index) (map (lowered p.index) (remove ps i))

@@ -5,7 +5,7 @@ ghost use Rattle.std.specs.List.{All, Contains, list_any};
 ghost use Rattle.dmr_table.specs.Entries.{without_first, IsLeastFrom};
 
 use crate::keyed::Keyed;
-use crate::places::{count_before, first_from, lower, Place};
+use crate::places::{Place, count_before, first_from, lower};
 use dmr_pdu::OutOfMemory;
 use std::alloc::Global;
 use std::marker::Model;

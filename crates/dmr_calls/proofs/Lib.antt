@@ -1,3 +1,3 @@
-pub mod Loops
 pub mod EngagedLemmas
 pub mod OwnLemmas
+pub mod SlotLemmas

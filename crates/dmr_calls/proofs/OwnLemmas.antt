@@ -1,12 +1,15 @@
 -- No radio comes to have two asks.
-use Rattle.std.proofs.Common.{arith, ◌≡◌, ◌≢◌, ℕ, zero, suc, List, [], ◌∷◌, ◌++◌, true, refl, length, map, get_or, ◌∙◌, sym, ap}
-use Rattle.std.specs.Prelude.{◌==◌, not}
+use Rattle.std.proofs.Common.{arith, ◌≡◌, ◌≢◌, ℕ, zero, suc, ◌<◌, ◌+◌, List, [], ◌∷◌, ◌++◌, Bool, true, false, refl, length, map, get_or, ◌∙◌, sym, ap}
+use Rattle.std.specs.Prelude.{◌==◌, ◌&&◌, ◌||◌, not, find, Some, if◌then◌else◌}
+use mathlib.Core.Bool.{true≢false}
+use Rattle.std.specs.List.{list_any}
+use Rattle.std.specs.Option.{option_map_or}
 use Rattle.std.proofs.lemmas.Bool.Decides.{nat_tests}
 use Rattle.std.proofs.lemmas.List.Elements.{filter_passes}
 use Rattle.std.proofs.lemmas.List.Quantifiers.{all_pairs_push}
 use Rattle.dmr_calls.specs.declared.ask.Ask.{Ask}
 use Rattle.dmr_calls.specs.declared.ask.Asking.{Asking}
-use Rattle.dmr_calls.specs.Asks.{HaveOwnSources, just_asked, waited_more, others_than}
+use Rattle.dmr_calls.specs.Asks.{HaveOwnSources, just_asked, waited_more, others_than, has_own_ask}
 
 -- a number that is not another's
 other_source : (a b : ℕ) → not (a == b) ≡ true → a ≢ b
@@ -33,3 +36,47 @@ same_length (a ∷ asks) = ap (λ n. suc n) (same_length asks)
 pub own_after : (asks : List Asking) → HaveOwnSources asks → HaveOwnSources (map waited_more asks)
 own_after asks own i j d before within same =
     own i j d before (omega (arith, same_length asks)) (sym (same_source asks i d) ∙ same ∙ same_source asks j d)
+
+-- the asks behind the first are of own sources too
+own_tail : (a : Asking) (asks : List Asking) → HaveOwnSources (a ∷ asks) → HaveOwnSources asks
+own_tail a asks own i j d before within = own (suc i) (suc j) d (omega (arith, before)) (omega (arith, within))
+
+-- where the first is of a source, the others are not
+rest_is_other : (a : Asking) (asks : List Asking) (source : ℕ) → HaveOwnSources (a ∷ asks) → (a.ask.source == source) ≡ true → list_any (λ (b : Asking). b.ask.source == source) asks ≡ false
+rest_is_other a asks source own same = none_same asks (λ k d within. let other : a.ask.source ≢ (get_or asks k d).ask.source = own 0 (suc k) d (omega arith) (omega (arith, within)) in grind (arith, nat_tests))
+  where
+    none_same : (bs : List Asking) → ((k : ℕ) (d : Asking) → k < length bs → ((get_or bs k d).ask.source == source) ≡ false) → list_any (λ (b : Asking). b.ask.source == source) bs ≡ false
+    none_same [] other = refl
+    none_same (b ∷ bs) other = ap (λ t. t || list_any (λ (c : Asking). c.ask.source == source) bs) (other 0 b (omega arith)) ∙ none_same bs (λ k d within. other (suc k) d (omega (arith, within)))
+
+-- the asks of other sources are all but the one of the source
+pub others_count : (asks : List Asking) (source : ℕ) → HaveOwnSources asks → length (others_than source asks) + (if list_any (λ (a : Asking). a.ask.source == source) asks then 1 else 0) ≡ length asks
+others_count [] source own = refl
+others_count (a ∷ asks) source own = by_first (a.ask.source == source) (rest_is_other a asks source own) (others_count asks source (own_tail a asks own))
+  where
+    by_first : (b : Bool) → (b ≡ true → list_any (λ (c : Asking). c.ask.source == source) asks ≡ false) → length (others_than source asks) + (if list_any (λ (c : Asking). c.ask.source == source) asks then 1 else 0) ≡ length asks → length (if not b then a ∷ others_than source asks else others_than source asks) + (if b || list_any (λ (c : Asking). c.ask.source == source) asks then 1 else 0) ≡ suc (length asks)
+    by_first true none more = let alone = rw (none refl) at more in omega (arith, alone)
+    by_first false none more = omega (arith, more)
+
+-- where no ask is of the source, none is of the source and to the target
+none_to : (asks : List Asking) (source target : ℕ) → list_any (λ (a : Asking). a.ask.source == source) asks ≡ false → has_own_ask asks source target ≡ false
+none_to [] source target none = refl
+none_to (a ∷ asks) source target none = by_first (a.ask.source == source) (none_to asks source target) none
+  where
+    by_first : (b : Bool) → (list_any (λ (c : Asking). c.ask.source == source) asks ≡ false → has_own_ask asks source target ≡ false) → (b || list_any (λ (c : Asking). c.ask.source == source) asks) ≡ false → ((b && (a.ask.target == target)) || has_own_ask asks source target) ≡ false
+    by_first true more none = absurd (true≢false none)
+    by_first false more none = more none
+
+-- a test or nothing is the test
+or_false : (a b : Bool) → b ≡ false → (a || b) ≡ a
+or_false true b none = refl
+or_false false b none = none
+
+-- whether the source asks the target is read of its one ask
+pub own_ask_read : (asks : List Asking) (source target : ℕ) → HaveOwnSources asks → has_own_ask asks source target ≡ option_map_or (λ (c : Asking). c.ask.target == target) (find (λ c. c.ask.source == source) asks) false
+own_ask_read [] source target own = refl
+own_ask_read (a ∷ asks) source target own = by_first (a.ask.source == source) (rest_is_other a asks source own) (own_ask_read asks source target (own_tail a asks own))
+  where
+    by_first : (b : Bool) → (b ≡ true → list_any (λ (c : Asking). c.ask.source == source) asks ≡ false) → has_own_ask asks source target ≡ option_map_or (λ (c : Asking). c.ask.target == target) (find (λ c. c.ask.source == source) asks) false → ((b && (a.ask.target == target)) || has_own_ask asks source target) ≡ option_map_or (λ (c : Asking). c.ask.target == target) (if b then Some a else find (λ c. c.ask.source == source) asks) false
+    by_first true none more = or_false (a.ask.target == target) (has_own_ask asks source target) (none_to asks source target (none refl))
+    by_first false none more = more

@@ -1,5 +1,6 @@
 pub mod Standings
 pub mod Ticks
+pub mod Slots
 pub mod Asks
 pub mod Lines
 pub mod Calls

@@ -1,6 +1,7 @@
 //! Asks.
 
 use dmr_pdu::{Address, Options};
+use dmr_table::Keyed;
 
 /// An ask: a C_AHOY was sent to the target of an individual call, and its C_ACKU is awaited.
 #[derive(Clone, Copy, Debug, PartialEq, Eq)]
@@ -22,4 +23,13 @@ pub struct Asking {
     pub ask: Ask,
     /// The ticks since its C_AHOY, kept to 65,535.
     pub waited: u16,
+}
+
+/// An ask is found by its source.
+impl Keyed for Asking {
+    ghost key_of = { λ a. a.ask.source };
+
+    fn key(&self) -> u32 {
+        self.ask.source.get()
+    }
 }

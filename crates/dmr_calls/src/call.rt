@@ -1,6 +1,10 @@
 //! Calls.
 
+ghost use Rattle.std.specs.Prelude.{◌≡◌};
+ghost use Rattle.dmr_calls.specs.Slots.{number_of};
+
 use dmr_pdu::{Address, Blank, Slot};
+use dmr_table::Keyed;
 
 /// A call.
 #[derive(Clone, Copy, Debug, PartialEq, Eq)]
@@ -39,4 +43,20 @@ pub struct Standing {
     pub age: u16,
     /// The ticks since it began or was last marked as active, whichever came later, kept to 65,535.
     pub quiet: u16,
+}
+
+/// The number of a slot among all slots of the site: two for each carrier.
+pub fn slot_number(slot: &Slot) -> u32
+    ensures { result ≡ number_of slot.now }
+{
+    2 * slot.carrier.get() + slot.slot.get()
+}
+
+/// A call is found by its slot.
+impl Keyed for Standing {
+    ghost key_of = { λ s. number_of s.call.slot };
+
+    fn key(&self) -> u32 {
+        slot_number(&self.call.slot)
+    }
 }

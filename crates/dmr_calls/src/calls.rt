@@ -17,38 +17,39 @@ use crate::call::Standing;
 use crate::line::Line;
 use crate::ticks::{count_asks, count_calls};
 use dmr_pdu::{Address, OutOfMemory};
+use dmr_table::KeyedTable;
 use std::alloc::Global;
 use std::marker::Model;
 
 /// The most asks at a time.
-const MOST_ASKS: usize = 32;
+pub(crate) const MOST_ASKS: usize = 32;
 
 /// The most lines at a time.
 const MOST_LINES: usize = 32;
 
 /// The most calls at a time.
-const MOST_CALLS: usize = 31;
+pub(crate) const MOST_CALLS: usize = 31;
 
 /// The asks, lines and calls of a site. Contracts see it as the three lists: the asks with the oldest C_AHOY in front, the
 /// lines in the order of lining, and the calls in the order of beginning, asks and calls with the ticks that are counted
 /// for them.
 #[derive(Drop)]
 pub struct Calls {
-    asks: Vec<Asking>,
-    lines: Vec<Line>,
-    calls: Vec<Standing>,
+    asks: KeyedTable<Asking, MOST_ASKS>,
+    lines: KeyedTable<Line, MOST_LINES>,
+    calls: KeyedTable<Standing, MOST_CALLS>,
 }
 
 impl Model for Calls {
-    ghost use Rattle.std.specs.Prelude.{◌≤◌, vec_len, vec_capacity};
     ghost use Rattle.dmr_calls.specs.Standings.{Standings};
     ghost use Rattle.dmr_calls.specs.Asks.{HaveOwnSources};
+    ghost use Rattle.dmr_calls.specs.Slots.{AreOnSlots};
 
     ghost Value = { Standings };
 
-    ghost view = { λ c. record { asks = c.asks.items; lines = c.lines.items; calls = c.calls.items } };
+    ghost view = { λ c. record { asks = c.asks; lines = c.lines; calls = c.calls } };
 
-    ghost invariant = { λ c. (vec_len c.asks ≤ 32) × (32 ≤ vec_capacity c.asks) × (vec_len c.lines ≤ 32) × (32 ≤ vec_capacity c.lines) × (vec_len c.calls ≤ 31) × (31 ≤ vec_capacity c.calls) × HaveOwnSources c.asks.items };
+    ghost invariant = { λ c. HaveOwnSources c.asks × AreOnSlots c.calls };
 }
 
 impl Calls {
@@ -56,9 +57,9 @@ impl Calls {
     pub fn new(alloc: Global) -> Result<Calls, OutOfMemory>
         ensures { IfOk result (λ calls. calls ≡ nothing) }
     {
-        let asks = Vec::with_capacity(alloc, MOST_ASKS)?;
-        let lines = Vec::with_capacity(alloc, MOST_LINES)?;
-        let calls = Vec::with_capacity(alloc, MOST_CALLS)?;
+        let asks = KeyedTable::new(alloc)?;
+        let lines = KeyedTable::new(alloc)?;
+        let calls = KeyedTable::new(alloc)?;
         Ok(Calls { asks, lines, calls })
     }
 
@@ -66,11 +67,10 @@ impl Calls {
     pub fn try_clone(&self, alloc: Global) -> Result<Calls, OutOfMemory>
         ensures { IfOk result (λ copy. copy ≡ self.now) }
     {
-        let mut copy = Calls::new(alloc)?;
-        copy.asks.extend_from_slice(&self.asks)?;
-        copy.lines.extend_from_slice(&self.lines)?;
-        copy.calls.extend_from_slice(&self.calls)?;
-        Ok(copy)
+        let asks = self.asks.try_clone(alloc)?;
+        let lines = self.lines.try_clone(alloc)?;
+        let calls = self.calls.try_clone(alloc)?;
+        Ok(Calls { asks, lines, calls })
     }
 
     /// Does nothing. A proof learns from it how many can stand, and that no radio has two asks.
@@ -78,7 +78,7 @@ impl Calls {
         ensures few { AreFew self.now }
         ensures own { HaveOwnSources self.now.asks }
     {
-        let _ = &self.asks;
+        let _ = (self.asks.len(), self.lines.len(), self.calls.len());
     }
 
     /// What a radio is engaged by: the first call, or else the first ask, or else the first line that it is a party to. It
@@ -152,7 +152,9 @@ impl Calls {
     fn is_same(&self, other: &Calls) -> bool
         ensures { result ≡ are_same self.now other.now }
     {
-        self.asks == other.asks && self.lines == other.lines && self.calls == other.calls
+        self.asks.as_slice() == other.asks.as_slice()
+            && self.lines.as_slice() == other.lines.as_slice()
+            && self.calls.as_slice() == other.calls.as_slice()
     }
 }
 

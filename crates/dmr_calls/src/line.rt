@@ -1,6 +1,10 @@
 //! Lines.
 
-use dmr_pdu::{Address, Blank};
+ghost use Rattle.std.specs.Prelude.{◌≡◌};
+
+use crate::call::Call;
+use dmr_pdu::{Address, Blank, Slot};
+use dmr_table::Keyed;
 
 /// A line: a request for a call that waits for a free slot.
 #[derive(Clone, Copy, Debug, Default, PartialEq, Eq)]
@@ -11,6 +15,29 @@ pub struct Line {
     pub target: Address,
     /// Whether a talkgroup is called.
     pub group: bool,
+}
+
+impl Line {
+    /// The call that the line becomes when a slot is free for it.
+    pub fn on(&self, slot: Slot) -> Call
+        ensures { result ≡ record { slot = slot; source = self.now.source; target = self.now.target; group = self.now.group } }
+    {
+        Call {
+            slot,
+            source: self.source,
+            target: self.target,
+            group: self.group,
+        }
+    }
+}
+
+/// A line is found by its source.
+impl Keyed for Line {
+    ghost key_of = { λ l. l.source };
+
+    fn key(&self) -> u32 {
+        self.source.get()
+    }
 }
 
 impl Blank for Line {

@@ -6,7 +6,9 @@ ghost use Rattle.dmr_calls.specs.Calls.{counted as counted_of, marked as marked_
 
 use crate::ask::Asking;
 use crate::call::Standing;
+use crate::calls::{MOST_ASKS, MOST_CALLS};
 use dmr_pdu::Slot;
+use dmr_table::KeyedTable;
 
 /// An ask after one tick more.
 fn waited_more(asking: Asking) -> Asking
@@ -44,28 +46,31 @@ fn marked(standing: Standing, slot: &Slot) -> Standing
 }
 
 /// One tick more for each ask.
-pub fn count_asks(asks: &mut [Asking])
+pub fn count_asks(asks: &mut KeyedTable<Asking, MOST_ASKS>)
     ensures { asks.new ≡ map waited_more_of asks.old }
 {
-    for asking in asks.iter_mut() {
-        *asking = waited_more(*asking);
+    for place in 0..asks.len() {
+        let asking = asks.as_slice()[place];
+        asks.replace(place, waited_more(asking));
     }
 }
 
 /// One tick more for each call.
-pub fn count_calls(calls: &mut [Standing])
+pub fn count_calls(calls: &mut KeyedTable<Standing, MOST_CALLS>)
     ensures { calls.new ≡ map counted_of calls.old }
 {
-    for standing in calls.iter_mut() {
-        *standing = counted(*standing);
+    for place in 0..calls.len() {
+        let standing = calls.as_slice()[place];
+        calls.replace(place, counted(standing));
     }
 }
 
 /// Marks the calls on the slot as active.
-pub fn mark(calls: &mut [Standing], slot: &Slot)
+pub fn mark(calls: &mut KeyedTable<Standing, MOST_CALLS>, slot: &Slot)
     ensures { calls.new ≡ map (marked_of slot.now) calls.old }
 {
-    for standing in calls.iter_mut() {
-        *standing = marked(*standing, slot);
+    for place in 0..calls.len() {
+        let standing = calls.as_slice()[place];
+        calls.replace(place, marked(standing, slot));
     }
 }

@@ -70,12 +70,12 @@ found_among radios from radio from_there =
     any-filter_same (nat_eq radio) (λ r. nat_le from r) true (λ r same. let e : radio ≡ r = eqb-true radio r same in le-leb from r (omega (arith, e, from_there))) radios
 
 -- a registered radio from a number on is one of those
-held_from-contains : (radios : List ℕ) (from radio : ℕ) → IsHeldFrom radios from radio → Contains (held_from radios from) radio
+pub held_from-contains : (radios : List ℕ) (from radio : ℕ) → IsHeldFrom radios from radio → Contains (held_from radios from) radio
 held_from-contains radios from radio held =
     Contains-from_any eqb-true radio (held_from radios from) (found_among radios from radio held.1 ∙ list_any-from_Contains nat_eq_equiv radio radios held.0)
 
 -- and each of those is
-held_from-held : (radios : List ℕ) (from radio : ℕ) → Contains (held_from radios from) radio → IsHeldFrom radios from radio
+pub held_from-held : (radios : List ℕ) (from radio : ℕ) → Contains (held_from radios from) radio → IsHeldFrom radios from radio
 held_from-held radios from radio held =
     let passes : nat_le from radio ≡ true = All-contains (λ r. nat_le from r ≡ true) (held_from radios from) radio (filter_passes (λ r. nat_le from r) radios) held in
     let from_there : from ≤ radio = leb-true from radio passes in

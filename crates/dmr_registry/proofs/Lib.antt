@@ -1,2 +1,3 @@
 pub mod LeastLemmas
 pub mod NextLemmas
+pub mod HeldLemmas

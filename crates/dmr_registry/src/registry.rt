@@ -7,6 +7,7 @@ ghost use Rattle.dmr_registry.specs.Least.{held_from, least_from, AreLeast};
 
 use arrayvec::ArrayVec;
 use dmr_pdu::{Address, OutOfMemory};
+use dmr_table::KeyedTable;
 use std::alloc::Global;
 use std::marker::Model;
 
@@ -21,18 +22,18 @@ pub struct Full;
 /// list of their addresses, the one that joined first in front.
 #[derive(Drop)]
 pub struct Registry {
-    radios: Vec<Address>,
+    radios: KeyedTable<Address, MOST_RADIOS>,
 }
 
 impl Model for Registry {
-    ghost use Rattle.std.specs.Prelude.{List, ℕ, ◌≤◌, vec_len, vec_capacity};
+    ghost use Rattle.std.specs.Prelude.{List, ℕ};
     ghost use Rattle.dmr_registry.specs.Radios.{AreDistinct};
 
     ghost Value = { List ℕ };
 
-    ghost view = { λ registry. registry.radios.items };
+    ghost view = { λ registry. registry.radios };
 
-    ghost invariant = { λ registry. (vec_len registry.radios ≤ 4096) × (4096 ≤ vec_capacity registry.radios) × AreDistinct registry.radios.items };
+    ghost invariant = { λ registry. AreDistinct registry.radios };
 }
 
 impl Registry {
@@ -41,7 +42,7 @@ impl Registry {
         ensures { IfOk result (λ registry. registry ≡ []) }
     {
         Ok(Registry {
-            radios: Vec::with_capacity(alloc, MOST_RADIOS)?,
+            radios: KeyedTable::new(alloc)?,
         })
     }
 
@@ -49,9 +50,9 @@ impl Registry {
     pub fn try_clone(&self, alloc: Global) -> Result<Registry, OutOfMemory>
         ensures { IfOk result (λ copy. copy ≡ self.now) }
     {
-        let mut radios = Vec::with_capacity(alloc, MOST_RADIOS)?;
-        radios.extend_from_slice(&self.radios)?;
-        Ok(Registry { radios })
+        Ok(Registry {
+            radios: self.radios.try_clone(alloc)?,
+        })
     }
 
     /// How many radios are registered: 0 to 4,096.
@@ -83,7 +84,7 @@ impl Registry {
         ensures gives { result ≡ is_held self.now radio }
         ensures member { IsTrue result ↔ Contains self.now radio }
     {
-        self.radios.contains(&radio)
+        self.radios.has(radio.get())
     }
 
     /// Registers a radio, behind those that are registered: `Ok(true)`. A radio that is registered already keeps its
@@ -98,7 +99,7 @@ impl Registry {
         if self.len() >= MOST_RADIOS {
             return Err(Full);
         }
-        self.radios.push_reserved(radio);
+        self.radios.push(radio);
         Ok(true)
     }
 
@@ -108,7 +109,7 @@ impl Registry {
         ensures radios { self.new ≡ without self.old radio }
     {
         let was_held = self.has(radio);
-        self.radios.retain(|r| *r != radio);
+        self.radios.remove(radio.get());
         was_held
     }
 
@@ -133,11 +134,7 @@ impl Registry {
     fn lowest_from(&self, from: u32) -> Option<Address>
         ensures { MatchOption result (length (held_from self.now from) ≡ 0) (λ least. Contains (held_from self.now from) least × All (λ radio. least ≤ radio) (held_from self.now from)) }
     {
-        self.radios
-            .iter()
-            .copied()
-            .filter(|radio| radio.get() >= from)
-            .min()
+        self.radios.least_from(from)
     }
 }
 
@@ -155,7 +152,7 @@ impl PartialEq for Registry {
         ensures gives { result ≡ pointwise nat_eq self.now other.now }
         ensures same { IsTrue result ↔ (self.now ≡ other.now) }
     {
-        self.radios == other.radios
+        self.as_slice() == other.as_slice()
     }
 }
 

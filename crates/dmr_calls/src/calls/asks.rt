@@ -22,7 +22,7 @@ impl Calls {
             return Err(Full);
         }
         self.ask_over(ask.source);
-        self.asks.push_reserved(Asking { ask, waited: 0 });
+        self.asks.push(Asking { ask, waited: 0 });
         Ok(())
     }
 
@@ -30,7 +30,7 @@ impl Calls {
     pub fn ask_over(&mut self, source: Address)
         ensures { self.new ≡ record self.old { asks = others_than source self.old.asks } }
     {
-        self.asks.retain(|a| a.ask.source != source);
+        self.asks.remove(source.get());
     }
 
     /// The target of an ask answered: takes out the first ask to it, and gives it. `None` where there is none; then
@@ -48,7 +48,11 @@ impl Calls {
     pub fn ask_to(&self, target: Address) -> Option<Ask>
         ensures { result ≡ ask_to self.now.asks target }
     {
-        let found = self.asks.iter().find(|a| a.ask.target == target)?;
+        let found = self
+            .asks
+            .as_slice()
+            .iter()
+            .find(|a| a.ask.target == target)?;
         Some(found.ask)
     }
 
@@ -56,7 +60,7 @@ impl Calls {
     pub fn ask_of(&self, source: Address) -> Option<Ask>
         ensures { result ≡ ask_of self.now.asks source }
     {
-        let found = self.asks.iter().find(|a| a.ask.source == source)?;
+        let found = self.asks.find(source.get())?;
         Some(found.ask)
     }
 
@@ -64,9 +68,10 @@ impl Calls {
     pub fn has_own_ask(&self, source: Address, target: Address) -> bool
         ensures { result ≡ has_own_ask self.now.asks source target }
     {
-        self.asks
-            .iter()
-            .any(|a| a.ask.source == source && a.ask.target == target)
+        let Some(own) = self.asks.find(source.get()) else {
+            return false;
+        };
+        own.ask.target == target
     }
 
     /// The first ask that a radio is a party to.
@@ -75,6 +80,7 @@ impl Calls {
     {
         let found = self
             .asks
+            .as_slice()
             .iter()
             .find(|a| is_party(radio, false, a.ask.source, a.ask.target))?;
         Some(found.ask)
@@ -84,7 +90,7 @@ impl Calls {
     pub(super) fn due_ask(&self, ahoy_wait: u16) -> Option<Ask>
         ensures { result ≡ due_ask ahoy_wait self.now.asks }
     {
-        let first = self.asks.first()?;
+        let first = self.asks.as_slice().first()?;
         if first.waited >= ahoy_wait {
             Some(first.ask)
         } else {
@@ -96,6 +102,6 @@ impl Calls {
     fn asks_of_others(&self, source: Address) -> usize
         ensures { result ≡ length (others_than source self.now.asks) }
     {
-        self.asks.iter().filter(|a| a.ask.source != source).count()
+        self.asks.len() - usize::from(self.asks.has(source.get()))
     }
 }

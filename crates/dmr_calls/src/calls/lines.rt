@@ -29,7 +29,7 @@ impl Calls {
         if self.lines.len() >= MOST_LINES {
             return Err(Full);
         }
-        self.lines.push_reserved(line);
+        self.lines.push(line);
         Ok(())
     }
 
@@ -37,14 +37,14 @@ impl Calls {
     pub fn unline(&mut self, source: Address)
         ensures { self.new ≡ record self.old { lines = without_line source self.old.lines } }
     {
-        self.lines.retain(|l| l.source != source);
+        self.lines.remove(source.get());
     }
 
     /// The line that has waited longest.
     pub fn first_line(&self) -> Option<Line>
         ensures { result ≡ first_line self.now.lines }
     {
-        self.lines.first().copied()
+        self.lines.as_slice().first().copied()
     }
 
     /// The lines from a place on, 16 at most, in their order. Places are counted from 0.
@@ -70,7 +70,7 @@ impl Calls {
     pub fn line_of(&self, source: Address) -> Option<Line>
         ensures { result ≡ line_of self.now.lines source }
     {
-        self.lines.iter().copied().find(|l| l.source == source)
+        self.lines.find(source.get())
     }
 
     /// The first individual line to a radio.
@@ -78,6 +78,7 @@ impl Calls {
         ensures { result ≡ line_to self.now.lines target }
     {
         self.lines
+            .as_slice()
             .iter()
             .copied()
             .find(|l| !l.group && l.target == target)
@@ -87,7 +88,10 @@ impl Calls {
     pub fn group_line(&self, group: Address) -> bool
         ensures { result ≡ has_group_line self.now.lines group }
     {
-        self.lines.iter().any(|l| l.group && l.target == group)
+        self.lines
+            .as_slice()
+            .iter()
+            .any(|l| l.group && l.target == group)
     }
 
     /// Whether the source has a line to the talkgroup.
@@ -95,6 +99,7 @@ impl Calls {
         ensures { result ≡ has_own_group_line self.now.lines source group }
     {
         self.lines
+            .as_slice()
             .iter()
             .any(|l| l.source == source && l.group && l.target == group)
     }
@@ -104,6 +109,7 @@ impl Calls {
         ensures { result ≡ has_own_line self.now.lines source target }
     {
         self.lines
+            .as_slice()
             .iter()
             .any(|l| l.source == source && !l.group && l.target == target)
     }
@@ -113,6 +119,7 @@ impl Calls {
         ensures { result ≡ line_with self.now.lines radio }
     {
         self.lines
+            .as_slice()
             .iter()
             .copied()
             .find(|l| is_party(radio, l.group, l.source, l.target))

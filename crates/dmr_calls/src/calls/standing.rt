@@ -7,7 +7,7 @@ ghost use Rattle.dmr_calls.specs.Due.{due_call};
 
 use super::{Calls, MOST_CALLS};
 use crate::answer::Full;
-use crate::call::{Call, Standing};
+use crate::call::{Call, Standing, slot_number};
 use crate::party::is_party;
 use crate::ticks::mark;
 use dmr_pdu::{Address, CarrierNo, Slot};
@@ -22,7 +22,7 @@ impl Calls {
         if self.calls.len() >= MOST_CALLS {
             return Err(Full);
         }
-        self.calls.push_reserved(Standing {
+        self.calls.push(Standing {
             call,
             age: 0,
             quiet: 0,
@@ -36,7 +36,7 @@ impl Calls {
         ensures calls { self.new ≡ record self.old { calls = on_other_slots slot self.old.calls } }
     {
         let first = self.call_on(slot);
-        self.calls.retain(|s| s.call.slot != slot);
+        self.calls.remove(slot_number(&slot));
         first
     }
 
@@ -44,7 +44,9 @@ impl Calls {
     pub fn end_of_carrier(&mut self, carrier: CarrierNo)
         ensures { self.new ≡ record self.old { calls = on_other_carriers carrier self.old.calls } }
     {
-        self.calls.retain(|s| s.call.slot.carrier != carrier);
+        let first = 2 * carrier.get();
+        self.calls.remove(first);
+        self.calls.remove(first + 1);
     }
 
     /// Marks the calls on a slot as active: no tick since then.
@@ -58,7 +60,7 @@ impl Calls {
     pub fn call_on(&self, slot: Slot) -> Option<Call>
         ensures { result ≡ call_on self.now.calls slot }
     {
-        let found = self.calls.iter().find(|s| s.call.slot == slot)?;
+        let found = self.calls.find(slot_number(&slot))?;
         Some(found.call)
     }
 
@@ -68,6 +70,7 @@ impl Calls {
     {
         let found = self
             .calls
+            .as_slice()
             .iter()
             .find(|s| s.call.group && s.call.target == group)?;
         Some(found.call)
@@ -77,7 +80,7 @@ impl Calls {
     pub fn own_group_call(&self, source: Address, group: Address) -> Option<Call>
         ensures { result ≡ own_group_call self.now.calls source group }
     {
-        let found = self.calls.iter().find(|s| s.call.source == source
+        let found = self.calls.as_slice().iter().find(|s| s.call.source == source
             && s.call.group
             && s.call.target == group)?;
         Some(found.call)
@@ -87,7 +90,7 @@ impl Calls {
     pub fn own_call(&self, source: Address, target: Address) -> Option<Call>
         ensures { result ≡ own_call self.now.calls source target }
     {
-        let found = self.calls.iter().find(|s| s.call.source == source
+        let found = self.calls.as_slice().iter().find(|s| s.call.source == source
             && !s.call.group
             && s.call.target == target)?;
         Some(found.call)
@@ -97,7 +100,7 @@ impl Calls {
     pub fn call_of(&self, radio: Address) -> Option<Call>
         ensures { result ≡ call_of self.now.calls radio }
     {
-        let found = self.calls.iter().find(|s| is_party(
+        let found = self.calls.as_slice().iter().find(|s| is_party(
             radio,
             s.call.group,
             s.call.source,
@@ -112,6 +115,7 @@ impl Calls {
     {
         let found = self
             .calls
+            .as_slice()
             .iter()
             .find(|s| s.quiet >= hang || s.age >= maximum)?;
         Some(found.call.slot)

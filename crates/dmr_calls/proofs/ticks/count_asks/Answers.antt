@@ -1,9 +1,9 @@
 use Rattle.std.proofs.Common.{arith}
+use Rattle.std.proofs.lemmas.List.Edits.{map_over_more}
 use Rattle.dmr_calls.specs.Asks.{waited_more}
-use Rattle.dmr_calls.proofs.Loops.{mapped_more}
 use Rattle.dmr_calls.proofs.ticks.count_asks.Goals as goal
 
-pub loop-asking-preserved : goal.loop-asking-preserved
-loop-asking-preserved c =
-    let more = mapped_more waited_more c.args.asks.now c.loop-asking.asks c.loop-asking.asking-index c.asking-item.result (omega arith) c.loop-asking.invariant in
-    rw c.waited_more.ensures more
+pub loop-place-preserved : goal.loop-place-preserved
+loop-place-preserved c =
+    let more = map_over_more waited_more c.args.asks.now c.loop-place.asks c.loop-place.place c.index-as_slice-place.result (omega arith) c.loop-place.invariant (rw c.as_slice.ensures.value at c.index-as_slice-place.is) in
+    rw (c.replace.ensures, c.waited_more.ensures) more

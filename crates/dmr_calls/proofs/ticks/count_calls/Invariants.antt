@@ -2,5 +2,5 @@ use Rattle.std.proofs.Common.{◌≡◌, ◌++◌, take, drop, map}
 use Rattle.dmr_calls.specs.Calls.{counted}
 use Rattle.dmr_calls.proofs.ticks.count_calls.Given as goal
 
-abbrev pub invariant-loop-standing : goal.invariant-loop-standing
-invariant-loop-standing l = l.calls ≡ map counted (take l.standing-index l.fn.calls) ++ drop l.standing-index l.fn.calls
+abbrev pub invariant-loop-place : goal.invariant-loop-place
+invariant-loop-place l = l.calls ≡ map counted (take l.place l.fn.calls) ++ drop l.place l.fn.calls

@@ -5,7 +5,6 @@ use Rattle.dmr_calls.proofs.calls.Calls.ask.Goals as goal
 
 pub invariant_of-self : goal.invariant_of-self
 invariant_of-self c =
-    let others : c.self.inside.asks.items ≡ others_than c.args.ask.source c.args.self.now.asks = search rules in
-    let own : HaveOwnSources (others_than c.args.ask.source c.args.self.now.asks) = rw (← others) c.self.invariant.6 in
-    let items : c.push_reserved.new.self.items ≡ others_than c.args.ask.source c.args.self.now.asks ++ just_asked c.args.ask ∷ [] = search rules in
-    (search rules, search rules, search rules, search rules, search rules, search rules, rw items (own_with c.args.ask c.args.self.now.asks own))
+    let others : c.self.inside.asks ≡ others_than c.args.ask.source c.args.self.now.asks = search rules in
+    let own : HaveOwnSources (others_than c.args.ask.source c.args.self.now.asks) = rw (← others) c.self.invariant.0 in
+    (rw (c.push.ensures, others) (own_with c.args.ask c.args.self.now.asks own), c.self.invariant.1)

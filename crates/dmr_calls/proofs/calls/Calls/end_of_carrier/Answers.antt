@@ -1,10 +1,18 @@
-use Rattle.std.proofs.Common.{rules, List, ap}
-use Rattle.std.proofs.lemmas.Fn.{filter_same}
+use Rattle.std.proofs.Common.{rules, arith, ◌≡◌, ◌+◌, ◌*◌, ◌<◌, List, ap, ◌∙◌}
+use Rattle.std.proofs.lemmas.List.Elements.{All-filter}
 use Rattle.dmr_calls.specs.declared.call.Standing.{Standing}
 use Rattle.dmr_calls.specs.Standings.{Standings}
+use Rattle.dmr_calls.specs.Slots.{AreOnSlots}
+use Rattle.dmr_calls.specs.Calls.{on_other_carriers}
+use Rattle.dmr_calls.proofs.SlotLemmas.{left_on_carriers}
 use Rattle.dmr_calls.proofs.calls.Calls.end_of_carrier.Goals as goal
+
+pub invariant_of-self : goal.invariant_of-self
+invariant_of-self c =
+    let on = λ (s : Standing). s.call.slot.slot < 2 in
+    (c.self.invariant.0, rw (c.remove-2.ensures, c.remove.ensures) (All-filter _ on _ (All-filter _ on _ c.self.invariant.1)))
 
 pub returns : goal.returns
 returns c =
-    rw (← c.self.view_is)
-    (ap (λ (xs : List Standing). let now : Standings = record { asks = c.self.inside.asks.items; lines = c.self.inside.lines.items; calls = xs } in now) (filter_same _ _ _ (λ x b f' k. search rules) _ _ c.retain.ensures.filtered))
+    let left : c.remove-2.new.self ≡ on_other_carriers c.args.carrier c.self.inside.calls = rw (c.remove.ensures, c.get-first.ensures.value) at c.remove-2.ensures ∙ left_on_carriers c.self.inside.calls c.args.carrier c.self.invariant.1 in
+    rw (← c.self.view_is) (ap (λ (xs : List Standing). let now : Standings = record { asks = c.self.inside.asks; lines = c.self.inside.lines; calls = xs } in now) left)

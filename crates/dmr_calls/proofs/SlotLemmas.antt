@@ -1,0 +1,64 @@
+-- Calls by the numbers of their slots.
+use Rattle.std.proofs.Common.{arith, rules, ◌≡◌, ℕ, zero, suc, ◌+◌, ◌*◌, ◌<◌, List, [], ◌∷◌, length, Bool, true, false, refl, ap, sym, ◌∙◌, map, get_or, subst}
+use Rattle.std.specs.Prelude.{◌==◌, ◌&&◌, not, find, filter, Some, if◌then◌else◌}
+use Rattle.std.specs.List.{All}
+use Rattle.std.proofs.lemmas.Bool.Decides.{nat_tests}
+use Rattle.std.proofs.lemmas.List.Elements.{All-map, All-tail, All-head, All-weaker}
+use Rattle.dmr_pdu.specs.declared.slots.Slot.{Slot}
+use Rattle.dmr_calls.specs.declared.call.Standing.{Standing}
+use Rattle.dmr_calls.specs.Slots.{number_of, AreOnSlots}
+use Rattle.dmr_calls.specs.Calls.{is_slot, counted, marked, on_other_slots, on_other_carriers}
+
+-- slots are the same where their numbers are
+pub same_number : (a b : Slot) → a.slot < 2 → b.slot < 2 → (number_of a == number_of b) ≡ is_slot a b
+same_number a b a_two b_two = grind (arith, nat_tests)
+
+-- a slot is another carrier's where its number is neither of two
+of_carrier : (a : Slot) (carrier : ℕ) → a.slot < 2 → (not (number_of a == 2 * carrier) && not (number_of a == 2 * carrier + 1)) ≡ not (a.carrier == carrier)
+of_carrier a carrier two = grind (arith, nat_tests)
+
+-- tests that agree on all elements find the same
+find_agree : {X : Type 0} (p q : X → Bool) (xs : List X) → All (λ x. p x ≡ q x) xs → find p xs ≡ find q xs
+find_agree p q [] same = refl
+find_agree p q (x ∷ xs) same = ap (λ b. if b then Some x else find p xs) (same 0 x (omega arith)) ∙ ap (λ o. if q x then Some x else o) (find_agree p q xs (λ k d within. same (suc k) d (omega (arith, within))))
+
+-- and keep the same
+filter_agree : {X : Type 0} (p q : X → Bool) (xs : List X) → All (λ x. p x ≡ q x) xs → filter p xs ≡ filter q xs
+filter_agree p q [] same = refl
+filter_agree p q (x ∷ xs) same = ap (λ b. if b then x ∷ filter p xs else filter p xs) (same 0 x (omega arith)) ∙ ap (λ ys. if q x then x ∷ ys else ys) (filter_agree p q xs (λ k d within. same (suc k) d (omega (arith, within))))
+
+-- what passes one test and then another passes both
+filter_twice : {X : Type 0} (p q : X → Bool) (xs : List X) → filter q (filter p xs) ≡ filter (λ x. p x && q x) xs
+filter_twice p q [] = refl
+filter_twice p q (x ∷ xs) = by_first (p x) (filter_twice p q xs)
+  where
+    by_first : (b : Bool) → filter q (filter p xs) ≡ filter (λ x. p x && q x) xs → filter q (if b then x ∷ filter p xs else filter p xs) ≡ (if b && q x then x ∷ filter (λ x. p x && q x) xs else filter (λ x. p x && q x) xs)
+    by_first true more = ap (λ ys. if q x then x ∷ ys else ys) more
+    by_first false more = more
+
+-- the first call on a slot is the first of its number
+pub found_on_slot : (calls : List Standing) (slot : Slot) → AreOnSlots calls → slot.slot < 2 → find (λ s. number_of s.call.slot == number_of slot) calls ≡ find (λ s. is_slot s.call.slot slot) calls
+found_on_slot calls slot on two = find_agree (λ s. number_of s.call.slot == number_of slot) (λ s. is_slot s.call.slot slot) calls (λ k d within. same_number _ slot (on k d within) two)
+
+-- the calls on other slots are those of other numbers
+pub left_on_slots : (calls : List Standing) (slot : Slot) → AreOnSlots calls → slot.slot < 2 → filter (λ s. not (number_of s.call.slot == number_of slot)) calls ≡ on_other_slots slot calls
+left_on_slots calls slot on two = filter_agree (λ s. not (number_of s.call.slot == number_of slot)) (λ s. not (is_slot s.call.slot slot)) calls (λ k d within. ap not (same_number _ slot (on k d within) two))
+
+-- the calls of other carriers are those of other numbers than a carrier's two
+pub left_on_carriers : (calls : List Standing) (carrier : ℕ) → AreOnSlots calls → filter (λ s. not (number_of s.call.slot == 2 * carrier + 1)) (filter (λ s. not (number_of s.call.slot == 2 * carrier)) calls) ≡ on_other_carriers carrier calls
+left_on_carriers calls carrier on =
+    filter_twice (λ s. not (number_of s.call.slot == 2 * carrier)) (λ s. not (number_of s.call.slot == 2 * carrier + 1)) calls
+    ∙ filter_agree (λ s. not (number_of s.call.slot == 2 * carrier) && not (number_of s.call.slot == 2 * carrier + 1)) (λ s. not (s.call.slot.carrier == carrier)) calls (λ k d within. of_carrier _ carrier (on k d within))
+
+-- a tick moves no call
+pub on_slots_after : (calls : List Standing) → AreOnSlots calls → AreOnSlots (map counted calls)
+on_slots_after calls on = All-map (λ (s : Standing). s.call.slot.slot < 2) counted calls on
+
+-- nor does activity
+pub on_slots_marked : (slot : Slot) (calls : List Standing) → AreOnSlots calls → AreOnSlots (map (marked slot) calls)
+on_slots_marked slot calls on =
+    All-map (λ (s : Standing). s.call.slot.slot < 2) (marked slot) calls (λ k d within. stays (get_or calls k d) (is_slot (get_or calls k d).call.slot slot) (on k d within))
+  where
+    stays : (s : Standing) (b : Bool) → s.call.slot.slot < 2 → (if b then record { call = s.call; age = s.age; quiet = 0 } else s).call.slot.slot < 2
+    stays s true two = two
+    stays s false two = two

@@ -1,0 +1,4 @@
+pub mod PlacesLemmas
+pub mod EntriesLemmas
+pub mod RemovalLemmas
+pub mod FoundLemmas

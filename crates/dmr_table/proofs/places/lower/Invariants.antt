@@ -1,0 +1,6 @@
+use Rattle.std.proofs.Common.{◌≡◌, ◌++◌, take, drop, map}
+use Rattle.dmr_table.specs.Places.{lowered}
+use Rattle.dmr_table.proofs.places.lower.Given as goal
+
+abbrev pub invariant-loop-place : goal.invariant-loop-place
+invariant-loop-place l = l.places ≡ map (lowered l.removed) (take l.place-index l.fn.places) ++ drop l.place-index l.fn.places

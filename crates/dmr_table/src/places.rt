@@ -1,0 +1,67 @@
+//! The places of entries, in the order of their keys.
+
+ghost use Rattle.std.specs.Prelude.{◌≡◌, ◌≤◌, ◌*◌, MatchOption, length, map};
+ghost use Rattle.dmr_table.specs.Places.{AreAscending, IsGap, HasFirst, rank_of, lowered as lowered_of};
+
+/// An entry's key, and its place among the entries.
+#[derive(Clone, Copy, Debug)]
+pub struct Place {
+    /// The key.
+    pub key: u32,
+    /// The place, counted from 0.
+    pub index: u16,
+}
+
+impl Place {
+    /// A number that orders places by their keys, and those of one key by where they are.
+    fn rank(&self) -> u64
+        ensures { result ≡ rank_of self.now }
+    {
+        u64::from(self.key) * 65_536 + u64::from(self.index)
+    }
+
+    /// The place after the entry at another place was taken out.
+    fn lowered(&self, removed: u16) -> Place
+        ensures { result ≡ lowered_of removed self.now }
+    {
+        if self.index > removed {
+            Place {
+                key: self.key,
+                index: self.index - 1,
+            }
+        } else {
+            *self
+        }
+    }
+}
+
+/// How many of the places come before one, which need not be among them.
+pub fn count_before(places: &[Place], place: Place) -> usize
+    requires { AreAscending places.now }
+    ensures { IsGap places.now (rank_of place) result }
+{
+    let rank = place.rank();
+    places.partition_point(|other| other.rank() < rank)
+}
+
+/// Which of the places is the first from a key on, if any is.
+pub fn first_from(places: &[Place], key: u32) -> Option<usize>
+    requires { AreAscending places.now }
+    ensures { MatchOption result (IsGap places.now (key * 65536) (length places.now)) (λ at'. HasFirst places.now key at') }
+{
+    let before = count_before(places, Place { key, index: 0 });
+    if before < places.len() {
+        Some(before)
+    } else {
+        None
+    }
+}
+
+/// Puts each place behind the removed one by one to the front.
+pub fn lower(places: &mut [Place], removed: u16)
+    ensures { places.new ≡ map (lowered_of removed) places.old }
+{
+    for place in places.iter_mut() {
+        *place = place.lowered(removed);
+    }
+}

@@ -13,7 +13,7 @@ mod site;
 mod tasks;
 mod words_of_bursts;
 
-use crate::tasks::{Ending, run};
+use crate::tasks::{TaskFault, run};
 use std::io::{BufWriter, Write};
 use std::process::ExitCode;
 use std::{env, io};
@@ -37,27 +37,42 @@ A PDU is written as it is printed, a field that is left out being 0:
 Status: 0 it was said; 1 the input is not what was named, or a file; 2 the words.
 ";
 
-fn main(rt: HostRuntime) -> io::Result<ExitCode> {
-    let alloc = rt.alloc();
-    let words = env::args(&rt)?.skip(1).collect::<Vec<String>>(rt.alloc())?;
-    let [task, rest @ ..] = words.as_slice() else {
-        rt.print(HELP)?;
-        return Ok(ExitCode::from(2));
-    };
-    let mut text = String::new(alloc);
+/// What a task reads: the words behind its name, or standard input where there are none.
+fn input_of<R: AllocGlobal + Input>(rt: &R, rest: &[String]) -> io::Result<String> {
+    if rest.is_empty() {
+        return io::read_to_string(rt.alloc(), rt.reader());
+    }
+    let mut text = String::new(rt.alloc());
     for word in rest {
         text.push_str(word.as_str())?;
         text.push(' ')?;
     }
-    if rest.is_empty() && task.as_str() != "--help" {
-        text = io::read_to_string(rt.alloc(), rt.stdin())?;
+    Ok(text)
+}
+
+fn main(rt: HostRuntime) -> io::Result<ExitCode> {
+    let words = env::args(&rt)?.skip(1).collect::<Vec<String>>(rt.alloc())?;
+    let [task, rest @ ..] = words.as_slice() else {
+        rt.eprint(HELP)?;
+        return Ok(ExitCode::from(2));
+    };
+    if task.as_str() == "--help" {
+        rt.print(HELP)?;
+        return Ok(ExitCode::from(0));
     }
-    let mut out = BufWriter::new(alloc, rt.stdout())?;
-    let ending = run(alloc, task.as_str(), text.as_str(), HELP, &mut out)?;
+    let text = input_of(&rt, rest)?;
+    let mut out = BufWriter::new(rt.alloc(), rt.stdout())?;
+    let status = match run(rt.alloc(), task.as_str(), text.as_str(), &mut out) {
+        Ok(()) => 0,
+        Err(TaskFault::NoSuchTask(_)) => {
+            rt.eprint(HELP)?;
+            2
+        }
+        Err(fault) => {
+            eprintln!(rt; "dmr_decode: {fault}")?;
+            1
+        }
+    };
     out.flush()?;
-    Ok(ExitCode::from(match ending {
-        Ending::Said => 0,
-        Ending::OtherInput => 1,
-        Ending::OtherWords => 2,
-    }))
+    Ok(ExitCode::from(status))
 }

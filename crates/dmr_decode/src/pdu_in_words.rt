@@ -3,41 +3,34 @@
 ghost use Rattle.std.specs.Prelude.{◌<◌, IfOk};
 
 use dmr_pdu::{Address, Kind, Lpcn, Number, Pdu, Reason, SlotNo};
-use std::fmt;
+use thiserror::Error;
 
 /// Why words are no PDU.
-#[derive(Clone, Copy, Debug)]
+#[derive(Clone, Copy, Debug, Error)]
 pub enum WordFault<'a> {
     /// No words.
+    #[error("a PDU begins with its name")]
     NoName,
     /// No PDU has this name.
+    #[error("no PDU is called {0}")]
     NoSuchPdu(&'a str),
     /// The PDU has no field of the name before the `=`, or there is no `=`.
+    #[error("the PDU has no such field: {0}")]
     NoSuchField(&'a str),
     /// The value of this field is no number, no name of a value, or out of the field's range.
+    #[error("no value, or out of range: {0}")]
     BadValue(&'a str),
-}
-
-impl fmt::Display for WordFault<'_> {
-    fn fmt<W: fmt::Write>(&self, f: &mut fmt::Formatter<W>) -> fmt::Result {
-        match self {
-            WordFault::NoName => write!(f, "a PDU begins with its name"),
-            WordFault::NoSuchPdu(name) => write!(f, "no PDU is called {name}"),
-            WordFault::NoSuchField(word) => write!(f, "the PDU has no such field: {word}"),
-            WordFault::BadValue(name) => write!(f, "no value, or out of range: {name}"),
-        }
-    }
 }
 
 /// The fields that are written behind a PDU's name.
 #[derive(Clone, Copy)]
-struct Fields<'a> {
-    words: &'a [&'a str],
+struct Fields<'w, 'a> {
+    words: &'w [&'a str],
 }
 
-impl<'a> Fields<'a> {
+impl<'w, 'a> Fields<'w, 'a> {
     /// The fields, all of which must have one of these names.
-    fn of(words: &'a [&'a str], names: &[&str]) -> Result<Fields<'a>, WordFault<'a>> {
+    fn of(words: &'w [&'a str], names: &[&str]) -> Result<Fields<'w, 'a>, WordFault<'a>> {
         for word in words {
             let Some((name, _)) = word.split_once('=') else {
                 return Err(WordFault::NoSuchField(*word));
@@ -120,7 +113,7 @@ impl<'a> Fields<'a> {
 }
 
 /// The PDU that words are.
-pub fn pdu_of<'a>(words: &'a [&'a str]) -> Result<Pdu, WordFault<'a>> {
+pub fn pdu_of<'a>(words: &[&'a str]) -> Result<Pdu, WordFault<'a>> {
     let [name, fields @ ..] = words else {
         return Err(WordFault::NoName);
     };
@@ -139,7 +132,7 @@ pub fn pdu_of<'a>(words: &'a [&'a str]) -> Result<Pdu, WordFault<'a>> {
     }
 }
 
-fn aloha<'a>(words: &'a [&'a str]) -> Result<Pdu, WordFault<'a>> {
+fn aloha<'a>(words: &[&'a str]) -> Result<Pdu, WordFault<'a>> {
     let names = [
         "sync", "version", "offset", "active", "mask", "function", "nrand_wait", "register", "backoff",
         "system", "address",
@@ -160,7 +153,7 @@ fn aloha<'a>(words: &'a [&'a str]) -> Result<Pdu, WordFault<'a>> {
     })
 }
 
-fn ahoy<'a>(words: &'a [&'a str]) -> Result<Pdu, WordFault<'a>> {
+fn ahoy<'a>(words: &[&'a str]) -> Result<Pdu, WordFault<'a>> {
     let fields = Fields::of(words, &["options", "group", "kind", "called", "calling"])?;
     Ok(Pdu::Ahoy {
         options: Number::new(fields.number("options", 128)?),
@@ -171,7 +164,7 @@ fn ahoy<'a>(words: &'a [&'a str]) -> Result<Pdu, WordFault<'a>> {
     })
 }
 
-fn random<'a>(words: &'a [&'a str]) -> Result<Pdu, WordFault<'a>> {
+fn random<'a>(words: &[&'a str]) -> Result<Pdu, WordFault<'a>> {
     let fields = Fields::of(words, &["options", "flags", "kind", "target", "source"])?;
     Ok(Pdu::Random {
         options: Number::new(fields.number("options", 128)?),
@@ -185,7 +178,7 @@ fn random<'a>(words: &'a [&'a str]) -> Result<Pdu, WordFault<'a>> {
 /// The names of the fields of an acknowledgement, in either direction.
 const ACKNOWLEDGEMENT: [&str; 5] = ["info", "reason", "spare", "target", "additional"];
 
-fn ackd<'a>(words: &'a [&'a str]) -> Result<Pdu, WordFault<'a>> {
+fn ackd<'a>(words: &[&'a str]) -> Result<Pdu, WordFault<'a>> {
     let fields = Fields::of(words, &ACKNOWLEDGEMENT)?;
     Ok(Pdu::Ackd {
         info: Number::new(fields.number("info", 128)?),
@@ -196,7 +189,7 @@ fn ackd<'a>(words: &'a [&'a str]) -> Result<Pdu, WordFault<'a>> {
     })
 }
 
-fn acku<'a>(words: &'a [&'a str]) -> Result<Pdu, WordFault<'a>> {
+fn acku<'a>(words: &[&'a str]) -> Result<Pdu, WordFault<'a>> {
     let fields = Fields::of(words, &ACKNOWLEDGEMENT)?;
     Ok(Pdu::Acku {
         info: Number::new(fields.number("info", 128)?),
@@ -207,7 +200,7 @@ fn acku<'a>(words: &'a [&'a str]) -> Result<Pdu, WordFault<'a>> {
     })
 }
 
-fn clear<'a>(words: &'a [&'a str]) -> Result<Pdu, WordFault<'a>> {
+fn clear<'a>(words: &[&'a str]) -> Result<Pdu, WordFault<'a>> {
     let fields = Fields::of(words, &["lpcn", "group", "target", "source"])?;
     Ok(Pdu::Clear {
         lpcn: fields.channel()?,
@@ -217,7 +210,7 @@ fn clear<'a>(words: &'a [&'a str]) -> Result<Pdu, WordFault<'a>> {
     })
 }
 
-fn pv_grant<'a>(words: &'a [&'a str]) -> Result<Pdu, WordFault<'a>> {
+fn pv_grant<'a>(words: &[&'a str]) -> Result<Pdu, WordFault<'a>> {
     let fields = Fields::of(words, &["lpcn", "slot", "target", "source"])?;
     Ok(Pdu::PvGrant {
         lpcn: fields.channel()?,
@@ -227,7 +220,7 @@ fn pv_grant<'a>(words: &'a [&'a str]) -> Result<Pdu, WordFault<'a>> {
     })
 }
 
-fn tv_grant<'a>(words: &'a [&'a str]) -> Result<Pdu, WordFault<'a>> {
+fn tv_grant<'a>(words: &[&'a str]) -> Result<Pdu, WordFault<'a>> {
     let fields = Fields::of(words, &["lpcn", "slot", "late", "target", "source"])?;
     Ok(Pdu::TvGrant {
         lpcn: fields.channel()?,
@@ -238,7 +231,7 @@ fn tv_grant<'a>(words: &'a [&'a str]) -> Result<Pdu, WordFault<'a>> {
     })
 }
 
-fn control_move<'a>(words: &'a [&'a str]) -> Result<Pdu, WordFault<'a>> {
+fn control_move<'a>(words: &[&'a str]) -> Result<Pdu, WordFault<'a>> {
     let fields = Fields::of(words, &["register", "backoff", "lpcn"])?;
     Ok(Pdu::Move {
         register: fields.flag("register")?,
@@ -248,7 +241,7 @@ fn control_move<'a>(words: &'a [&'a str]) -> Result<Pdu, WordFault<'a>> {
 }
 
 /// Ten octets, which may be any.
-fn other<'a>(words: &'a [&'a str]) -> Result<Pdu, WordFault<'a>> {
+fn other<'a>(words: &[&'a str]) -> Result<Pdu, WordFault<'a>> {
     let mut octets = [0; 10];
     match words {
         [digits] if hex::decode_to_slice(*digits, &mut octets).is_ok() => Ok(Pdu::from_octets(&octets)),

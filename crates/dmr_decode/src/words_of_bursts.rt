@@ -43,9 +43,12 @@ fn show_flips<W: Write>(word: &Word196, clean: &Word196, out: &mut W) -> io::Res
         )?;
     } else if apart > 0 {
         write!(out, "      mended:")?;
+        let mut between = "";
         for place in 1..196usize {
             if word.bit(place) != clean.bit(place) {
+                write!(out, "{between}")?;
                 show_place(place, out)?;
+                between = ",";
             }
         }
         writeln!(out)?;

@@ -6,6 +6,7 @@
 #![tactic(auto)]
 
 mod cutter;
+mod display;
 mod frame;
 mod frame_type;
 mod law;

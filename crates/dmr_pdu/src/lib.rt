@@ -8,6 +8,7 @@
 #![tactic(auto)]
 
 mod bounded_list;
+mod display;
 mod layouts;
 mod numbers;
 mod pdu;

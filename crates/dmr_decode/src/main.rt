@@ -1,0 +1,78 @@
+//! Says in words what the octets of a site are, as the controller reads them: `dmr_decode carrier HEX..` the frames that a carrier
+//! sent, `dmr_decode site HEX..` those that it was sent, `dmr_decode word HEX` the 25 octets of a word, `dmr_decode pdu HEX` ten octets; `dmr_decode replay`
+//! what a replay printed, `dmr_decode script` a script. `dmr_decode write PDU` goes the other way.
+//!
+//! A word's meaning is `dmr_burst::read`'s, and frames from carriers are cut by `dmr_frames::Cutter`, so what is said is what the
+//! controller would make of it. `words_of_bursts` says what a word means, `carrier` and `site` go through the frames, `pdu_in_words` reads a PDU that is
+//! written in words, and `tasks` puts them together.
+#![tactic(auto)]
+
+mod carrier;
+mod pdu_in_words;
+mod site;
+mod tasks;
+mod words_of_bursts;
+
+use crate::tasks::{TaskFault, run};
+use std::io::{BufWriter, Write};
+use std::process::ExitCode;
+use std::{env, io};
+
+/// What `--help` says.
+const HELP: &str = "\
+Says in words what the octets of a site are, as the controller reads them.
+
+  dmr_decode carrier HEX..   what a carrier sent: frames, PDUs, mended bits, faults
+  dmr_decode site HEX..      what a carrier was sent
+  dmr_decode word HEX        the 25 octets of a word
+  dmr_decode pdu HEX         the ten octets of a PDU
+  dmr_decode replay          what `dmr_trunk --script` printed, from standard input
+  dmr_decode script          a script, from standard input
+  dmr_decode write PDU       the other way: a PDU in words to its octets, check and burst
+
+Without HEX or a PDU they are read from standard input. HEX may have spaces anywhere.
+A PDU is written as it is printed, a field that is left out being 0:
+  dmr_decode write C_RAND kind=registration target=16776902 source=1001
+
+Status: 0 it was said; 1 the input is not what was named, or a file; 2 the words.
+";
+
+/// What a task reads: the words behind its name, or standard input where there are none.
+fn input_of<R: AllocGlobal + Input>(rt: &R, rest: &[String]) -> io::Result<String> {
+    if rest.is_empty() {
+        return io::read_to_string(rt.alloc(), rt.reader());
+    }
+    let mut text = String::new(rt.alloc());
+    for word in rest {
+        text.push_str(word.as_str())?;
+        text.push(' ')?;
+    }
+    Ok(text)
+}
+
+fn main(rt: HostRuntime) -> io::Result<ExitCode> {
+    let words = env::args(&rt)?.skip(1).collect::<Vec<String>>(rt.alloc())?;
+    let [task, rest @ ..] = words.as_slice() else {
+        rt.eprint(HELP)?;
+        return Ok(ExitCode::from(2));
+    };
+    if task.as_str() == "--help" {
+        rt.print(HELP)?;
+        return Ok(ExitCode::from(0));
+    }
+    let text = input_of(&rt, rest)?;
+    let mut out = BufWriter::new(rt.alloc(), rt.stdout())?;
+    let status = match run(rt.alloc(), task.as_str(), text.as_str(), &mut out) {
+        Ok(()) => 0,
+        Err(TaskFault::NoSuchTask(_)) => {
+            rt.eprint(HELP)?;
+            2
+        }
+        Err(fault) => {
+            eprintln!(rt; "dmr_decode: {fault}")?;
+            1
+        }
+    };
+    out.flush()?;
+    Ok(ExitCode::from(status))
+}

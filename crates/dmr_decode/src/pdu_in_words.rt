@@ -1,0 +1,250 @@
+//! A PDU written in words, as it is printed: its name, and `name=value` for each field. A field that is left out is 0.
+
+ghost use Rattle.std.specs.Prelude.{◌<◌, IfOk};
+
+use dmr_pdu::{Address, Kind, Lpcn, Number, Pdu, Reason, SlotNo};
+use thiserror::Error;
+
+/// Why words are no PDU.
+#[derive(Clone, Copy, Debug, Error)]
+pub enum WordFault<'a> {
+    /// No words.
+    #[error("a PDU begins with its name")]
+    NoName,
+    /// No PDU has this name.
+    #[error("no PDU is called {0}")]
+    NoSuchPdu(&'a str),
+    /// The PDU has no field of the name before the `=`, or there is no `=`.
+    #[error("the PDU has no such field: {0}")]
+    NoSuchField(&'a str),
+    /// The value of this field is no number, no name of a value, or out of the field's range.
+    #[error("no value, or out of range: {0}")]
+    BadValue(&'a str),
+}
+
+/// The fields that are written behind a PDU's name.
+#[derive(Clone, Copy)]
+struct Fields<'w, 'a> {
+    words: &'w [&'a str],
+}
+
+impl<'w, 'a> Fields<'w, 'a> {
+    /// The fields, all of which must have one of these names.
+    fn of(words: &'w [&'a str], names: &[&str]) -> Result<Fields<'w, 'a>, WordFault<'a>> {
+        for word in words {
+            let Some((name, _)) = word.split_once('=') else {
+                return Err(WordFault::NoSuchField(*word));
+            };
+            if !names.iter().any(|known| *known == name) {
+                return Err(WordFault::NoSuchField(*word));
+            }
+        }
+        Ok(Fields { words })
+    }
+
+    /// The text of a field, if it is given.
+    fn text(&self, name: &str) -> Option<&'a str> {
+        for word in self.words {
+            if let Some((given, value)) = word.split_once('=') {
+                if given == name {
+                    return Some(value);
+                }
+            }
+        }
+        None
+    }
+
+    /// The number of a field, which is below a bound; 0 where it is not given.
+    fn number(&self, name: &'static str, bound: u32) -> Result<u32, WordFault<'a>>
+        requires { 0 < bound }
+        ensures { IfOk result (λ n. n < bound) }
+    {
+        let Some(text) = self.text(name) else {
+            return Ok(0);
+        };
+        match text.parse::<u32>() {
+            Ok(number) if number < bound => Ok(number),
+            _ => Err(WordFault::BadValue(name)),
+        }
+    }
+
+    /// A field of one bit.
+    fn flag(&self, name: &'static str) -> Result<bool, WordFault<'a>> {
+        Ok(self.number(name, 2)? == 1)
+    }
+
+    /// A field that is an address.
+    fn address(&self, name: &'static str) -> Result<Address, WordFault<'a>> {
+        Ok(Address::new(self.number(name, 1 << 24)?))
+    }
+
+    /// A field that is a channel; it must be given.
+    fn channel(&self) -> Result<Lpcn, WordFault<'a>> {
+        let number = self.number("lpcn", 4096)?;
+        Lpcn::try_new(number).ok_or(WordFault::BadValue("lpcn"))
+    }
+
+    /// The slot.
+    fn slot(&self) -> Result<SlotNo, WordFault<'a>> {
+        Ok(SlotNo::new(self.number("slot", 2)?))
+    }
+
+    /// The service kind, by its name or number.
+    fn kind(&self) -> Result<Kind, WordFault<'a>> {
+        let text = self.text("kind").unwrap_or("");
+        for (kind, name) in Kind::NAMES {
+            if name == text {
+                return Ok(kind);
+            }
+        }
+        Ok(Kind::new(self.number("kind", 16)?))
+    }
+
+    /// The reason, by its name or number.
+    fn reason(&self) -> Result<Reason, WordFault<'a>> {
+        let text = self.text("reason").unwrap_or("");
+        for (reason, name) in Reason::NAMES {
+            if name == text {
+                return Ok(reason);
+            }
+        }
+        Ok(Reason::new(self.number("reason", 256)?))
+    }
+}
+
+/// The PDU that words are.
+pub fn pdu_of<'a>(words: &[&'a str]) -> Result<Pdu, WordFault<'a>> {
+    let [name, fields @ ..] = words else {
+        return Err(WordFault::NoName);
+    };
+    match *name {
+        "C_ALOHA" => aloha(fields),
+        "C_AHOY" => ahoy(fields),
+        "C_RAND" => random(fields),
+        "C_ACKD" => ackd(fields),
+        "C_ACKU" => acku(fields),
+        "P_CLEAR" => clear(fields),
+        "PV_GRANT" => pv_grant(fields),
+        "TV_GRANT" => tv_grant(fields),
+        "C_MOVE" => control_move(fields),
+        "OTHER" => other(fields),
+        _ => Err(WordFault::NoSuchPdu(*name)),
+    }
+}
+
+fn aloha<'a>(words: &[&'a str]) -> Result<Pdu, WordFault<'a>> {
+    let names = [
+        "sync", "version", "offset", "active", "mask", "function", "nrand_wait", "register", "backoff",
+        "system", "address",
+    ];
+    let fields = Fields::of(words, &names)?;
+    Ok(Pdu::Aloha {
+        sync: fields.flag("sync")?,
+        version: Number::new(fields.number("version", 8)?),
+        offset: fields.flag("offset")?,
+        active: fields.flag("active")?,
+        mask: Number::new(fields.number("mask", 32)?),
+        function: Number::new(fields.number("function", 4)?),
+        nrand_wait: Number::new(fields.number("nrand_wait", 16)?),
+        register: fields.flag("register")?,
+        backoff: Number::new(fields.number("backoff", 16)?),
+        system: Number::new(fields.number("system", 65536)?),
+        address: fields.address("address")?,
+    })
+}
+
+fn ahoy<'a>(words: &[&'a str]) -> Result<Pdu, WordFault<'a>> {
+    let fields = Fields::of(words, &["options", "group", "kind", "called", "calling"])?;
+    Ok(Pdu::Ahoy {
+        options: Number::new(fields.number("options", 128)?),
+        group: fields.flag("group")?,
+        kind: fields.kind()?,
+        called: fields.address("called")?,
+        calling: fields.address("calling")?,
+    })
+}
+
+fn random<'a>(words: &[&'a str]) -> Result<Pdu, WordFault<'a>> {
+    let fields = Fields::of(words, &["options", "flags", "kind", "target", "source"])?;
+    Ok(Pdu::Random {
+        options: Number::new(fields.number("options", 128)?),
+        flags: Number::new(fields.number("flags", 32)?),
+        kind: fields.kind()?,
+        target: fields.address("target")?,
+        source: fields.address("source")?,
+    })
+}
+
+/// The names of the fields of an acknowledgement, in either direction.
+const ACKNOWLEDGEMENT: [&str; 5] = ["info", "reason", "spare", "target", "additional"];
+
+fn ackd<'a>(words: &[&'a str]) -> Result<Pdu, WordFault<'a>> {
+    let fields = Fields::of(words, &ACKNOWLEDGEMENT)?;
+    Ok(Pdu::Ackd {
+        info: Number::new(fields.number("info", 128)?),
+        reason: fields.reason()?,
+        spare: fields.flag("spare")?,
+        target: fields.address("target")?,
+        additional: fields.address("additional")?,
+    })
+}
+
+fn acku<'a>(words: &[&'a str]) -> Result<Pdu, WordFault<'a>> {
+    let fields = Fields::of(words, &ACKNOWLEDGEMENT)?;
+    Ok(Pdu::Acku {
+        info: Number::new(fields.number("info", 128)?),
+        reason: fields.reason()?,
+        spare: fields.flag("spare")?,
+        target: fields.address("target")?,
+        additional: fields.address("additional")?,
+    })
+}
+
+fn clear<'a>(words: &[&'a str]) -> Result<Pdu, WordFault<'a>> {
+    let fields = Fields::of(words, &["lpcn", "group", "target", "source"])?;
+    Ok(Pdu::Clear {
+        lpcn: fields.channel()?,
+        group: fields.flag("group")?,
+        target: fields.address("target")?,
+        source: fields.address("source")?,
+    })
+}
+
+fn pv_grant<'a>(words: &[&'a str]) -> Result<Pdu, WordFault<'a>> {
+    let fields = Fields::of(words, &["lpcn", "slot", "target", "source"])?;
+    Ok(Pdu::PvGrant {
+        lpcn: fields.channel()?,
+        slot: fields.slot()?,
+        target: fields.address("target")?,
+        source: fields.address("source")?,
+    })
+}
+
+fn tv_grant<'a>(words: &[&'a str]) -> Result<Pdu, WordFault<'a>> {
+    let fields = Fields::of(words, &["lpcn", "slot", "late", "target", "source"])?;
+    Ok(Pdu::TvGrant {
+        lpcn: fields.channel()?,
+        slot: fields.slot()?,
+        late: fields.flag("late")?,
+        target: fields.address("target")?,
+        source: fields.address("source")?,
+    })
+}
+
+fn control_move<'a>(words: &[&'a str]) -> Result<Pdu, WordFault<'a>> {
+    let fields = Fields::of(words, &["register", "backoff", "lpcn"])?;
+    Ok(Pdu::Move {
+        register: fields.flag("register")?,
+        backoff: Number::new(fields.number("backoff", 16)?),
+        lpcn: fields.channel()?,
+    })
+}
+
+/// Ten octets, which may be any.
+fn other<'a>(words: &[&'a str]) -> Result<Pdu, WordFault<'a>> {
+    let mut octets = [0; 10];
+    match words {
+        [digits] if hex::decode_to_slice(*digits, &mut octets).is_ok() => Ok(Pdu::from_octets(&octets)),
+        _ => Err(WordFault::BadValue("OTHER")),
+    }
+}

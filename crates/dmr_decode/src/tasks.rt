@@ -1,0 +1,166 @@
+//! What the program is asked to do, each task over the text of its input.
+
+use crate::carrier::CarrierReader;
+use crate::pdu_in_words::{WordFault, pdu_of};
+use crate::site::show_site;
+use crate::words_of_bursts::{show_burst, show_word};
+use dmr_bits::Word196;
+use dmr_pdu::Pdu;
+use std::alloc::{AllocError, Global};
+use std::io;
+use std::io::Write;
+use thiserror::Error;
+
+/// Why a task was not done.
+#[derive(Debug, Drop, Error)]
+pub enum TaskFault<'a> {
+    /// No task has this name.
+    #[error("there is no task {0}")]
+    NoSuchTask(&'a str),
+    /// The input is something other than hexadecimal digits, two an octet.
+    #[error("not hexadecimal digits, two an octet")]
+    NotHex,
+    /// The input is not the 25 octets of a word.
+    #[error("not the 25 octets of a word")]
+    NotWord,
+    /// One of the four bits behind a word is 1.
+    #[error("not a word: its last four bits are not 0")]
+    BadPad,
+    /// The input is not ten octets.
+    #[error("not ten octets")]
+    NotTen,
+    /// The input is no PDU in words.
+    #[error(transparent)]
+    Words(#[from] WordFault<'a>),
+    /// The output took not all of what was said.
+    #[error(transparent)]
+    Io(#[from] io::Error),
+    /// Memory ran out.
+    #[error(transparent)]
+    Memory(#[from(alloc)] AllocError),
+}
+
+/// Does the task of a name over a text, and says what it finds.
+pub fn run<'a, W: Write>(
+    alloc: Global,
+    task: &'a str,
+    text: &'a str,
+    out: &mut W,
+) -> Result<(), TaskFault<'a>> {
+    match task {
+        "carrier" => carrier(alloc, text, out),
+        "site" => site(alloc, text, out),
+        "word" => word(alloc, text, out),
+        "pdu" => pdu(alloc, text, out),
+        "replay" => replay(alloc, text, out),
+        "script" => script(alloc, text, out),
+        "write" => written(alloc, text, out),
+        _ => Err(TaskFault::NoSuchTask(task)),
+    }
+}
+
+/// The octets of hexadecimal digits, with spaces anywhere.
+fn octets_of<'a>(alloc: Global, text: &str) -> Result<Vec<u8>, TaskFault<'a>> {
+    let mut digits = String::new(alloc);
+    for part in text.split_whitespace() {
+        digits.push_str(part)?;
+    }
+    match hex::decode(alloc, digits.as_str()) {
+        Ok(octets) => Ok(octets),
+        Err(hex::FromHexError::OutOfMemory) => Err(TaskFault::Memory(AllocError)),
+        Err(_) => Err(TaskFault::NotHex),
+    }
+}
+
+fn carrier<'a, W: Write>(alloc: Global, text: &str, out: &mut W) -> Result<(), TaskFault<'a>> {
+    let octets = octets_of(alloc, text)?;
+    let mut reader = CarrierReader::new();
+    reader.show(alloc, octets.as_slice(), out)?;
+    reader.show_rest(out)?;
+    Ok(())
+}
+
+fn site<'a, W: Write>(alloc: Global, text: &str, out: &mut W) -> Result<(), TaskFault<'a>> {
+    let octets = octets_of(alloc, text)?;
+    show_site(alloc, octets.as_slice(), out)?;
+    Ok(())
+}
+
+fn word<'a, W: Write>(alloc: Global, text: &str, out: &mut W) -> Result<(), TaskFault<'a>> {
+    let octets = octets_of(alloc, text)?;
+    if octets.len() != 25 {
+        return Err(TaskFault::NotWord);
+    }
+    let mut whole = [0; 25];
+    whole.copy_from_slice(octets.as_slice());
+    match Word196::from_octets(&whole) {
+        Ok(word) => Ok(show_word(alloc, &word, out)?),
+        Err(_) => Err(TaskFault::BadPad),
+    }
+}
+
+fn pdu<'a, W: Write>(alloc: Global, text: &str, out: &mut W) -> Result<(), TaskFault<'a>> {
+    let octets = octets_of(alloc, text)?;
+    if octets.len() != 10 {
+        return Err(TaskFault::NotTen);
+    }
+    let mut whole = [0; 10];
+    whole.copy_from_slice(octets.as_slice());
+    let pdu = Pdu::from_octets(&whole);
+    Ok(writeln!(out, "      {pdu}")?)
+}
+
+fn written<'a, W: Write>(alloc: Global, text: &'a str, out: &mut W) -> Result<(), TaskFault<'a>> {
+    let words: Vec<&str> = text.split_whitespace().collect(alloc)?;
+    let pdu = pdu_of(words.as_slice())?;
+    Ok(show_burst(alloc, &pdu, out)?)
+}
+
+/// The lines of carriers, frame by frame, and the others as they are.
+fn replay<'a, W: Write>(alloc: Global, text: &str, out: &mut W) -> Result<(), TaskFault<'a>> {
+    for line in text.lines() {
+        let words: Vec<&str> = line.split_whitespace().collect(alloc)?;
+        match words.as_slice() {
+            ["carrier", number, "-"] => writeln!(out, "carrier {number}")?,
+            ["carrier", number, digits] => {
+                writeln!(out, "carrier {number}")?;
+                site(alloc, *digits, out)?;
+            }
+            _ => writeln!(out, "{line}")?,
+        }
+    }
+    Ok(())
+}
+
+/// The lines of a script as they are, and below each piece of a carrier's octets the frames that it completes.
+fn script<'a, W: Write>(alloc: Global, text: &str, out: &mut W) -> Result<(), TaskFault<'a>> {
+    let mut readers = Vec::new(alloc);
+    for _ in 0..16u32 {
+        readers.push(CarrierReader::new())?;
+    }
+    for line in text.lines() {
+        writeln!(out, "{line}")?;
+        let words: Vec<&str> = line.split_whitespace().collect(alloc)?;
+        match words.as_slice() {
+            ["open", number] => {
+                if let Some(reader) = reader_of(readers.as_mut_slice(), *number) {
+                    *reader = CarrierReader::new();
+                }
+            }
+            ["bytes", number, digits] => {
+                if let Some(reader) = reader_of(readers.as_mut_slice(), *number) {
+                    let octets = octets_of(alloc, *digits)?;
+                    reader.show(alloc, octets.as_slice(), out)?;
+                }
+            }
+            _ => {}
+        }
+    }
+    Ok(())
+}
+
+/// The reader of the carrier whose number is written so.
+fn reader_of<'r>(readers: &'r mut [CarrierReader], number: &str) -> Option<&'r mut CarrierReader> {
+    let place = number.parse::<usize>().ok()?;
+    readers.get_mut(place)
+}

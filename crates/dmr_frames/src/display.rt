@@ -1,0 +1,60 @@
+//! Frames and faults in words. They are for people; octets are the format.
+
+use crate::frame::{Cause, FrameIn, FrameOut, Refusal};
+use std::fmt;
+
+/// The frame's name and what it carries, but for the word of an RX.
+impl fmt::Display for FrameIn {
+    fn fmt<W: fmt::Write>(&self, f: &mut fmt::Formatter<W>) -> fmt::Result {
+        match self {
+            FrameIn::Hello {
+                version,
+                carrier,
+                lpcn,
+            } => write!(f, "HELLO version={version} carrier={carrier} lpcn={lpcn}"),
+            FrameIn::Rx { slot, word: _ } => write!(f, "RX slot={slot}"),
+            FrameIn::Poll => write!(f, "POLL"),
+            FrameIn::Active { slot } => write!(f, "ACTIVE slot={slot}"),
+            FrameIn::Bye => write!(f, "BYE"),
+        }
+    }
+}
+
+/// Why a carrier is refused.
+impl fmt::Display for Refusal {
+    fn fmt<W: fmt::Write>(&self, f: &mut fmt::Formatter<W>) -> fmt::Result {
+        match self {
+            Refusal::BadVersion => write!(f, "BadVersion"),
+            Refusal::WrongCarrier => write!(f, "WrongCarrier"),
+        }
+    }
+}
+
+/// The frame's name and what it carries, but for the word of a TX.
+impl fmt::Display for FrameOut {
+    fn fmt<W: fmt::Write>(&self, f: &mut fmt::Formatter<W>) -> fmt::Result {
+        match self {
+            FrameOut::Welcome { version } => write!(f, "WELCOME version={version}"),
+            FrameOut::Tx { slot, word: _ } => write!(f, "TX slot={slot}"),
+            FrameOut::Done => write!(f, "DONE"),
+            FrameOut::Refused(refusal) => write!(f, "REFUSED reason={refusal}"),
+        }
+    }
+}
+
+/// The fault's name, and what is wrong.
+impl fmt::Display for Cause {
+    fn fmt<W: fmt::Write>(&self, f: &mut fmt::Formatter<W>) -> fmt::Result {
+        let text = match self {
+            Cause::UnknownType => "UnknownType, no frame of a carrier begins with this octet",
+            Cause::BadLength => "BadLength, not the length of a frame of this type",
+            Cause::BadSlot => "BadSlot, a slot is 00 or 01",
+            Cause::BadPad => "BadPad, the last four bits of an RX are 0",
+            Cause::NoHello => "NoHello, the first frame is no HELLO",
+            Cause::SecondHello => "SecondHello, a HELLO that is not the first frame",
+            Cause::BadVersion => "BadVersion, another version of the link",
+            Cause::WrongCarrier => "WrongCarrier, another carrier or channel than the port's",
+        };
+        write!(f, "{text}")
+    }
+}

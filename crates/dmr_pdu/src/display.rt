@@ -1,0 +1,188 @@
+//! PDUs and their numbers in words: a PDU's name, and `name=value` for each of its fields. They are for people; octets are the
+//! format.
+
+use crate::numbers::{Kind, Number, Reason};
+use crate::pdu::Pdu;
+use std::fmt;
+
+/// The decimal number.
+impl<const WIDTH: u32> fmt::Display for Number<WIDTH> {
+    fn fmt<W: fmt::Write>(&self, f: &mut fmt::Formatter<W>) -> fmt::Result {
+        let number = self.get();
+        write!(f, "{number}")
+    }
+}
+
+/// The name of a kind that the site knows, or else the decimal number.
+impl fmt::Display for Kind {
+    fn fmt<W: fmt::Write>(&self, f: &mut fmt::Formatter<W>) -> fmt::Result {
+        let number = self.get();
+        match self.name() {
+            Some(name) => write!(f, "{name}"),
+            None => write!(f, "{number}"),
+        }
+    }
+}
+
+impl Kind {
+    /// The kinds that the site knows, and what they are called.
+    pub const NAMES: [(Kind, &'static str); 4] = [
+        (Kind::INDIVIDUAL_VOICE, "individual_voice"),
+        (Kind::TALKGROUP_VOICE, "talkgroup_voice"),
+        (Kind::REGISTRATION, "registration"),
+        (Kind::CANCEL, "cancel"),
+    ];
+
+    /// What a kind that the site knows is called.
+    pub fn name(&self) -> Option<&'static str> {
+        Kind::NAMES.iter().find(|row| row.0 == *self).map(|row| row.1)
+    }
+}
+
+/// The name of a reason that has one, or else the decimal number.
+impl fmt::Display for Reason {
+    fn fmt<W: fmt::Write>(&self, f: &mut fmt::Formatter<W>) -> fmt::Result {
+        let number = self.get();
+        match self.name() {
+            Some(name) => write!(f, "{name}"),
+            None => write!(f, "{number}"),
+        }
+    }
+}
+
+impl Reason {
+    /// The reasons that have a name, and their names.
+    pub const NAMES: [(Reason, &'static str); 16] = [
+        (Reason::NOT_SUPPORTED, "Not_Supported"),
+        (Reason::PERM_USER_REFUSED, "Perm_User_Refused"),
+        (Reason::TRANSIENT_SYS_REFUSED, "Transient_Sys_Refused"),
+        (Reason::NOREG_MS_AWAY, "NoReg_MS_Away"),
+        (Reason::SYSBUSY_REFUSED, "SysBusy_Refused"),
+        (Reason::CALL_CANCEL_REFUSED, "Call_Cancel_Refused"),
+        (Reason::REG_REFUSED, "Reg_Refused"),
+        (Reason::REG_DENIED, "Reg_Denied"),
+        (Reason::MS_NOT_REGISTERED, "MS_Not_Registered"),
+        (Reason::CALLED_PARTY_BUSY, "Called_Party_Busy"),
+        (Reason::GROUP_NOT_ALLOWED, "Group_Not_Allowed"),
+        (Reason::MS_ACCEPTED, "MS_Accepted"),
+        (Reason::MESSAGE_ACCEPTED, "Message_Accepted"),
+        (Reason::REG_ACCEPTED, "Reg_Accepted"),
+        (Reason::QUEUED_FOR_RESOURCE, "Queued_For_Resource"),
+        (Reason::WAIT, "Wait"),
+    ];
+
+    /// The name of a reason that has one.
+    pub fn name(&self) -> Option<&'static str> {
+        Reason::NAMES.iter().find(|row| row.0 == *self).map(|row| row.1)
+    }
+}
+
+/// A flag as its bit.
+fn bit(flag: bool) -> u8 {
+    if flag { 1 } else { 0 }
+}
+
+/// The name of the PDU, and each field by its name: `C_RAND options=1 flags=0 kind=registration target=16776902 source=1001`. Of other octets
+/// the word `OTHER` and ten octets in hexadecimal digits.
+impl fmt::Display for Pdu {
+    fn fmt<W: fmt::Write>(&self, f: &mut fmt::Formatter<W>) -> fmt::Result {
+        match self {
+            Pdu::Aloha {
+                sync,
+                version,
+                offset,
+                active,
+                mask,
+                function,
+                nrand_wait,
+                register,
+                backoff,
+                system,
+                address,
+            } => {
+                let (sync, offset) = (bit(*sync), bit(*offset));
+                let (active, register) = (bit(*active), bit(*register));
+                write!(f, "C_ALOHA sync={sync} version={version} offset={offset} active={active} mask={mask} ")?;
+                write!(f, "function={function} nrand_wait={nrand_wait} register={register} ")?;
+                write!(f, "backoff={backoff} system={system} address={address}")
+            }
+            Pdu::Ahoy {
+                options,
+                group,
+                kind,
+                called,
+                calling,
+            } => {
+                let group = bit(*group);
+                write!(f, "C_AHOY options={options} group={group} kind={kind} called={called} calling={calling}")
+            }
+            Pdu::Random {
+                options,
+                flags,
+                kind,
+                target,
+                source,
+            } => write!(f, "C_RAND options={options} flags={flags} kind={kind} target={target} source={source}"),
+            Pdu::Ackd {
+                info,
+                reason,
+                spare,
+                target,
+                additional,
+            } => {
+                let spare = bit(*spare);
+                write!(f, "C_ACKD info={info} reason={reason} spare={spare} target={target} additional={additional}")
+            }
+            Pdu::Acku {
+                info,
+                reason,
+                spare,
+                target,
+                additional,
+            } => {
+                let spare = bit(*spare);
+                write!(f, "C_ACKU info={info} reason={reason} spare={spare} target={target} additional={additional}")
+            }
+            Pdu::Clear {
+                lpcn,
+                group,
+                target,
+                source,
+            } => {
+                let group = bit(*group);
+                write!(f, "P_CLEAR lpcn={lpcn} group={group} target={target} source={source}")
+            }
+            Pdu::PvGrant {
+                lpcn,
+                slot,
+                target,
+                source,
+            } => write!(f, "PV_GRANT lpcn={lpcn} slot={slot} target={target} source={source}"),
+            Pdu::TvGrant {
+                lpcn,
+                slot,
+                late,
+                target,
+                source,
+            } => {
+                let late = bit(*late);
+                write!(f, "TV_GRANT lpcn={lpcn} slot={slot} late={late} target={target} source={source}")
+            }
+            Pdu::Move {
+                register,
+                backoff,
+                lpcn,
+            } => {
+                let register = bit(*register);
+                write!(f, "C_MOVE register={register} backoff={backoff} lpcn={lpcn}")
+            }
+            Pdu::Other(octets) => {
+                write!(f, "OTHER ")?;
+                for octet in octets {
+                    write!(f, "{octet:02X}")?;
+                }
+                Ok(())
+            }
+        }
+    }
+}

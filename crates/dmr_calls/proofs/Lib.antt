@@ -1,3 +1,4 @@
+pub mod AnyLemmas
 pub mod EngagedLemmas
 pub mod OwnLemmas
 pub mod SlotLemmas

@@ -1,7 +1,6 @@
 -- No radio comes to have two asks.
 use Rattle.std.proofs.Common.{arith, ◌≡◌, ◌≢◌, ℕ, zero, suc, ◌<◌, ◌+◌, List, [], ◌∷◌, ◌++◌, Bool, true, false, refl, length, map, get_or, ◌∙◌, sym, ap}
 use Rattle.std.specs.Prelude.{◌==◌, ◌&&◌, ◌||◌, not, find, Some, if◌then◌else◌}
-use mathlib.Core.Bool.{true≢false}
 use Rattle.std.specs.List.{list_any}
 use Rattle.std.specs.Option.{option_map_or}
 use Rattle.std.proofs.lemmas.Bool.Decides.{nat_tests}
@@ -9,6 +8,7 @@ use Rattle.std.proofs.lemmas.List.Elements.{filter_passes}
 use Rattle.std.proofs.lemmas.List.Quantifiers.{all_pairs_push}
 use Rattle.dmr_calls.specs.declared.ask.Ask.{Ask}
 use Rattle.dmr_calls.specs.declared.ask.Asking.{Asking}
+use Rattle.dmr_calls.proofs.AnyLemmas.{none_passes_both}
 use Rattle.dmr_calls.specs.Asks.{HaveOwnSources, just_asked, waited_more, others_than, has_own_ask}
 
 -- a number that is not another's
@@ -58,15 +58,6 @@ others_count (a ∷ asks) source own = by_first (a.ask.source == source) (rest_i
     by_first true none more = let alone = rw (none refl) at more in omega (arith, alone)
     by_first false none more = omega (arith, more)
 
--- where no ask is of the source, none is of the source and to the target
-none_to : (asks : List Asking) (source target : ℕ) → list_any (λ (a : Asking). a.ask.source == source) asks ≡ false → has_own_ask asks source target ≡ false
-none_to [] source target none = refl
-none_to (a ∷ asks) source target none = by_first (a.ask.source == source) (none_to asks source target) none
-  where
-    by_first : (b : Bool) → (list_any (λ (c : Asking). c.ask.source == source) asks ≡ false → has_own_ask asks source target ≡ false) → (b || list_any (λ (c : Asking). c.ask.source == source) asks) ≡ false → ((b && (a.ask.target == target)) || has_own_ask asks source target) ≡ false
-    by_first true more none = absurd (true≢false none)
-    by_first false more none = more none
-
 -- a test or nothing is the test
 or_false : (a b : Bool) → b ≡ false → (a || b) ≡ a
 or_false true b none = refl
@@ -78,5 +69,5 @@ own_ask_read [] source target own = refl
 own_ask_read (a ∷ asks) source target own = by_first (a.ask.source == source) (rest_is_other a asks source own) (own_ask_read asks source target (own_tail a asks own))
   where
     by_first : (b : Bool) → (b ≡ true → list_any (λ (c : Asking). c.ask.source == source) asks ≡ false) → has_own_ask asks source target ≡ option_map_or (λ (c : Asking). c.ask.target == target) (find (λ c. c.ask.source == source) asks) false → ((b && (a.ask.target == target)) || has_own_ask asks source target) ≡ option_map_or (λ (c : Asking). c.ask.target == target) (if b then Some a else find (λ c. c.ask.source == source) asks) false
-    by_first true none more = or_false (a.ask.target == target) (has_own_ask asks source target) (none_to asks source target (none refl))
+    by_first true none more = or_false (a.ask.target == target) (has_own_ask asks source target) (none_passes_both (λ (c : Asking). c.ask.source == source) (λ c. c.ask.target == target) asks (none refl))
     by_first false none more = more

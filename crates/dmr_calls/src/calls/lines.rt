@@ -98,20 +98,24 @@ impl Calls {
     pub fn own_group_line(&self, source: Address, group: Address) -> bool
         ensures { result ≡ has_own_group_line self.now.lines source group }
     {
-        self.lines
-            .as_slice()
-            .iter()
-            .any(|l| l.source == source && l.group && l.target == group)
+        self.lines.has(source.get())
+            && self
+                .lines
+                .as_slice()
+                .iter()
+                .any(|l| l.source == source && l.group && l.target == group)
     }
 
     /// Whether the source has an individual line to the target.
     pub fn own_line(&self, source: Address, target: Address) -> bool
         ensures { result ≡ has_own_line self.now.lines source target }
     {
-        self.lines
-            .as_slice()
-            .iter()
-            .any(|l| l.source == source && !l.group && l.target == target)
+        self.lines.has(source.get())
+            && self
+                .lines
+                .as_slice()
+                .iter()
+                .any(|l| l.source == source && !l.group && l.target == target)
     }
 
     /// The first line that a radio is a party to.

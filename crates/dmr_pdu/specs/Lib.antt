@@ -1,4 +1,5 @@
 pub mod Channels
+pub mod Slots
 pub mod Functions
 pub mod Kinds
 pub mod Layout

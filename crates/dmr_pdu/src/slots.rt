@@ -3,6 +3,7 @@
 ghost use Rattle.std.specs.Prelude.{◌≡◌, ◌<◌, ℕ};
 ghost use Rattle.std.specs.Option.{SomeIff};
 ghost use Rattle.dmr_pdu.specs.Channels.{IsChannel};
+ghost use Rattle.dmr_pdu.specs.Slots.{IsSlot, place, slot_at};
 
 use crate::bounded_list::Blank;
 use std::fmt;
@@ -151,6 +152,33 @@ pub struct Slot {
     pub slot: SlotNo,
 }
 
+impl Slot {
+    /// A slot of a carrier.
+    pub fn new(carrier: CarrierNo, slot: SlotNo) -> Slot
+        ensures { result ≡ record { carrier = carrier; slot = slot } }
+    {
+        Slot { carrier, slot }
+    }
+
+    /// The place of the slot among the 32 of all carriers, by carrier, then slot: 0 to 31.
+    pub fn index(&self) -> usize
+        ensures value { result ≡ place self.now }
+        ensures range { result < 32 }
+        ensures numbers { IsSlot self.now }
+    {
+        2 * self.carrier.get() as usize + self.slot.get() as usize
+    }
+
+    /// The slot at a place from 0 to 31.
+    pub fn at(index: usize) -> Slot
+        requires { index < 32 }
+        ensures { result ≡ slot_at index }
+    {
+        let number = index as u32;
+        Slot::new(CarrierNo::new(number / 2), SlotNo::new(number % 2))
+    }
+}
+
 impl Blank for Slot {
     ghost blank = { record { carrier = 0; slot = 0 } };
 
@@ -255,6 +283,8 @@ mod tests {
             slot: SlotNo::try_new(1).ok_or("in range")?,
         };
         assert!(rt; Slot::blank() < slot);
+        assert_eq!(rt; Slot::at(31), slot);
+        assert_eq!(rt; Slot::at(2).index(), 2);
         let text = format!(in rt.alloc(); "{} {}", slot.carrier, slot.slot)?;
         assert_eq!(rt; text.as_str(), "15 1");
         Ok(())

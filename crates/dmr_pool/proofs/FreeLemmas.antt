@@ -1,11 +1,11 @@
 -- The first free slot is free, and none before it is.
-use Rattle.std.proofs.Common.{arith, ◌≡◌, ℕ, zero, suc, ◌+◌, ◌<◌, ◌≤◌, ◌⊎◌, inl, inr, Bool, true, false, refl, subst, ap, map}
+use Rattle.std.proofs.Common.{arith, ◌≡◌, ℕ, zero, suc, ◌+◌, ◌<◌, ◌≤◌, ◌⊎◌, inl, inr, Bool, true, false, refl, sym, subst, ap, ◌∙◌, map}
 use Rattle.std.specs.Prelude.{◌/◌, ◌%◌, Option, Some, None, MatchOption, cond}
 use Rattle.std.specs.List.{find, range_with_len}
 use Rattle.std.proofs.lemmas.Bool.{cases_lt}
 use Rattle.dmr_pdu.specs.declared.slots.Slot.{Slot}
 use Rattle.dmr_pool.specs.Slots.{Slots, IsSlot, place, slot_at}
-use Rattle.dmr_pool.specs.Free.{is_free, lowest_free, HasNoFreeSlot, IsLowestFree}
+use Rattle.dmr_pool.specs.Free.{is_free, lowest_free, lowest_free_by, HasNoFreeSlot, IsLowestFree}
 
 -- no slot passes from one place on and before another
 abbrev NonePass : (Slot → Bool) → ℕ → ℕ → Type 0
@@ -48,7 +48,7 @@ found_first passes from (suc n) to all = either (passes (slot_at from)) refl (fo
     either false here after = one_more passes from to (find passes (map slot_at (range_with_len (from + 1) n))) here after
 
 -- a slot is the one at its place
-slot_at-place : (slot : Slot) → IsSlot slot → slot_at (place slot) ≡ slot
+pub slot_at-place : (slot : Slot) → IsSlot slot → slot_at (place slot) ≡ slot
 slot_at-place slot is_slot =
     let carrier : place slot / 2 ≡ slot.carrier = omega (arith, is_slot.1) in
     let number : place slot % 2 ≡ slot.slot = omega (arith, is_slot.1) in
@@ -67,5 +67,23 @@ at_place slots (Some slot) first = record {
 
 -- the lowest free slot is free, and none before it is; without one, none is
 pub lowest_free-lowest : (slots : Slots) → MatchOption (lowest_free slots) (HasNoFreeSlot slots) (IsLowestFree slots)
-unfolding lowest_free
+unfolding lowest_free_by
 lowest_free-lowest slots = at_place slots _ (found_first (is_free slots) 0 32 32 refl)
+
+-- at most one slot is the lowest that is free
+pub one_lowest : (slots : Slots) (a b : Option Slot) → MatchOption a (HasNoFreeSlot slots) (IsLowestFree slots) → MatchOption b (HasNoFreeSlot slots) (IsLowestFree slots) → a ≡ b
+one_lowest slots None None h k = refl
+one_lowest slots (Some a) None h k = let none : is_free slots a ≡ false = k a h.within in absurd (cc (h.free, none))
+one_lowest slots None (Some b) h k = let none : is_free slots b ≡ false = h b k.within in absurd (cc (k.free, none))
+one_lowest slots (Some a) (Some b) h k = either (cases_lt (place a) (place b))
+  where
+    same : place a ≡ place b → Some a ≡ Some b
+    same e = ap (λ (s : Slot). Some s) (sym (slot_at-place a h.within) ∙ ap slot_at e ∙ slot_at-place b k.within)
+
+    other : (place b < place a) ⊎ (place a ≤ place b) → place b ≤ place a → Some a ≡ Some b
+    other (inl less) more = let none : is_free slots b ≡ false = h.lowest b k.within less in absurd (cc (k.free, none))
+    other (inr less) more = same (omega arith)
+
+    either : (place a < place b) ⊎ (place b ≤ place a) → Some a ≡ Some b
+    either (inl less) = let none : is_free slots a ≡ false = k.lowest a h.within less in absurd (cc (h.free, none))
+    either (inr less) = other (cases_lt (place b) (place a)) less

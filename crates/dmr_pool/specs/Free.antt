@@ -30,23 +30,31 @@ names lpcn number (TvGrant channel slot late target source) = (channel == lpcn) 
 names lpcn number _ = false
 
 -- a grant that names a slot by its carrier's channel waits for the control slot
-abbrev pub is_granted : Slots → Slot → Bool
-is_granted slots slot =
-    option_map_or (λ (row : CarrierRow). list_any (names row.lpcn slot.slot) (box slots.outboxes (control_slot slots.plan))) (row_with slots.plan.carriers slot.carrier) false
+abbrev pub is_granted : Settings → List (List Pdu) → Slot → Bool
+is_granted plan outboxes slot =
+    option_map_or (λ (row : CarrierRow). list_any (names row.lpcn slot.slot) (box outboxes (control_slot plan))) (row_with plan.carriers slot.carrier) false
 
 -- the carrier is in the plan and up, the slot is not the control slot, no call holds it, nothing waits for it, and no grant of it waits
+abbrev pub is_free_by : Settings → List Bool → List (List Pdu) → (Slot → Bool) → Slot → Bool
+is_free_by plan up outboxes holds slot =
+    has_number_in plan.carriers slot.carrier && is_up up slot.carrier && not (is_control plan slot)
+    && not (holds slot) && is_empty (box outboxes slot) && not (is_granted plan outboxes slot)
+
+-- the same of the slots that are held
 abbrev pub is_free : Slots → Slot → Bool
-is_free slots slot =
-    has_number_in slots.plan.carriers slot.carrier && is_up slots.up slot.carrier && not (is_control slots.plan slot)
-    && not (is_held slots.held slot) && is_empty (box slots.outboxes slot) && not (is_granted slots slot)
+is_free slots slot = is_free_by slots.plan slots.up slots.outboxes (is_held slots.held) slot
 
 -- by carrier, then by slot
 abbrev pub all_slots : List Slot
 all_slots = map slot_at (range_with_len 0 32)
 
 -- the first of all slots that is free
-unfoldable pub lowest_free : Slots → Option Slot
-lowest_free slots = find (is_free slots) all_slots
+unfoldable pub lowest_free_by : Settings → List Bool → List (List Pdu) → (Slot → Bool) → Option Slot
+lowest_free_by plan up outboxes holds = find (is_free_by plan up outboxes holds) all_slots
+
+-- the same of the slots that are held
+abbrev pub lowest_free : Slots → Option Slot
+lowest_free slots = lowest_free_by slots.plan slots.up slots.outboxes (is_held slots.held)
 
 -- no slot of the site is free
 abbrev pub HasNoFreeSlot : Slots → Type 0

@@ -1,5 +1,6 @@
 -- The slots of a site: what stands on them, and how it changes.
-use Rattle.std.specs.Prelude.{ℕ, ◌+◌, ◌*◌, ◌/◌, ◌%◌, ◌<◌, List, [], ◌∷◌, ◌++◌, Bool, false, drop, replicate, slice_set, slice_index_or}
+use Rattle.std.specs.Prelude.{ℕ, ◌+◌, ◌*◌, List, [], ◌∷◌, ◌++◌, Bool, false, drop, replicate, slice_set, slice_index_or}
+pub use Rattle.dmr_pdu.specs.Slots.{IsSlot, place, slot_at}
 use Rattle.dmr_pdu.specs.declared.slots.Slot.{Slot}
 use Rattle.dmr_pdu.specs.declared.pdu.Pdu.{Pdu}
 use Rattle.dmr_plan.specs.declared.settings.Settings.{Settings}
@@ -10,18 +11,6 @@ pub record Slots : Type 0 where
   pub up : List Bool  -- for each carrier number, 0 to 15, whether the carrier is up
   pub held : List Bool  -- for each slot, at its place, whether a call holds it
   pub outboxes : List (List Pdu)  -- for each slot, at its place, what waits for it, the oldest first
-
--- a slot of a carrier 0 to 15
-abbrev pub IsSlot : Slot → Type 0
-IsSlot slot = (slot.carrier < 16) × (slot.slot < 2)
-
--- the place of a slot among those of all carriers: by carrier, then by slot
-abbrev pub place : Slot → ℕ
-place slot = 2 * slot.carrier + slot.slot
-
--- the slot at a place
-abbrev pub slot_at : ℕ → Slot
-slot_at place = record { carrier = place / 2; slot = place % 2 }
 
 -- a carrier is up
 abbrev pub is_up : List Bool → ℕ → Bool

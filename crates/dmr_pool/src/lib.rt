@@ -7,8 +7,9 @@
 //! is taken when it is made.
 #![tactic(auto)]
 
+mod marks;
 mod outbox;
-mod places;
+mod outboxes;
 mod pool;
 
 pub use pool::{Full, Pool};

@@ -1,54 +1,31 @@
 //! What waits to be sent on a slot.
 
-ghost use Rattle.std.specs.Prelude.{◌≡◌, ◌≤◌, ◌<◌, ◌∷◌, ◌++◌, [], List, length, drop, replicate, slice_get, IfOk};
-ghost use Rattle.std.specs.List.{list_any};
-ghost use Rattle.dmr_pool.specs.Free.{names};
+ghost use Rattle.std.specs.Prelude.{◌≡◌, ◌≤◌, ◌<◌, ◌+◌, ◌∷◌, ◌++◌, ◌&&◌, [], length, drop, slice_get, IfOk};
 ghost use Rattle.dmr_pool.specs.Same.{are_same_pdus};
 
-use dmr_pdu::{Lpcn, OutOfMemory, Pdu, SlotNo};
+use circular_buffer::HeapCircularBuffer;
+use dmr_pdu::{OutOfMemory, Pdu};
 use std::alloc::Global;
 use std::marker::Model;
 
 /// The most PDUs that wait for a slot.
 pub const MOST_WAITING: usize = 64;
 
-/// How many outboxes a site has: one for each slot of each carrier number.
-const OUTBOXES: usize = 32;
-
-/// Whether a PDU is a grant that names the channel and the slot.
-fn names(pdu: &Pdu, lpcn: Lpcn, number: SlotNo) -> bool
-    ensures { result ≡ names lpcn number pdu.now }
-{
-    match *pdu {
-        Pdu::PvGrant {
-            lpcn: channel,
-            slot,
-            ..
-        }
-        | Pdu::TvGrant {
-            lpcn: channel,
-            slot,
-            ..
-        } => channel == lpcn && slot == number,
-        _ => false,
-    }
-}
-
 /// The PDUs that wait for a slot, at most 64. Contracts see it as the list of them, the oldest first.
 #[derive(Drop)]
 pub struct Outbox {
-    waiting: Vec<Pdu>,
+    waiting: HeapCircularBuffer<Pdu>,
 }
 
 impl Model for Outbox {
-    ghost use Rattle.std.specs.Prelude.{List, ◌≤◌, vec_len, vec_capacity};
+    ghost use Rattle.std.specs.Prelude.{◌≡◌, ◌≤◌, List, length};
     ghost use Rattle.dmr_pdu.specs.declared.pdu.Pdu.{Pdu};
 
     ghost Value = { List Pdu };
 
     ghost view = { λ outbox. outbox.waiting.items };
 
-    ghost invariant = { λ outbox. (vec_len outbox.waiting ≤ 64) × (64 ≤ vec_capacity outbox.waiting) };
+    ghost invariant = { λ outbox. (outbox.waiting.capacity ≡ 64) × (length outbox.waiting.items ≤ 64) };
 }
 
 impl Outbox {
@@ -57,7 +34,7 @@ impl Outbox {
         ensures { IfOk result (λ outbox. outbox ≡ []) }
     {
         Ok(Outbox {
-            waiting: Vec::with_capacity(alloc, MOST_WAITING)?,
+            waiting: HeapCircularBuffer::with_capacity(alloc, MOST_WAITING)?,
         })
     }
 
@@ -65,8 +42,10 @@ impl Outbox {
     pub fn try_clone(&self, alloc: Global) -> Result<Outbox, OutOfMemory>
         ensures { IfOk result (λ copy. copy ≡ self.now) }
     {
-        let mut waiting = Vec::with_capacity(alloc, MOST_WAITING)?;
-        waiting.extend_from_slice(&self.waiting)?;
+        let mut waiting = HeapCircularBuffer::with_capacity(alloc, MOST_WAITING)?;
+        let (older, newer) = self.waiting.as_slices();
+        waiting.extend_from_slice(older);
+        waiting.extend_from_slice(newer);
         Ok(Outbox { waiting })
     }
 
@@ -78,26 +57,31 @@ impl Outbox {
         self.waiting.len()
     }
 
-    /// Whether a grant waits that names the channel and the slot number.
-    pub fn has_grant(&self, lpcn: Lpcn, number: SlotNo) -> bool
-        ensures { result ≡ list_any (names lpcn number) self.now }
-    {
-        self.waiting.iter().any(|pdu| names(pdu, lpcn, number))
-    }
-
     /// The PDU that has waited longest.
     pub fn first(&self) -> Option<Pdu>
         ensures { result ≡ slice_get self.now 0 }
     {
-        self.waiting.first().copied()
+        self.waiting.front().copied()
     }
 
-    /// Puts a PDU behind those that wait. There must be a place for it.
+    /// Whether two have the same PDU at a place that both have.
+    fn is_same_at(&self, other: &Outbox, index: usize) -> bool
+        requires own { index < length self.now }
+        requires other { index < length other.now }
+        ensures { are_same_pdus (drop index self.now) (drop index other.now) ≡ (result && are_same_pdus (drop (index + 1) self.now) (drop (index + 1) other.now)) }
+    {
+        match (self.waiting.get(index), other.waiting.get(index)) {
+            (Some(pdu), Some(its)) => pdu == its,
+            _ => unreachable!(),
+        }
+    }
+
+    /// Puts a PDU behind those that wait. There must be a place for it: a full ring would give up the one that has waited longest.
     pub fn push(&mut self, pdu: Pdu)
         requires { length self.old < 64 }
         ensures { self.new ≡ self.old ++ pdu ∷ [] }
     {
-        self.waiting.push_reserved(pdu);
+        let _ = self.waiting.push_back(pdu);
     }
 
     /// Takes out the PDU that has waited longest, if one waits.
@@ -105,11 +89,7 @@ impl Outbox {
         ensures first { result ≡ slice_get self.old 0 }
         ensures rest { self.new ≡ drop 1 self.old }
     {
-        let first = self.first();
-        if !self.waiting.is_empty() {
-            self.waiting.remove(0);
-        }
-        first
+        self.waiting.pop_front()
     }
 
     /// Takes out all PDUs.
@@ -132,28 +112,15 @@ impl PartialEq for Outbox {
     fn eq(&self, other: &Self) -> bool
         ensures gives { result ≡ are_same_pdus self.now other.now }
     {
-        self.waiting == other.waiting
+        let count = self.len();
+        if other.len() != count {
+            return false;
+        }
+        for index in 0..count {
+            if !self.is_same_at(other, index) {
+                return false;
+            }
+        }
+        true
     }
-}
-
-/// The outboxes of a site on which nothing waits. `Err` where there is no memory for them.
-pub fn empty_outboxes(alloc: Global) -> Result<Vec<Outbox>, OutOfMemory>
-    ensures { IfOk result (λ outboxes. outboxes.items ≡ replicate 32 []) }
-{
-    let mut outboxes = Vec::with_capacity(alloc, OUTBOXES)?;
-    for _ in 0..OUTBOXES {
-        outboxes.push(Outbox::new(alloc)?)?;
-    }
-    Ok(outboxes)
-}
-
-/// The same outboxes with room of their own. `Err` where there is no memory for that.
-pub fn copied_outboxes(alloc: Global, outboxes: &[Outbox]) -> Result<Vec<Outbox>, OutOfMemory>
-    ensures { IfOk result (λ copies. copies.items ≡ outboxes.now) }
-{
-    let mut copies = Vec::with_capacity(alloc, outboxes.len())?;
-    for outbox in outboxes {
-        copies.push(outbox.try_clone(alloc)?)?;
-    }
-    Ok(copies)
 }

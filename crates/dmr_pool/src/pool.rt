@@ -1,15 +1,17 @@
 //! The carriers that are up, the slots that calls hold, and what waits to be sent on each slot.
 
-ghost use Rattle.std.specs.Prelude.{◌≡◌, ◌≤◌, ◌↔◌, length, filter, slice_get, slice_set, true, false, IsTrue, IsErr, IfOk, OnOk, OnErr, MatchOption};
+ghost use Rattle.std.specs.Prelude.{◌≡◌, ◌<◌, ◌≤◌, ◌↔◌, length, filter, slice_get, slice_set, true, false, IsTrue, IsErr, IfOk, OnOk, OnErr, MatchOption};
 ghost use Rattle.dmr_plan.specs.Carriers.{has_number_in};
 ghost use Rattle.dmr_pool.specs.Slots.{box, is_up, emptied, released, queued, sent, place, nothing_on};
-ghost use Rattle.dmr_pool.specs.Free.{control_slot, is_control, is_granted, is_free, lowest_free, HasNoFreeSlot, IsLowestFree};
+ghost use Rattle.dmr_pool.specs.Free.{control_slot, is_control, is_free, lowest_free, HasNoFreeSlot, IsLowestFree};
+ghost use Rattle.dmr_pool.specs.Marks.{AreMarked};
 ghost use Rattle.dmr_pool.specs.Kept.{AreKept};
 ghost use Rattle.dmr_pool.specs.Same.{are_alike, are_same};
 
-use crate::outbox::{MOST_WAITING, Outbox, copied_outboxes, empty_outboxes};
-use crate::places::{place_of, slot_at};
-use dmr_pdu::{CarrierNo, OutOfMemory, Pdu, Slot, SlotNo};
+use crate::marks::Marks;
+use crate::outbox::MOST_WAITING;
+use crate::outboxes::Outboxes;
+use dmr_pdu::{CarrierNo, OutOfMemory, Pdu, Slot};
 use dmr_plan::Plan;
 use std::alloc::Global;
 use std::marker::Model;
@@ -22,31 +24,65 @@ pub struct Full;
 /// for each slot; what they all keep is `AreKept`, which [`Pool::keeps`] tells.
 #[derive(Drop)]
 pub struct Pool {
-    plan: Plan,
     up: [bool; 16],
     held: [bool; 32],
-    outboxes: Vec<Outbox>,
+    outboxes: Outboxes,
+    free: Marks,
 }
 
 impl Model for Pool {
     ghost use Rattle.dmr_pool.specs.Slots.{Slots};
-    ghost use Rattle.dmr_pool.specs.Kept.{AreKept};
+    ghost use Rattle.dmr_pool.specs.Marks.{AreMarked};
 
     ghost Value = { Slots };
 
     ghost view = { λ pool. record {
-      plan = pool.plan;
+      plan = pool.outboxes.plan;
       up = pool.up;
       held = pool.held;
-      outboxes = pool.outboxes.items;
+      outboxes = pool.outboxes.outboxes;
     } };
 
-    ghost invariant = { λ pool. AreKept (record {
-      plan = pool.plan;
+    ghost invariant = { λ pool. AreMarked pool.free.bits (record {
+      plan = pool.outboxes.plan;
       up = pool.up;
       held = pool.held;
-      outboxes = pool.outboxes.items;
+      outboxes = pool.outboxes.outboxes;
     }) };
+}
+
+/// Does nothing. A proof learns from it how many carriers and slots there are.
+fn are_sized(up: &[bool; 16], held: &[bool; 32])
+    ensures carriers { length up.now ≡ 16 }
+    ensures slots { length held.now ≡ 32 }
+{
+    let _ = (up[0], held[0]);
+}
+
+/// Whether a slot is free for a call: its carrier is in the plan and up, it is not the control slot, no call holds it, nothing
+/// waits for it, and no grant of it waits for the control slot.
+fn is_free(outboxes: &Outboxes, up: &[bool; 16], held: &[bool; 32], slot: &Slot) -> bool
+    ensures { result ≡ is_free (record { plan = outboxes.now.plan; up = up.now; held = held.now; outboxes = outboxes.now.outboxes }) slot.now }
+{
+    let carrier = slot.carrier.get() as usize;
+    outboxes.plan().carrier_with(slot.carrier).is_some()
+        && up[carrier]
+        && !outboxes.is_control(slot)
+        && !held[slot.index()]
+        && outboxes.waiting(slot) == 0
+        && !outboxes.is_granted(slot)
+}
+
+/// The slots that are free.
+fn all_free(outboxes: &Outboxes, up: &[bool; 16], held: &[bool; 32]) -> Marks
+    ensures { AreMarked result.bits (record { plan = outboxes.now.plan; up = up.now; held = held.now; outboxes = outboxes.now.outboxes }) }
+{
+    let mut free = Marks::none();
+    for place in 0..32usize {
+        let slot = &Slot::at(place);
+        free.put(slot, is_free(outboxes, up, held, slot));
+    }
+    free
 }
 
 impl Pool {
@@ -56,10 +92,10 @@ impl Pool {
         ensures { IfOk result (λ pool. pool ≡ nothing_on plan.now) }
     {
         Ok(Pool {
-            plan: *plan,
             up: [false; 16],
             held: [false; 32],
-            outboxes: empty_outboxes(alloc)?,
+            outboxes: Outboxes::new(alloc, plan)?,
+            free: Marks::none(),
         })
     }
 
@@ -69,10 +105,10 @@ impl Pool {
         ensures { IfOk result (λ copy. copy ≡ self.now) }
     {
         Ok(Pool {
-            plan: self.plan,
             up: self.up,
             held: self.held,
-            outboxes: copied_outboxes(alloc, &self.outboxes)?,
+            outboxes: self.outboxes.try_clone(alloc)?,
+            free: self.free,
         })
     }
 
@@ -100,8 +136,7 @@ impl Pool {
           outboxes = emptied self.old.outboxes carrier;
         } }
     {
-        self.up[carrier.get() as usize] = true;
-        self.empty(carrier);
+        self.turn(carrier, true);
     }
 
     /// A carrier is lost, or was not up. Its slots are released, and what waited for them is gone.
@@ -112,8 +147,7 @@ impl Pool {
           outboxes = emptied self.old.outboxes carrier;
         } }
     {
-        self.up[carrier.get() as usize] = false;
-        self.empty(carrier);
+        self.turn(carrier, false);
     }
 
     /// Releases the slots of a carrier, and takes out all that waits for them. It stays up, or not, as it was.
@@ -123,11 +157,24 @@ impl Pool {
           outboxes = emptied self.old.outboxes carrier;
         } }
     {
+        let is_up = self.is_up(carrier);
+        self.turn(carrier, is_up);
+    }
+
+    /// A carrier is up from now on, or not. Its slots are released, and what waited for them is gone.
+    fn turn(&mut self, carrier: CarrierNo, is_up: bool)
+        ensures { self.new ≡ record self.old {
+          up = slice_set self.old.up carrier is_up;
+          held = released self.old.held carrier;
+          outboxes = emptied self.old.outboxes carrier;
+        } }
+    {
         let first = 2 * carrier.get() as usize;
+        self.up[carrier.get() as usize] = is_up;
         self.held[first] = false;
         self.held[first + 1] = false;
-        self.outboxes[first].clear();
-        self.outboxes[first + 1].clear();
+        self.outboxes.clear(carrier);
+        self.free = all_free(&self.outboxes, &self.up, &self.held);
     }
 
     /// The free slot of the lowest carrier number, and of that carrier the lowest slot number; `None` where no slot is free.
@@ -136,15 +183,7 @@ impl Pool {
         // It is free, and none before it is; without one, none is.
         ensures lowest { MatchOption result (HasNoFreeSlot self.now) (IsLowestFree self.now) }
     {
-        self.lowest_free()
-    }
-
-    /// The first of all slots that is free.
-    #[tactic(auto, unfolding(crate::specs::Free::lowest_free))]
-    fn lowest_free(&self) -> Option<Slot>
-        ensures { result ≡ lowest_free self.now }
-    {
-        (0..32).map(slot_at).find(|slot| self.is_free(*slot))
+        self.free.lowest()
     }
 
     /// Whether a slot is free for a call: its carrier is in the plan and up, it is not the control slot, no call holds it,
@@ -152,40 +191,21 @@ impl Pool {
     pub fn is_free(&self, slot: Slot) -> bool
         ensures { result ≡ is_free self.now slot }
     {
-        self.plan.carrier_with(slot.carrier).is_some()
-            && self.is_up(slot.carrier)
-            && !self.is_control(&slot)
-            && !self.held[place_of(&slot)]
-            && self.waiting(slot) == 0
-            && !self.is_granted(&slot)
+        self.free.has(&slot)
     }
 
     /// Slot 0 of the control carrier.
-    fn control_slot(&self) -> Slot
+    pub fn control_slot(&self) -> Slot
         ensures { result ≡ control_slot self.now.plan }
     {
-        Slot {
-            carrier: self.plan.control(),
-            slot: SlotNo::new(0),
-        }
+        self.outboxes.control_slot()
     }
 
     /// Whether a slot is the control slot.
-    fn is_control(&self, slot: &Slot) -> bool
-        ensures { result ≡ is_control self.now.plan slot.now }
+    pub fn is_control(&self, slot: Slot) -> bool
+        ensures { result ≡ is_control self.now.plan slot }
     {
-        slot.carrier == self.plan.control() && slot.slot.get() == 0
-    }
-
-    /// Whether a grant of a slot waits for the control slot.
-    fn is_granted(&self, slot: &Slot) -> bool
-        ensures { result ≡ is_granted self.now slot.now }
-    {
-        let control = place_of(&self.control_slot());
-        match self.plan.carrier_with(slot.carrier) {
-            Some(row) => self.outboxes[control].has_grant(row.lpcn, slot.slot),
-            None => false,
-        }
+        self.outboxes.is_control(&slot)
     }
 
     /// A call takes a slot, which must be free: it is held from now on.
@@ -193,14 +213,17 @@ impl Pool {
         requires { IsTrue (is_free self.old slot) }
         ensures { self.new ≡ record self.old { held = slice_set self.old.held (place slot) true } }
     {
-        self.held[place_of(&slot)] = true;
+        self.held[slot.index()] = true;
+        self.free.put(&slot, false);
     }
 
     /// No call holds a slot any longer. One that none holds stays as it is.
     pub fn release(&mut self, slot: Slot)
         ensures { self.new ≡ record self.old { held = slice_set self.old.held (place slot) false } }
     {
-        self.held[place_of(&slot)] = false;
+        self.held[slot.index()] = false;
+        let is_idle = is_free(&self.outboxes, &self.up, &self.held, &slot);
+        self.free.put(&slot, is_idle);
     }
 
     /// Puts a PDU behind those that wait for a slot, whose carrier must be up. `Err` says that 64 wait, and then nothing is
@@ -214,8 +237,21 @@ impl Pool {
         if self.waiting(slot) >= MOST_WAITING {
             return Err(Full);
         }
-        self.outboxes[place_of(&slot)].push(pdu);
+        self.put(&slot, &pdu);
         Ok(())
+    }
+
+    /// Puts a PDU behind those that wait for a slot. There must be a place for it.
+    fn put(&mut self, slot: &Slot, pdu: &Pdu)
+        requires { length (box self.old.outboxes slot.now) < 64 }
+        ensures { self.new ≡ record self.old { outboxes = queued self.old.outboxes slot.now pdu.now } }
+    {
+        self.outboxes.keeps();
+        self.outboxes.push(slot, pdu);
+        self.free.put(slot, false);
+        if let Some(granted) = self.outboxes.slot_counted(slot, pdu) {
+            self.free.put(&granted, false);
+        }
     }
 
     /// Takes out the PDU that has waited longest for a slot, if one waits.
@@ -223,14 +259,31 @@ impl Pool {
         ensures first { result ≡ slice_get (box self.old.outboxes slot) 0 }
         ensures rest { self.new ≡ record self.old { outboxes = sent self.old.outboxes slot } }
     {
-        self.outboxes[place_of(&slot)].take()
+        let pdu = self.first(slot)?;
+        self.take_first(&slot, &pdu);
+        Some(pdu)
+    }
+
+    /// Takes out the PDU that has waited longest for a slot.
+    fn take_first(&mut self, slot: &Slot, pdu: &Pdu)
+        requires { slice_get (box self.old.outboxes slot.now) 0 ≡ Some pdu.now }
+        ensures { self.new ≡ record self.old { outboxes = sent self.old.outboxes slot.now } }
+    {
+        self.outboxes.keeps();
+        self.outboxes.take(slot, pdu);
+        let is_idle = is_free(&self.outboxes, &self.up, &self.held, slot);
+        self.free.put(slot, is_idle);
+        if let Some(granted) = self.outboxes.slot_counted(slot, pdu) {
+            let is_idle = is_free(&self.outboxes, &self.up, &self.held, &granted);
+            self.free.put(&granted, is_idle);
+        }
     }
 
     /// The PDU that has waited longest for a slot, if one waits.
     pub fn first(&self, slot: Slot) -> Option<Pdu>
         ensures { result ≡ slice_get (box self.now.outboxes slot) 0 }
     {
-        self.outboxes[place_of(&slot)].first()
+        self.outboxes.first(&slot)
     }
 
     /// How many PDUs wait for a slot: 0 to 64.
@@ -238,31 +291,32 @@ impl Pool {
         ensures value { result ≡ length (box self.now.outboxes slot) }
         ensures few { result ≤ 64 }
     {
-        self.outboxes[place_of(&slot)].len()
+        self.outboxes.waiting(&slot)
     }
 
     /// Whether two have the same plan, and the same stands on their slots.
     fn is(&self, other: &Pool) -> bool
         ensures { result ≡ are_same self.now other.now }
     {
-        self.plan == other.plan
+        self.outboxes.plan() == other.outboxes.plan()
             && self.up == other.up
             && self.held == other.held
-            && self.outboxes == other.outboxes
+            && self.outboxes.is_as(&other.outboxes)
     }
 
     /// Whether the same carriers are up, and the same PDUs wait for each slot, whatever calls hold.
     pub fn is_as(&self, other: &Pool) -> bool
         ensures { result ≡ are_alike self.now other.now }
     {
-        self.up == other.up && self.outboxes == other.outboxes
+        self.up == other.up && self.outboxes.is_as(&other.outboxes)
     }
 
     /// Does nothing. A proof learns from it what the slots of every site keep.
     pub fn keeps(&self)
         ensures { AreKept self.now }
     {
-        let _ = &self.plan;
+        self.outboxes.keeps();
+        are_sized(&self.up, &self.held);
     }
 }
 

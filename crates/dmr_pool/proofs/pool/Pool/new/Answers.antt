@@ -1,12 +1,6 @@
-use Rattle.std.proofs.Common.{arith, ◌≤◌, List, [], length, refl, ap}
-use Rattle.std.proofs.lemmas.List.Elements.{All-replicate}
-use Rattle.dmr_pdu.specs.declared.pdu.Pdu.{Pdu}
+use Rattle.std.proofs.Common.{replicate, false}
+use Rattle.dmr_pool.proofs.MarkLemmas.{none_free}
 use Rattle.dmr_pool.proofs.pool.Pool.new.Goals as goal
 
 pub invariant_of-result : goal.invariant_of-result
-invariant_of-result c = record {
-  carriers = refl;
-  held = refl;
-  outboxes = ap length c.in_ok-empty_outboxes.ensures;
-  few = rw c.in_ok-empty_outboxes.ensures (All-replicate (λ (box : List Pdu). length box ≤ 64) 32 [] (omega arith));
-}
+invariant_of-result c = none_free c.none.result.bits c.in_ok-new.field-0.plan (replicate 32 false) c.in_ok-new.field-0.outboxes c.none.ensures

@@ -1,0 +1,15 @@
+-- The slots of a site, and their order.
+use Rattle.std.specs.Prelude.{ℕ, ◌+◌, ◌*◌, ◌/◌, ◌%◌, ◌<◌}
+use Rattle.dmr_pdu.specs.declared.slots.Slot.{Slot}
+
+-- a slot of a carrier 0 to 15
+abbrev pub IsSlot : Slot → Type 0
+IsSlot slot = (slot.carrier < 16) × (slot.slot < 2)
+
+-- the place of a slot among those of all carriers: by carrier, then by slot
+abbrev pub place : Slot → ℕ
+place slot = 2 * slot.carrier + slot.slot
+
+-- the slot at a place
+abbrev pub slot_at : ℕ → Slot
+slot_at place = record { carrier = place / 2; slot = place % 2 }

@@ -1,0 +1,46 @@
+-- The grants that wait for the control slot, counted for each slot.
+use Rattle.std.specs.Prelude.{◌≡◌, ℕ, ◌<◌, ◌≤◌, List, length, ◌==◌, if◌then◌else◌, Option, None, option_map, slice_index_or}
+use Rattle.std.specs.List.{All, count_by, find}
+use Rattle.std.specs.Option.{option_map_or}
+use Rattle.dmr_pdu.specs.declared.slots.Slot.{Slot}
+use Rattle.dmr_pdu.specs.declared.pdu.Pdu.{Pdu}
+use Rattle.dmr_pdu.specs.declared.pdu.Pdu.TheVariants.{PvGrant, TvGrant}
+use Rattle.dmr_plan.specs.declared.settings.Settings.{Settings}
+use Rattle.dmr_plan.specs.declared.carriers.CarrierRow.{CarrierRow}
+use Rattle.dmr_plan.specs.Carriers.{row_with}
+use Rattle.dmr_pool.specs.Slots.{box, slot_at}
+use Rattle.dmr_pool.specs.Free.{control_slot, is_control, names}
+
+-- the plan, and what waits for each slot, at its place, the oldest first
+pub record Waiting : Type 0 where
+  pub plan : Settings
+  pub outboxes : List (List Pdu)
+
+-- how many grants of a slot wait for the control slot
+abbrev pub grants_of : Settings → List (List Pdu) → Slot → ℕ
+grants_of plan outboxes slot =
+    option_map_or (λ (row : CarrierRow). count_by (names row.lpcn slot.slot) (box outboxes (control_slot plan))) (row_with plan.carriers slot.carrier) 0
+
+-- there are 32 outboxes, and in each at most 64 PDUs wait
+pub record AreOutboxes (outboxes : List (List Pdu)) : Type 0 where
+  pub size : length outboxes ≡ 32
+  pub few : All (λ box. length box ≤ 64) outboxes
+
+-- the counts are those of the slots at their places
+abbrev pub AreCounted : Settings → List (List Pdu) → List ℕ → Type 0
+AreCounted plan outboxes counts = (place : ℕ) → place < 32 → slice_index_or counts place 0 ≡ grants_of plan outboxes (slot_at place)
+
+-- the slot of a number on the plan's carrier of a channel
+abbrev pub slot_tuned : Settings → ℕ → ℕ → Option Slot
+slot_tuned plan channel number =
+    option_map (λ (row : CarrierRow). record { carrier = row.number; slot = number }) (find (λ (row : CarrierRow). channel == row.lpcn) plan.carriers)
+
+-- the slot that a PDU grants, if it is a grant of a slot of the site
+abbrev pub slot_granted : Settings → Pdu → Option Slot
+slot_granted plan (PvGrant channel slot target source) = slot_tuned plan channel slot
+slot_granted plan (TvGrant channel slot late target source) = slot_tuned plan channel slot
+slot_granted plan _ = None
+
+-- the slot whose count changes where a PDU is put into a slot's outbox, or taken out
+abbrev pub slot_counted : Settings → Slot → Pdu → Option Slot
+slot_counted plan slot pdu = if is_control plan slot then slot_granted plan pdu else None

@@ -1,0 +1,53 @@
+//! A set of slots, as the bits of a number.
+
+ghost use Rattle.std.specs.Prelude.{◌≡◌, MatchOption};
+ghost use Rattle.dmr_pool.specs.Slots.{IsSlot, place};
+ghost use Rattle.dmr_pool.specs.Marks.{HasNoBit, IsLowestBit, IsPut, has_bit};
+
+use dmr_pdu::Slot;
+
+/// A set of slots: the bit of a slot's place is 1 where the set has the slot.
+#[derive(Clone, Copy, Debug, PartialEq, Eq)]
+pub struct Marks {
+    bits: u32,
+}
+
+impl Marks {
+    /// No slot.
+    pub fn none() -> Marks
+        ensures { HasNoBit result.bits }
+    {
+        Marks { bits: 0 }
+    }
+
+    /// Whether the set has a slot.
+    pub fn has(&self, slot: &Slot) -> bool
+        ensures value { result ≡ has_bit self.now.bits (place slot.now) }
+        ensures numbers { IsSlot slot.now }
+    {
+        self.bits >> slot.index() & 1 == 1
+    }
+
+    /// From now on the set has a slot, or has it not.
+    pub fn put(&mut self, slot: &Slot, is_in: bool)
+        ensures bits { IsPut self.old.bits self.new.bits (place slot.now) is_in }
+        ensures numbers { IsSlot slot.now }
+    {
+        let bit = 1u32 << slot.index();
+        if is_in {
+            self.bits |= bit;
+        } else {
+            self.bits &= !bit;
+        }
+    }
+
+    /// The slot of the lowest bit; `None` where the set is empty.
+    pub fn lowest(&self) -> Option<Slot>
+        ensures { MatchOption result (HasNoBit self.now.bits) (IsLowestBit self.now.bits) }
+    {
+        if self.bits == 0 {
+            return None;
+        }
+        Some(Slot::at(self.bits.trailing_zeros() as usize))
+    }
+}

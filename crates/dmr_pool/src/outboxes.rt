@@ -1,0 +1,212 @@
+//! What waits to be sent on each slot of a site, and how many grants of each slot wait.
+
+ghost use Rattle.std.specs.Prelude.{◌≡◌, ◌<◌, [], ◌≤◌, length, replicate, slice_get, IfOk};
+ghost use Rattle.std.specs.Cmp.Lexicographic.{pointwise};
+ghost use Rattle.dmr_plan.specs.IsPlan.{IsPlan};
+ghost use Rattle.dmr_pool.specs.Slots.{box, emptied, queued, sent};
+ghost use Rattle.dmr_pool.specs.Free.{control_slot, is_control, is_granted};
+ghost use Rattle.dmr_pool.specs.Grants.{AreOutboxes, slot_counted, slot_granted, slot_tuned};
+ghost use Rattle.dmr_pool.specs.Same.{are_same_pdus};
+
+use crate::outbox::Outbox;
+use dmr_pdu::{CarrierNo, Lpcn, OutOfMemory, Pdu, Slot, SlotNo};
+use dmr_plan::Plan;
+use std::alloc::Global;
+use std::marker::Model;
+
+/// How many outboxes a site has: one for each slot of each carrier number.
+const OUTBOXES: usize = 32;
+
+/// The outboxes of a plan's site. Contracts see it as the plan, and what waits for each slot. For each slot it counts the
+/// grants of it that wait for the control slot.
+#[derive(Drop)]
+pub struct Outboxes {
+    plan: Plan,
+    outboxes: Vec<Outbox>,
+    grants: [u8; 32],
+}
+
+impl Model for Outboxes {
+    ghost use Rattle.dmr_pool.specs.Grants.{AreCounted, AreOutboxes, Waiting};
+
+    ghost Value = { Waiting };
+
+    ghost view = { λ o. record { plan = o.plan; outboxes = o.outboxes.items } };
+
+    ghost invariant = { λ o. AreOutboxes o.outboxes.items × AreCounted o.plan o.outboxes.items o.grants };
+}
+
+/// Empty outboxes. `Err` where there is no memory for them.
+fn empty_outboxes(alloc: Global) -> Result<Vec<Outbox>, OutOfMemory>
+    ensures { IfOk result (λ outboxes. outboxes.items ≡ replicate 32 []) }
+{
+    let mut outboxes = Vec::with_capacity(alloc, OUTBOXES)?;
+    for _ in 0..OUTBOXES {
+        outboxes.push(Outbox::new(alloc)?)?;
+    }
+    Ok(outboxes)
+}
+
+/// The same outboxes with room of their own. `Err` where there is no memory for that.
+fn copied_outboxes(alloc: Global, outboxes: &[Outbox]) -> Result<Vec<Outbox>, OutOfMemory>
+    ensures { IfOk result (λ copies. copies.items ≡ outboxes.now) }
+{
+    let mut copies = Vec::with_capacity(alloc, outboxes.len())?;
+    for outbox in outboxes {
+        copies.push(outbox.try_clone(alloc)?)?;
+    }
+    Ok(copies)
+}
+
+impl Outboxes {
+    /// The outboxes of a plan's site, in which nothing waits. `Err` where there is no memory for them.
+    pub fn new(alloc: Global, plan: &Plan) -> Result<Outboxes, OutOfMemory>
+        ensures { IfOk result (λ o. o ≡ record { plan = plan.now; outboxes = replicate 32 [] }) }
+    {
+        Ok(Outboxes {
+            plan: *plan,
+            outboxes: empty_outboxes(alloc)?,
+            grants: [0; OUTBOXES],
+        })
+    }
+
+    /// The same plan and waiting PDUs, with room of their own. `Err` where there is no memory for that.
+    pub fn try_clone(&self, alloc: Global) -> Result<Outboxes, OutOfMemory>
+        ensures { IfOk result (λ copy. copy ≡ self.now) }
+    {
+        Ok(Outboxes {
+            plan: self.plan,
+            outboxes: copied_outboxes(alloc, &self.outboxes)?,
+            grants: self.grants,
+        })
+    }
+
+    /// The plan.
+    pub fn plan(&self) -> &Plan
+        ensures { result.now ≡ self.now.plan }
+    {
+        &self.plan
+    }
+
+    /// Slot 0 of the control carrier.
+    pub fn control_slot(&self) -> Slot
+        ensures { result ≡ control_slot self.now.plan }
+    {
+        Slot::new(self.plan.control(), SlotNo::new(0))
+    }
+
+    /// Whether a slot is the control slot.
+    pub fn is_control(&self, slot: &Slot) -> bool
+        ensures { result ≡ is_control self.now.plan slot.now }
+    {
+        slot.carrier == self.plan.control() && slot.slot.get() == 0
+    }
+
+    /// Whether a grant of a slot waits for the control slot.
+    pub fn is_granted(&self, slot: &Slot) -> bool
+        ensures { result ≡ is_granted self.now.plan self.now.outboxes slot.now }
+    {
+        self.grants[slot.index()] > 0
+    }
+
+    /// The slot of a number on the plan's carrier of a channel.
+    fn slot_tuned(&self, channel: Lpcn, number: SlotNo) -> Option<Slot>
+        ensures { result ≡ slot_tuned self.now.plan channel number }
+    {
+        let rows = self.plan.carrier();
+        let row = rows.iter().find(|row| channel == row.lpcn)?;
+        Some(Slot::new(row.number, number))
+    }
+
+    /// The slot that a PDU grants, if it is a grant of a slot of the site.
+    fn slot_granted(&self, pdu: &Pdu) -> Option<Slot>
+        ensures { result ≡ slot_granted self.now.plan pdu.now }
+    {
+        match *pdu {
+            Pdu::PvGrant { lpcn, slot, .. } | Pdu::TvGrant { lpcn, slot, .. } => {
+                self.slot_tuned(lpcn, slot)
+            }
+            _ => None,
+        }
+    }
+
+    /// The slot whose grants are counted anew where a PDU is put into a slot's outbox, or is taken out of it: grants wait for
+    /// the control slot alone.
+    pub fn slot_counted(&self, slot: &Slot, pdu: &Pdu) -> Option<Slot>
+        ensures { result ≡ slot_counted self.now.plan slot.now pdu.now }
+    {
+        if self.is_control(slot) {
+            self.slot_granted(pdu)
+        } else {
+            None
+        }
+    }
+
+    /// Puts a PDU behind those that wait for a slot. There must be a place for it.
+    pub fn push(&mut self, slot: &Slot, pdu: &Pdu)
+        requires { length (box self.old.outboxes slot.now) < 64 }
+        ensures { self.new ≡ record { plan = self.old.plan; outboxes = queued self.old.outboxes slot.now pdu.now } }
+    {
+        let granted = self.slot_counted(slot, pdu);
+        self.plan.keeps();
+        self.outboxes[slot.index()].push(*pdu);
+        if let Some(granted) = granted {
+            self.grants[granted.index()] += 1;
+        }
+    }
+
+    /// Takes out the PDU that has waited longest for a slot.
+    pub fn take(&mut self, slot: &Slot, pdu: &Pdu)
+        requires { slice_get (box self.old.outboxes slot.now) 0 ≡ Some pdu.now }
+        ensures { self.new ≡ record { plan = self.old.plan; outboxes = sent self.old.outboxes slot.now } }
+    {
+        let granted = self.slot_counted(slot, pdu);
+        self.plan.keeps();
+        let _ = self.outboxes[slot.index()].take();
+        if let Some(granted) = granted {
+            self.grants[granted.index()] -= 1;
+        }
+    }
+
+    /// Takes out all PDUs that wait for the slots of a carrier.
+    pub fn clear(&mut self, carrier: CarrierNo)
+        ensures { self.new ≡ record { plan = self.old.plan; outboxes = emptied self.old.outboxes carrier } }
+    {
+        let first = 2 * carrier.get() as usize;
+        self.outboxes[first].clear();
+        self.outboxes[first + 1].clear();
+        if carrier == self.plan.control() {
+            self.grants = [0; OUTBOXES];
+        }
+    }
+
+    /// The PDU that has waited longest for a slot, if one waits.
+    pub fn first(&self, slot: &Slot) -> Option<Pdu>
+        ensures { result ≡ slice_get (box self.now.outboxes slot.now) 0 }
+    {
+        self.outboxes[slot.index()].first()
+    }
+
+    /// How many PDUs wait for a slot: 0 to 64.
+    pub fn waiting(&self, slot: &Slot) -> usize
+        ensures value { result ≡ length (box self.now.outboxes slot.now) }
+        ensures few { result ≤ 64 }
+    {
+        self.outboxes[slot.index()].len()
+    }
+
+    /// Whether the same PDUs wait for each slot.
+    pub fn is_as(&self, other: &Outboxes) -> bool
+        ensures { result ≡ pointwise are_same_pdus self.now.outboxes other.now.outboxes }
+    {
+        self.outboxes == other.outboxes
+    }
+
+    /// Does nothing. A proof learns from it what the outboxes of every site keep.
+    pub fn keeps(&self)
+        ensures outboxes { AreOutboxes self.now.outboxes }
+        ensures plan { IsPlan self.now.plan }
+    {
+        self.plan.keeps();
+    }
+}

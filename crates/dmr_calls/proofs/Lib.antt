@@ -1,3 +1,4 @@
 pub mod Loops
 pub mod EngagedLemmas
 pub mod OwnLemmas
+pub mod AfterLemmas

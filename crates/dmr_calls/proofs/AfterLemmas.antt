@@ -110,10 +110,6 @@ pub above_last : (last : Option Slot) (slot : Slot) → IfSome last IsSlot → s
 above_last None slot is small behind = tt
 above_last (Some l) slot is small behind = place-below l slot is.1 small (omega (arith, behind))
 
-pub few_after : (last : Option Slot) → IfSome last IsSlot → place_after last ≤ 32
-few_after None is = omega arith
-few_after (Some l) is = omega (arith, is.0, is.1)
-
 -- a test of a slot is one of its place
 pub at_place : (calls : List Standing) (slot : Slot) (b : Bool) → slot.slot < 2 → is_group_on calls slot ≡ b → is_group_at calls (place slot) ≡ b
 at_place calls slot b small h = subst (λ (s : Slot). is_group_on calls s ≡ b) (sym (slot_at-place slot small)) h
@@ -158,20 +154,51 @@ no_group : (calls : List Standing) → NonePass (is_group_at calls) 0 32 → Has
 no_group calls none slot is =
     subst (λ (s : Slot). is_group_on calls s ≡ false) (slot_at-place slot is.1) (none (place slot) (omega arith) (omega (arith, is.0, is.1)))
 
+-- what is found among the places from one on, which may be none
+pub found_from : (passes : ℕ → Bool) (from : ℕ) → MatchOption (find passes (range_with_len from (32 - from))) (NonePass passes from 32) (IsFirst passes from 32)
+found_from passes from = either (cases_lt 32 from)
+  where
+    either : (32 < from) ⊎ (from ≤ 32) → MatchOption (find passes (range_with_len from (32 - from))) (NonePass passes from 32) (IsFirst passes from 32)
+    either (inl far) = let none : 32 - from ≡ 0 = omega (arith, far) in rw none (λ k reached below. absurd (omega (arith, far)))
+    either (inr near) = found_first passes from (32 - from) 32 (omega (arith, near))
+
+-- a talkgroup call whose turn it is: its place is the first from one on, or else the first of all
+pub record IsTurn (calls : List Standing) (from : ℕ) (call : Call) : Type 0 where
+  pub at : ℕ
+  pub on : IsGroupOn calls (slot_at at) call
+  pub turn : IsFirst (is_group_at calls) from 32 at ⊎ (NonePass (is_group_at calls) from 32 × IsFirst (is_group_at calls) 0 32 at)
+
+found_turn : (calls : List Standing) (from : ℕ) (a b : Option ℕ) → MatchOption a (NonePass (is_group_at calls) from 32) (IsFirst (is_group_at calls) from 32) → MatchOption b (NonePass (is_group_at calls) 0 32) (IsFirst (is_group_at calls) 0 32) → MatchOption (option_and_then (λ place. call_on calls (slot_at place)) (option_or a b)) (NonePass (is_group_at calls) 0 32) (IsTurn calls from)
+found_turn calls from (Some k) b first other =
+    let on = group_on calls (slot_at k) first.passing in
+    rw on.1.stands (record { at = k; on = on.1; turn = inl first })
+found_turn calls from None (Some k) none first =
+    let on = group_on calls (slot_at k) first.passing in
+    rw on.1.stands (record { at = k; on = on.1; turn = inr (none, first) })
+found_turn calls from None None none also = also
+
+pub turn_of : (calls : List Standing) (last : Option Slot) → MatchOption (group_after calls last) (NonePass (is_group_at calls) 0 32) (IsTurn calls (place_after last))
+unfolding group_after
+turn_of calls last =
+    found_turn calls (place_after last) (group_place calls (place_after last)) (group_place calls 0)
+    (found_from (is_group_at calls) (place_after last)) (found_from (is_group_at calls) 0)
+
+-- it stands on its slot
+pub turn_stands : (calls : List Standing) (from : ℕ) (call : Call) → IsTurn calls from call → IsGroupOn calls call.slot call
+turn_stands calls from call turn = record {
+  stands = subst (λ (s : Slot). call_on calls s ≡ Some call) (sym turn.on.there) turn.on.stands;
+  group = turn.on.group;
+  there = refl;
+}
+
 -- what is found is next
-found_next : (calls : List Standing) (last : Option Slot) (a b : Option ℕ) → IfSome last IsSlot → MatchOption a (NonePass (is_group_at calls) (place_after last) 32) (IsFirst (is_group_at calls) (place_after last) 32) → MatchOption b (NonePass (is_group_at calls) 0 32) (IsFirst (is_group_at calls) 0 32) → MatchOption (option_and_then (λ place. call_on calls (slot_at place)) (option_or a b)) (HasNoGroupCall calls) (IsNextGroupCall calls last)
-found_next calls last (Some k) b is first other =
-    let on = group_on calls (slot_at k) first.passing in
-    rw on.1.stands (next_above calls last k on.0 is first on.1)
-found_next calls last None (Some k) is none first =
-    let on = group_on calls (slot_at k) first.passing in
-    rw on.1.stands (next_around calls last k on.0 is none first on.1)
-found_next calls last None None is none also = no_group calls also
+next_is : (calls : List Standing) (last : Option Slot) (o : Option Call) → IfSome last IsSlot → MatchOption o (NonePass (is_group_at calls) 0 32) (IsTurn calls (place_after last)) → MatchOption o (HasNoGroupCall calls) (IsNextGroupCall calls last)
+next_is calls last None is none = no_group calls none
+next_is calls last (Some call) is found =
+    elim found.turn [
+      | inl first ↦ next_above calls last found.at call is first found.on
+      | inr around ↦ next_around calls last found.at call is around.0 around.1 found.on
+    ]
 
 pub next_group_call : (calls : List Standing) (last : Option Slot) → IfSome last IsSlot → MatchOption (group_after calls last) (HasNoGroupCall calls) (IsNextGroupCall calls last)
-unfolding group_after
-next_group_call calls last is =
-    let few : place_after last ≤ 32 = few_after last is in
-    found_next calls last (group_place calls (place_after last)) (group_place calls 0) is
-    (found_first (is_group_at calls) (place_after last) (32 - place_after last) 32 (omega (arith, few)))
-    (found_first (is_group_at calls) 0 32 32 refl)
+next_group_call calls last is = next_is calls last (group_after calls last) is (turn_of calls last)

@@ -1,14 +1,15 @@
 -- What is sent on the control slot where nothing else waits.
-use Rattle.std.specs.Prelude.{ℕ, List, ◌==◌, true, Option, Some, None}
+use Rattle.std.specs.Prelude.{ℕ, ◌+◌, ◌%◌, List, Bool, ◌==◌, true, Option, Some, None, unwrap_or, if◌then◌else◌}
 use Rattle.dmr_pdu.specs.declared.pdu.Pdu.{Pdu}
 use Rattle.dmr_pdu.specs.declared.pdu.Pdu.TheVariants.{Aloha, Move}
 use Rattle.dmr_plan.specs.declared.settings.Settings.{Settings}
 use Rattle.dmr_access.specs.Noise.{backoff_of}
 
--- what an access control has: the plan, and the noise numbers
+-- what an access control has: the plan, the noise numbers, and the Fills since the control carrier came up, modulo 4
 pub record Window : Type 0 where
   pub plan : Settings
   pub noise : List ℕ
+  pub fills : ℕ
 
 -- C_ALOHA to all radios (mask 0) for all services (function 0), which must register, with the backoff of the noise
 abbrev pub aloha_of : Settings → List ℕ → Pdu
@@ -18,7 +19,15 @@ aloha_of plan noise = Aloha (plan.aloha_sync == 1) plan.aloha_version (plan.aloh
 abbrev pub move_to : Settings → List ℕ → ℕ → Pdu
 move_to plan noise lpcn = Move true (backoff_of plan noise) lpcn
 
--- what fills the control slot: C_MOVE while radios are to seek the control channel on another one, else C_ALOHA
-abbrev pub fill_of : Settings → Option ℕ → List ℕ → Pdu
-fill_of plan None noise = aloha_of plan noise
-fill_of plan (Some lpcn) noise = move_to plan noise lpcn
+-- one Fill more, modulo 4
+abbrev pub one_filled : ℕ → ℕ
+one_filled fills = (fills + 1) % 4
+
+-- the next Fill is the fourth, the eighth and so on
+abbrev pub is_late_due : ℕ → Bool
+is_late_due fills = fills == 3
+
+-- what fills the control slot: C_MOVE while radios are to seek the control channel on another one; else, where it is due and there is one, the late entry; else C_ALOHA
+abbrev pub fill_of : Settings → Option ℕ → List ℕ → ℕ → Option Pdu → Pdu
+fill_of plan (Some lpcn) noise fills late = move_to plan noise lpcn
+fill_of plan None noise fills late = if is_late_due fills then unwrap_or late (aloha_of plan noise) else aloha_of plan noise

@@ -1,29 +1,27 @@
--- Whether two access controls have the same plan and noise numbers, as a test.
+-- Whether two access controls have the same plan, noise numbers and count of Fills, as a test.
 use Rattle.std.specs.Prelude.{◌≡◌, ◌&&◌, Bool, nat_eq}
 use Rattle.std.specs.Bool.{Decides}
 use Rattle.std.specs.Cmp.{decided, IsEquivalence}
 use Rattle.std.specs.Cmp.Lexicographic.{pointwise, bytes_decides}
 use Rattle.std.proofs.Common.{ap}
-use Rattle.std.proofs.lemmas.Bool.Decides.{Decides-and}
+use Rattle.std.proofs.lemmas.Bool.Decides.{Decides-and, Decides-eqb}
 use Rattle.dmr_plan.specs.Same.{are_same as are_same_plans, are_same-Decides as are_same_plans-Decides}
 use Rattle.dmr_access.specs.Fill.{Window}
 
 -- whether the plans say the same and the numbers are the same
 abbrev pub are_same : Window → Window → Bool
-are_same a b = are_same_plans a.plan b.plan && pointwise nat_eq a.noise b.noise
+are_same a b = are_same_plans a.plan b.plan && pointwise nat_eq a.noise b.noise && nat_eq a.fills b.fills
 
 -- a window, field by field
-same_parts : (a b : Window) → a.plan ≡ b.plan → a.noise ≡ b.noise → a ≡ b
-same_parts a b plan noise =
-    let same : record { plan = a.plan; noise = a.noise } ≡ record { plan = b.plan; noise = b.noise } = cc in
-    same
+same_parts : (a b : Window) → a.plan ≡ b.plan → a.noise ≡ b.noise → a.fills ≡ b.fills → a ≡ b
+same_parts a b plan noise fills = λ i. record { plan = plan i; noise = noise i; fills = fills i }
 
 -- the test decides whether they are the same
 pub are_same-Decides : (a b : Window) → Decides (are_same a b) (a ≡ b)
 are_same-Decides a b =
-    let d = Decides-and _ _ (are_same_plans-Decides a.plan b.plan) (bytes_decides a.noise b.noise) in (
-      λ h. same_parts a b (d.0 h).0 (d.0 h).1,
-      λ e. d.1 (ap (λ (w : Window). w.plan) e, ap (λ (w : Window). w.noise) e),
+    let d = Decides-and _ _ (Decides-and _ _ (are_same_plans-Decides a.plan b.plan) (bytes_decides a.noise b.noise)) (Decides-eqb a.fills b.fills) in (
+      λ h. same_parts a b (d.0 h).0.0 (d.0 h).0.1 (d.0 h).1,
+      λ e. d.1 ((ap (λ (w : Window). w.plan) e, ap (λ (w : Window). w.noise) e), ap (λ (w : Window). w.fills) e),
     )
 
 -- so it is an equivalence

@@ -2,7 +2,7 @@
 
 ghost use Rattle.std.specs.Prelude.{◌≡◌, ◌+◌, ◌≤◌, ◌↔◌, [], length, sum, IsTrue, IfOk};
 ghost use Rattle.dmr_access.specs.Noise.{AreNoiseNumbers, noise_at_up, with_noise, with_poll, backoff_of};
-ghost use Rattle.dmr_access.specs.Fill.{aloha_of, fill_of, move_to};
+ghost use Rattle.dmr_access.specs.Fill.{aloha_of, fill_of, is_late_due, move_to, one_filled};
 
 use dmr_pdu::{Address, Lpcn, Number, OutOfMemory, Pdu};
 use dmr_plan::Plan;
@@ -12,28 +12,33 @@ use std::marker::Model;
 /// How many noise numbers there are. A Noise counts until as many Polls came after it.
 const POLLS: usize = 32;
 
+/// One Fill in so many has a late entry, where a call stands.
+const TURN: u8 = 4;
+
 /// Radios must register, here and on the channel to which they are moved.
 const MUST_REGISTER: bool = true;
 
-/// How often nothing could be read on the control slot of a plan's site of late. Contracts see it as the plan and the
-/// noise numbers: the Noises since the last Poll of the control carrier, then those between that Poll and the one before,
-/// and so on, 32 numbers of 0 to 15; none while the control carrier is down.
+/// How often nothing could be read on the control slot of a plan's site of late, and how often it was filled. Contracts see
+/// it as the plan; the noise numbers: the Noises since the last Poll of the control carrier, then those between that Poll and
+/// the one before, and so on, 32 numbers of 0 to 15, none while the control carrier is down; and the Fills since the control
+/// carrier last came up, modulo 4.
 #[derive(Drop)]
 pub struct Access {
     plan: Plan,
     noise: Vec<u8>,
+    fills: u8,
 }
 
 impl Model for Access {
-    ghost use Rattle.std.specs.Prelude.{◌≤◌, vec_len, vec_capacity};
+    ghost use Rattle.std.specs.Prelude.{◌<◌, ◌≤◌, vec_len, vec_capacity};
     ghost use Rattle.dmr_access.specs.Fill.{Window};
     ghost use Rattle.dmr_access.specs.Noise.{AreNoiseNumbers};
 
     ghost Value = { Window };
 
-    ghost view = { λ access. record { plan = access.plan; noise = access.noise.items } };
+    ghost view = { λ access. record { plan = access.plan; noise = access.noise.items; fills = access.fills } };
 
-    ghost invariant = { λ access. (vec_len access.noise ≤ 32) × (32 ≤ vec_capacity access.noise) × AreNoiseNumbers access.noise.items };
+    ghost invariant = { λ access. (vec_len access.noise ≤ 32) × (32 ≤ vec_capacity access.noise) × AreNoiseNumbers access.noise.items × (access.fills < 4) };
 }
 
 /// The sum of at most 32 noise numbers.
@@ -48,15 +53,16 @@ impl Access {
     /// Access by a plan, with its control carrier down. It takes all the room that it needs; `Err` where there is no
     /// memory for that.
     pub fn new(alloc: Global, plan: &Plan) -> Result<Access, OutOfMemory>
-        ensures { IfOk result (λ access. access ≡ record { plan = plan.now; noise = [] }) }
+        ensures { IfOk result (λ access. access ≡ record { plan = plan.now; noise = []; fills = 0 }) }
     {
         Ok(Access {
             plan: *plan,
             noise: Vec::with_capacity(alloc, POLLS)?,
+            fills: 0,
         })
     }
 
-    /// The same plan and noise numbers, with room of their own. `Err` where there is no memory for that.
+    /// The same plan, noise numbers and count of Fills, with room of their own. `Err` where there is no memory for that.
     pub fn try_clone(&self, alloc: Global) -> Result<Access, OutOfMemory>
         ensures { IfOk result (λ copy. copy ≡ self.now) }
     {
@@ -65,6 +71,7 @@ impl Access {
         Ok(Access {
             plan: self.plan,
             noise,
+            fills: self.fills,
         })
     }
 
@@ -79,7 +86,7 @@ impl Access {
     /// Nothing could be read on the control slot. It counts once more since the last Poll, up to 15 times; while the
     /// control carrier is down, not at all.
     pub fn noise(&mut self)
-        ensures { self.new ≡ record { plan = self.old.plan; noise = with_noise self.old.noise } }
+        ensures { self.new ≡ record self.old { noise = with_noise self.old.noise } }
     {
         if let Some(count) = self.noise.first_mut() {
             *count = count.saturating_add(1).min(15);
@@ -89,7 +96,7 @@ impl Access {
     /// The control carrier was polled: the Noises before the 32nd last Poll no longer count. Nothing happens while the
     /// control carrier is down.
     pub fn polled(&mut self)
-        ensures { self.new ≡ record { plan = self.old.plan; noise = with_poll self.old.noise } }
+        ensures { self.new ≡ record self.old { noise = with_poll self.old.noise } }
     {
         if !self.noise.is_empty() {
             self.noise.truncate(POLLS - 1);
@@ -97,10 +104,10 @@ impl Access {
         }
     }
 
-    /// The control carrier came up: nothing was disturbed since.
+    /// The control carrier came up: nothing was disturbed or filled since.
     #[tactic(auto, unfolding(crate::specs::Noise::noise_at_up))]
     pub fn reset(&mut self)
-        ensures { self.new ≡ record { plan = self.old.plan; noise = noise_at_up } }
+        ensures { self.new ≡ record { plan = self.old.plan; noise = noise_at_up; fills = 0 } }
     {
         self.stop();
         self.noise.extend_from_slice(&[0; POLLS]).unwrap();
@@ -108,9 +115,10 @@ impl Access {
 
     /// The control carrier is down.
     pub fn stop(&mut self)
-        ensures { self.new ≡ record { plan = self.old.plan; noise = [] } }
+        ensures { self.new ≡ record { plan = self.old.plan; noise = []; fills = 0 } }
     {
         self.noise.clear();
+        self.fills = 0;
     }
 
     /// The backoff to send: the plan's lowest and one for each Noise that counts, but at most the plan's highest:
@@ -124,15 +132,41 @@ impl Access {
         raised.min(u32::from(self.plan.backoff_high())) as u8
     }
 
-    /// What fills the control slot: C_MOVE to the channel on which radios are to seek the control channel, else C_ALOHA
-    /// (TS 102 361-4, clause 7.1.1; their layouts are this project's profile).
-    pub fn fill(&self, moving: Option<Lpcn>) -> Pdu
-        ensures { result ≡ fill_of self.now.plan moving self.now.noise }
+    /// Whether the next Fill has a late entry, where a call stands: each fourth since the control carrier came up.
+    pub fn late_due(&self) -> bool
+        ensures { result ≡ is_late_due self.now.fills }
     {
-        match moving {
-            None => self.aloha(),
-            Some(lpcn) => self.move_to(lpcn),
+        self.fills == TURN - 1
+    }
+
+    /// What fills the control slot next: C_MOVE to the channel on which radios are to seek the control channel; else, where
+    /// a late entry is due and there is one, that; else C_ALOHA (TS 102 361-4, clause 7.1.1; the layouts of C_MOVE and
+    /// C_ALOHA are this project's profile).
+    pub fn next_fill(&self, moving: Option<Lpcn>, late: Option<Pdu>) -> Pdu
+        ensures { result ≡ fill_of self.now.plan moving self.now.noise self.now.fills late }
+    {
+        match (moving, late) {
+            (Some(lpcn), _) => self.move_to(lpcn),
+            (None, Some(grant)) if self.late_due() => grant,
+            _ => self.aloha(),
         }
+    }
+
+    /// The control slot was filled: one Fill more since the control carrier came up.
+    pub fn filled(&mut self)
+        ensures { self.new ≡ record self.old { fills = one_filled self.old.fills } }
+    {
+        self.fills = (self.fills + 1) % TURN;
+    }
+
+    /// Fills the control slot: gives what fills it next, and counts the Fill.
+    pub fn fill(&mut self, moving: Option<Lpcn>, late: Option<Pdu>) -> Pdu
+        ensures pdu { result ≡ fill_of self.old.plan moving self.old.noise self.old.fills late }
+        ensures counted { self.new ≡ record self.old { fills = one_filled self.old.fills } }
+    {
+        let pdu = self.next_fill(moving, late);
+        self.filled();
+        pdu
     }
 
     /// C_ALOHA with the plan's fields and the backoff. All radios are invited (mask and address 0), for all services
@@ -168,7 +202,7 @@ impl Access {
     }
 }
 
-/// Equal where the plans say the same and the noise numbers are the same.
+/// Equal where the plans say the same, and the noise numbers and the counts of Fills are the same.
 impl PartialEq for Access {
     ghost use Rattle.std.specs.Cmp.{partial_equiv_from_equiv};
     ghost use Rattle.dmr_access.specs.Same.{are_same, are_same-equivalence};
@@ -181,7 +215,7 @@ impl PartialEq for Access {
         ensures gives { result ≡ are_same self.now other.now }
         ensures same { IsTrue result ↔ (self.now ≡ other.now) }
     {
-        self.plan == other.plan && self.noise == other.noise
+        self.plan == other.plan && self.noise == other.noise && self.fills == other.fills
     }
 }
 

@@ -22,11 +22,11 @@ fn access(alloc: Global) -> Result<Access, Fail> {
 fn fills_by_the_site_file(rt: HostRuntime) -> Result<(), Fail> {
     let mut access = access(rt.alloc())?;
     let quiet = [0x99, 0, 0, 0, 0x11, 0x12, 0x34, 0, 0, 0];
-    assert_eq!(rt; access.fill(None), Pdu::from_octets(&quiet));
-    assert_eq!(rt; access.fill(None).to_octets(), quiet);
+    assert_eq!(rt; access.fill(None, None), Pdu::from_octets(&quiet));
+    assert_eq!(rt; access.fill(None, None).to_octets(), quiet);
     access.noise();
     let disturbed = [0x99, 0, 0, 0, 0x12, 0x12, 0x34, 0, 0, 0];
-    assert_eq!(rt; access.fill(None).to_octets(), disturbed);
+    assert_eq!(rt; access.fill(None, None).to_octets(), disturbed);
     Ok(())
 }
 
@@ -34,10 +34,26 @@ fn fills_by_the_site_file(rt: HostRuntime) -> Result<(), Fail> {
 fn fills_while_moving(rt: HostRuntime) -> Result<(), Fail> {
     let mut access = access(rt.alloc())?;
     let quiet = [0xB9, 0, 0, 0, 0x11, 0, 0x07, 0, 0, 0];
-    assert_eq!(rt; access.fill(Some(Lpcn::new(7))).to_octets(), quiet);
+    assert_eq!(rt; access.fill(Some(Lpcn::new(7)), None).to_octets(), quiet);
     access.noise();
     let disturbed = [0xB9, 0, 0, 0, 0x12, 0, 0x07, 0, 0, 0];
-    assert_eq!(rt; access.fill(Some(Lpcn::new(7))).to_octets(), disturbed);
+    assert_eq!(rt; access.fill(Some(Lpcn::new(7)), None).to_octets(), disturbed);
+    Ok(())
+}
+
+#[test]
+fn names_a_call_in_each_fourth_fill(rt: HostRuntime) -> Result<(), Fail> {
+    let mut access = access(rt.alloc())?;
+    let late = Pdu::from_octets(&[0xB1, 0, 0, 0x1C, 0, 0, 0x5B, 0, 0x03, 0xE9]);
+    for count in 1..13 {
+        assert_eq!(rt; access.late_due(), count % 4 == 0);
+        let moving = if count < 9 { None } else { Some(Lpcn::new(7)) };
+        let is_late = access.fill(moving, Some(late)) == late;
+        assert_eq!(rt; is_late, count == 4 || count == 8);
+    }
+    access.filled();
+    access.reset();
+    assert!(rt; !access.late_due());
     Ok(())
 }
 

@@ -5,5 +5,6 @@ pub mod Asks
 pub mod Lines
 pub mod Calls
 pub mod Engaged
+pub mod After
 pub mod Due
 pub mod Same

@@ -7,6 +7,7 @@ ghost use Rattle.dmr_calls.specs.Engaged.{engagement_of, is_engaged};
 ghost use Rattle.dmr_calls.specs.Due.{after_tick, due_of};
 ghost use Rattle.dmr_calls.specs.Same.{are_same};
 
+mod after;
 mod asks;
 mod lines;
 mod standing;

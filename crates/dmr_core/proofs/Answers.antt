@@ -30,7 +30,7 @@ use Rattle.dmr_core.specs.declared.act.Act.{Act}
 use Rattle.dmr_core.specs.declared.act.Act.TheVariants.{AskOver, Asked, Fill, Joined, Left, Queue, Unlined}
 use Rattle.dmr_core.specs.Facts.{Facts, done, noted, has_carrier}
 use Rattle.dmr_core.specs.Words.{has_room, is_engaged, is_free, is_registered, is_up, lowest_free, lpcn_of, outbox, stands_on}
-use Rattle.dmr_core.specs.Rules.{ack, acts_of, ahoy, answered, begin, cancel, clear, close, commanded, ended, grant, heard, individual, leaving, new_call, poll, registration, repeat, request, sent, serve, talkgroup, tick}
+use Rattle.dmr_core.specs.Rules.{ack, acts_of, ahoy, answered, begin, cancel, clear, close, commanded, ended, grant, heard, individual, late_entry, leaving, new_call, poll, registration, repeat, request, sent, serve, talkgroup, tick}
 use Rattle.dmr_core.specs.Sound.{IsSound, engagements, in_ask, in_line, is_grant, total}
 use Rattle.dmr_core.specs.May.{AllMayDo, MayDo, MayEngage}
 use Rattle.dmr_core.proofs.PlanLemmas.{KnowsPlan}
@@ -39,6 +39,7 @@ use Rattle.dmr_core.proofs.Lists.{total-filter, total_found, total_some, length-
 use Rattle.dmr_core.proofs.Choices.{and_true, any-filter, by_if, by_option, lowest_is_free}
 use Rattle.dmr_core.proofs.Slots.{same_slot, IsFree, free_is, true_false, other_place, any_more}
 use Rattle.dmr_core.proofs.Own.{found_stands, call_stands}
+use Rattle.dmr_core.proofs.Fills.{fill_may}
 use Rattle.dmr_core.proofs.Done.{sound-done, sound-acts, may-append}
 use Rattle.dmr_core.proofs.Events.{sound-noted, put_either}
 use Rattle.dmr_core.proofs.Blocks.{individual_engage, queue_may, read_put, none_on_control, ack_may, grant_may, clear_may, begin_may, lowest_small, few_with_free}
@@ -425,18 +426,14 @@ tick_may plan now p h =
     (λ k. both_may plan now (fold done now due) p (sound-acts plan now due p h c.may) c.ready c.asks (room_is plan now k)))
 
 -- polls
-fill_may : (plan : Settings) (later : Facts) (slot : Slot) (noise : List ℕ) (moving : Option ℕ) → MayDo plan later (Fill slot (fill_of plan moving noise))
-fill_may plan later slot noise None = tt
-fill_may plan later slot noise (Some lpcn) = tt
-
-sent_may : (plan : Settings) (now later : Facts) (slot : Slot) (xs : List Pdu) → outbox later slot ≡ xs → is_up later slot.carrier ≡ true → slot.slot < 2 → AllMayDo plan later (sent plan now slot xs)
-sent_may plan now later slot [] e up small = if_may plan later (is_slot slot (control_slot plan)) (Fill slot (fill_of plan now.moving now.noise) ∷ []) (λ k. (fill_may plan later slot now.noise now.moving, tt))
-sent_may plan now later slot (pdu ∷ pdus) e up small = ((up, small, rw e refl), tt)
+sent_may : (plan : Settings) (now later : Facts) (slot : Slot) (xs : List Pdu) → outbox later slot ≡ xs → is_up later slot.carrier ≡ true → slot.slot < 2 → (is_slot slot (control_slot plan) ≡ true → MayDo plan later (Fill slot (fill_of plan now.moving now.noise now.fills (late_entry plan now)))) → AllMayDo plan later (sent plan now slot xs)
+sent_may plan now later slot [] e up small fills = if_may plan later (is_slot slot (control_slot plan)) (Fill slot (fill_of plan now.moving now.noise now.fills (late_entry plan now)) ∷ []) (λ k. (fills k, tt))
+sent_may plan now later slot (pdu ∷ pdus) e up small fills = ((up, small, rw e refl), tt)
 
 sent_up : (plan : Settings) (now later : Facts) (slot : Slot) (xs : List Pdu) → (fold done later (sent plan now slot xs)).up ≡ later.up
 sent_up plan now later slot [] = either (is_slot slot (control_slot plan))
   where
-    either : (b : Bool) → (fold done later (if b then Fill slot (fill_of plan now.moving now.noise) ∷ [] else [])).up ≡ later.up
+    either : (b : Bool) → (fold done later (if b then Fill slot (fill_of plan now.moving now.noise now.fills (late_entry plan now)) ∷ [] else [])).up ≡ later.up
     either true = refl
     either false = refl
 sent_up plan now later slot (pdu ∷ pdus) = refl
@@ -444,23 +441,32 @@ sent_up plan now later slot (pdu ∷ pdus) = refl
 sent_elsewhere : (plan : Settings) (now later : Facts) (slot other : Slot) (xs : List Pdu) → slot.slot < 2 → other.slot < 2 → is_slot other slot ≡ false → outbox (fold done later (sent plan now slot xs)) other ≡ outbox later other
 sent_elsewhere plan now later slot other [] small also apart = either (is_slot slot (control_slot plan))
   where
-    either : (b : Bool) → outbox (fold done later (if b then Fill slot (fill_of plan now.moving now.noise) ∷ [] else [])) other ≡ outbox later other
+    either : (b : Bool) → outbox (fold done later (if b then Fill slot (fill_of plan now.moving now.noise now.fills (late_entry plan now)) ∷ [] else [])) other ≡ outbox later other
     either true = refl
     either false = refl
 sent_elsewhere plan now later slot other (pdu ∷ pdus) small also apart =
     get_or-set_other later.outboxes (place slot) (place other) (drop 1 (box later.outboxes slot)) [] (other_place other slot also small apart)
 
-polls_may : (plan : Settings) (now later : Facts) (c : ℕ) → later.up ≡ now.up → later.outboxes ≡ now.outboxes → is_up now c ≡ true → AllMayDo plan later (poll plan now (record { carrier = c; slot = 0 }) ++ poll plan now (record { carrier = c; slot = 1 }))
+-- a control slot's carrier is the control carrier
+control_up : (plan : Settings) (now : Facts) (slot : Slot) → slot ≡ control_slot plan → is_up now slot.carrier ≡ true → is_up now plan.control ≡ true
+control_up plan now slot there up = subst (λ (s : Slot). is_up now s.carrier ≡ true) there up
+
+-- slot 1 is no control slot
+not_first : (plan : Settings) (c : ℕ) → is_slot (record { carrier = c; slot = 1 }) (control_slot plan) ≡ true → ⊥
+not_first plan c k = let no : (1 == 0) ≡ true = (and_true (c == plan.control) (1 == 0) k).1 in cc
+
+polls_may : (plan : Settings) (now : Facts) (c : ℕ) → is_up now c ≡ true → AllMayDo plan (noted plan now (Poll c)) (poll plan now (record { carrier = c; slot = 0 }) ++ poll plan now (record { carrier = c; slot = 1 }))
 unfolding poll
-polls_may plan now later c same boxes up =
+polls_may plan now c up =
     let first : Slot = record { carrier = c; slot = 0 } in
     let second : Slot = record { carrier = c; slot = 1 } in
-    let still : is_up later c ≡ true = rw same up in
+    let later : Facts = noted plan now (Poll c) in
     may-append plan (sent plan now first (outbox now first)) (sent plan now second (outbox now second)) later
-    (sent_may plan now later first (outbox now first) (rw boxes refl) still (omega arith))
+    (sent_may plan now later first (outbox now first) refl up (omega arith)
+    (λ k. let there : first ≡ control_slot plan = same_slot first (control_slot plan) k in fill_may plan now c first there (control_up plan now first there up)))
     (sent_may plan now (fold done later (sent plan now first (outbox now first))) second (outbox now second)
-    (sent_elsewhere plan now later first second (outbox now first) (omega arith) (omega arith) (grind (arith, nat_tests)) ∙ rw boxes refl)
-    (rw (sent_up plan now later first (outbox now first)) still) (omega arith))
+    (sent_elsewhere plan now later first second (outbox now first) (omega arith) (omega arith) (grind (arith, nat_tests)))
+    (rw (sent_up plan now later first (outbox now first)) up) (omega arith) (λ k. absurd (not_first plan c k)))
 
 -- commands
 dropped_may : (plan : Settings) (now : Facts) (r : ℕ) → KnowsPlan plan → IsSound plan now → length (outbox now (control_slot plan)) ≤ 56 → AllMayDo plan now (close plan now r ++ Left r ∷ [])
@@ -484,7 +490,7 @@ commanded_may plan now _ p h = tt
 -- each event's acts may be done
 pub acts_may : (plan : Settings) (now : Facts) (event : Event) → KnowsPlan plan → IsSound plan now → AllMayDo plan (noted plan now event) (acts_of plan now event)
 acts_may plan now (Heard slot pdu) p h = if_may plan now (is_up now slot.carrier && (is_slot slot (control_slot plan) && has_room plan now)) (heard plan now pdu) (λ k. heard_at plan now slot pdu p h k)
-acts_may plan now (Poll c) p h = if_may plan (noted plan now (Poll c)) (is_up now c) _ (λ k. polls_may plan now (noted plan now (Poll c)) c refl refl k)
+acts_may plan now (Poll c) p h = if_may plan (noted plan now (Poll c)) (is_up now c) _ (λ k. polls_may plan now c k)
 acts_may plan now Tick p h = tick_may plan (record now { calls = map counted now.calls; asks = map waited_more now.asks }) p (sound-noted plan now Tick p h)
 acts_may plan now (Say command) p h = commanded_may plan now command p h
 acts_may plan now _ p h = tt

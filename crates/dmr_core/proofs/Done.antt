@@ -10,6 +10,7 @@ use Rattle.dmr_core.proofs.PlanLemmas.{KnowsPlan}
 use Rattle.dmr_core.proofs.Slots.{payload-done, quiet-done, down-done, elsewhere-done, few_waiting-done, apart-done, slots-done}
 use Rattle.dmr_core.proofs.Own.{own-done}
 use Rattle.dmr_core.proofs.Engaged.{once-done, parties-done}
+use Rattle.dmr_core.proofs.Fills.{counted-done, unfilled-done, unnamed-done}
 use Rattle.dmr_core.proofs.Limits.{called-done, lined-done, asks-done, few_asks-done, lines-done, few_calls-done, few_lines-done, few_radios-done, distinct-done}
 
 pub sound-done : (plan : Settings) (now : Facts) (act : Act) → KnowsPlan plan → IsSound plan now → MayDo plan now act → IsSound plan (done now act)
@@ -37,6 +38,9 @@ sound-done plan now act p h may = record {
   few_waiting = few_waiting-done plan now act p h may;
   noiseless = h.noiseless;
   window = h.window;
+  counted = counted-done plan now act h;
+  unfilled = unfilled-done plan now act h may;
+  unnamed = unnamed-done plan now act h may;
 }
 
 pub sound-acts : (plan : Settings) (now : Facts) (acts : List Act) → KnowsPlan plan → IsSound plan now → AllMayDo plan now acts → IsSound plan (fold done now acts)

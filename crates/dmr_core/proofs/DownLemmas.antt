@@ -1,6 +1,6 @@
 -- An event of a carrier that isn't up changes nothing.
 use Rattle.std.proofs.Common.{◌≡◌, ◌<◌, ◌+◌, ◌*◌, ℕ, zero, suc, List, [], ◌∷◌, Bool, true, false, refl, sym, ◌∙◌, ap, subst, arith, map, filter}
-use Rattle.std.specs.Prelude.{if◌then◌else◌, not, ◌||◌, ◌==◌, slice_set, slice_index_or}
+use Rattle.std.specs.Prelude.{Option, None, if◌then◌else◌, not, ◌||◌, ◌==◌, slice_set, slice_index_or}
 use Rattle.dmr_pdu.specs.declared.slots.Slot.{Slot}
 use Rattle.dmr_pdu.specs.declared.pdu.Pdu.{Pdu}
 use Rattle.dmr_plan.specs.declared.settings.Settings.{Settings}
@@ -12,6 +12,7 @@ use Rattle.dmr_pool.specs.Slots.{box, emptied}
 use Rattle.dmr_pool.specs.Free.{is_control}
 use Rattle.dmr_core.specs.declared.event.Event.{Event}
 use Rattle.dmr_core.specs.declared.event.Event.TheVariants.{Up, Lost, Heard, Noise, Active, Poll, Tick, Say}
+use Rattle.dmr_core.specs.declared.named.NamedSlot.{NamedSlot}
 use Rattle.dmr_core.specs.Facts.{Facts, noted, has_carrier}
 use Rattle.dmr_core.specs.Words.{is_up, stands_on}
 use Rattle.dmr_core.specs.Rules.{acts_of}
@@ -88,13 +89,21 @@ unknown_down plan now c h none = either (is_up now c) refl
     either false e = refl
 
 -- facts, field by field
-same_facts : (a b : Facts) → a.up ≡ b.up → a.registered ≡ b.registered → a.asks ≡ b.asks → a.lines ≡ b.lines → a.calls ≡ b.calls → a.outboxes ≡ b.outboxes → a.noise ≡ b.noise → a.moving ≡ b.moving → a ≡ b
-same_facts a b up registered asks lines calls outboxes noise moving =
-    λ i. record { up = up i; registered = registered i; asks = asks i; lines = lines i; calls = calls i; outboxes = outboxes i; noise = noise i; moving = moving i }
+same_facts : (a b : Facts) → a.up ≡ b.up → a.registered ≡ b.registered → a.asks ≡ b.asks → a.lines ≡ b.lines → a.calls ≡ b.calls → a.outboxes ≡ b.outboxes → a.noise ≡ b.noise → a.moving ≡ b.moving → a.fills ≡ b.fills → a.late ≡ b.late → a ≡ b
+same_facts a b up registered asks lines calls outboxes noise moving fills late =
+    λ i. record { up = up i; registered = registered i; asks = asks i; lines = lines i; calls = calls i; outboxes = outboxes i; noise = noise i; moving = moving i; fills = fills i; late = late i }
 
 none_or : {X : Type 0} (b : Bool) (xs : List X) → (b ≡ true → xs ≡ []) → (if b then [] else xs) ≡ xs
 none_or true xs h = sym (h refl)
 none_or false xs h = refl
+
+zero_or : (b : Bool) (n : ℕ) → (b ≡ true → n ≡ 0) → (if b then 0 else n) ≡ n
+zero_or true n h = sym (h refl)
+zero_or false n h = refl
+
+unnamed_or : (b : Bool) (late : Option NamedSlot) → (b ≡ true → late ≡ None) → (if b then None else late) ≡ late
+unnamed_or true late h = sym (h refl)
+unnamed_or false late h = refl
 
 noise_or : (b : Bool) (ns : List ℕ) → (b ≡ true → ns ≡ []) → (if b then with_noise ns else ns) ≡ ns
 noise_or true ns h = rw (h refl) refl
@@ -117,7 +126,7 @@ same_noted plan now (Up c) p h none =
     let down : is_up now c ≡ false = unknown_down plan now c h none in
     same_facts (noted plan now (Up c)) now (rw none refl) refl (rw other refl) (rw other refl)
     (same_calls now.calls c (λ slot k. not_there plan now c slot h down k))
-    (both_boxes now.outboxes c (λ n small. h.down (record { carrier = c; slot = n }) small down)) (rw other refl) refl
+    (both_boxes now.outboxes c (λ n small. h.down (record { carrier = c; slot = n }) small down)) (rw other refl) refl (rw other refl) (rw other refl)
 same_noted plan now (Lost c) p h none =
     same_facts (noted plan now (Lost c)) now (same_up now.up c none) refl
     (none_or (c == plan.control) now.asks (λ e. h.asks (down_too plan now c none e)))
@@ -125,12 +134,14 @@ same_noted plan now (Lost c) p h none =
     (same_calls now.calls c (λ slot k. not_there plan now c slot h none k))
     (both_boxes now.outboxes c (λ n small. h.down (record { carrier = c; slot = n }) small none))
     (none_or (c == plan.control) now.noise (λ e. h.noiseless (down_too plan now c none e))) refl
+    (zero_or (c == plan.control) now.fills (λ e. h.unfilled (down_too plan now c none e)))
+    (unnamed_or (c == plan.control) now.late (λ e. h.unnamed (down_too plan now c none e)))
 same_noted plan now (Noise slot) p h none =
-    same_facts (noted plan now (Noise slot)) now refl refl refl refl refl refl (noise_or (is_control plan slot) now.noise (λ e. h.noiseless (slot_down plan now slot none e))) refl
+    same_facts (noted plan now (Noise slot)) now refl refl refl refl refl refl (noise_or (is_control plan slot) now.noise (λ e. h.noiseless (slot_down plan now slot none e))) refl refl refl
 same_noted plan now (Active slot) p h none =
-    same_facts (noted plan now (Active slot)) now refl refl refl refl (same_marked now.calls slot (none_there plan now slot h none)) refl refl refl
+    same_facts (noted plan now (Active slot)) now refl refl refl refl (same_marked now.calls slot (none_there plan now slot h none)) refl refl refl refl refl
 same_noted plan now (Poll c) p h none =
-    same_facts (noted plan now (Poll c)) now refl refl refl refl refl refl (poll_or (c == plan.control) now.noise (λ e. h.noiseless (down_too plan now c none e))) refl
+    same_facts (noted plan now (Poll c)) now refl refl refl refl refl refl (poll_or (c == plan.control) now.noise (λ e. h.noiseless (down_too plan now c none e))) refl refl refl
 same_noted plan now (Heard slot pdu) p h none = refl
 same_noted plan now Tick p h none = elim none [ ]
 same_noted plan now (Say command) p h none = elim none [ ]

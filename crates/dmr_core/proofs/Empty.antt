@@ -50,4 +50,7 @@ nothing_is_sound plan = record {
   few_waiting = λ slot small. no_length _ (none_waits 32 (place slot));
   noiseless = λ k. refl;
   window = λ k. true_false _ k (none_up 16 plan.control);
+  counted = omega arith;
+  unfilled = λ k. refl;
+  unnamed = λ k. refl;
 }

@@ -1,6 +1,6 @@
 -- Sound facts stay sound through each event.
 use Rattle.std.proofs.Common.{◌≡◌, ◌<◌, ◌≤◌, ◌+◌, ◌*◌, ℕ, zero, suc, List, [], ◌∷◌, Bool, true, false, refl, sym, ◌∙◌, ap, subst, arith, map, filter, length, ◌⊎◌, inl, inr, set, get_or, length-set}
-use Rattle.std.specs.Prelude.{Option, Some, if◌then◌else◌, cond, ◌&&◌, not, find, ◌==◌, ◌||◌, slice_set, slice_index_or, option_map}
+use Rattle.std.specs.Prelude.{Option, Some, None, if◌then◌else◌, cond, ◌&&◌, not, find, ◌==◌, ◌||◌, slice_set, slice_index_or, option_map}
 use Rattle.std.specs.List.{list_any, list_all}
 use Rattle.std.proofs.lemmas.Bool.{cases_lt}
 use Rattle.std.proofs.lemmas.List.{get_or-set_other, get_or-set_same, length-map, length-take}
@@ -18,6 +18,7 @@ use Rattle.dmr_pool.specs.Slots.{box, emptied, place}
 use Rattle.dmr_pool.specs.Free.{control_slot, is_control}
 use Rattle.dmr_core.specs.declared.event.Event.{Event}
 use Rattle.dmr_core.specs.declared.event.Event.TheVariants.{Active, Lost, Noise, Poll, Say, Tick, Up}
+use Rattle.dmr_core.specs.declared.named.NamedSlot.{NamedSlot}
 use Rattle.dmr_core.specs.Facts.{Facts, has_carrier, noted, moving_by_event}
 use Rattle.dmr_core.specs.Words.{is_up, stands_on}
 use Rattle.dmr_core.specs.Sound.{IsPayload, IsSound, engagements, in_ask, in_call, in_line, is_grant, is_own, party, total}
@@ -68,6 +69,9 @@ sound-mapped plan now f same h = record {
   few_waiting = h.few_waiting;
   noiseless = h.noiseless;
   window = h.window;
+  counted = h.counted;
+  unfilled = h.unfilled;
+  unnamed = h.unnamed;
 }
 
 -- only the asks' ticks changed
@@ -96,6 +100,9 @@ sound-waited plan now h = record {
   few_waiting = h.few_waiting;
   noiseless = h.noiseless;
   window = h.window;
+  counted = h.counted;
+  unfilled = h.unfilled;
+  unnamed = h.unnamed;
 }
 
 -- only the Noises changed
@@ -124,6 +131,9 @@ sound-noise plan now noise h none all = record {
   few_waiting = h.few_waiting;
   noiseless = λ k. none (h.noiseless k);
   window = λ k. all (h.window k);
+  counted = h.counted;
+  unfilled = h.unfilled;
+  unnamed = h.unnamed;
 }
 
 -- only the move of the control channel changed
@@ -152,6 +162,9 @@ sound-moving plan now moving h = record {
   few_waiting = h.few_waiting;
   noiseless = h.noiseless;
   window = h.window;
+  counted = h.counted;
+  unfilled = h.unfilled;
+  unnamed = h.unnamed;
 }
 
 length-with_noise : (noise : List ℕ) → length (with_noise noise) ≡ length noise
@@ -233,6 +246,19 @@ none_or : {X : Type 0} (b : Bool) (ls : List X) → (b ≡ false → ls ≡ []) 
 none_or true ls h = refl
 none_or false ls h = h refl
 
+-- Fills and the last late entry are forgotten, or as they were
+few_or : (b : Bool) (n : ℕ) → n < 4 → (if b then 0 else n) < 4
+few_or true n h = omega arith
+few_or false n h = h
+
+zero_or : (b : Bool) (n : ℕ) → (b ≡ false → n ≡ 0) → (if b then 0 else n) ≡ 0
+zero_or true n h = refl
+zero_or false n h = h refl
+
+unnamed_or : (b : Bool) (late : Option NamedSlot) → (b ≡ false → late ≡ None) → (if b then None else late) ≡ None
+unnamed_or true late h = refl
+unnamed_or false late h = h refl
+
 -- a carrier came up or went
 abbrev reset : Settings → Facts → ℕ → List Bool → List ℕ → Facts
 reset plan now c up noise = record {
@@ -244,6 +270,8 @@ reset plan now c up noise = record {
   outboxes = emptied now.outboxes c;
   noise = noise;
   moving = now.moving;
+  fills = if c == plan.control then 0 else now.fills;
+  late = if c == plan.control then None else now.late;
 }
 
 sound-reset : (plan : Settings) (now : Facts) (c : ℕ) (up : List Bool) (noise : List ℕ) → length up ≡ 16 → ((x : ℕ) → slice_index_or up x false ≡ true → has_carrier plan x ≡ true) → ((x : ℕ) → (x == c) ≡ false → slice_index_or up x false ≡ is_up now x) → (slice_index_or up plan.control false ≡ false → noise ≡ []) → (slice_index_or up plan.control false ≡ true → length noise ≡ 32) → IsSound plan now → IsSound plan (reset plan now c up noise)
@@ -277,6 +305,9 @@ sound-reset plan now c up noise long known others noiseless window h =
       few_waiting = λ slot small. emptied_or (λ b. length b ≤ 64) now.outboxes c slot (omega arith) (h.few_waiting slot small);
       noiseless = noiseless;
       window = window;
+      counted = few_or (c == plan.control) now.fills h.counted;
+      unfilled = λ k. zero_or (c == plan.control) now.fills (λ e. h.unfilled (sym (others plan.control (flipped c plan.control e)) ∙ k));
+      unnamed = λ k. unnamed_or (c == plan.control) now.late (λ e. h.unnamed (sym (others plan.control (flipped c plan.control e)) ∙ k));
     }
   where
     down_there : (slot : Slot) → slot.slot < 2 → slice_index_or up slot.carrier false ≡ false → (b : Bool) → (slot.carrier == c) ≡ b → box (emptied now.outboxes c) slot ≡ []

@@ -26,7 +26,7 @@ use Rattle.dmr_core.specs.declared.act.Act.{Act}
 use Rattle.dmr_core.specs.declared.act.Act.TheVariants.{AskOver, Asked, Began, Ended, Fill, Joined, Left, Lined, Queue, Send, Unlined}
 use Rattle.dmr_core.specs.Facts.{Facts, has_carrier}
 use Rattle.dmr_core.specs.Words.{has_room, is_registered, is_up, lowest_free, lpcn_of, outbox}
-use Rattle.dmr_core.specs.Rules.{ack, acts_of, ahoy, answered, begin, cancel, clear, close, commanded, ended, grant, grant_pdu, heard, individual, leaving, new_call, poll, registration, repeat, request, sent, serve, talkgroup, tick}
+use Rattle.dmr_core.specs.Rules.{ack, acts_of, ahoy, answered, begin, cancel, clear, close, commanded, ended, grant, grant_pdu, heard, individual, late_entry, leaving, new_call, poll, registration, repeat, request, sent, serve, talkgroup, tick}
 use Rattle.dmr_core.specs.Sound.{IsSound, total}
 use Rattle.dmr_core.specs.Counts.{AreFew, elsewhere, on_control}
 use Rattle.dmr_core.proofs.PlanLemmas.{KnowsPlan}
@@ -218,7 +218,7 @@ tick_few plan now p h =
     (if_few plan (has_room plan now) (repeat plan now ++ serve plan now) 8 5 0 (few-append plan (repeat plan now) (serve plan now) 2 1 0 6 4 0 (repeat_few plan now) (serve_few plan now p)))
 
 sent_few : (plan : Settings) (now : Facts) (slot : Slot) (xs : List Pdu) → AreFew plan (sent plan now slot xs) 1 0 0
-sent_few plan now slot [] = if_few plan (is_slot slot (control_slot plan)) (Fill slot (fill_of plan now.moving now.noise) ∷ []) 1 0 0 (plain_few plan _ [] 0 0 0 refl refl (none_few plan 0 0 0))
+sent_few plan now slot [] = if_few plan (is_slot slot (control_slot plan)) (Fill slot (fill_of plan now.moving now.noise now.fills (late_entry plan now)) ∷ []) 1 0 0 (plain_few plan _ [] 0 0 0 refl refl (none_few plan 0 0 0))
 sent_few plan now slot (pdu ∷ pdus) = plain_few plan (Send slot pdu) [] 0 0 0 refl refl (none_few plan 0 0 0)
 
 polls_few : (plan : Settings) (now : Facts) (c : ℕ) → AreFew plan (poll plan now (record { carrier = c; slot = 0 }) ++ poll plan now (record { carrier = c; slot = 1 })) 2 0 0

@@ -9,6 +9,7 @@ mod Engaged
 mod Slots
 mod Limits
 mod Own
+mod Fills
 mod Done
 mod Events
 mod Blocks

@@ -120,7 +120,7 @@ named_known plan now slot pdu false e h may = unnamed_known plan now pdu e
 
 pub grants_known : (plan : Settings) (now : Facts) (act : Act) → IsSound plan now → MayDo plan now act → GrantsKnown plan now act
 grants_known plan now (Queue slot pdu) h may = named_known plan now slot pdu (is_grant pdu) refl h may.names
-grants_known plan now (Fill slot pdu) h may = named_known plan now slot pdu (is_grant pdu) refl h may
+grants_known plan now (Fill slot pdu) h may = named_known plan now slot pdu (is_grant pdu) refl h may.names
 grants_known plan now act h may = tt
 
 -- a grant that goes out is its call's
@@ -155,7 +155,7 @@ filled_own plan now slot pdu false e may k = cc
 
 pub sends_own : (plan : Settings) → KnowsPlan plan → (now : Facts) (act : Act) → IsSound plan now → MayDo plan now act → SendsOwn plan now act
 sends_own plan p now (Send there pdu) h may = λ slot call k. sent_own plan now there slot pdu call p h may.1 may.2 k
-sends_own plan p now (Fill there pdu) h may = (λ slot call k. named_own plan now slot there call pdu (is_grant pdu) p h k refl may, filled_own plan now there pdu (is_grant pdu) refl may)
+sends_own plan p now (Fill there pdu) h may = (λ slot call k. named_own plan now slot there call pdu (is_grant pdu) p h k refl may.names, filled_own plan now there pdu (is_grant pdu) refl may.names)
 sends_own plan p now act h may = tt
 
 -- while no call stands on a carrier
@@ -216,7 +216,7 @@ named_not plan c now slot pdu false p there h e may none = no_grant_names plan c
 
 no_grant_on : (plan : Settings) (c : ℕ) (now : Facts) (act : Act) → KnowsPlan plan → has_carrier plan c ≡ true → IsSound plan now → MayDo plan now act → has_call now.calls c ≡ false → grants_on plan c act ≡ false
 no_grant_on plan c now (Queue slot pdu) p there h may none = named_not plan c now slot pdu (is_grant pdu) p there h refl may.names none
-no_grant_on plan c now (Fill slot pdu) p there h may none = named_not plan c now slot pdu (is_grant pdu) p there h refl may none
+no_grant_on plan c now (Fill slot pdu) p there h may none = named_not plan c now slot pdu (is_grant pdu) p there h refl may.names none
 no_grant_on plan c now act p there h may none = refl
 
 quiet_acts : (plan : Settings) (c : ℕ) (b : Bool) (now : Facts) (acts : List Act) → KnowsPlan plan → has_carrier plan c ≡ true → IsSound plan now → AllMayDo plan now acts → (b ≡ true → has_call now.calls c ≡ false) → QuietActs plan c b now acts

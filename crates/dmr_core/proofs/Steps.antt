@@ -4,7 +4,7 @@ use Rattle.std.specs.Prelude.{fold}
 use Rattle.dmr_plan.specs.declared.settings.Settings.{Settings}
 use Rattle.dmr_core.specs.declared.act.Act.{Act}
 use Rattle.dmr_core.specs.declared.entry.Entry.{Entry}
-use Rattle.dmr_core.specs.Facts.{Facts, facts_after, noted, done, unchanged, registered_by_act, asks_by_act, lines_by_act, calls_by_act, outboxes_by_act}
+use Rattle.dmr_core.specs.Facts.{Facts, facts_after, noted, done, unchanged, registered_by_act, asks_by_act, lines_by_act, calls_by_act, outboxes_by_act, fills_by_act, late_by_act}
 
 abbrev each : Facts → List Act → Facts
 each f acts = record {
@@ -16,6 +16,8 @@ each f acts = record {
   outboxes = fold outboxes_by_act f.outboxes acts;
   noise = fold unchanged f.noise acts;
   moving = fold unchanged f.moving acts;
+  fills = fold fills_by_act f.fills acts;
+  late = fold late_by_act f.late acts;
 }
 
 each_is : (f : Facts) (acts : List Act) → each f acts ≡ fold done f acts

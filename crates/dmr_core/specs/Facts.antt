@@ -1,10 +1,12 @@
 -- What stands after a journal. Each question goes through the entries, the newest first, down to what stood before them.
 use Rattle.std.specs.Prelude.{ℕ, List, [], ◌∷◌, ◌++◌, Bool, true, false, if◌then◌else◌, ◌==◌, fold, map, slice_set, replicate, Option, Some, None}
 use Rattle.dmr_pdu.specs.declared.pdu.Pdu.{Pdu}
+use Rattle.dmr_pdu.specs.declared.pdu.Pdu.TheVariants.{TvGrant}
 use Rattle.dmr_plan.specs.declared.settings.Settings.{Settings}
 use Rattle.dmr_plan.specs.Carriers.{has_number_in}
 use Rattle.dmr_registry.specs.Radios.{without}
 use Rattle.dmr_access.specs.Noise.{noise_at_up, with_noise, with_poll}
+use Rattle.dmr_access.specs.Fill.{one_filled}
 use Rattle.dmr_calls.specs.declared.ask.Asking.{Asking}
 use Rattle.dmr_calls.specs.declared.line.Line.{Line}
 use Rattle.dmr_calls.specs.declared.call.Standing.{Standing}
@@ -17,8 +19,9 @@ use Rattle.dmr_core.specs.declared.event.Event.{Event}
 use Rattle.dmr_core.specs.declared.event.Event.TheVariants.{Up, Lost, Noise, Active, Poll, Tick, Say}
 use Rattle.dmr_core.specs.declared.command.Command.TheVariants.{Move, Stay}
 use Rattle.dmr_core.specs.declared.act.Act.{Act}
-use Rattle.dmr_core.specs.declared.act.Act.TheVariants.{Queue, Send, Joined, Left, Asked, AskOver, Lined, Unlined, Began, Ended}
+use Rattle.dmr_core.specs.declared.act.Act.TheVariants.{Queue, Send, Fill, Joined, Left, Asked, AskOver, Lined, Unlined, Began, Ended}
 use Rattle.dmr_core.specs.declared.entry.Entry.{Entry}
+use Rattle.dmr_core.specs.declared.named.NamedSlot.{NamedSlot}
 
 -- what stands on a site
 pub record Facts : Type 0 where
@@ -30,6 +33,8 @@ pub record Facts : Type 0 where
   pub outboxes : List (List Pdu)  -- for each slot, at its place, what waits for it, the oldest first
   pub noise : List ℕ  -- the Noises on the control slot since the last Poll, between that and the one before, and so on
   pub moving : Option ℕ  -- the channel on which radios are to seek the control channel, if it is to be moved
+  pub fills : ℕ  -- the Fills since the control carrier last came up, modulo 4
+  pub late : Option NamedSlot  -- the slot that the last late entry named since then, if there was one
 
 -- what is found after the entries: what was found before, as each event and each act opened or closed it
 abbrev pub since : {X : Type 0} → (X → Event → X) → (X → Act → X) → X → List Entry → X
@@ -121,6 +126,28 @@ moving_by_event moving (Say (Move lpcn)) = Some lpcn
 moving_by_event moving (Say Stay) = None
 moving_by_event moving _ = moving
 
+-- Fills: none at Up and Lost of the control carrier
+abbrev pub fills_by_event : Settings → ℕ → Event → ℕ
+fills_by_event plan fills (Up c) = if c == plan.control then 0 else fills
+fills_by_event plan fills (Lost c) = if c == plan.control then 0 else fills
+fills_by_event plan fills _ = fills
+
+-- the same: each Fill is counted, modulo 4
+abbrev pub fills_by_act : ℕ → Act → ℕ
+fills_by_act fills (Fill slot pdu) = one_filled fills
+fills_by_act fills _ = fills
+
+-- the slot of the last late entry: closed by Up and Lost of the control carrier
+abbrev pub late_by_event : Settings → Option NamedSlot → Event → Option NamedSlot
+late_by_event plan late (Up c) = if c == plan.control then None else late
+late_by_event plan late (Lost c) = if c == plan.control then None else late
+late_by_event plan late _ = late
+
+-- the same: opened by a Fill that is a grant to a talkgroup
+abbrev pub late_by_act : Option NamedSlot → Act → Option NamedSlot
+late_by_act late (Fill slot (TvGrant channel number bit target source)) = Some (record { channel = channel; slot = number })
+late_by_act late _ = late
+
 -- the facts after the entries, the newest first
 abbrev pub facts_after : Settings → Facts → List Entry → Facts
 facts_after plan facts journal = record {
@@ -132,6 +159,8 @@ facts_after plan facts journal = record {
   outboxes = since outboxes_by_event outboxes_by_act facts.outboxes journal;
   noise = since (noise_by_event plan) unchanged facts.noise journal;
   moving = since moving_by_event unchanged facts.moving journal;
+  fills = since (fills_by_event plan) fills_by_act facts.fills journal;
+  late = since (late_by_event plan) late_by_act facts.late journal;
 }
 
 -- the facts after an event
@@ -145,6 +174,8 @@ noted plan facts event = record {
   outboxes = outboxes_by_event facts.outboxes event;
   noise = noise_by_event plan facts.noise event;
   moving = moving_by_event facts.moving event;
+  fills = fills_by_event plan facts.fills event;
+  late = late_by_event plan facts.late event;
 }
 
 -- the facts after an act
@@ -158,8 +189,10 @@ done facts act = record {
   outboxes = outboxes_by_act facts.outboxes act;
   noise = facts.noise;
   moving = facts.moving;
+  fills = fills_by_act facts.fills act;
+  late = late_by_act facts.late act;
 }
 
 -- what stands at first: nothing
 abbrev pub nothing : Facts
-nothing = record { up = replicate 16 false; registered = []; asks = []; lines = []; calls = []; outboxes = replicate 32 []; noise = []; moving = None }
+nothing = record { up = replicate 16 false; registered = []; asks = []; lines = []; calls = []; outboxes = replicate 32 []; noise = []; moving = None; fills = 0; late = None }

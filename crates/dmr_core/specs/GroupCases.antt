@@ -63,6 +63,8 @@ standing calls lines asks = record {
   outboxes = replicate 32 [];
   noise = noise_at_up;
   moving = None;
+  fills = 0;
+  late = None;
 }
 
 -- P_CLEAR of a talkgroup call
@@ -261,6 +263,8 @@ many_calls count = record {
   outboxes = replicate 32 [];
   noise = noise_at_up;
   moving = None;
+  fills = 0;
+  late = None;
 }
 
 -- the 31st call is on the last slot, and the 32nd request waits

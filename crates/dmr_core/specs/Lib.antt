@@ -1,5 +1,6 @@
 pub mod Facts
 pub mod Words
+pub mod Late
 pub mod Rules
 pub mod Replies
 pub mod Journal
@@ -9,6 +10,7 @@ pub mod Same
 pub mod May
 pub mod Held
 pub mod Laws
+pub mod Turns
 pub mod Counts
 pub mod Last
 pub mod Waiting

@@ -1,5 +1,5 @@
 -- What an act needs of the facts before it.
-use Rattle.std.specs.Prelude.{◌≡◌, ◌≤◌, ◌<◌, ℕ, ◌+◌, length, List, [], ◌∷◌, Bool, true, false, Some, slice_get}
+use Rattle.std.specs.Prelude.{◌≡◌, ◌≤◌, ◌<◌, ℕ, ◌+◌, length, List, [], ◌∷◌, Bool, true, false, Option, Some, None, slice_get, if◌then◌else◌}
 use Rattle.dmr_pdu.specs.declared.slots.Slot.{Slot}
 use Rattle.dmr_pdu.specs.declared.pdu.Pdu.{Pdu}
 use Rattle.dmr_plan.specs.declared.settings.Settings.{Settings}
@@ -14,7 +14,7 @@ use Rattle.dmr_core.specs.declared.act.Act.{Act}
 use Rattle.dmr_core.specs.declared.act.Act.TheVariants.{Asked, Began, Fill, Joined, Left, Lined, Queue, Send}
 use Rattle.dmr_core.specs.Facts.{Facts, done}
 use Rattle.dmr_core.specs.Words.{is_free, is_registered, is_up, outbox, stands_on}
-use Rattle.dmr_core.specs.Rules.{grant_pdu}
+use Rattle.dmr_core.specs.Rules.{grant_pdu, late_entry}
 use Rattle.dmr_core.specs.Sound.{engagements, is_grant, party}
 
 -- the grant of a call that stands
@@ -28,6 +28,16 @@ pub record IsGrantOf (plan : Settings) (calls : List Standing) (pdu : Pdu) : Typ
 abbrev pub MayName : Settings → List Standing → Slot → Pdu → Bool → Type 0
 MayName plan calls slot pdu true = (slot ≡ control_slot plan) × IsGrantOf plan calls pdu
 MayName plan calls slot pdu false = Unit {0}
+
+-- the late entry that a fill is, if it is one
+abbrev pub entry_of : Pdu → Option Pdu
+entry_of pdu = if is_grant pdu then Some pdu else None
+
+-- a PDU may fill the control slot: its carrier is up, a grant is that of a call that stands, and it is the late entry if there is one
+pub record MayFill (plan : Settings) (now : Facts) (slot : Slot) (pdu : Pdu) : Type 0 where
+  pub up : is_up now plan.control ≡ true
+  pub names : MayName plan now.calls slot pdu (is_grant pdu)
+  pub late : entry_of pdu ≡ late_entry plan now
 
 -- a PDU may be queued: its carrier is up, no call stands on the slot, the outbox has a place, and a grant is that of a call that stands
 pub record MayQueue (plan : Settings) (now : Facts) (slot : Slot) (pdu : Pdu) : Type 0 where
@@ -54,7 +64,7 @@ pub record MayBegin (plan : Settings) (now : Facts) (call : Call) : Type 0 where
 abbrev pub MayDo : Settings → Facts → Act → Type 0
 MayDo plan now (Queue slot pdu) = MayQueue plan now slot pdu
 MayDo plan now (Send slot pdu) = (is_up now slot.carrier ≡ true) × (slot.slot < 2) × (slice_get (outbox now slot) 0 ≡ Some pdu)
-MayDo plan now (Fill slot pdu) = MayName plan now.calls slot pdu (is_grant pdu)
+MayDo plan now (Fill slot pdu) = MayFill plan now slot pdu
 MayDo plan now (Joined r) = (is_registered now r ≡ false) × (length now.registered < 4096)
 MayDo plan now (Left r) = engagements now.calls now.asks now.lines r ≡ 0
 MayDo plan now (Asked ask) = (is_up now plan.control ≡ true) × (length (others_than ask.source now.asks) < 32) × MayEngage plan now (others_than ask.source now.asks) false ask.source ask.target

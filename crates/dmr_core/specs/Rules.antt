@@ -1,5 +1,5 @@
 -- The acts that answer an event.
-use Rattle.std.specs.Prelude.{ℕ, ◌+◌, ◌/◌, ◌%◌, ◌^◌, List, [], ◌∷◌, ◌++◌, Bool, true, false, not, if◌then◌else◌, ◌==◌, ◌&&◌, ◌||◌, nat_lt, nat_le, length, replicate}
+use Rattle.std.specs.Prelude.{ℕ, ◌+◌, ◌/◌, ◌%◌, ◌^◌, List, [], ◌∷◌, ◌++◌, Bool, true, false, not, if◌then◌else◌, ◌==◌, ◌&&◌, ◌||◌, nat_lt, nat_le, length, replicate, Option, None, is_some, option_map}
 use Rattle.std.specs.Option.{option_map_or}
 use Rattle.dmr_pdu.specs.declared.slots.Slot.{Slot}
 use Rattle.dmr_pdu.specs.declared.pdu.Pdu.{Pdu}
@@ -8,7 +8,7 @@ use Rattle.dmr_pdu.specs.Kinds.{registration as registration_kind, cancel as can
 use Rattle.dmr_pdu.specs.Reasons.{not_supported, perm_user_refused, transient_sys_refused, noreg_ms_away, sysbusy_refused, call_cancel_refused, reg_refused, reg_denied, ms_not_registered, called_party_busy, group_not_allowed, ms_accepted, message_accepted, reg_accepted, queued_for_resource, wait}
 use Rattle.dmr_plan.specs.declared.settings.Settings.{Settings}
 use Rattle.dmr_plan.specs.Plan.{lists_radio, lists_group}
-use Rattle.dmr_access.specs.Fill.{fill_of}
+use Rattle.dmr_access.specs.Fill.{fill_of, is_late_due}
 use Rattle.dmr_calls.specs.declared.ask.Ask.{Ask}
 use Rattle.dmr_calls.specs.declared.line.Line.{Line}
 use Rattle.dmr_calls.specs.declared.call.Call.{Call}
@@ -27,6 +27,7 @@ use Rattle.dmr_core.specs.declared.command.Command.TheVariants.{Drop, End}
 use Rattle.dmr_core.specs.declared.act.Act.{Act}
 use Rattle.dmr_core.specs.declared.act.Act.TheVariants.{Queue, Send, Fill, Joined, Left, Asked, AskOver, Lined, Unlined, Began, Ended}
 use Rattle.dmr_core.specs.Facts.{Facts, asks_by_event, calls_by_event, has_carrier}
+use Rattle.dmr_core.specs.Late.{next_call}
 use Rattle.dmr_core.specs.Words.{is_up, outbox, lpcn_of, lowest_free, slot_for_new, has_room, is_registered, is_engaged}
 
 -- C_ACKD to the source, for the reason, with the target besides
@@ -172,9 +173,14 @@ ended plan calls = option_map_or (λ (slot : Slot). option_map_or (λ (call : Ca
 unfoldable pub tick : Settings → Facts → List Act
 tick plan now = ended plan now.calls ++ (if has_room plan now then repeat plan now ++ serve plan now else [])
 
+-- the late entry of the next Fill, if it has one: where it is due and nothing is moved, the grant of the next talkgroup call
+unfoldable pub late_entry : Settings → Facts → Option Pdu
+late_entry plan now =
+    if is_late_due now.fills && not (is_some now.moving) then option_map (λ (call : Call). grant_pdu plan call true) (next_call plan now) else None
+
 -- the first PDU that waits for a slot, or what fills the control slot
 abbrev pub sent : Settings → Facts → Slot → List Pdu → List Act
-sent plan now slot [] = if is_control plan slot then Fill slot (fill_of plan now.moving now.noise) ∷ [] else []
+sent plan now slot [] = if is_control plan slot then Fill slot (fill_of plan now.moving now.noise now.fills (late_entry plan now)) ∷ [] else []
 sent plan now slot (pdu ∷ pdus) = Send slot pdu ∷ []
 
 -- what a slot of a carrier is sent

@@ -5,10 +5,11 @@ use Rattle.std.specs.Cmp.{decided, IsEquivalence}
 use Rattle.std.specs.Cmp.Lexicographic.{pointwise, pointwise_decides, bytes_decides}
 use Rattle.std.proofs.Common.{ap, refl, eqb-true}
 use Rattle.std.proofs.lemmas.Bool.{eq-eqb}
-use Rattle.std.proofs.lemmas.Bool.Decides.{Decides-and}
+use Rattle.std.proofs.lemmas.Bool.Decides.{Decides-and, Decides-eqb}
 use Rattle.dmr_plan.specs.Same.{are_same as are_same_plans, are_same-Decides as are_same_plans-Decides}
 use Rattle.dmr_calls.specs.Same.{are_same as are_same_standings, are_same-Decides as are_same_standings-Decides}
 use Rattle.dmr_pool.specs.Same.{beq-Decides, are_same_pdus, are_same_pdus-Decides}
+use Rattle.dmr_core.specs.declared.named.NamedSlot.{NamedSlot}
 use Rattle.dmr_core.specs.State.{State}
 use Rattle.dmr_core.specs.Words.{standings}
 
@@ -18,12 +19,18 @@ is_same_option None None = true
 is_same_option (Some a) (Some b) = nat_eq a b
 is_same_option a b = false
 
+-- whether two slots that may be missing are named alike
+abbrev pub is_same_named : Option NamedSlot → Option NamedSlot → Bool
+is_same_named None None = true
+is_same_named (Some a) (Some b) = nat_eq a.channel b.channel && nat_eq a.slot b.slot
+is_same_named a b = false
+
 -- whether the plans say the same and the same stands
 abbrev pub are_same : State → State → Bool
 are_same a b =
     are_same_plans a.plan b.plan && pointwise beq a.facts.up b.facts.up && pointwise nat_eq a.facts.registered b.facts.registered
-    && are_same_standings (standings a.facts) (standings b.facts) && pointwise are_same_pdus a.facts.outboxes b.facts.outboxes && pointwise nat_eq a.facts.noise b.facts.noise
-    && is_same_option a.facts.moving b.facts.moving
+    && are_same_standings (standings a.facts) (standings b.facts) && pointwise are_same_pdus a.facts.outboxes b.facts.outboxes && (pointwise nat_eq a.facts.noise b.facts.noise && nat_eq a.facts.fills b.facts.fills)
+    && is_same_option a.facts.moving b.facts.moving && is_same_named a.facts.late b.facts.late
 
 -- the number of one that is there
 abbrev number_of : Option ℕ → ℕ
@@ -37,11 +44,18 @@ is_same_option-Decides (Some a) (Some b) = (λ h. ap (λ (n : ℕ). Some n) (eqb
 is_same_option-Decides None (Some b) = (λ h. cc, λ e. cc)
 is_same_option-Decides (Some a) None = (λ h. cc, λ e. cc)
 
+-- the test decides whether they are the same
+is_same_named-Decides : (a b : Option NamedSlot) → Decides (is_same_named a b) (a ≡ b)
+is_same_named-Decides None None = (λ h. refl, λ e. refl)
+is_same_named-Decides (Some a) (Some b) = search rules
+is_same_named-Decides None (Some b) = (λ h. cc, λ e. cc)
+is_same_named-Decides (Some a) None = (λ h. cc, λ e. cc)
+
 -- a site, field by field
-same_parts : (a b : State) → a.plan ≡ b.plan → a.facts.up ≡ b.facts.up → a.facts.registered ≡ b.facts.registered → standings a.facts ≡ standings b.facts → a.facts.outboxes ≡ b.facts.outboxes → a.facts.noise ≡ b.facts.noise → a.facts.moving ≡ b.facts.moving → a ≡ b
-same_parts a b plan up registered stands outboxes noise moving = λ i. record {
+same_parts : (a b : State) → a.plan ≡ b.plan → a.facts.up ≡ b.facts.up → a.facts.registered ≡ b.facts.registered → standings a.facts ≡ standings b.facts → a.facts.outboxes ≡ b.facts.outboxes → a.facts.noise ≡ b.facts.noise → a.facts.fills ≡ b.facts.fills → a.facts.moving ≡ b.facts.moving → a.facts.late ≡ b.facts.late → a ≡ b
+same_parts a b plan up registered stands outboxes noise fills moving late = λ i. record {
   plan = plan i;
-  facts = record { up = up i; registered = registered i; asks = (stands i).asks; lines = (stands i).lines; calls = (stands i).calls; outboxes = outboxes i; noise = noise i; moving = moving i };
+  facts = record { up = up i; registered = registered i; asks = (stands i).asks; lines = (stands i).lines; calls = (stands i).calls; outboxes = outboxes i; noise = noise i; moving = moving i; fills = fills i; late = late i };
 }
 
 -- the test decides whether they are the same
@@ -54,9 +68,11 @@ are_same-Decides a b =
     let outboxes = pointwise_decides are_same_pdus-Decides a.facts.outboxes b.facts.outboxes in
     let noise = bytes_decides a.facts.noise b.facts.noise in
     let moving = is_same_option-Decides a.facts.moving b.facts.moving in
-    let d = Decides-and _ _ (Decides-and _ _ (Decides-and _ _ (Decides-and _ _ (Decides-and _ _ (Decides-and _ _ plan up) registered) stands) outboxes) noise) moving in (
-      λ h. let e = d.0 h in same_parts a b e.0.0.0.0.0.0 e.0.0.0.0.0.1 e.0.0.0.0.1 e.0.0.0.1 e.0.0.1 e.0.1 e.1,
-      λ e. d.1 ((((((ap (λ (s : State). s.plan) e, ap (λ (s : State). s.facts.up) e), ap (λ (s : State). s.facts.registered) e), ap (λ (s : State). standings s.facts) e), ap (λ (s : State). s.facts.outboxes) e), ap (λ (s : State). s.facts.noise) e), ap (λ (s : State). s.facts.moving) e),
+    let access = Decides-and _ _ noise (Decides-eqb a.facts.fills b.facts.fills) in
+    let late = is_same_named-Decides a.facts.late b.facts.late in
+    let d = Decides-and _ _ (Decides-and _ _ (Decides-and _ _ (Decides-and _ _ (Decides-and _ _ (Decides-and _ _ (Decides-and _ _ plan up) registered) stands) outboxes) access) moving) late in (
+      λ h. let e = d.0 h in same_parts a b e.0.0.0.0.0.0.0 e.0.0.0.0.0.0.1 e.0.0.0.0.0.1 e.0.0.0.0.1 e.0.0.0.1 e.0.0.1.0 e.0.0.1.1 e.0.1 e.1,
+      λ e. d.1 (((((((ap (λ (s : State). s.plan) e, ap (λ (s : State). s.facts.up) e), ap (λ (s : State). s.facts.registered) e), ap (λ (s : State). standings s.facts) e), ap (λ (s : State). s.facts.outboxes) e), (ap (λ (s : State). s.facts.noise) e, ap (λ (s : State). s.facts.fills) e)), ap (λ (s : State). s.facts.moving) e), ap (λ (s : State). s.facts.late) e),
     )
 
 -- so it is an equivalence

@@ -1,5 +1,5 @@
 -- What stands on a site fits together.
-use Rattle.std.specs.Prelude.{◌≡◌, ◌≤◌, ◌<◌, ℕ, ◌+◌, length, List, [], ◌∷◌, Bool, true, false, not, cond, ◌==◌, ◌&&◌, ◌||◌, Some, slice_index_or}
+use Rattle.std.specs.Prelude.{◌≡◌, ◌≤◌, ◌<◌, ℕ, ◌+◌, length, List, [], ◌∷◌, Bool, true, false, not, cond, ◌==◌, ◌&&◌, ◌||◌, Some, None, slice_index_or}
 use Rattle.std.specs.List.{list_any, list_all}
 use Rattle.dmr_pdu.specs.declared.slots.Slot.{Slot}
 use Rattle.dmr_pdu.specs.declared.pdu.Pdu.{Pdu}
@@ -102,3 +102,7 @@ pub record IsSound (plan : Settings) (facts : Facts) : Type 0 where
   -- there are noise numbers exactly while the control carrier is up
   pub noiseless : is_up facts plan.control ≡ false → facts.noise ≡ []
   pub window : is_up facts plan.control ≡ true → length facts.noise ≡ 32
+  -- Fills are counted modulo 4, and none, nor a late entry, while the control carrier is down
+  pub counted : facts.fills < 4
+  pub unfilled : is_up facts plan.control ≡ false → facts.fills ≡ 0
+  pub unnamed : is_up facts plan.control ≡ false → facts.late ≡ None

@@ -11,6 +11,7 @@ mod entry;
 mod event;
 mod laws;
 mod machine;
+mod named;
 mod reply;
 mod request;
 mod site;

@@ -11,12 +11,14 @@ ghost use Rattle.dmr_core.specs.Same.{are_same};
 
 mod answers;
 mod console;
+mod late;
 mod requests;
 mod words;
 
 use crate::act::{Act, ActList};
 use crate::command::Command;
 use crate::event::Event;
+use crate::named::NamedSlot;
 use dmr_access::Access;
 use dmr_calls::{Call, Calls};
 use dmr_pdu::{CarrierNo, Lpcn, OutOfMemory, Slot};
@@ -35,6 +37,7 @@ pub struct Machine {
     calls: Calls,
     access: Access,
     moving: Option<Lpcn>,
+    late: Option<NamedSlot>,
 }
 
 impl Model for Machine {
@@ -46,7 +49,7 @@ impl Model for Machine {
 
     ghost view = { λ m. record {
       plan = m.plan;
-      facts = record { up = m.pool.up; registered = m.registry; asks = m.calls.asks; lines = m.calls.lines; calls = m.calls.calls; outboxes = m.pool.outboxes; noise = m.access.noise; moving = m.moving };
+      facts = record { up = m.pool.up; registered = m.registry; asks = m.calls.asks; lines = m.calls.lines; calls = m.calls.calls; outboxes = m.pool.outboxes; noise = m.access.noise; moving = m.moving; fills = m.access.fills; late = m.late };
     } };
 
     ghost invariant = { λ m. (m.access.plan ≡ m.plan) × (m.pool.plan ≡ m.plan) × HoldsCalls m.pool.held m.calls.calls };
@@ -76,6 +79,7 @@ impl Machine {
             calls,
             access,
             moving: None,
+            late: None,
         })
     }
 
@@ -94,6 +98,7 @@ impl Machine {
             calls,
             access,
             moving: self.moving,
+            late: self.late,
         })
     }
 
@@ -120,6 +125,7 @@ impl Machine {
         if carrier == self.plan.control() {
             self.calls.clear_waiting();
             self.access.reset();
+            self.late = None;
         }
     }
 
@@ -134,6 +140,7 @@ impl Machine {
         if lost == self.plan.control() {
             self.calls.clear_waiting();
             self.access.stop();
+            self.late = None;
         }
     }
 
@@ -196,7 +203,7 @@ impl Machine {
             Act::Send(slot, _) => {
                 let _ = self.pool.take(*slot);
             }
-            Act::Fill(_, _) => {}
+            Act::Fill(slot, pdu) => self.fill(slot, pdu),
             Act::Joined(radio) => {
                 let _ = self.registry.join(*radio);
             }
@@ -261,5 +268,6 @@ impl Machine {
             && self.calls == other.calls
             && self.access == other.access
             && self.moving == other.moving
+            && self.late == other.late
     }
 }

@@ -23,7 +23,8 @@ impl Machine {
         if let Some(pdu) = self.pool.first(*slot) {
             acts.push(Act::Send(*slot, pdu));
         } else if self.is_control(slot) {
-            acts.push(Act::Fill(*slot, self.access.fill(self.moving)));
+            let pdu = self.access.next_fill(self.moving, self.late_entry());
+            acts.push(Act::Fill(*slot, pdu));
         }
     }
 

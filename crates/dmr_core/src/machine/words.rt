@@ -134,7 +134,7 @@ impl Machine {
     }
 
     /// The grant of a call: TV_GRANT to a talkgroup, else PV_GRANT.
-    fn grant_pdu(&self, call: &Call, late: bool) -> Pdu
+    pub(super) fn grant_pdu(&self, call: &Call, late: bool) -> Pdu
         ensures { result ≡ grant_pdu self.now.plan call.now late }
     {
         let lpcn = self.lpcn_of(call.slot.carrier);

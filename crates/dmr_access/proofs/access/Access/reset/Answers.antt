@@ -9,4 +9,5 @@ invariant_of-self c =
       search arith,
       search arith,
       (inr (ap length items), rw items (All-replicate (λ n. n ≤ 15) 32 0 (omega arith))),
+      search arith,
     )

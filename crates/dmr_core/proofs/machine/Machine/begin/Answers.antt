@@ -22,6 +22,8 @@ hold-requires c =
       outboxes = c.self.inside.pool.outboxes;
       noise = c.self.inside.access.noise;
       moving = c.self.inside.moving;
+      fills = c.self.inside.access.fills;
+      late = c.self.inside.late;
     } in
     pool_free c.self.inside.plan facts c.self.inside.pool c.self.invariant.1 refl refl c.self.invariant.2 c.args.call.now.slot c.numbers_of.ensures ∙ may.free
 

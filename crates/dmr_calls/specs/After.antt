@@ -1,0 +1,62 @@
+-- Talkgroup calls in turn: going round the slots by carrier, then by number.
+use Rattle.std.specs.Prelude.{◌≡◌, ◌<◌, ℕ, ◌+◌, ◌-◌, ◌*◌, ◌/◌, ◌%◌, ◌⊎◌, List, Bool, true, false, Option, Some, None, find}
+use Rattle.std.specs.List.{range_with_len}
+use Rattle.std.specs.Option.{option_and_then, option_map_or, option_or}
+use Rattle.dmr_pdu.specs.declared.slots.Slot.{Slot}
+use Rattle.dmr_calls.specs.declared.call.Call.{Call}
+use Rattle.dmr_calls.specs.declared.call.Standing.{Standing}
+use Rattle.dmr_calls.specs.Calls.{call_on}
+
+-- the call on the slot is a talkgroup's
+abbrev pub is_group_on : List Standing → Slot → Bool
+is_group_on calls slot = option_map_or (λ (call : Call). call.group) (call_on calls slot) false
+
+-- the slots of 16 carriers have places from 0 to 31: by carrier, then by number
+abbrev pub place : Slot → ℕ
+place slot = 2 * slot.carrier + slot.slot
+
+-- the slot at a place
+abbrev pub slot_at : ℕ → Slot
+slot_at place = record { carrier = place / 2; slot = place % 2 }
+
+-- the call on the slot at a place is a talkgroup's
+abbrev pub is_group_at : List Standing → ℕ → Bool
+is_group_at calls place = is_group_on calls (slot_at place)
+
+-- the first place behind a slot; the first of all where there is none
+abbrev pub place_after : Option Slot → ℕ
+place_after last = option_map_or (λ slot. place slot + 1) last 0
+
+-- the first place of a talkgroup call, from one on
+abbrev pub group_place : List Standing → ℕ → Option ℕ
+group_place calls from = find (is_group_at calls) (range_with_len from (32 - from))
+
+-- the talkgroup call on the least slot above the last, or else on the least of all
+unfoldable pub group_after : List Standing → Option Slot → Option Call
+group_after calls last =
+    option_and_then (λ place. call_on calls (slot_at place)) (option_or (group_place calls (place_after last)) (group_place calls 0))
+
+-- a slot of a carrier 0 to 15
+abbrev pub IsSlot : Slot → Type 0
+IsSlot slot = (slot.carrier < 16) × (slot.slot < 2)
+
+-- a slot is below another: by carrier, then by number
+abbrev pub IsBelow : Slot → Slot → Type 0
+IsBelow a b = (a.carrier < b.carrier) ⊎ ((a.carrier ≡ b.carrier) × (a.slot < b.slot))
+
+-- a slot is above the last one, as each is where there is none
+abbrev pub IsAbove : Option Slot → Slot → Type 0
+IsAbove None slot = Unit {0}
+IsAbove (Some last) slot = IsBelow last slot
+
+-- no call on any slot is a talkgroup's
+abbrev pub HasNoGroupCall : List Standing → Type 0
+HasNoGroupCall calls = (slot : Slot) → IsSlot slot → is_group_on calls slot ≡ false
+
+-- a talkgroup call stands on its slot; where one stands above the last slot it is above, and the lowest of those; else it is the lowest of all
+pub record IsNextGroupCall (calls : List Standing) (last : Option Slot) (call : Call) : Type 0 where
+  pub within : IsSlot call.slot
+  pub stands : call_on calls call.slot ≡ Some call
+  pub group : call.group ≡ true
+  pub above : (other : Slot) → IsSlot other → is_group_on calls other ≡ true → IsAbove last other → IsAbove last call.slot × (IsBelow other call.slot → ⊥)
+  pub around : (IsAbove last call.slot → ⊥) → (other : Slot) → IsSlot other → is_group_on calls other ≡ true → IsBelow other call.slot → ⊥

@@ -1,0 +1,95 @@
+-- Fills and late entries: what each needs, and what it leaves.
+use Rattle.std.proofs.Common.{◌≡◌, ◌<◌, ℕ, Bool, true, false, List, subst, arith, refl, sym}
+use Rattle.std.specs.Prelude.{Option, Some, None, MatchOption, IfSome, ◌&&◌, not, is_some, option_map, unwrap_or, if◌then◌else◌}
+use Rattle.dmr_pdu.specs.declared.slots.Slot.{Slot}
+use Rattle.dmr_pdu.specs.declared.pdu.Pdu.{Pdu}
+use Rattle.dmr_pdu.specs.declared.pdu.Pdu.TheVariants.{TvGrant}
+use Rattle.dmr_plan.specs.declared.settings.Settings.{Settings}
+use Rattle.dmr_access.specs.Fill.{aloha_of, fill_of, is_late_due}
+use Rattle.dmr_calls.specs.declared.call.Call.{Call}
+use Rattle.dmr_calls.specs.declared.call.Standing.{Standing}
+use Rattle.dmr_calls.specs.After.{is_group_at, place_after}
+use Rattle.dmr_calls.proofs.AfterLemmas.{IsGroupOn, IsTurn, NonePass, turn_of, turn_stands}
+use Rattle.dmr_pool.specs.Free.{control_slot}
+use Rattle.dmr_core.specs.declared.event.Event.TheVariants.{Poll}
+use Rattle.dmr_core.specs.declared.act.Act.{Act}
+use Rattle.dmr_core.specs.declared.act.Act.TheVariants.{Fill}
+use Rattle.dmr_core.specs.Facts.{Facts, done, noted}
+use Rattle.dmr_core.specs.Late.{last_slot, next_call}
+use Rattle.dmr_core.specs.Words.{is_up}
+use Rattle.dmr_core.specs.Rules.{grant_pdu, late_entry}
+use Rattle.dmr_core.specs.Sound.{IsSound, is_grant}
+use Rattle.dmr_core.specs.May.{MayDo, MayName, entry_of}
+use Rattle.dmr_core.specs.Turns.{IsLateOf}
+use Rattle.dmr_core.proofs.Slots.{true_false}
+
+pub counted-done : (plan : Settings) (now : Facts) (act : Act) → IsSound plan now → (done now act).fills < 4
+counted-done plan now (Fill slot pdu) h = omega arith
+counted-done plan now act h = h.counted
+
+pub unfilled-done : (plan : Settings) (now : Facts) (act : Act) → IsSound plan now → MayDo plan now act → is_up now plan.control ≡ false → (done now act).fills ≡ 0
+unfilled-done plan now (Fill slot pdu) h may down = true_false _ may.up down
+unfilled-done plan now act h may down = h.unfilled down
+
+pub unnamed-done : (plan : Settings) (now : Facts) (act : Act) → IsSound plan now → MayDo plan now act → is_up now plan.control ≡ false → (done now act).late ≡ None
+unnamed-done plan now (Fill slot pdu) h may down = true_false _ may.up down
+unnamed-done plan now act h may down = h.unnamed down
+
+-- a talkgroup's grant is a grant
+pub late_grant : (plan : Settings) (call : Call) → is_grant (grant_pdu plan call true) ≡ true
+late_grant plan call = either call.group refl
+  where
+    either : (b : Bool) → call.group ≡ b → is_grant (grant_pdu plan call true) ≡ true
+    either true e = rw e refl
+    either false e = rw e refl
+
+-- the late entry, if the next Fill has one, is of a talkgroup call that stands
+entry_stands : (plan : Settings) (calls : List Standing) (from : ℕ) (b : Bool) (o : Option Call) → MatchOption o (NonePass (is_group_at calls) 0 32) (IsTurn calls from) → IfSome (if b then option_map (λ (call : Call). grant_pdu plan call true) o else None) (IsLateOf plan calls)
+entry_stands plan calls from true None none = tt
+entry_stands plan calls from true (Some call) turn =
+    let on : IsGroupOn calls call.slot call = turn_stands calls from call turn in
+    record { call = call; stands = on.stands; group = on.group; is = refl }
+entry_stands plan calls from false o turn = tt
+
+pub late_stands : (plan : Settings) (now : Facts) → IfSome (late_entry plan now) (IsLateOf plan now.calls)
+unfolding late_entry
+late_stands plan now =
+    entry_stands plan now.calls (place_after (last_slot plan now)) (is_late_due now.fills && not (is_some now.moving)) (next_call plan now) (turn_of now.calls (last_slot plan now))
+
+-- a fill that is a grant is of a call that stands
+late_names : (plan : Settings) (calls : List Standing) (slot : Slot) (pdu : Pdu) → slot ≡ control_slot plan → IsLateOf plan calls pdu → MayName plan calls slot pdu (is_grant pdu)
+late_names plan calls slot pdu there late =
+    subst (λ (p : Pdu). MayName plan calls slot p (is_grant p)) (sym late.is)
+    (rw (late_grant plan late.call) (there, record { call = late.call; late = true; stands = late.stands; is = refl }))
+
+fill_names : (plan : Settings) (calls : List Standing) (slot : Slot) (moving : Option ℕ) (noise : List ℕ) (fills : ℕ) (entry : Option Pdu) → slot ≡ control_slot plan → IfSome entry (IsLateOf plan calls) → MayName plan calls slot (fill_of plan moving noise fills entry) (is_grant (fill_of plan moving noise fills entry))
+fill_names plan calls slot (Some lpcn) noise fills entry there late = tt
+fill_names plan calls slot None noise fills entry there late = either (is_late_due fills) entry late
+  where
+    either : (b : Bool) (o : Option Pdu) → IfSome o (IsLateOf plan calls) → MayName plan calls slot (if b then unwrap_or o (aloha_of plan noise) else aloha_of plan noise) (is_grant (if b then unwrap_or o (aloha_of plan noise) else aloha_of plan noise))
+    either true None late = tt
+    either true (Some pdu) late = late_names plan calls slot pdu there late
+    either false o late = tt
+
+-- a fill is the late entry, if there is one, and else no grant
+fill_entry : (plan : Settings) (moving : Option ℕ) (noise : List ℕ) (fills : ℕ) (o : Option Call) → entry_of (fill_of plan moving noise fills (if is_late_due fills && not (is_some moving) then option_map (λ (call : Call). grant_pdu plan call true) o else None)) ≡ (if is_late_due fills && not (is_some moving) then option_map (λ (call : Call). grant_pdu plan call true) o else None)
+fill_entry plan (Some lpcn) noise fills o = either (is_late_due fills)
+  where
+    either : (b : Bool) → None ≡ (if b && false then option_map (λ (call : Call). grant_pdu plan call true) o else None)
+    either true = refl
+    either false = refl
+fill_entry plan None noise fills o = either (is_late_due fills) o
+  where
+    either : (b : Bool) (o : Option Call) → entry_of (if b then unwrap_or (if b && true then option_map (λ (call : Call). grant_pdu plan call true) o else None) (aloha_of plan noise) else aloha_of plan noise) ≡ (if b && true then option_map (λ (call : Call). grant_pdu plan call true) o else None)
+    either true None = refl
+    either true (Some call) = rw (late_grant plan call) refl
+    either false o = refl
+
+-- the control slot may be filled at a Poll
+pub fill_may : (plan : Settings) (now : Facts) (c : ℕ) (slot : Slot) → slot ≡ control_slot plan → is_up now plan.control ≡ true → MayDo plan (noted plan now (Poll c)) (Fill slot (fill_of plan now.moving now.noise now.fills (late_entry plan now)))
+unfolding late_entry
+fill_may plan now c slot there up = record {
+  up = up;
+  names = fill_names plan now.calls slot now.moving now.noise now.fills (late_entry plan now) there (late_stands plan now);
+  late = fill_entry plan now.moving now.noise now.fills (next_call plan now);
+}

@@ -1,0 +1,93 @@
+-- Late entries name the talkgroup calls in turn.
+use Rattle.std.specs.Prelude.{◌≡◌, ℕ, ◌+◌, ◌%◌, List, [], ◌∷◌, Bool, true, false, ◌&&◌, ◌==◌, ◌⊎◌, if◌then◌else◌, length, filter, Option, Some}
+use Rattle.std.specs.List.{list_all}
+use Rattle.dmr_pdu.specs.declared.slots.Slot.{Slot}
+use Rattle.dmr_pdu.specs.declared.pdu.Pdu.{Pdu}
+use Rattle.dmr_plan.specs.declared.settings.Settings.{Settings}
+use Rattle.dmr_calls.specs.declared.call.Call.{Call}
+use Rattle.dmr_calls.specs.declared.call.Standing.{Standing}
+use Rattle.dmr_calls.specs.Calls.{call_on}
+use Rattle.dmr_core.specs.declared.event.Event.{Event}
+use Rattle.dmr_core.specs.declared.event.Event.TheVariants.{Up, Lost, Say}
+use Rattle.dmr_core.specs.declared.command.Command.TheVariants.{Move}
+use Rattle.dmr_core.specs.declared.act.Act.{Act}
+use Rattle.dmr_core.specs.declared.act.Act.TheVariants.{Fill, Began, Ended}
+use Rattle.dmr_core.specs.declared.entry.Entry.{Entry}
+use Rattle.dmr_core.specs.Facts.{Facts}
+use Rattle.dmr_core.specs.Rules.{grant_pdu, late_entry}
+use Rattle.dmr_core.specs.Sound.{is_grant, total}
+use Rattle.dmr_core.specs.May.{entry_of}
+
+-- a fill is the late entry that is due, where one is, and else no grant
+abbrev pub FillsInTurn : Settings → Facts → Act → Type 0
+FillsInTurn plan now (Fill slot pdu) = entry_of pdu ≡ late_entry plan now
+FillsInTurn plan now _ = Unit {0}
+
+-- the late grant of a talkgroup call that stands
+pub record IsLateOf (plan : Settings) (calls : List Standing) (pdu : Pdu) : Type 0 where
+  pub call : Call
+  pub stands : call_on calls call.slot ≡ Some call
+  pub group : call.group ≡ true
+  pub is : pdu ≡ grant_pdu plan call true
+
+-- a fill that is a grant is one of these
+abbrev pub NamesStanding : Settings → Facts → Act → Type 0
+NamesStanding plan now (Fill slot pdu) = is_grant pdu ≡ true → IsLateOf plan now.calls pdu
+NamesStanding plan now _ = Unit {0}
+
+-- a Fill is one
+abbrev pub fill_in : Act → ℕ
+fill_in (Fill slot pdu) = 1
+fill_in _ = 0
+
+-- how many Fills a journal has
+abbrev pub fills_in : List Entry → ℕ
+fills_in [] = 0
+fills_in (entry ∷ earlier) = fills_in earlier + total fill_in entry.acts.list
+
+-- the control carrier comes up, or is lost
+abbrev pub is_turn : Settings → Event → Bool
+is_turn plan (Up c) = c == plan.control
+is_turn plan (Lost c) = c == plan.control
+is_turn plan _ = false
+
+-- how many since the control carrier last came up or was lost; where it never did, and those that were counted before
+abbrev pub fills_since : Settings → ℕ → List Entry → ℕ
+fills_since plan before [] = before
+fills_since plan before (entry ∷ earlier) = (if is_turn plan entry.event then 0 else fills_since plan before earlier) + total fill_in entry.acts.list
+
+-- no carrier comes up or is lost, and the control channel is not to be moved
+abbrev pub is_steady_event : Event → Bool
+is_steady_event (Up c) = false
+is_steady_event (Lost c) = false
+is_steady_event (Say (Move lpcn)) = false
+is_steady_event _ = true
+
+-- no call begins or ends
+abbrev pub is_steady_act : Act → Bool
+is_steady_act (Began call) = false
+is_steady_act (Ended slot) = false
+is_steady_act _ = true
+
+-- so it is throughout
+abbrev pub is_steady : List Entry → Bool
+is_steady journal = list_all (λ (entry : Entry). is_steady_event entry.event && list_all is_steady_act entry.acts.list) journal
+
+-- how many talkgroup calls stand
+abbrev pub talkgroup_calls : List Standing → ℕ
+talkgroup_calls calls = length (filter (λ (s : Standing). s.call.group) calls)
+
+-- the PDU is sent as a fill
+abbrev pub IsFillOf : Pdu → Act → Type 0
+IsFillOf pdu (Fill slot other) = other ≡ pdu
+IsFillOf pdu _ = ⊥
+
+-- by one of the acts
+abbrev pub HasFillOf : Pdu → List Act → Type 0
+HasFillOf pdu [] = ⊥
+HasFillOf pdu (act ∷ acts) = IsFillOf pdu act ⊎ HasFillOf pdu acts
+
+-- in one of the entries
+abbrev pub IsFilledWith : Pdu → List Entry → Type 0
+IsFilledWith pdu [] = ⊥
+IsFilledWith pdu (entry ∷ earlier) = HasFillOf pdu entry.acts.list ⊎ IsFilledWith pdu earlier

@@ -1,0 +1,12 @@
+//! Slots as grants name them.
+
+use dmr_pdu::{Lpcn, SlotNo};
+
+/// A slot as a grant names it: by the channel of its carrier, and its number.
+#[derive(Clone, Copy, Debug, PartialEq, Eq)]
+pub struct NamedSlot {
+    /// The logical physical channel number of the carrier.
+    pub channel: Lpcn,
+    /// Which of the carrier's slots.
+    pub slot: SlotNo,
+}

@@ -1,9 +1,11 @@
 //! The noise on the control slot, and the PDU that fills it.
 
-ghost use Rattle.std.specs.Prelude.{◌≡◌, ◌+◌, ◌≤◌, ◌↔◌, [], length, sum, IsTrue, IfOk};
+ghost use Rattle.std.specs.Prelude.{◌≡◌, ◌+◌, ◌^◌, ◌<◌, ◌≤◌, ◌↔◌, ◌&&◌, [], drop, length, sum, slice_get, nat_eq, IsTrue, IfOk};
+ghost use Rattle.std.specs.Cmp.Lexicographic.{pointwise};
 ghost use Rattle.dmr_access.specs.Noise.{AreNoiseNumbers, noise_at_up, with_noise, with_poll, backoff_of};
 ghost use Rattle.dmr_access.specs.Fill.{aloha_of, fill_of, is_late_due, move_to, one_filled};
 
+use circular_buffer::HeapCircularBuffer;
 use dmr_pdu::{Address, Lpcn, Number, OutOfMemory, Pdu};
 use dmr_plan::Plan;
 use std::alloc::Global;
@@ -25,12 +27,12 @@ const MUST_REGISTER: bool = true;
 #[derive(Drop)]
 pub struct Access {
     plan: Plan,
-    noise: Vec<u8>,
+    noise: HeapCircularBuffer<u8>,
     fills: u8,
 }
 
 impl Model for Access {
-    ghost use Rattle.std.specs.Prelude.{◌<◌, ◌≤◌, vec_len, vec_capacity};
+    ghost use Rattle.std.specs.Prelude.{◌≡◌, ◌<◌};
     ghost use Rattle.dmr_access.specs.Fill.{Window};
     ghost use Rattle.dmr_access.specs.Noise.{AreNoiseNumbers};
 
@@ -38,15 +40,43 @@ impl Model for Access {
 
     ghost view = { λ access. record { plan = access.plan; noise = access.noise.items; fills = access.fills } };
 
-    ghost invariant = { λ access. (vec_len access.noise ≤ 32) × (32 ≤ vec_capacity access.noise) × AreNoiseNumbers access.noise.items × (access.fills < 4) };
+    ghost invariant = { λ access. (access.noise.capacity ≡ 32) × AreNoiseNumbers access.noise.items × (access.fills < 4) };
 }
 
-/// The sum of at most 32 noise numbers.
-fn total(noise: &[u8]) -> u16
-    requires { length noise.now ≤ 32 }
-    ensures { result ≡ sum noise.now }
+/// The sum of at most 32 numbers.
+fn total(numbers: &[u8]) -> u16
+    requires { length numbers.now ≤ 32 }
+    ensures { result ≡ sum numbers.now }
 {
-    noise.iter().map(|n| u16::from(*n)).sum()
+    numbers.iter().map(|n| u16::from(*n)).sum()
+}
+
+/// Whether two rings have the same number at a place that both have.
+fn is_same_at(one: &HeapCircularBuffer<u8>, other: &HeapCircularBuffer<u8>, index: usize) -> bool
+    requires one { index < length one.now.items }
+    requires other { index < length other.now.items }
+    ensures { pointwise nat_eq (drop index one.now.items) (drop index other.now.items) ≡ (result && pointwise nat_eq (drop (index + 1) one.now.items) (drop (index + 1) other.now.items)) }
+{
+    match (one.get(index), other.get(index)) {
+        (Some(number), Some(its)) => number == its,
+        _ => unreachable!(),
+    }
+}
+
+/// Whether two rings have the same numbers.
+fn same_numbers(one: &HeapCircularBuffer<u8>, other: &HeapCircularBuffer<u8>) -> bool
+    ensures { result ≡ pointwise nat_eq one.now.items other.now.items }
+{
+    let count = one.len();
+    if other.len() != count {
+        return false;
+    }
+    for index in 0..count {
+        if !is_same_at(one, other, index) {
+            return false;
+        }
+    }
+    true
 }
 
 impl Access {
@@ -57,7 +87,7 @@ impl Access {
     {
         Ok(Access {
             plan: *plan,
-            noise: Vec::with_capacity(alloc, POLLS)?,
+            noise: HeapCircularBuffer::with_capacity(alloc, POLLS)?,
             fills: 0,
         })
     }
@@ -66,8 +96,10 @@ impl Access {
     pub fn try_clone(&self, alloc: Global) -> Result<Access, OutOfMemory>
         ensures { IfOk result (λ copy. copy ≡ self.now) }
     {
-        let mut noise = Vec::with_capacity(alloc, POLLS)?;
-        noise.extend_from_slice(&self.noise)?;
+        let mut noise = HeapCircularBuffer::with_capacity(alloc, POLLS)?;
+        let (newer, older) = self.noise.as_slices();
+        noise.extend_from_slice(newer);
+        noise.extend_from_slice(older);
         Ok(Access {
             plan: self.plan,
             noise,
@@ -75,12 +107,13 @@ impl Access {
         })
     }
 
-    /// The noise numbers: none, or 32 of 0 to 15, the newest first.
-    pub fn numbers(&self) -> &[u8]
-        ensures value { result.now ≡ self.now.noise }
+    /// The noise number of so many Polls ago, 0 to 15: at 0 the Noises since the last Poll. `None` from 32 on, and while the
+    /// control carrier is down.
+    pub fn number(&self, polls: usize) -> Option<u8>
+        ensures value { result ≡ slice_get self.now.noise polls }
         ensures kept { AreNoiseNumbers self.now.noise }
     {
-        self.noise.as_slice()
+        self.noise.get(polls).copied()
     }
 
     /// Nothing could be read on the control slot. It counts once more since the last Poll, up to 15 times; while the
@@ -88,7 +121,7 @@ impl Access {
     pub fn noise(&mut self)
         ensures { self.new ≡ record self.old { noise = with_noise self.old.noise } }
     {
-        if let Some(count) = self.noise.first_mut() {
+        if let Some(count) = self.noise.get_mut(0) {
             *count = count.saturating_add(1).min(15);
         }
     }
@@ -99,8 +132,7 @@ impl Access {
         ensures { self.new ≡ record self.old { noise = with_poll self.old.noise } }
     {
         if !self.noise.is_empty() {
-            self.noise.truncate(POLLS - 1);
-            self.noise.insert(0, 0).unwrap();
+            let _ = self.noise.push_front(0);
         }
     }
 
@@ -110,7 +142,7 @@ impl Access {
         ensures { self.new ≡ record { plan = self.old.plan; noise = noise_at_up; fills = 0 } }
     {
         self.stop();
-        self.noise.extend_from_slice(&[0; POLLS]).unwrap();
+        self.noise.extend_from_slice(&[0; POLLS]);
     }
 
     /// The control carrier is down.
@@ -121,6 +153,15 @@ impl Access {
         self.fills = 0;
     }
 
+    /// How many Noises count.
+    fn total(&self) -> u32
+        ensures value { result ≡ sum self.now.noise }
+        ensures few { result < 2 ^ 17 }
+    {
+        let (newer, older) = self.noise.as_slices();
+        u32::from(total(newer)) + u32::from(total(older))
+    }
+
     /// The backoff to send: the plan's lowest and one for each Noise that counts, but at most the plan's highest:
     /// 1 to 15.
     pub fn backoff(&self) -> u8
@@ -128,7 +169,7 @@ impl Access {
         ensures range { (1 ≤ result) × (result ≤ 15) }
     {
         self.plan.keeps();
-        let raised = u32::from(self.plan.backoff_low()) + u32::from(total(&self.noise));
+        let raised = u32::from(self.plan.backoff_low()) + self.total();
         raised.min(u32::from(self.plan.backoff_high())) as u8
     }
 
@@ -215,7 +256,9 @@ impl PartialEq for Access {
         ensures gives { result ≡ are_same self.now other.now }
         ensures same { IsTrue result ↔ (self.now ≡ other.now) }
     {
-        self.plan == other.plan && self.noise == other.noise && self.fills == other.fills
+        self.plan == other.plan
+            && same_numbers(&self.noise, &other.noise)
+            && self.fills == other.fills
     }
 }
 

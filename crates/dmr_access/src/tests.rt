@@ -64,9 +64,10 @@ fn keeps_to_the_highest_backoff(rt: HostRuntime) -> Result<(), Fail> {
         assert_eq!(rt; access.backoff(), 8.min(1 + noises));
         access.noise();
     }
-    assert_eq!(rt; access.numbers().len(), 32);
-    assert_eq!(rt; access.numbers()[0], 15);
-    assert_eq!(rt; access.numbers()[1], 0);
+    assert_eq!(rt; access.number(0), Some(15));
+    assert_eq!(rt; access.number(1), Some(0));
+    assert_eq!(rt; access.number(31), Some(0));
+    assert_eq!(rt; access.number(32), None);
     Ok(())
 }
 

@@ -36,6 +36,7 @@ use Rattle.dmr_core.specs.May.{AllMayDo, MayDo, MayEngage}
 use Rattle.dmr_core.proofs.PlanLemmas.{KnowsPlan}
 use Rattle.dmr_core.proofs.ListLemmas.{equal_itself, not_itself}
 use Rattle.dmr_core.proofs.Lists.{total-filter, total_found, total_some, length-filter_le}
+use Rattle.dmr_core.proofs.FreeLemmas.{granted_known}
 use Rattle.dmr_core.proofs.Choices.{and_true, any-filter, by_if, by_option, lowest_is_free}
 use Rattle.dmr_core.proofs.Slots.{same_slot, IsFree, free_is, true_false, other_place, any_more}
 use Rattle.dmr_core.proofs.Own.{found_stands, call_stands}
@@ -200,7 +201,7 @@ pub record Clears (plan : Settings) (now : Facts) (acts : List Act) : Type 0 whe
   pub asks : (fold done now acts).asks ≡ now.asks
 
 free_from : (plan : Settings) (now : Facts) (slot : Slot) → IsFree plan now slot → is_free plan now slot ≡ true
-free_from plan now slot f = rw (f.known, f.up, f.apart, f.none, f.quiet, f.ungranted) refl
+free_from plan now slot f = rw (f.known, f.up, f.apart, f.none, f.quiet, granted_known plan now.outboxes slot f.known ∙ f.ungranted) refl
 
 apart_from : (plan : Settings) (now : Facts) (slot there : Slot) → stands_on now.calls slot ≡ false → stands_on now.calls there ≡ true → is_slot slot there ≡ false
 apart_from plan now slot there h k = either (is_slot slot there) refl

@@ -17,7 +17,7 @@ use Rattle.dmr_calls.specs.declared.call.Standing.{Standing}
 use Rattle.dmr_calls.specs.Calls.{call_on, is_slot, just_begun}
 use Rattle.dmr_calls.specs.Engaged.{is_party}
 use Rattle.dmr_pool.specs.Slots.{box, place, slot_at}
-use Rattle.dmr_pool.specs.Free.{control_slot, names}
+use Rattle.dmr_pool.specs.Free.{control_slot, names, lowest_free_by}
 use Rattle.dmr_core.specs.declared.act.Act.TheVariants.{Began, Ended, Queue}
 use Rattle.dmr_core.specs.Facts.{Facts, done}
 use Rattle.dmr_core.specs.Words.{is_engaged, is_free, is_registered, is_up, lowest_free, lpcn_of, outbox, stands_on}
@@ -174,7 +174,7 @@ small_of p (n ∷ ns) slot h = first (p (slot_at n)) h (small_of p ns slot)
     first false h more = more h
 
 pub lowest_small : (plan : Settings) (now : Facts) (slot : Slot) → lowest_free plan now ≡ Some slot → slot.slot < 2
-unfolding lowest_free
+unfolding lowest_free_by
 lowest_small plan now slot h = small_of (is_free plan now) (range_with_len 0 32) slot h
 
 on_slots : (cs : List Standing) → ((slot : Slot) → stands_on cs slot ≡ true → (slot.carrier < 16) × (slot.slot < 2)) → AreOnSlots cs

@@ -5,7 +5,7 @@ use Rattle.std.specs.List.{list_any}
 use Rattle.std.specs.Option.{option_map_or}
 use Rattle.dmr_pdu.specs.declared.slots.Slot.{Slot}
 use Rattle.dmr_plan.specs.declared.settings.Settings.{Settings}
-use Rattle.dmr_pool.specs.Free.{all_slots}
+use Rattle.dmr_pool.specs.Free.{all_slots, lowest_free_by}
 use Rattle.dmr_core.specs.declared.act.Act.{Act}
 use Rattle.dmr_core.specs.Facts.{Facts}
 use Rattle.dmr_core.specs.Words.{is_free, lowest_free}
@@ -49,5 +49,5 @@ find_passes p [] x h = cc
 find_passes p (y ∷ ys) x h = found_passes p (p y) y x (find p ys) refl (find_passes p ys x) h
 
 pub lowest_is_free : (plan : Settings) (now : Facts) (slot : Slot) → lowest_free plan now ≡ Some slot → is_free plan now slot ≡ true
-unfolding lowest_free
+unfolding lowest_free_by
 lowest_is_free plan now slot h = find_passes (is_free plan now) all_slots slot h

@@ -12,13 +12,14 @@ use Rattle.dmr_calls.specs.declared.call.Call.{Call}
 use Rattle.dmr_calls.specs.declared.call.Standing.{Standing}
 use Rattle.dmr_calls.specs.Calls.{is_slot, just_begun}
 use Rattle.dmr_pool.specs.Slots.{box, place}
-use Rattle.dmr_pool.specs.Free.{control_slot, is_empty}
+use Rattle.dmr_pool.specs.Free.{control_slot, is_empty, names}
 use Rattle.dmr_core.specs.declared.act.Act.{Act}
 use Rattle.dmr_core.specs.declared.act.Act.TheVariants.{Began, Ended, Queue, Send}
 use Rattle.dmr_core.specs.Facts.{Facts, done, has_carrier}
-use Rattle.dmr_core.specs.Words.{is_free, is_granted, is_up, outbox, stands_on}
+use Rattle.dmr_core.specs.Words.{is_free, is_up, lpcn_of, outbox, stands_on}
 use Rattle.dmr_core.specs.Sound.{AreApart, IsPayload, IsSound, is_grant}
 use Rattle.dmr_core.specs.May.{MayDo, MayName}
+use Rattle.dmr_core.proofs.FreeLemmas.{granted_known}
 use Rattle.dmr_core.proofs.PlanLemmas.{KnowsPlan}
 use Rattle.dmr_core.proofs.ListLemmas.{equal_numbers}
 use Rattle.dmr_core.proofs.Lists.{any_before, any-push}
@@ -67,7 +68,7 @@ pub record IsFree (plan : Settings) (now : Facts) (slot : Slot) : Type 0 where
   pub apart : is_slot slot (control_slot plan) ≡ false
   pub none : stands_on now.calls slot ≡ false
   pub quiet : outbox now slot ≡ []
-  pub ungranted : is_granted plan now slot ≡ false
+  pub ungranted : list_any (names (lpcn_of plan slot.carrier) slot.slot) (outbox now (control_slot plan)) ≡ false
 
 empty_is : {X : Type 0} (xs : List X) → is_empty xs ≡ true → xs ≡ []
 empty_is [] h = refl
@@ -80,7 +81,7 @@ free_is plan now slot h =
     let c = and_true _ _ b.0 in
     let d = and_true _ _ c.0 in
     let e = and_true _ _ d.0 in
-    record { known = e.0; up = e.1; apart = not_true _ d.1; none = not_true _ c.1; quiet = empty_is _ b.1; ungranted = not_true _ a.1 }
+    record { known = e.0; up = e.1; apart = not_true _ d.1; none = not_true _ c.1; quiet = empty_is _ b.1; ungranted = sym (granted_known plan now.outboxes slot e.0) ∙ not_true _ a.1 }
 
 pub payload-done : (plan : Settings) (now : Facts) (act : Act) → IsSound plan now → MayDo plan now act → (slot : Slot) → stands_on (done now act).calls slot ≡ true → IsPayload plan (done now act).up slot
 payload-done plan now (Began call) h may slot k =

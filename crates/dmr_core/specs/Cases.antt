@@ -5,6 +5,7 @@ use Rattle.dmr_pdu.specs.declared.pdu.Pdu.{Pdu}
 use Rattle.dmr_pdu.specs.declared.pdu.Pdu.TheVariants.{Aloha, Random, Ackd, TvGrant}
 use Rattle.dmr_plan.specs.declared.settings.Settings.{Settings}
 use Rattle.dmr_access.specs.Noise.{noise_at_up}
+use Rattle.dmr_pool.specs.Free.{lowest_free_by}
 use Rattle.dmr_core.specs.declared.event.Event.{Event}
 use Rattle.dmr_core.specs.declared.event.Event.TheVariants.{Up, Lost, Heard, Noise, Poll}
 use Rattle.dmr_core.specs.declared.act.Act.{Act}
@@ -12,7 +13,6 @@ use Rattle.dmr_core.specs.declared.act.Act.TheVariants.{Queue, Send, Fill, Joine
 use Rattle.dmr_core.specs.declared.entry.Entry.{Entry}
 use Rattle.dmr_core.specs.Facts.{facts_after, nothing}
 use Rattle.dmr_core.specs.Rules.{is_leaving, close, leaving, registration, grant, clear, new_call, talkgroup, individual, answered, cancel, request, heard, ended, repeat, serve, tick, poll}
-use Rattle.dmr_core.specs.Words.{lowest_free}
 use Rattle.dmr_calls.specs.declared.call.Call.{Call}
 use Rattle.dmr_core.specs.Journal.{journal_of}
 
@@ -53,7 +53,7 @@ slot c s = record { carrier = c; slot = s }
 
 -- opens the rules
 unfoldable pub all_rules : Unit {0}
-unfolding noise_at_up is_leaving close leaving registration grant clear new_call talkgroup individual answered cancel lowest_free request heard ended repeat serve tick poll
+unfolding noise_at_up is_leaving close leaving registration grant clear new_call talkgroup individual answered cancel lowest_free_by request heard ended repeat serve tick poll
 all_rules = tt
 
 -- the journal of these events, the first of them first

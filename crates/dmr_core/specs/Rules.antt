@@ -50,6 +50,10 @@ unfoldable pub clear : Settings → Call → List Act
 clear plan call =
     Ended call.slot ∷ replicate plan.clear_copies (Queue call.slot (Clear (lpcn_of plan plan.control) call.group call.target plan.tsi))
 
+-- the call that a line becomes on a slot
+abbrev pub call_of_line : Line → Slot → Call
+call_of_line line slot = record { slot = slot; source = line.source; target = line.target; group = line.group }
+
 -- a call begins, and is granted
 abbrev pub begin : Settings → Call → List Act
 begin plan call = Began call ∷ grant plan call false
@@ -88,7 +92,7 @@ registration plan now q =
 -- a call where a slot is free and no line stands, else a line, else neither
 unfoldable pub new_call : Settings → Facts → Line → List Act
 new_call plan now line =
-    option_map_or (λ (slot : Slot). begin plan (record { slot = slot; source = line.source; target = line.target; group = line.group })) (slot_for_new plan now)
+    option_map_or (λ (slot : Slot). begin plan (call_of_line line slot)) (slot_for_new plan now)
     (if nat_lt (length now.lines) 32 then Lined line ∷ ack plan line.source line.target queued_for_resource else ack plan line.source line.target sysbusy_refused)
 
 -- a talkgroup request
@@ -153,7 +157,7 @@ heard plan now _ = []
 -- a slot for the first line
 unfoldable pub serve : Settings → Facts → List Act
 serve plan now =
-    option_map_or (λ (line : Line). option_map_or (λ (slot : Slot). Unlined line.source ∷ begin plan (record { slot = slot; source = line.source; target = line.target; group = line.group })) (lowest_free plan now) [])
+    option_map_or (λ (line : Line). option_map_or (λ (slot : Slot). Unlined line.source ∷ begin plan (call_of_line line slot)) (lowest_free plan now) [])
     (first_line now.lines) []
 
 -- the ask with the oldest C_AHOY, once more or given up

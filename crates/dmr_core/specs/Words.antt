@@ -1,5 +1,5 @@
 -- Up, waiting, room, free, registered.
-use Rattle.std.specs.Prelude.{ℕ, List, Bool, not, ◌&&◌, nat_le, length, if◌then◌else◌, find, Option, None}
+use Rattle.std.specs.Prelude.{ℕ, List, Bool, nat_le, length, if◌then◌else◌, Option, None}
 use Rattle.std.specs.List.{list_any}
 use Rattle.std.specs.Option.{option_map_or}
 use Rattle.dmr_pdu.specs.declared.slots.Slot.{Slot}
@@ -13,8 +13,8 @@ use Rattle.dmr_calls.specs.Calls.{is_slot}
 use Rattle.dmr_calls.specs.Standings.{Standings}
 use Rattle.dmr_calls.specs.Engaged.{is_engaged as is_engaged_in}
 use Rattle.dmr_pool.specs.Slots.{box, is_up as is_up_in}
-use Rattle.dmr_pool.specs.Free.{all_slots, control_slot, is_control, is_empty, names}
-use Rattle.dmr_core.specs.Facts.{Facts, has_carrier}
+use Rattle.dmr_pool.specs.Free.{control_slot, is_empty, is_free_by, lowest_free_by}
+use Rattle.dmr_core.specs.Facts.{Facts}
 
 -- the carrier is up
 abbrev pub is_up : Facts → ℕ → Bool
@@ -36,19 +36,13 @@ lpcn_of plan c = option_map_or (λ (row : CarrierRow). row.lpcn) (row_with plan.
 abbrev pub stands_on : List Standing → Slot → Bool
 stands_on calls slot = list_any (λ s. is_slot s.call.slot slot) calls
 
--- a grant that names the slot waits for the control slot
-abbrev pub is_granted : Settings → Facts → Slot → Bool
-is_granted plan now slot = list_any (names (lpcn_of plan slot.carrier) slot.slot) (outbox now (control_slot plan))
-
--- free for a call: a slot of a carrier that is up, but not the control slot, on which no call stands, for which nothing waits, and of which no grant waits
+-- free for a call, where calls hold the slots that they stand on
 abbrev pub is_free : Settings → Facts → Slot → Bool
-is_free plan now slot =
-    has_carrier plan slot.carrier && is_up now slot.carrier && not (is_control plan slot)
-    && not (stands_on now.calls slot) && is_empty (outbox now slot) && not (is_granted plan now slot)
+is_free plan now slot = is_free_by plan now.up now.outboxes (stands_on now.calls) slot
 
 -- the first of all slots that is free, by carrier, then by slot
-unfoldable pub lowest_free : Settings → Facts → Option Slot
-lowest_free plan now = find (is_free plan now) all_slots
+abbrev pub lowest_free : Settings → Facts → Option Slot
+lowest_free plan now = lowest_free_by plan now.up now.outboxes (stands_on now.calls)
 
 -- a slot for a new call: lines come first
 abbrev pub slot_for_new : Settings → Facts → Option Slot

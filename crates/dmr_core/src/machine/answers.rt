@@ -7,6 +7,7 @@ ghost use Rattle.dmr_core.specs.Words.{standings};
 ghost use Rattle.dmr_core.specs.Rules.{acts_of, ended, poll, repeat, serve, tick};
 
 use super::Machine;
+use super::words::call_of_line;
 use crate::act::{Act, ActList};
 use crate::event::Event;
 use dmr_calls::{Ask, Call, Due};
@@ -38,15 +39,7 @@ impl Machine {
         if let Some(line) = self.calls.first_line() {
             if let Some(slot) = self.lowest_free() {
                 acts.push(Act::Unlined(line.source));
-                self.add_begin(
-                    acts,
-                    &Call {
-                        slot,
-                        source: line.source,
-                        target: line.target,
-                        group: line.group,
-                    },
-                );
+                self.add_begin(acts, &call_of_line(&line, slot));
             }
         }
     }
@@ -125,20 +118,8 @@ impl Machine {
             Event::Poll(carrier) => {
                 let mut acts = BoundedList::new();
                 if self.is_up(*carrier) {
-                    self.add_poll(
-                        &mut acts,
-                        &Slot {
-                            carrier: *carrier,
-                            slot: SlotNo::new(0),
-                        },
-                    );
-                    self.add_poll(
-                        &mut acts,
-                        &Slot {
-                            carrier: *carrier,
-                            slot: SlotNo::new(1),
-                        },
-                    );
+                    self.add_poll(&mut acts, &Slot::new(*carrier, SlotNo::new(0)));
+                    self.add_poll(&mut acts, &Slot::new(*carrier, SlotNo::new(1)));
                 }
                 acts
             }

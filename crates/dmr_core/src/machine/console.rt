@@ -3,7 +3,6 @@
 ghost use Rattle.std.specs.Prelude.{◌≡◌, ◌≤◌, ◌<◌, ◌+◌, ◌++◌, length};
 ghost use Rattle.dmr_core.specs.declared.command.Command.TheVariants.{Status};
 ghost use Rattle.dmr_core.specs.Rules.{commanded};
-ghost use Rattle.dmr_pool.specs.Slots.{slot_at};
 ghost use Rattle.dmr_calls.specs.Calls.{call_on};
 ghost use Rattle.dmr_core.specs.Words.{is_free, stands_on};
 ghost use Rattle.dmr_core.specs.Replies.{all_shown, at_most_one, calls_of, dropping, ending, reply_of, reply_to, shown, state_of};
@@ -15,17 +14,6 @@ use crate::event::Event;
 use crate::reply::{Reply, SlotState, State};
 use dmr_calls::Call;
 use dmr_pdu::{Address, BoundedList, CarrierNo, Slot, SlotNo};
-
-/// The slot of a place, by carrier number, then slot.
-fn slot_at(place: u32) -> Slot
-    requires { place < 32 }
-    ensures { result ≡ slot_at place }
-{
-    Slot {
-        carrier: CarrierNo::new(place / 2),
-        slot: SlotNo::new(place % 2),
-    }
-}
 
 impl Machine {
     /// What a command brings about.
@@ -43,10 +31,7 @@ impl Machine {
             }
             Command::End(carrier, slot) => {
                 if self.plan.carrier_with(*carrier).is_some() {
-                    let slot = Slot {
-                        carrier: *carrier,
-                        slot: *slot,
-                    };
+                    let slot = Slot::new(*carrier, *slot);
                     if let Some(call) = self.calls.call_on(slot) {
                         self.add_clear(&mut acts, &call);
                     }
@@ -94,10 +79,7 @@ impl Machine {
             }
             Command::Slots => Reply::Slots(self.slots()),
             Command::Drop(radio) => self.dropping(*radio),
-            Command::End(carrier, slot) => self.ending(&Slot {
-                carrier: *carrier,
-                slot: *slot,
-            }),
+            Command::End(carrier, slot) => self.ending(&Slot::new(*carrier, *slot)),
             Command::Move(_) | Command::Stay => Reply::Done,
         }
     }
@@ -134,7 +116,7 @@ impl Machine {
         ensures calls { calls.new ≡ calls.old ++ at_most_one (call_on self.now.facts.calls (record { carrier = carrier; slot = slot })) }
         ensures few { length calls.new ≤ length calls.old + 1 }
     {
-        if let Some(call) = self.calls.call_on(Slot { carrier, slot }) {
+        if let Some(call) = self.calls.call_on(Slot::new(carrier, slot)) {
             calls.push(call);
         }
     }
@@ -178,8 +160,8 @@ impl Machine {
         ensures { result ≡ all_shown self.now.plan self.now.facts }
     {
         let mut slots = BoundedList::new();
-        for place in 0..32u32 {
-            self.add_slot(&mut slots, &slot_at(place));
+        for place in 0..32usize {
+            self.add_slot(&mut slots, &Slot::at(place));
         }
         slots
     }

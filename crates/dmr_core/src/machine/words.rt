@@ -3,12 +3,12 @@
 ghost use Rattle.std.specs.Prelude.{◌≡◌, ◌≤◌, ◌+◌, ◌<◌, ◌∷◌, ◌++◌, [], length, replicate};
 ghost use Rattle.dmr_pool.specs.Free.{control_slot, is_control};
 ghost use Rattle.dmr_core.specs.Words.{has_room, is_engaged, is_up, lowest_free, lpcn_of, slot_for_new};
-ghost use Rattle.dmr_core.specs.Rules.{ack, ahoy, begin, clear, grant, grant_pdu};
+ghost use Rattle.dmr_core.specs.Rules.{ack, ahoy, begin, call_of_line, clear, grant, grant_pdu};
 
 use super::Machine;
 use crate::act::{Act, ActList};
-use dmr_calls::{Ask, Call};
-use dmr_pdu::{Address, CarrierNo, Kind, Lpcn, Number, Pdu, Reason, Slot, SlotNo};
+use dmr_calls::{Ask, Call, Line};
+use dmr_pdu::{Address, CarrierNo, Kind, Lpcn, Number, Pdu, Reason, Slot};
 
 /// With more PDUs than this in the control slot's outbox, requests are not answered.
 const ROOM: usize = 56;
@@ -18,17 +18,14 @@ impl Machine {
     pub(super) fn control_slot(&self) -> Slot
         ensures { result ≡ control_slot self.now.plan }
     {
-        Slot {
-            carrier: self.plan.control(),
-            slot: SlotNo::new(0),
-        }
+        self.pool.control_slot()
     }
 
     /// Whether a slot is the control slot.
     pub(super) fn is_control(&self, slot: &Slot) -> bool
         ensures { result ≡ is_control self.now.plan slot.now }
     {
-        slot.carrier == self.plan.control() && slot.slot.get() == 0
+        self.pool.is_control(*slot)
     }
 
     /// Whether a carrier is up.
@@ -185,6 +182,18 @@ impl Machine {
     {
         acts.push(Act::Began(*call));
         self.add_grant(acts, call, false);
+    }
+}
+
+/// The call that a line becomes on a slot.
+pub(super) fn call_of_line(line: &Line, slot: Slot) -> Call
+    ensures { result ≡ call_of_line line.now slot }
+{
+    Call {
+        slot,
+        source: line.source,
+        target: line.target,
+        group: line.group,
     }
 }
 

@@ -7,7 +7,7 @@ pub loop-place-preserved : goal.loop-place-preserved
 loop-place-preserved c = record {
   slots =
       c.add_slot.ensures.slots
-      ∙ (λ i. c.loop-place.invariant.slots i ++ shown c.args.self.now.plan c.args.self.now.facts (c.slot_at.ensures i))
+      ∙ (λ i. c.loop-place.invariant.slots i ++ shown c.args.self.now.plan c.args.self.now.facts (c.at.ensures i))
       ∙ sym (shown_more c.args.self.now.plan c.args.self.now.facts c.loop-place.place);
   few = omega (arith, c.add_slot.ensures.few, c.loop-place.invariant.few);
 }

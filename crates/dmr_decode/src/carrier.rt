@@ -57,14 +57,22 @@ impl CarrierReader {
         let begins = self.begins;
         let rest = self.came.saturating_sub(begins);
         if rest > 0 && !self.faulty {
-            writeln!(out, "{begins:>4}  {rest} octets of a frame that isn't whole")?;
+            writeln!(
+                out,
+                "{begins:>4}  {rest} octets of a frame that isn't whole"
+            )?;
         }
         Ok(())
     }
 }
 
 /// Prints a frame, and what its word means.
-fn show_frame<W: Write>(alloc: Global, begins: usize, frame: &FrameIn, out: &mut W) -> io::Result<()> {
+fn show_frame<W: Write>(
+    alloc: Global,
+    begins: usize,
+    frame: &FrameIn,
+    out: &mut W,
+) -> io::Result<()> {
     writeln!(out, "{begins:>4}  {frame}")?;
     match frame {
         FrameIn::Rx { slot: _, word } => show_word(alloc, word, out),

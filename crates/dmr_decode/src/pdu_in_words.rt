@@ -134,8 +134,17 @@ pub fn pdu_of<'a>(words: &[&'a str]) -> Result<Pdu, WordFault<'a>> {
 
 fn aloha<'a>(words: &[&'a str]) -> Result<Pdu, WordFault<'a>> {
     let names = [
-        "sync", "version", "offset", "active", "mask", "function", "nrand_wait", "register", "backoff",
-        "system", "address",
+        "sync",
+        "version",
+        "offset",
+        "active",
+        "mask",
+        "function",
+        "nrand_wait",
+        "register",
+        "backoff",
+        "system",
+        "address",
     ];
     let fields = Fields::of(words, &names)?;
     Ok(Pdu::Aloha {
@@ -244,7 +253,9 @@ fn control_move<'a>(words: &[&'a str]) -> Result<Pdu, WordFault<'a>> {
 fn other<'a>(words: &[&'a str]) -> Result<Pdu, WordFault<'a>> {
     let mut octets = [0; 10];
     match words {
-        [digits] if hex::decode_to_slice(*digits, &mut octets).is_ok() => Ok(Pdu::from_octets(&octets)),
+        [digits] if hex::decode_to_slice(*digits, &mut octets).is_ok() => Ok(Pdu::from_octets(
+            &octets,
+        )),
         _ => Err(WordFault::BadValue("OTHER")),
     }
 }

@@ -32,13 +32,21 @@ pub fn show_site<W: Write>(alloc: Global, octets: &[u8], out: &mut W) -> io::Res
     if rest.len() > 0 {
         let begins = octets.len().saturating_sub(rest.len());
         let count = rest.len();
-        writeln!(out, "{begins:>4}  {count} octets that begin with no whole frame to a carrier")?;
+        writeln!(
+            out,
+            "{begins:>4}  {count} octets that begin with no whole frame to a carrier"
+        )?;
     }
     Ok(())
 }
 
 /// Prints a frame, and what its word means.
-fn show_frame<W: Write>(alloc: Global, begins: usize, frame: &FrameOut, out: &mut W) -> io::Result<()> {
+fn show_frame<W: Write>(
+    alloc: Global,
+    begins: usize,
+    frame: &FrameOut,
+    out: &mut W,
+) -> io::Result<()> {
     writeln!(out, "{begins:>4}  {frame}")?;
     match frame {
         FrameOut::Tx { slot: _, word } => show_word(alloc, word, out),

@@ -35,7 +35,10 @@ impl Kind {
 
     /// What a kind that the site knows is called.
     pub fn name(&self) -> Option<&'static str> {
-        Kind::NAMES.iter().find(|row| row.0 == *self).map(|row| row.1)
+        Kind::NAMES
+            .iter()
+            .find(|row| row.0 == *self)
+            .map(|row| row.1)
     }
 }
 
@@ -73,7 +76,10 @@ impl Reason {
 
     /// The name of a reason that has one.
     pub fn name(&self) -> Option<&'static str> {
-        Reason::NAMES.iter().find(|row| row.0 == *self).map(|row| row.1)
+        Reason::NAMES
+            .iter()
+            .find(|row| row.0 == *self)
+            .map(|row| row.1)
     }
 }
 
@@ -102,8 +108,14 @@ impl fmt::Display for Pdu {
             } => {
                 let (sync, offset) = (bit(*sync), bit(*offset));
                 let (active, register) = (bit(*active), bit(*register));
-                write!(f, "C_ALOHA sync={sync} version={version} offset={offset} active={active} mask={mask} ")?;
-                write!(f, "function={function} nrand_wait={nrand_wait} register={register} ")?;
+                write!(
+                    f,
+                    "C_ALOHA sync={sync} version={version} offset={offset} active={active} mask={mask} "
+                )?;
+                write!(
+                    f,
+                    "function={function} nrand_wait={nrand_wait} register={register} "
+                )?;
                 write!(f, "backoff={backoff} system={system} address={address}")
             }
             Pdu::Ahoy {
@@ -114,7 +126,10 @@ impl fmt::Display for Pdu {
                 calling,
             } => {
                 let group = bit(*group);
-                write!(f, "C_AHOY options={options} group={group} kind={kind} called={called} calling={calling}")
+                write!(
+                    f,
+                    "C_AHOY options={options} group={group} kind={kind} called={called} calling={calling}"
+                )
             }
             Pdu::Random {
                 options,
@@ -122,7 +137,10 @@ impl fmt::Display for Pdu {
                 kind,
                 target,
                 source,
-            } => write!(f, "C_RAND options={options} flags={flags} kind={kind} target={target} source={source}"),
+            } => write!(
+                f,
+                "C_RAND options={options} flags={flags} kind={kind} target={target} source={source}"
+            ),
             Pdu::Ackd {
                 info,
                 reason,
@@ -131,7 +149,10 @@ impl fmt::Display for Pdu {
                 additional,
             } => {
                 let spare = bit(*spare);
-                write!(f, "C_ACKD info={info} reason={reason} spare={spare} target={target} additional={additional}")
+                write!(
+                    f,
+                    "C_ACKD info={info} reason={reason} spare={spare} target={target} additional={additional}"
+                )
             }
             Pdu::Acku {
                 info,
@@ -141,7 +162,10 @@ impl fmt::Display for Pdu {
                 additional,
             } => {
                 let spare = bit(*spare);
-                write!(f, "C_ACKU info={info} reason={reason} spare={spare} target={target} additional={additional}")
+                write!(
+                    f,
+                    "C_ACKU info={info} reason={reason} spare={spare} target={target} additional={additional}"
+                )
             }
             Pdu::Clear {
                 lpcn,
@@ -150,14 +174,20 @@ impl fmt::Display for Pdu {
                 source,
             } => {
                 let group = bit(*group);
-                write!(f, "P_CLEAR lpcn={lpcn} group={group} target={target} source={source}")
+                write!(
+                    f,
+                    "P_CLEAR lpcn={lpcn} group={group} target={target} source={source}"
+                )
             }
             Pdu::PvGrant {
                 lpcn,
                 slot,
                 target,
                 source,
-            } => write!(f, "PV_GRANT lpcn={lpcn} slot={slot} target={target} source={source}"),
+            } => write!(
+                f,
+                "PV_GRANT lpcn={lpcn} slot={slot} target={target} source={source}"
+            ),
             Pdu::TvGrant {
                 lpcn,
                 slot,
@@ -166,7 +196,10 @@ impl fmt::Display for Pdu {
                 source,
             } => {
                 let late = bit(*late);
-                write!(f, "TV_GRANT lpcn={lpcn} slot={slot} late={late} target={target} source={source}")
+                write!(
+                    f,
+                    "TV_GRANT lpcn={lpcn} slot={slot} late={late} target={target} source={source}"
+                )
             }
             Pdu::Move {
                 register,
@@ -174,7 +207,10 @@ impl fmt::Display for Pdu {
                 lpcn,
             } => {
                 let register = bit(*register);
-                write!(f, "C_MOVE register={register} backoff={backoff} lpcn={lpcn}")
+                write!(
+                    f,
+                    "C_MOVE register={register} backoff={backoff} lpcn={lpcn}"
+                )
             }
             Pdu::Other(octets) => {
                 write!(f, "OTHER ")?;

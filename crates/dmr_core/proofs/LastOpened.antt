@@ -3,6 +3,7 @@ use Rattle.std.proofs.Common.{◌≡◌, ◌<◌, ◌≤◌, ℕ, List, [], ◌�
 use Rattle.std.specs.Prelude.{fold, Option, Some, None, unwrap_or, option_map, if◌then◌else◌, cond, not, ◌==◌, find}
 use Rattle.std.proofs.lemmas.Bool.Decides.{nat_tests}
 use Rattle.dmr_pdu.specs.declared.slots.Slot.{Slot}
+use Rattle.dmr_pdu.specs.declared.pdu.Pdu.TheVariants.{TvGrant}
 use Rattle.dmr_plan.specs.declared.settings.Settings.{Settings}
 use Rattle.dmr_calls.specs.declared.ask.Ask.{Ask}
 use Rattle.dmr_calls.specs.declared.ask.Asking.{Asking}
@@ -16,15 +17,16 @@ use Rattle.dmr_core.specs.declared.event.Event.{Event}
 use Rattle.dmr_core.specs.declared.event.Event.TheVariants.{Active, Lost, Say, Tick, Up}
 use Rattle.dmr_core.specs.declared.command.Command.TheVariants.{Move, Stay}
 use Rattle.dmr_core.specs.declared.act.Act.{Act}
-use Rattle.dmr_core.specs.declared.act.Act.TheVariants.{AskOver, Asked, Began, Ended, Lined, Unlined}
+use Rattle.dmr_core.specs.declared.act.Act.TheVariants.{AskOver, Asked, Began, Ended, Fill, Lined, Unlined}
 use Rattle.dmr_core.specs.declared.entry.Entry.{Entry}
-use Rattle.dmr_core.specs.Facts.{Facts, asks_by_event, calls_by_event, done, facts_after, lines_by_event, moving_by_event, noted}
+use Rattle.dmr_core.specs.declared.named.NamedSlot.{NamedSlot}
+use Rattle.dmr_core.specs.Facts.{Facts, asks_by_event, calls_by_event, done, facts_after, late_by_act, late_by_event, lines_by_event, moving_by_event, noted}
 use Rattle.dmr_core.specs.Words.{stands_on}
 use Rattle.dmr_core.specs.Journal.{IsLegal}
 use Rattle.dmr_core.specs.Sound.{IsSound, in_line, total}
 use Rattle.dmr_core.specs.May.{MayDo}
 use Rattle.dmr_core.specs.Laws.{EachAct, Throughout}
-use Rattle.dmr_core.specs.Last.{closed_with, last_word, no_act, of_ask, of_call, of_line, of_move, stands}
+use Rattle.dmr_core.specs.Last.{closed_with, last_word, no_act, of_ask, of_call, of_late, of_line, of_move, stands}
 use Rattle.dmr_core.proofs.PlanLemmas.{KnowsPlan}
 use Rattle.dmr_core.proofs.ListLemmas.{equal_numbers}
 use Rattle.dmr_core.proofs.Apart.{marked_call}
@@ -74,6 +76,25 @@ pub move_by_last : (plan : Settings) (facts : Facts) (journal : List Entry) → 
 move_by_last plan facts journal =
     decided plan facts (λ (f : Facts). f.moving) of_move no_act (λ now event. move_noted now.moving event) journal
     (everywhere plan facts (Leaves (λ (f : Facts). f.moving) no_act) (λ now act. refl) journal)
+
+-- the last late entry
+late_or : (b : Bool) (late : Option NamedSlot) → (if b then None else late) ≡ unwrap_or (if b then Some None else None) late
+late_or true late = refl
+late_or false late = refl
+
+late_noted : (plan : Settings) (late : Option NamedSlot) (event : Event) → late_by_event plan late event ≡ unwrap_or (closed_with plan.control event) late
+late_noted plan late (Up c) = late_or (c == plan.control) late
+late_noted plan late (Lost c) = late_or (c == plan.control) late
+late_noted plan late _ = refl
+
+late_left : (now : Facts) (act : Act) → late_by_act now.late act ≡ unwrap_or (of_late act) now.late
+late_left now (Fill slot (TvGrant channel number bit target source)) = refl
+late_left now _ = refl
+
+pub late_by_last : (plan : Settings) (facts : Facts) (journal : List Entry) → (facts_after plan facts journal).late ≡ stands (closed_with plan.control) of_late facts.late journal
+late_by_last plan facts journal =
+    decided plan facts (λ (f : Facts). f.late) (closed_with plan.control) of_late (λ now event. late_noted plan now.late event) journal
+    (everywhere plan facts (Leaves (λ (f : Facts). f.late) of_late) late_left journal)
 
 -- what is found, after some were taken out
 pub find_gone : {X : Type 0} (p g : X → Bool) → ((x : X) → p x ≡ true → g x ≡ true) → (xs : List X) → find p (filter (λ x. not (g x)) xs) ≡ None
@@ -237,7 +258,7 @@ carrier_over : (calls : List Standing) (c : ℕ) (slot : Slot) → call_on (on_o
 carrier_over calls c slot =
     call_on-filter (λ x. not (x.carrier == c)) calls slot ∙ rw (turned_numbers c slot.carrier) (over (slot.carrier == c) (call_on calls slot))
 
-call_noted : (calls : List Standing) (event : Event) (slot : Slot) → call_on (calls_by_event calls event) slot ≡ unwrap_or (closed_with slot.carrier event) (call_on calls slot)
+pub call_noted : (calls : List Standing) (event : Event) (slot : Slot) → call_on (calls_by_event calls event) slot ≡ unwrap_or (closed_with slot.carrier event) (call_on calls slot)
 call_noted calls (Up c) slot = carrier_over calls c slot
 call_noted calls (Lost c) slot = carrier_over calls c slot
 call_noted calls (Active there) slot = found_map (λ (s : Standing). is_slot s.call.slot slot) (λ (s : Standing). s.call) (marked there) (λ s. ap (λ (k : Call). is_slot k.slot slot) (marked_call there s)) (marked_call there) calls

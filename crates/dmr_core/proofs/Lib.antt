@@ -23,6 +23,9 @@ mod Plans
 mod SafeLaws
 mod LastLemmas
 mod LastOpened
+mod Channels
+mod Rounds
+mod TurnLemmas
 mod BackoffLemmas
 mod AgeLemmas
 mod OrderLemmas

@@ -15,7 +15,7 @@ use Rattle.dmr_core.proofs.Slots.{true_false}
 use Rattle.dmr_core.proofs.SafeLaws.{find_any}
 
 -- no two rows have one channel
-abbrev HasOwnChannels : List CarrierRow → Type 0
+abbrev pub HasOwnChannels : List CarrierRow → Type 0
 HasOwnChannels [] = Unit {0}
 HasOwnChannels (r ∷ rows) = (list_any (λ w. w.lpcn == r.lpcn) rows ≡ false) × HasOwnChannels rows
 
@@ -23,14 +23,14 @@ any_lpcn : (rows : List CarrierRow) (n : ℕ) → list_any (λ x. x == n) (map (
 any_lpcn [] n = refl
 any_lpcn (r ∷ rows) n = ap (λ b. (r.lpcn == n) || b) (any_lpcn rows n)
 
-own_channels : (rows : List CarrierRow) → has_repeat (map (λ (w : CarrierRow). w.lpcn) rows) ≡ false → HasOwnChannels rows
+pub own_channels : (rows : List CarrierRow) → has_repeat (map (λ (w : CarrierRow). w.lpcn) rows) ≡ false → HasOwnChannels rows
 own_channels [] h = tt
 own_channels (r ∷ rows) h =
     let both = or_false (list_any (λ x. x == r.lpcn) (map (λ (w : CarrierRow). w.lpcn) rows)) (has_repeat (map (λ (w : CarrierRow). w.lpcn) rows)) h in
     (sym (any_lpcn rows r.lpcn) ∙ both.0, own_channels rows both.1)
 
 -- the rows of two carriers of one channel are one row
-found_row : (rows : List CarrierRow) (a : ℕ) → list_any (λ row. row.number == a) rows ≡ true → (row : CarrierRow) × (find (λ x. x.number == a) rows ≡ Some row)
+pub found_row : (rows : List CarrierRow) (a : ℕ) → list_any (λ row. row.number == a) rows ≡ true → (row : CarrierRow) × (find (λ x. x.number == a) rows ≡ Some row)
 found_row [] a h = cc
 found_row (r ∷ rows) a h = first (r.number == a) h (found_row rows a)
   where
@@ -51,7 +51,7 @@ one_row (r ∷ rows) a b x y own h k same = either (r.number == a) (r.number == 
     either false true h k more = let e : r ≡ y = cc in true_false _ (clash a x h (same ∙ sym (ap (λ (w : CarrierRow). w.lpcn) e))) own.0
     either false false h k more = more h k same
 
-lpcn_is : (plan : Settings) (a : ℕ) (x : CarrierRow) → find (λ r. r.number == a) plan.carriers ≡ Some x → lpcn_of plan a ≡ x.lpcn
+pub lpcn_is : (plan : Settings) (a : ℕ) (x : CarrierRow) → find (λ r. r.number == a) plan.carriers ≡ Some x → lpcn_of plan a ≡ x.lpcn
 lpcn_is plan a x h = rw h refl
 
 channels_apart : (plan : Settings) → HasOwnChannels plan.carriers → (a b : ℕ) → has_carrier plan a ≡ true → has_carrier plan b ≡ true → lpcn_of plan a ≡ lpcn_of plan b → a ≡ b

@@ -1,6 +1,7 @@
 -- What stands, by the last event or act that opened or closed it.
 use Rattle.std.specs.Prelude.{ℕ, List, [], ◌∷◌, Bool, true, false, Option, Some, None, unwrap_or, if◌then◌else◌, ◌==◌, ◌&&◌}
 use Rattle.dmr_pdu.specs.declared.slots.Slot.{Slot}
+use Rattle.dmr_pdu.specs.declared.pdu.Pdu.TheVariants.{TvGrant}
 use Rattle.dmr_plan.specs.declared.settings.Settings.{Settings}
 use Rattle.dmr_calls.specs.declared.ask.Ask.{Ask}
 use Rattle.dmr_calls.specs.declared.line.Line.{Line}
@@ -10,8 +11,9 @@ use Rattle.dmr_core.specs.declared.event.Event.{Event}
 use Rattle.dmr_core.specs.declared.event.Event.TheVariants.{Up, Lost, Say}
 use Rattle.dmr_core.specs.declared.command.Command.TheVariants.{Move, Stay}
 use Rattle.dmr_core.specs.declared.act.Act.{Act}
-use Rattle.dmr_core.specs.declared.act.Act.TheVariants.{Joined, Left, Asked, AskOver, Lined, Unlined, Began, Ended}
+use Rattle.dmr_core.specs.declared.act.Act.TheVariants.{Fill, Joined, Left, Asked, AskOver, Lined, Unlined, Began, Ended}
 use Rattle.dmr_core.specs.declared.entry.Entry.{Entry}
+use Rattle.dmr_core.specs.declared.named.NamedSlot.{NamedSlot}
 use Rattle.dmr_core.specs.Facts.{has_carrier}
 
 -- the later word, if there is one
@@ -55,6 +57,11 @@ abbrev pub of_move : Event → Option (Option ℕ)
 of_move (Say (Move lpcn)) = Some (Some lpcn)
 of_move (Say Stay) = Some None
 of_move _ = None
+
+-- the slot of the last late entry is opened by a Fill that is a grant to a talkgroup
+abbrev pub of_late : Act → Option (Option NamedSlot)
+of_late (Fill slot (TvGrant channel number bit target source)) = Some (Some (record { channel = channel; slot = number }))
+of_late _ = None
 
 -- a carrier's Up and Lost close what stands by it
 abbrev pub closed_with : {X : Type 0} → ℕ → Event → Option (Option X)

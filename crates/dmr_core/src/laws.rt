@@ -1,6 +1,6 @@
 //! What is so of the definitions alone, whatever a site is told.
 
-ghost use Rattle.std.specs.Prelude.{◌≡◌, ◌==◌, ◌+◌, ◌++◌, ◌<◌, ◌≤◌, ℕ, List, [], length, min, true, Some};
+ghost use Rattle.std.specs.Prelude.{◌≡◌, ◌==◌, ◌+◌, ◌*◌, ◌%◌, ◌++◌, ◌<◌, ◌≤◌, ℕ, List, [], length, min, true, Some, None};
 ghost use Rattle.dmr_plan.specs.declared.settings.Settings.{Settings};
 ghost use Rattle.dmr_plan.specs.IsPlan.{IsPlan};
 ghost use Rattle.dmr_pdu.specs.declared.slots.Slot.{Slot};
@@ -13,7 +13,7 @@ ghost use Rattle.dmr_core.specs.declared.event.Event.{Event};
 ghost use Rattle.dmr_core.specs.declared.entry.Entry.{Entry};
 ghost use Rattle.dmr_core.specs.Facts.{Facts, facts_after, has_carrier, noted, nothing};
 ghost use Rattle.dmr_core.specs.Words.{is_registered, is_up, outbox};
-ghost use Rattle.dmr_core.specs.Rules.{acts_of};
+ghost use Rattle.dmr_core.specs.Rules.{acts_of, grant_pdu};
 ghost use Rattle.dmr_core.specs.Journal.{IsLegal, journal_of, events_of, answers_of};
 ghost use Rattle.dmr_core.specs.Sound.{IsSound};
 ghost use Rattle.dmr_core.specs.May.{AllMayDo};
@@ -25,7 +25,8 @@ ghost use Rattle.dmr_core.specs.Ages.{age_on, quiet_on, waited_of, begins_on, st
 ghost use Rattle.dmr_core.specs.Orders.{IsInOrder, opened, joined_by, asked_by, lined_by, begun_by, sources_of_asks, sources_of_lines, slots_of_calls};
 ghost use Rattle.dmr_core.specs.Down.{IsOfNoCarrier};
 ghost use Rattle.dmr_core.specs.Waiting.{queued_by, sent_by, since_turn};
-ghost use Rattle.dmr_core.specs.Last.{stands, closed_with, no_event, no_act, of_ask, of_call, of_carrier, of_line, of_move, of_registration};
+ghost use Rattle.dmr_core.specs.Turns.{FillsInTurn, NamesStanding, IsFilledWith, fills_in, fills_since, is_steady, talkgroup_calls};
+ghost use Rattle.dmr_core.specs.Last.{stands, closed_with, no_event, no_act, of_ask, of_call, of_carrier, of_late, of_line, of_move, of_registration};
 
 /// The journal of some events is legal, and each legal journal with these events has its answers.
 pub fn one_legal_journal()
@@ -58,8 +59,9 @@ pub fn each_act_is_safe()
 /// What stands is what the last event or act left that opened or closed it; where there is none, what stood before: whether
 /// a radio is registered, by Joined and Left; whether a carrier is up, by its Up and Lost; the move of the control channel, by
 /// an operator's `move` and `stay`; the ask of a radio, by Asked and AskOver and the control carrier's Up and Lost; the line of
-/// a radio, by Lined and Unlined and the same; the call on a slot, by Began and Ended and its carrier's Up and Lost. The first
-/// four are so in every journal, legal or not.
+/// a radio, by Lined and Unlined and the same; the call on a slot, by Began and Ended and its carrier's Up and Lost; the slot
+/// of the last late entry, by a Fill that is a grant to a talkgroup and the control carrier's Up and Lost. The first four and
+/// the last are so in every journal, legal or not.
 pub fn decided_by_the_last()
     ensures registered { (plan : Settings) (facts : Facts) (journal : List Entry) (radio : ℕ) → is_registered (facts_after plan facts journal) radio ≡ stands no_event (of_registration radio) (is_registered facts radio) journal }
     ensures up { (plan : Settings) (facts : Facts) (journal : List Entry) (carrier : ℕ) → carrier < length facts.up → is_up (facts_after plan facts journal) carrier ≡ stands (of_carrier plan carrier) no_act (is_up facts carrier) journal }
@@ -67,6 +69,18 @@ pub fn decided_by_the_last()
     ensures ask { (plan : Settings) (facts : Facts) (journal : List Entry) (radio : ℕ) → ask_of (facts_after plan facts journal).asks radio ≡ stands (closed_with plan.control) (of_ask radio) (ask_of facts.asks radio) journal }
     ensures line { (plan : Settings) (facts : Facts) (journal : List Entry) (radio : ℕ) → IsPlan plan → IsSound plan facts → IsLegal plan facts journal → line_of (facts_after plan facts journal).lines radio ≡ stands (closed_with plan.control) (of_line radio) (line_of facts.lines radio) journal }
     ensures call { (plan : Settings) (facts : Facts) (journal : List Entry) (slot : Slot) → IsPlan plan → IsSound plan facts → IsLegal plan facts journal → call_on (facts_after plan facts journal).calls slot ≡ stands (closed_with slot.carrier) (of_call slot) (call_on facts.calls slot) journal }
+    ensures late { (plan : Settings) (facts : Facts) (journal : List Entry) → (facts_after plan facts journal).late ≡ stands (closed_with plan.control) of_late facts.late journal }
+{}
+
+/// Late entries name the talkgroup calls in turn. In every legal journal a fill is the late entry that the rule gives, where
+/// it gives one, and else no grant; it names a talkgroup call that stands; and the Fills are counted, modulo 4, from the
+/// control carrier's last Up or Lost on. While no carrier comes up or is lost, no call begins or ends and the control channel
+/// is not to be moved, each talkgroup call that stands is named within four times as many Fills as talkgroup calls stand.
+pub fn late_entries_take_turns()
+    ensures due { (plan : Settings) (facts : Facts) (journal : List Entry) → IsPlan plan → IsSound plan facts → IsLegal plan facts journal → Throughout plan facts (FillsInTurn plan) journal }
+    ensures stands { (plan : Settings) (facts : Facts) (journal : List Entry) → IsPlan plan → IsSound plan facts → IsLegal plan facts journal → Throughout plan facts (NamesStanding plan) journal }
+    ensures counted { (plan : Settings) (facts : Facts) (journal : List Entry) → facts.fills < 4 → (facts_after plan facts journal).fills ≡ fills_since plan facts.fills journal % 4 }
+    ensures named { (plan : Settings) (facts : Facts) (journal : List Entry) (call : Call) → IsPlan plan → IsSound plan facts → IsLegal plan facts journal → is_steady journal ≡ true → facts.moving ≡ None → call_on facts.calls call.slot ≡ Some call → call.group ≡ true → 4 * talkgroup_calls facts.calls ≤ fills_in journal → IsFilledWith (grant_pdu plan call true) journal }
 {}
 
 /// What was queued on a slot since its carrier last came up or was lost is what was sent there since then, in the same

@@ -16,7 +16,7 @@ static NAMES: &str =
     "Not_Supported, Perm_User_Refused, Transient_Sys_Refused, NoReg_MS_Away, SysBusy_Refused, \
     Call_Cancel_Refused, Reg_Refused, Reg_Denied, MS_Not_Registered, Called_Party_Busy, Group_Not_Allowed, \
     Message_Accepted, Reg_Accepted, Queued_For_Resource, Wait, \
-    C_ALOHA, C_MOVE, C_AHOY, P_CLEAR, grants, late grants, carriers lost, requests without room";
+    C_ALOHA, C_MOVE, C_AHOY, P_CLEAR, grants, late grants, late entries, carriers lost, requests without room";
 
 /// The numbers of the reasons.
 static REASONS: [u16; 15] = [
@@ -77,6 +77,15 @@ pub struct Model {
     polls: u64,
     /// The channel that the control channel is to be moved to.
     pub moving: Option<u32>,
+    /// How often the control slot was filled since its carrier came up, and the slot of the last late entry since then.
+    fills: u64,
+    last_entry: Option<Slot>,
+}
+
+/// The grant of a call.
+fn grant_of(call: &Request, is_late: bool) -> Pdu {
+    let half = named(call.slot) | u16::from(is_late) << 2;
+    pdu_of(0xB0 + u8::from(call.group), half, call.target, call.source)
 }
 
 /// A slot as grants name it: its carrier's channel in 12 bits, and its side behind them.
@@ -101,6 +110,8 @@ impl Model {
             noises: VecDeque::new(alloc),
             polls: 0,
             moving: None,
+            fills: 0,
+            last_entry: None,
         })
     }
 
@@ -199,10 +210,8 @@ impl Model {
     pub fn grant(&mut self, call: &Request, is_late: bool) -> Result<(), OutOfMemory> {
         self.counts
             .add(if is_late { "late grants" } else { "grants" });
-        let half = named(call.slot) | u16::from(is_late) << 2;
-        let pdu = pdu_of(0xB0 + u8::from(call.group), half, call.target, call.source);
         let control = self.scene.control_slot();
-        self.queue(control, self.scene.copies, pdu)
+        self.queue(control, self.scene.copies, grant_of(call, is_late))
     }
 
     /// The called radio is asked.
@@ -253,6 +262,7 @@ impl Model {
             self.requests.retain(|request| request.stage == Stage::Call);
             self.noises.clear();
             self.polls = 0;
+            (self.fills, self.last_entry) = (0, None);
         }
     }
 
@@ -302,8 +312,26 @@ impl Model {
         Ok(())
     }
 
-    /// What the control slot sends where nothing waits. The backoff is higher for each noise since the 32nd last poll.
+    /// The talkgroup call that a late entry names: from the slot of the last one on it is the nearest going round.
+    fn next_entry(&self) -> Option<Request> {
+        let behind = self.last_entry.map_or(0, |slot| slot.place().saturating_add(1));
+        let is_named = |call: &&Request| call.stage == Stage::Call && call.group;
+        let calls = self.requests.iter().filter(is_named);
+        let calls = calls.copied();
+        calls.min_by_key(|call| call.slot.place().saturating_add(32).saturating_sub(behind) % 32)
+    }
+
+    /// What the control slot sends where nothing waits: each fourth time the next talkgroup call's grant. The backoff is higher
+    /// for each noise since the 32nd last poll.
     fn fill(&mut self) -> Pdu {
+        self.fills = self.fills.saturating_add(1);
+        if self.fills % 4 == 0 && self.moving.is_none() {
+            if let Some(call) = self.next_entry() {
+                self.counts.add("late entries");
+                self.last_entry = Some(call.slot);
+                return grant_of(&call, true);
+            }
+        }
         let oldest = self.polls.saturating_sub(31);
         self.noises.retain(|before| *before >= oldest);
         let noises = self.noises.len().min(15) as u32;

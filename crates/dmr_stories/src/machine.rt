@@ -6,6 +6,7 @@ mod console;
 mod copies;
 mod events;
 mod individual;
+mod late_entries;
 mod limits;
 mod registrations;
 mod stage;

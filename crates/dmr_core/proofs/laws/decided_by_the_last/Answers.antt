@@ -1,5 +1,5 @@
 use Rattle.dmr_core.proofs.LastLemmas.{registered_by_last, up_by_last}
-use Rattle.dmr_core.proofs.LastOpened.{ask_by_last, call_by_last, line_by_last, move_by_last}
+use Rattle.dmr_core.proofs.LastOpened.{ask_by_last, call_by_last, late_by_last, line_by_last, move_by_last}
 use Rattle.dmr_core.proofs.Plans.{plan_known}
 use Rattle.dmr_core.proofs.laws.decided_by_the_last.Goals as goal
 
@@ -20,3 +20,6 @@ returns-clause-line c = λ plan facts journal radio p h legal. line_by_last plan
 
 pub returns-clause-call : goal.returns-clause-call
 returns-clause-call c = λ plan facts journal slot p h legal. call_by_last plan facts journal slot (plan_known plan p) h legal
+
+pub returns-clause-late : goal.returns-clause-late
+returns-clause-late c = late_by_last

@@ -1,0 +1,163 @@
+-- Going round places, how many are passed before one's turn.
+use Rattle.std.proofs.Common.{◌≡◌, ◌≢◌, ◌<◌, ◌≤◌, ◌+◌, ◌-◌, ◌⊎◌, inl, inr, ℕ, zero, suc, List, [], ◌∷◌, Bool, true, false, refl, sym, ◌∙◌, ap, subst, arith, length, filter}
+use Rattle.std.specs.Prelude.{cond, if◌then◌else◌, ◌&&◌, ◌||◌, Option, Some, None, find, option_map}
+use Rattle.std.specs.Option.{option_map_or}
+use Rattle.std.proofs.lemmas.Bool.{cases_lt}
+use Rattle.dmr_pdu.specs.declared.slots.Slot.{Slot}
+use Rattle.dmr_calls.specs.declared.call.Call.{Call}
+use Rattle.dmr_calls.specs.declared.call.Standing.{Standing}
+use Rattle.dmr_calls.specs.Calls.{is_slot}
+use Rattle.dmr_calls.specs.After.{is_group_at, place, slot_at}
+use Rattle.dmr_calls.proofs.AfterLemmas.{IsFirst, NonePass, place-slot_at}
+use Rattle.dmr_core.specs.Turns.{talkgroup_calls}
+use Rattle.dmr_core.proofs.Slots.{same_slot, true_false}
+
+-- one where the test passes
+abbrev pub one : Bool → ℕ
+one b = cond b 1 0
+
+-- how many of so many places pass, from one on
+pub counted : (ℕ → Bool) → ℕ → ℕ → ℕ
+counted g from zero = 0
+counted g from (suc n) = one (g from) + counted g (from + 1) n
+
+-- how many pass from one on and before another
+abbrev pub between : (ℕ → Bool) → ℕ → ℕ → ℕ
+between g from to = counted g from (to - from)
+
+split : (g : ℕ → Bool) (from n m : ℕ) → counted g from (n + m) ≡ counted g from n + counted g (from + n) m
+split g from zero m = let there : from + 0 ≡ from = omega arith in rw there (omega arith)
+split g from (suc n) m =
+    let there : from + 1 + n ≡ from + suc n = omega arith in
+    let more : counted g (from + 1) (n + m) ≡ counted g (from + 1) n + counted g (from + 1 + n) m = split g (from + 1) n m in
+    omega (arith, more, ap (λ k. counted g k m) there)
+
+pub parts : (g : ℕ → Bool) (from mid to : ℕ) → from ≤ mid → mid ≤ to → between g from to ≡ between g from mid + between g mid to
+parts g from mid to low high =
+    let whole : to - from ≡ (mid - from) + (to - mid) = omega (arith, low, high) in
+    let there : from + (mid - from) ≡ mid = omega (arith, low) in
+    ap (counted g from) whole ∙ split g from (mid - from) (to - mid) ∙ ap (λ k. between g from mid + counted g k (to - mid)) there
+
+-- one that passes is counted
+one_there : (g : ℕ → Bool) (at : ℕ) → g at ≡ true → between g at (at + 1) ≡ 1
+one_there g at h =
+    let single : at + 1 - at ≡ 1 = omega arith in
+    ap (counted g at) single ∙ rw h (omega arith)
+
+pub reached : (g : ℕ → Bool) (from at : ℕ) → from ≤ at → g at ≡ true → 1 ≤ between g from (at + 1)
+reached g from at low h = omega (arith, parts g from at (at + 1) low (omega arith), one_there g at h)
+
+-- within so many of those that pass, oneself included, it is the turn of a place
+abbrev pub IsWithin : (ℕ → Bool) → ℕ → ℕ → ℕ → Type 0
+IsWithin g from t d =
+    ((from ≤ t) × (between g from (t + 1) ≤ d)) ⊎ ((t < from) × (between g from 32 + between g 0 (t + 1) ≤ d))
+
+pub at_first : (g : ℕ → Bool) (from t : ℕ) → t < 32 → IsWithin g from t (between g 0 32)
+at_first g from t small = either (cases_lt t from)
+  where
+    far : (from ≤ 32) ⊎ (32 < from) → t < from → between g from 32 + between g 0 (t + 1) ≤ between g 0 32
+    far (inl near) above = omega (arith, parts g 0 (t + 1) 32 (omega arith) (omega (arith, small)), parts g (t + 1) from 32 (omega (arith, above)) near)
+    far (inr beyond) above =
+        let none : 32 - from ≡ 0 = omega (arith, beyond) in
+        let nothing : between g from 32 ≡ 0 = ap (counted g from) none in
+        omega (arith, nothing, parts g 0 (t + 1) 32 (omega arith) (omega (arith, small)))
+
+    turned : (32 < from) ⊎ (from ≤ 32) → (from ≤ 32) ⊎ (32 < from)
+    turned (inl x) = inr x
+    turned (inr x) = inl x
+
+    either : (t < from) ⊎ (from ≤ t) → IsWithin g from t (between g 0 32)
+    either (inl above) = inr (above, far (turned (cases_lt 32 from)) above)
+    either (inr low) = inl (low, omega (arith, parts g 0 from 32 (omega arith) (omega (arith, low, small)), parts g from (t + 1) 32 (omega (arith, low)) (omega (arith, small))))
+
+pub some_left : (g : ℕ → Bool) (from t d : ℕ) → g t ≡ true → IsWithin g from t d → 1 ≤ d
+some_left g from t d h (inl low) = omega (arith, reached g from t low.0 h, low.1)
+some_left g from t d h (inr high) = omega (arith, reached g 0 t (omega arith) h, high.1)
+
+-- one that passes is not before the first that does
+not_before : (g : ℕ → Bool) (from t at : ℕ) → g t ≡ true → from ≤ t → NonePass g from at → at ≤ t
+not_before g from t at h low none = either (cases_lt t at)
+  where
+    either : (t < at) ⊎ (at ≤ t) → at ≤ t
+    either (inl early) = true_false _ h (none t low early)
+    either (inr late) = late
+
+-- at most, and not the same
+less : (a b : ℕ) → a ≤ b → a ≢ b → a < b
+less a b low other = either (cases_lt a b)
+  where
+    either : (a < b) ⊎ (b ≤ a) → a < b
+    either (inl below) = below
+    either (inr above) = absurd (other (omega (arith, low, above)))
+
+-- when it is another's turn, one is nearer
+pub nearer : (g : ℕ → Bool) (from t d at : ℕ) → t < 32 → g t ≡ true → at ≢ t → IsFirst g from 32 at ⊎ (NonePass g from 32 × IsFirst g 0 32 at) → IsWithin g from t d → IsWithin g (at + 1) t (d - 1)
+nearer g from t d at small h other (inl first) (inl low) =
+    let near : at ≤ t = not_before g from t at h low.0 first.before in
+    let before : at < t = less at t near other in
+    inl (omega (arith, before), omega (arith, low.1, parts g from (at + 1) (t + 1) (omega (arith, first.reached)) (omega (arith, before)), reached g from at first.reached first.passing))
+nearer g from t d at small h other (inl first) (inr high) =
+    inr (omega (arith, first.reached, high.0), omega (arith, high.1, parts g from (at + 1) 32 (omega (arith, first.reached)) (omega (arith, first.within)), reached g from at first.reached first.passing))
+nearer g from t d at small h other (inr around) (inl low) = true_false _ h (around.0 t low.0 small)
+nearer g from t d at small h other (inr around) (inr high) =
+    let near : at ≤ t = not_before g 0 t at h (omega arith) around.1.before in
+    let before : at < t = less at t near other in
+    inl (omega (arith, before), omega (arith, high.1, parts g 0 (at + 1) (t + 1) (omega arith) (omega (arith, before)), reached g 0 at (omega arith) around.1.passing))
+
+-- no more places have a talkgroup call than such calls stand
+none_passes : (g : ℕ → Bool) (from n : ℕ) → ((k : ℕ) → from ≤ k → g k ≡ false) → counted g from n ≡ 0
+none_passes g from zero none = refl
+none_passes g from (suc n) none =
+    let more : counted g (from + 1) n ≡ 0 = none_passes g (from + 1) n (λ k low. none k (omega (arith, low))) in
+    rw (none from (omega arith)) more
+
+single : (g : ℕ → Bool) (at from n : ℕ) → ((k : ℕ) → g k ≡ true → k ≡ at) → counted g from n ≤ 1
+single g at from zero only = omega arith
+single g at from (suc n) only = either (g from) refl (single g at (from + 1) n only)
+  where
+    others : g from ≡ true → (k : ℕ) → from + 1 ≤ k → (b : Bool) → g k ≡ b → b ≡ false
+    others e k low true t = absurd (omega (arith, only from e, only k t, low))
+    others e k low false t = refl
+
+    either : (b : Bool) → g from ≡ b → counted g (from + 1) n ≤ 1 → one b + counted g (from + 1) n ≤ 1
+    either true e more = let none : counted g (from + 1) n ≡ 0 = none_passes g (from + 1) n (λ k low. others e k low (g k) refl) in omega (arith, none)
+    either false e more = more
+
+sums : (g h f : ℕ → Bool) (from n : ℕ) → ((k : ℕ) → one (g k) ≤ one (h k) + one (f k)) → counted g from n ≤ counted h from n + counted f from n
+sums g h f from zero less = omega arith
+sums g h f from (suc n) less = omega (arith, less from, sums g h f (from + 1) n less)
+
+-- the slot of a call is at one place
+on_place : (s : Slot) (k : ℕ) → is_slot s (slot_at k) ≡ true → k ≡ place s
+on_place s k h = sym (place-slot_at k) ∙ sym (ap place (same_slot s (slot_at k) h))
+
+group_of : (s : Standing) (calls : List Standing) (k : ℕ) → one (is_group_at (s ∷ calls) k) ≤ one (is_slot s.call.slot (slot_at k) && s.call.group) + one (is_group_at calls k)
+group_of s calls k = either (is_slot s.call.slot (slot_at k)) s.call.group
+  where
+    either : (b c : Bool) → one (option_map_or (λ (call : Call). call.group) (option_map (λ (x : Standing). x.call) (cond b (Some s) (find (λ x. is_slot x.call.slot (slot_at k)) calls))) false) ≤ one (b && s.call.group) + one (is_group_at calls k)
+    either true c = omega arith
+    either false c = omega arith
+
+here_or_none : (s : Standing) (b : Bool) → s.call.group ≡ b → counted (λ k. is_slot s.call.slot (slot_at k) && s.call.group) 0 32 ≤ one b
+here_or_none s true e = single (λ k. is_slot s.call.slot (slot_at k) && s.call.group) (place s.call.slot) 0 32 (λ k h. on_place s.call.slot k (first (is_slot s.call.slot (slot_at k)) s.call.group h))
+  where
+    first : (b c : Bool) → (b && c) ≡ true → b ≡ true
+    first true c h = refl
+    first false c h = h
+here_or_none s false e =
+    let none : counted (λ k. is_slot s.call.slot (slot_at k) && s.call.group) 0 32 ≡ 0 = none_passes (λ k. is_slot s.call.slot (slot_at k) && s.call.group) 0 32 (λ k low. last (is_slot s.call.slot (slot_at k)) s.call.group e) in
+    omega (arith, none)
+  where
+    last : (b c : Bool) → c ≡ false → (b && c) ≡ false
+    last true c h = h
+    last false c h = refl
+
+pub few_places : (calls : List Standing) → between (is_group_at calls) 0 32 ≤ talkgroup_calls calls
+few_places [] = let none : counted (is_group_at []) 0 32 ≡ 0 = none_passes (is_group_at []) 0 32 (λ k low. refl) in omega (arith, none)
+few_places (s ∷ calls) =
+    let both : counted (is_group_at (s ∷ calls)) 0 32 ≤ counted (λ k. is_slot s.call.slot (slot_at k) && s.call.group) 0 32 + counted (is_group_at calls) 0 32 = sums (is_group_at (s ∷ calls)) (λ k. is_slot s.call.slot (slot_at k) && s.call.group) (is_group_at calls) 0 32 (group_of s calls) in
+    omega (arith, both, here_or_none s s.call.group refl, few_places calls, more s.call.group)
+  where
+    more : (b : Bool) → length (cond b (s ∷ filter (λ (x : Standing). x.call.group) calls) (filter (λ (x : Standing). x.call.group) calls)) ≡ one b + talkgroup_calls calls
+    more true = omega arith
+    more false = omega arith

@@ -1,0 +1,283 @@
+-- Late entries name the talkgroup calls in turn.
+use Rattle.std.proofs.Common.{◌≡◌, ◌≢◌, ◌<◌, ◌≤◌, ◌+◌, ◌-◌, ◌*◌, ◌⊎◌, inl, inr, ℕ, List, [], ◌∷◌, Bool, true, false, refl, sym, ◌∙◌, ap, subst, arith}
+use Rattle.std.specs.Prelude.{◌%◌, ◌==◌, ◌&&◌, not, is_some, fold, cond, Option, Some, None, MatchOption, IfSome, option_map, if◌then◌else◌}
+use Rattle.std.specs.List.{list_all}
+use Rattle.std.specs.Option.{option_and_then, option_map_or}
+use Rattle.std.proofs.lemmas.Bool.{cases_lt}
+use Rattle.dmr_pdu.specs.declared.slots.Slot.{Slot}
+use Rattle.dmr_pdu.specs.declared.pdu.Pdu.{Pdu}
+use Rattle.dmr_pdu.specs.declared.pdu.Pdu.TheVariants.{TvGrant}
+use Rattle.dmr_plan.specs.declared.settings.Settings.{Settings}
+use Rattle.dmr_plan.specs.IsPlan.{IsPlan}
+use Rattle.dmr_access.specs.Fill.{is_late_due, one_filled}
+use Rattle.dmr_calls.specs.declared.call.Call.{Call}
+use Rattle.dmr_calls.specs.declared.call.Standing.{Standing}
+use Rattle.dmr_calls.specs.Calls.{call_on}
+use Rattle.dmr_calls.specs.After.{is_group_at, place, place_after, slot_at}
+use Rattle.dmr_calls.proofs.AfterLemmas.{IsFirst, IsGroupOn, IsTurn, NonePass, at_place, slot_at-place, turn_of, turn_stands, place-slot_at}
+use Rattle.dmr_core.specs.declared.event.Event.{Event}
+use Rattle.dmr_core.specs.declared.event.Event.TheVariants.{Active, Lost, Say, Tick, Up}
+use Rattle.dmr_core.specs.declared.command.Command.TheVariants.{Move, Stay}
+use Rattle.dmr_core.specs.declared.act.Act.{Act}
+use Rattle.dmr_core.specs.declared.act.Act.TheVariants.{Began, Ended, Fill}
+use Rattle.dmr_core.specs.declared.act.Acts.{Acts}
+use Rattle.dmr_core.specs.declared.entry.Entry.{Entry}
+use Rattle.dmr_core.specs.declared.named.NamedSlot.{NamedSlot}
+use Rattle.dmr_core.specs.Facts.{Facts, done, facts_after, fills_by_act, fills_by_event, has_carrier, late_by_act, noted}
+use Rattle.dmr_core.specs.Late.{last_slot, next_call, slot_named}
+use Rattle.dmr_core.specs.Words.{lpcn_of}
+use Rattle.dmr_core.specs.Rules.{acts_of, grant_pdu, late_entry}
+use Rattle.dmr_core.specs.Journal.{IsLegal}
+use Rattle.dmr_core.specs.Sound.{IsPayload, IsSound, is_grant, total}
+use Rattle.dmr_core.specs.May.{AllMayDo, MayDo, entry_of}
+use Rattle.dmr_core.specs.Turns.{FillsInTurn, HasFillOf, IsFilledWith, IsLateOf, NamesStanding, fill_in, fills_in, fills_since, is_steady, is_steady_act, is_steady_event, is_turn, talkgroup_calls}
+use Rattle.dmr_core.proofs.PlanLemmas.{KnowsPlan}
+use Rattle.dmr_core.proofs.ListLemmas.{equal_numbers, other_number}
+use Rattle.dmr_core.proofs.Choices.{and_true}
+use Rattle.dmr_core.proofs.Slots.{true_false}
+use Rattle.dmr_core.proofs.Own.{call_stands}
+use Rattle.dmr_core.proofs.Fills.{late_stands}
+use Rattle.dmr_core.proofs.Steps.{facts_after-step}
+use Rattle.dmr_core.proofs.Done.{sound-done}
+use Rattle.dmr_core.proofs.Events.{sound-noted}
+use Rattle.dmr_core.proofs.Answers.{acts_may}
+use Rattle.dmr_core.proofs.SafeLaws.{sound_after}
+use Rattle.dmr_core.proofs.LastOpened.{call_noted}
+use Rattle.dmr_core.proofs.Plans.{plan_known}
+use Rattle.dmr_core.proofs.Channels.{channel_known}
+use Rattle.dmr_core.proofs.Rounds.{IsWithin, at_first, between, few_places, nearer, some_left}
+
+-- a fill is the late entry that is due
+pub fills_turn : (plan : Settings) (now : Facts) (act : Act) → IsSound plan now → MayDo plan now act → FillsInTurn plan now act
+fills_turn plan now (Fill slot pdu) h may = may.late
+fills_turn plan now act h may = tt
+
+-- so it names a talkgroup call that stands
+pub names_standing : (plan : Settings) (now : Facts) (act : Act) → IsSound plan now → MayDo plan now act → NamesStanding plan now act
+names_standing plan now (Fill slot pdu) h may = λ k.
+    let here : entry_of pdu ≡ Some pdu = rw k refl in
+    let there : late_entry plan now ≡ Some pdu = sym may.late ∙ here in
+    subst (λ (o : Option Pdu). IfSome o (IsLateOf plan now.calls)) there (late_stands plan now)
+names_standing plan now act h may = tt
+
+-- Fills are counted modulo 4
+acts_count : (acts : List Act) (n m : ℕ) → n ≡ m % 4 → fold fills_by_act n acts ≡ (m + total fill_in acts) % 4
+acts_count [] n m h = omega (arith, h)
+acts_count (Fill slot pdu ∷ acts) n m h = let next : one_filled n ≡ (m + 1) % 4 = omega (arith, h) in omega (arith, acts_count acts (one_filled n) (m + 1) next)
+acts_count (act ∷ acts) n m h = omega (arith, acts_count acts n m h)
+
+event_counts : (plan : Settings) (n m : ℕ) (event : Event) → n ≡ m % 4 → fills_by_event plan n event ≡ (if is_turn plan event then 0 else m) % 4
+event_counts plan n m (Up c) h = either (c == plan.control)
+  where
+    either : (b : Bool) → (if b then 0 else n) ≡ (if b then 0 else m) % 4
+    either true = refl
+    either false = h
+event_counts plan n m (Lost c) h = either (c == plan.control)
+  where
+    either : (b : Bool) → (if b then 0 else n) ≡ (if b then 0 else m) % 4
+    either true = refl
+    either false = h
+event_counts plan n m event h = h
+
+pub fills_count : (plan : Settings) (facts : Facts) (journal : List Entry) → facts.fills < 4 → (facts_after plan facts journal).fills ≡ fills_since plan facts.fills journal % 4
+fills_count plan facts [] small = omega (arith, small)
+fills_count plan facts (entry ∷ earlier) small =
+    acts_count entry.acts.list (fills_by_event plan (facts_after plan facts earlier).fills entry.event) (if is_turn plan entry.event then 0 else fills_since plan facts.fills earlier)
+    (event_counts plan (facts_after plan facts earlier).fills (fills_since plan facts.fills earlier) entry.event (fills_count plan facts earlier small))
+
+-- while a call has not been named yet: how near its turn is, and how many Fills there were
+record IsGoing (plan : Settings) (calls : List Standing) (t most n : ℕ) (now : Facts) : Type 0 where
+  pub still : now.moving ≡ None
+  pub same : (slot : Slot) → call_on now.calls slot ≡ call_on calls slot
+  pub d : ℕ
+  pub near : IsWithin (is_group_at calls) (place_after (last_slot plan now)) t d
+  pub few : 4 * d + n ≤ 4 * most + now.fills
+
+-- calls that stand on the same slots pass the same tests
+same_test : (calls other : List Standing) → ((slot : Slot) → call_on calls slot ≡ call_on other slot) → is_group_at calls ≡ is_group_at other
+same_test calls other same = λ i k. option_map_or (λ (call : Call). call.group) (same (slot_at k) i) false
+
+-- a steady event leaves it as it is
+going_event : (plan : Settings) (calls : List Standing) (t most n : ℕ) (now : Facts) (event : Event) → is_steady_event event ≡ true → IsGoing plan calls t most n now → IsGoing plan calls t most n (noted plan now event)
+going_event plan calls t most n now (Up c) steady h = cc
+going_event plan calls t most n now (Lost c) steady h = cc
+going_event plan calls t most n now (Say (Move lpcn)) steady h = cc
+going_event plan calls t most n now (Say Stay) steady h = record { still = refl; same = h.same; d = h.d; near = h.near; few = h.few }
+going_event plan calls t most n now (Active there) steady h = record { still = h.still; same = λ slot. call_noted now.calls (Active there) slot ∙ h.same slot; d = h.d; near = h.near; few = h.few }
+going_event plan calls t most n now Tick steady h = record { still = h.still; same = λ slot. call_noted now.calls Tick slot ∙ h.same slot; d = h.d; near = h.near; few = h.few }
+going_event plan calls t most n now event steady h = record { still = h.still; same = h.same; d = h.d; near = h.near; few = h.few }
+
+-- what a fill that is no grant leaves, and one that is
+no_entry : (late : Option NamedSlot) (slot : Slot) (pdu : Pdu) → entry_of pdu ≡ None → late_by_act late (Fill slot pdu) ≡ late
+no_entry late slot (TvGrant channel number bit target source) h = cc
+no_entry late slot pdu h = refl
+
+entry_is : (pdu entry : Pdu) → entry_of pdu ≡ Some entry → pdu ≡ entry
+entry_is pdu entry h = either (is_grant pdu) h
+  where
+    either : (b : Bool) → (if b then Some pdu else None) ≡ Some entry → pdu ≡ entry
+    either true k = cc
+    either false k = cc
+
+named_by : (plan : Settings) (late : Option NamedSlot) (slot : Slot) (call : Call) → call.group ≡ true → late_by_act late (Fill slot (grant_pdu plan call true)) ≡ Some (record { channel = lpcn_of plan call.slot.carrier; slot = call.slot.slot })
+named_by plan late slot call group = rw group refl
+
+named_slot : (plan : Settings) (slot : Slot) → IsPlan plan → has_carrier plan slot.carrier ≡ true → slot_named plan (record { channel = lpcn_of plan slot.carrier; slot = slot.slot }) ≡ Some slot
+named_slot plan slot p there = ap (λ (o : Option ℕ). option_map (λ (c : ℕ). record { carrier = c; slot = slot.slot }) o) (channel_known plan slot.carrier p there)
+
+-- the target: a talkgroup call, and its place
+record IsTarget (calls : List Standing) (call : Call) : Type 0 where
+  pub stands : call_on calls call.slot ≡ Some call
+  pub group : call.group ≡ true
+  pub small : call.slot.slot < 2
+  pub within : place call.slot < 32
+
+target_there : (calls : List Standing) (call : Call) → IsTarget calls call → is_group_at calls (place call.slot) ≡ true
+target_there calls call h = at_place calls call.slot true h.small (rw h.stands h.group)
+
+-- a fill where no late entry is due
+not_due : (plan : Settings) (calls : List Standing) (t most n : ℕ) (now : Facts) (slot : Slot) (pdu : Pdu) → is_late_due now.fills ≡ false → now.fills < 4 → entry_of pdu ≡ late_entry plan now → IsGoing plan calls t most n now → IsGoing plan calls t most (n + 1) (done now (Fill slot pdu))
+unfolding late_entry
+not_due plan calls t most n now slot pdu due few entry h =
+    let none : entry_of pdu ≡ None = entry ∙ rw due refl in
+    let same : late_by_act now.late (Fill slot pdu) ≡ now.late = no_entry now.late slot pdu none in
+    let other : now.fills ≢ 3 = other_number now.fills 3 due in
+    let more : one_filled now.fills ≡ now.fills + 1 = counted_on now.fills few other in
+    record {
+      still = h.still;
+      same = h.same;
+      d = h.d;
+      near = subst (λ (late : Option NamedSlot). IsWithin (is_group_at calls) (place_after (option_and_then (slot_named plan) late)) t h.d) (sym same) h.near;
+      few = omega (arith, h.few, more);
+    }
+  where
+    counted_on : (k : ℕ) → k < 4 → k ≢ 3 → one_filled k ≡ k + 1
+    counted_on k few other = either (cases_lt k 3)
+      where
+        either : (k < 3) ⊎ (3 ≤ k) → one_filled k ≡ k + 1
+        either (inl low) = omega (arith, low)
+        either (inr high) = absurd (other (omega (arith, high, few)))
+
+-- a late entry: it is the target's, or its turn is nearer
+due_turn : (plan : Settings) (calls : List Standing) (most n : ℕ) (call other : Call) (now : Facts) (slot : Slot) (pdu : Pdu) → IsPlan plan → IsSound plan now → IsTarget calls call → is_late_due now.fills ≡ true → pdu ≡ grant_pdu plan other true → IsTurn now.calls (place_after (last_slot plan now)) other → IsGoing plan calls (place call.slot) most n now → (pdu ≡ grant_pdu plan call true) ⊎ IsGoing plan calls (place call.slot) most (n + 1) (done now (Fill slot pdu))
+due_turn plan calls most n call other now slot pdu p sound target due is turn h = either (turn.at == place call.slot) refl
+  where
+    on : IsGroupOn now.calls other.slot other
+    on = turn_stands now.calls (place_after (last_slot plan now)) other turn
+
+    at : place other.slot ≡ turn.at
+    at = ap place turn.on.there ∙ place-slot_at turn.at
+
+    there : has_carrier plan other.slot.carrier ≡ true
+    there = (sound.payload other.slot (call_stands now.calls other.slot other on.stands).0).known
+
+    same_call : turn.at ≡ place call.slot → other ≡ call
+    same_call e =
+        let slots : other.slot ≡ call.slot = turn.on.there ∙ ap slot_at e ∙ slot_at-place call.slot target.small in
+        let mine : call_on now.calls call.slot ≡ Some call = h.same call.slot ∙ target.stands in
+        let yours : call_on now.calls call.slot ≡ Some other = subst (λ (s : Slot). call_on now.calls s ≡ Some other) slots on.stands in
+        cc
+
+    late : late_by_act now.late (Fill slot pdu) ≡ Some (record { channel = lpcn_of plan other.slot.carrier; slot = other.slot.slot })
+    late = subst (λ (x : Pdu). late_by_act now.late (Fill slot x) ≡ Some (record { channel = lpcn_of plan other.slot.carrier; slot = other.slot.slot })) (sym is) (named_by plan now.late slot other on.group)
+
+    last : last_slot plan (done now (Fill slot pdu)) ≡ Some other.slot
+    last = ap (option_and_then (slot_named plan)) late ∙ named_slot plan other.slot p there
+
+    behind : place_after (last_slot plan (done now (Fill slot pdu))) ≡ turn.at + 1
+    behind = ap place_after last ∙ ap (λ (k : ℕ). k + 1) at
+
+    around : IsFirst (is_group_at calls) (place_after (last_slot plan now)) 32 turn.at ⊎ (NonePass (is_group_at calls) (place_after (last_slot plan now)) 32 × IsFirst (is_group_at calls) 0 32 turn.at)
+    around = subst (λ (g : ℕ → Bool). IsFirst g (place_after (last_slot plan now)) 32 turn.at ⊎ (NonePass g (place_after (last_slot plan now)) 32 × IsFirst g 0 32 turn.at)) (same_test now.calls calls h.same) turn.turn
+
+    three : now.fills ≡ 3
+    three = equal_numbers now.fills 3 due
+
+    either : (b : Bool) → (turn.at == place call.slot) ≡ b → (pdu ≡ grant_pdu plan call true) ⊎ IsGoing plan calls (place call.slot) most (n + 1) (done now (Fill slot pdu))
+    either true e = inl (is ∙ ap (λ (c : Call). grant_pdu plan c true) (same_call (equal_numbers turn.at (place call.slot) e)))
+    either false e = inr (record {
+      still = h.still;
+      same = h.same;
+      d = h.d - 1;
+      near = subst (λ (from : ℕ). IsWithin (is_group_at calls) from (place call.slot) (h.d - 1)) (sym behind)
+          (nearer (is_group_at calls) (place_after (last_slot plan now)) (place call.slot) h.d turn.at target.within (target_there calls call target) (other_number turn.at (place call.slot) e) around h.near);
+      few = omega (arith, h.few, three, some_left (is_group_at calls) (place_after (last_slot plan now)) (place call.slot) h.d (target_there calls call target) h.near);
+    })
+
+-- a fill where a late entry is due
+due_step : (plan : Settings) (calls : List Standing) (most n : ℕ) (call : Call) (now : Facts) (slot : Slot) (pdu : Pdu) → IsPlan plan → IsSound plan now → IsTarget calls call → is_late_due now.fills ≡ true → entry_of pdu ≡ late_entry plan now → IsGoing plan calls (place call.slot) most n now → (pdu ≡ grant_pdu plan call true) ⊎ IsGoing plan calls (place call.slot) most (n + 1) (done now (Fill slot pdu))
+unfolding late_entry
+due_step plan calls most n call now slot pdu p sound target due entry h = either (next_call plan now) refl (turn_of now.calls (last_slot plan now))
+  where
+    either : (o : Option Call) → next_call plan now ≡ o → MatchOption o (NonePass (is_group_at now.calls) 0 32) (IsTurn now.calls (place_after (last_slot plan now))) → (pdu ≡ grant_pdu plan call true) ⊎ IsGoing plan calls (place call.slot) most (n + 1) (done now (Fill slot pdu))
+    either None e none =
+        let there : is_group_at now.calls (place call.slot) ≡ true = subst (λ (g : ℕ → Bool). g (place call.slot) ≡ true) (sym (same_test now.calls calls h.same)) (target_there calls call target) in
+        true_false _ there (none (place call.slot) (omega arith) target.within)
+    either (Some other) e turn =
+        let some : late_entry plan now ≡ Some (grant_pdu plan other true) = rw (due, h.still, e) refl in
+        due_turn plan calls most n call other now slot pdu p sound target due (entry_is pdu (grant_pdu plan other true) (entry ∙ some)) turn h
+
+fill_step : (plan : Settings) (calls : List Standing) (most n : ℕ) (call : Call) (now : Facts) (slot : Slot) (pdu : Pdu) → IsPlan plan → IsSound plan now → IsTarget calls call → entry_of pdu ≡ late_entry plan now → IsGoing plan calls (place call.slot) most n now → (pdu ≡ grant_pdu plan call true) ⊎ IsGoing plan calls (place call.slot) most (n + 1) (done now (Fill slot pdu))
+fill_step plan calls most n call now slot pdu p sound target entry h = either (is_late_due now.fills) refl
+  where
+    either : (b : Bool) → is_late_due now.fills ≡ b → (pdu ≡ grant_pdu plan call true) ⊎ IsGoing plan calls (place call.slot) most (n + 1) (done now (Fill slot pdu))
+    either true e = due_step plan calls most n call now slot pdu p sound target e entry h
+    either false e = inr (not_due plan calls (place call.slot) most n now slot pdu e sound.counted entry h)
+
+-- so many Fills, said otherwise
+again : (plan : Settings) (calls : List Standing) (t most n m : ℕ) (now : Facts) → n ≡ m → IsGoing plan calls t most n now → IsGoing plan calls t most m now
+again plan calls t most n m now same h = subst (λ (k : ℕ). IsGoing plan calls t most k now) same h
+
+acts_go : (plan : Settings) (calls : List Standing) (most n : ℕ) (call : Call) (now : Facts) (acts : List Act) → IsPlan plan → IsTarget calls call → IsSound plan now → AllMayDo plan now acts → list_all is_steady_act acts ≡ true → IsGoing plan calls (place call.slot) most n now → HasFillOf (grant_pdu plan call true) acts ⊎ IsGoing plan calls (place call.slot) most (n + total fill_in acts) (fold done now acts)
+acts_go plan calls most n call now [] p target sound may steady h = inr (again plan calls (place call.slot) most n (n + 0) now (omega arith) h)
+acts_go plan calls most n call now (Fill slot pdu ∷ acts) p target sound may steady h =
+    elim (fill_step plan calls most n call now slot pdu p sound target may.0.late h) [
+      | inl named ↦ inl (inl named)
+      | inr going ↦ elim (acts_go plan calls most (n + 1) call (done now (Fill slot pdu)) acts p target (sound-done plan now (Fill slot pdu) (plan_known plan p) sound may.0) may.1 (and_true true (list_all is_steady_act acts) steady).1 going) [
+          | inl later ↦ inl (inr later)
+          | inr left ↦ inr (again plan calls (place call.slot) most (n + 1 + total fill_in acts) (n + (1 + total fill_in acts)) (fold done (done now (Fill slot pdu)) acts) (omega arith) left)
+        ]
+    ]
+acts_go plan calls most n call now (Began other ∷ acts) p target sound may steady h = cc
+acts_go plan calls most n call now (Ended other ∷ acts) p target sound may steady h = cc
+acts_go plan calls most n call now (act ∷ acts) p target sound may steady h =
+    elim (acts_go plan calls most n call (done now act) acts p target (sound-done plan now act (plan_known plan p) sound may.0) may.1 (and_true true (list_all is_steady_act acts) steady).1 (record { still = h.still; same = h.same; d = h.d; near = h.near; few = h.few })) [
+      | inl later ↦ inl (inr later)
+      | inr left ↦ inr (again plan calls (place call.slot) most (n + total fill_in acts) (n + (0 + total fill_in acts)) (fold done (done now act) acts) (omega arith) left)
+    ]
+
+goes : (plan : Settings) (facts : Facts) (call : Call) (journal : List Entry) → IsPlan plan → IsSound plan facts → IsLegal plan facts journal → IsTarget facts.calls call → is_steady journal ≡ true → facts.moving ≡ None → IsFilledWith (grant_pdu plan call true) journal ⊎ IsGoing plan facts.calls (place call.slot) (talkgroup_calls facts.calls) (fills_in journal) (facts_after plan facts journal)
+goes plan facts call [] p sound legal target steady still = inr (record {
+  still = still;
+  same = λ slot. refl;
+  d = between (is_group_at facts.calls) 0 32;
+  near = at_first (is_group_at facts.calls) (place_after (last_slot plan facts)) (place call.slot) target.within;
+  few = omega (arith, few_places facts.calls);
+})
+goes plan facts call (entry ∷ earlier) p sound legal target steady still =
+    let now : Facts = facts_after plan facts earlier in
+    let before : IsSound plan now = sound_after plan facts earlier (plan_known plan p) sound legal.1 in
+    let both = and_true (is_steady_event entry.event && list_all is_steady_act entry.acts.list) (is_steady earlier) steady in
+    let here = and_true (is_steady_event entry.event) (list_all is_steady_act entry.acts.list) both.0 in
+    let may : AllMayDo plan (noted plan now entry.event) entry.acts.list = subst (λ (acts : Acts). AllMayDo plan (noted plan now entry.event) acts.list) (sym legal.0) (acts_may plan now entry.event (plan_known plan p) before) in
+    elim (goes plan facts call earlier p sound legal.1 target both.1 still) [
+      | inl named ↦ inl (inr named)
+      | inr going ↦ elim (acts_go plan facts.calls (talkgroup_calls facts.calls) (fills_in earlier) call (noted plan now entry.event) entry.acts.list p target (sound-noted plan now entry.event (plan_known plan p) before) may here.1 (going_event plan facts.calls (place call.slot) (talkgroup_calls facts.calls) (fills_in earlier) now entry.event here.0 going)) [
+          | inl named ↦ inl (inl named)
+          | inr left ↦ inr (subst (IsGoing plan facts.calls (place call.slot) (talkgroup_calls facts.calls) (fills_in (entry ∷ earlier))) (sym (facts_after-step plan facts entry earlier)) left)
+        ]
+    ]
+
+-- a talkgroup call stands on a slot of the site
+target_is : (plan : Settings) (facts : Facts) (call : Call) → KnowsPlan plan → IsSound plan facts → call_on facts.calls call.slot ≡ Some call → call.group ≡ true → IsTarget facts.calls call
+target_is plan facts call p sound stands group =
+    let payload : IsPayload plan facts.up call.slot = sound.payload call.slot (call_stands facts.calls call.slot call stands).0 in
+    record { stands = stands; group = group; small = payload.small; within = omega (arith, payload.small, p.numbers call.slot.carrier payload.known) }
+
+pub named_within : (plan : Settings) (facts : Facts) (journal : List Entry) (call : Call) → IsPlan plan → IsSound plan facts → IsLegal plan facts journal → is_steady journal ≡ true → facts.moving ≡ None → call_on facts.calls call.slot ≡ Some call → call.group ≡ true → 4 * talkgroup_calls facts.calls ≤ fills_in journal → IsFilledWith (grant_pdu plan call true) journal
+named_within plan facts journal call p sound legal steady still stands group enough =
+    let target : IsTarget facts.calls call = target_is plan facts call (plan_known plan p) sound stands group in
+    elim (goes plan facts call journal p sound legal target steady still) [
+      | inl named ↦ named
+      | inr going ↦ absurd (omega (arith, enough, going.few, (sound_after plan facts journal (plan_known plan p) sound legal).counted, some_left (is_group_at facts.calls) (place_after (last_slot plan (facts_after plan facts journal))) (place call.slot) going.d (target_there facts.calls call target) going.near))
+    ]

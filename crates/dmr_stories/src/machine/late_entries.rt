@@ -1,0 +1,154 @@
+//! Late entries: grants of the talkgroup calls that stand, in each fourth Fill.
+
+use super::stage::{Story, tell_all};
+use super::starts::{ONE_ASK, THREE_CALLS};
+use crate::site_file::SMALL;
+use std::test::Fail;
+
+/// Radio 1001 talks to talkgroup 91 on slot 1 of carrier 0, and was told so.
+const ONE_CALL: &str = "\
+heard 0.0 9F000001.91.1001 => began 0.1 1001 g91; queue 0.0 B100001800005B0003E9
+poll 0 => send 0.0 B100001800005B0003E9
+";
+
+/// Radio 1002 talks to talkgroup 92 on slot 0 of carrier 1 besides.
+const SECOND_CALL: &str = "\
+heard 0.0 9F000001.92.1002 => began 1.0 1002 g92; queue 0.0 B100002000005C0003EA
+poll 0 => send 0.0 B100002000005C0003EA
+";
+
+/// Four Fills, the last of which is late entry of the call to 91, of that to 92, or of that to 93.
+const FOUR_TO_91: &str =
+    "3 poll 0 => fill 0.0 99000000111234000000\npoll 0 => fill 0.0 B100001C00005B0003E9\n";
+const FOUR_TO_92: &str =
+    "3 poll 0 => fill 0.0 99000000111234000000\npoll 0 => fill 0.0 B100002400005C0003EA\n";
+const FOUR_TO_93: &str =
+    "3 poll 0 => fill 0.0 99000000111234000000\npoll 0 => fill 0.0 B100002C00005D0003EB\n";
+
+static STORIES: [Story; 9] = [
+    // The one call is named each fourth time.
+    Story {
+        name: "one call",
+        site: SMALL,
+        radios: Some(1001),
+        told: &[ONE_CALL, FOUR_TO_91, FOUR_TO_91],
+    },
+    // Two calls are named in turn, and three.
+    Story {
+        name: "two calls in turn",
+        site: SMALL,
+        radios: Some(1002),
+        told: &[ONE_CALL, SECOND_CALL, FOUR_TO_91, FOUR_TO_92, FOUR_TO_91],
+    },
+    Story {
+        name: "three calls in turn",
+        site: SMALL,
+        radios: Some(1003),
+        told: &[THREE_CALLS, FOUR_TO_91, FOUR_TO_92, FOUR_TO_93, FOUR_TO_91],
+    },
+    // A call that ended is not named, and the turn goes on behind its slot; without a call there is no late entry, and
+    // the count goes on.
+    Story {
+        name: "ended calls",
+        site: SMALL,
+        radios: Some(1003),
+        told: &[
+            THREE_CALLS,
+            FOUR_TO_91,
+            FOUR_TO_92,
+            "say end 1.0 => reply ok; ended 1.0; queue 1.0 AE00001100005CFFFECA\n",
+            FOUR_TO_93,
+            "\
+say end 0.1 => reply ok; ended 0.1; queue 0.1 AE00001100005BFFFECA
+poll 0 => fill 0.0 99000000111234000000; send 0.1 AE00001100005BFFFECA
+say end 1.1 => reply ok; ended 1.1; queue 1.1 AE00001100005DFFFECA
+4 poll 0 => fill 0.0 99000000111234000000
+heard 0.0 9F000001.92.1002 => began 0.1 1002 g92; queue 0.0 B100001800005C0003EA
+poll 0 => send 0.0 B100001800005C0003EA
+2 poll 0 => fill 0.0 99000000111234000000
+poll 0 => fill 0.0 B100001C00005C0003EA
+",
+        ],
+    },
+    // An individual call is not named.
+    Story {
+        name: "individual call",
+        site: SMALL,
+        radios: Some(1002),
+        told: &[
+            ONE_ASK,
+            "\
+heard 0.0 A10000880003E90003EA => over 1001; began 0.1 1001 1002; queue 0.0 B00000180003EA0003E9
+poll 0 => send 0.0 B00000180003EA0003E9
+4 poll 0 => fill 0.0 99000000111234000000
+",
+        ],
+    },
+    // While the control channel is to be moved C_MOVE stands in place of a late entry, and counts.
+    Story {
+        name: "moved control channel",
+        site: SMALL,
+        radios: Some(1001),
+        told: &[
+            ONE_CALL,
+            "\
+say move 7 => reply ok
+6 poll 0 => fill 0.0 B9000000110007000000
+say stay => reply ok
+poll 0 => fill 0.0 99000000111234000000
+poll 0 => fill 0.0 B100001C00005B0003E9
+",
+        ],
+    },
+    // What waits and is sent does not count, nor does a poll of another carrier.
+    Story {
+        name: "sent in between",
+        site: SMALL,
+        radios: Some(1002),
+        told: &[
+            ONE_CALL,
+            "\
+2 poll 0 => fill 0.0 99000000111234000000
+heard 0.0 9F000001.91.1002 => queue 0.0 B100001C00005B0003E9
+poll 0 => send 0.0 B100001C00005B0003E9
+poll 1 =>
+poll 0 => fill 0.0 99000000111234000000
+poll 0 => fill 0.0 B100001C00005B0003E9
+",
+        ],
+    },
+    // With the control carrier's Up the count begins anew, and the last late entry is forgotten; so it is with its loss.
+    Story {
+        name: "forgotten with the control carrier",
+        site: SMALL,
+        radios: Some(1003),
+        told: &[
+            THREE_CALLS,
+            FOUR_TO_91,
+            FOUR_TO_92,
+            "poll 0 => fill 0.0 99000000111234000000\nup 0 =>\n",
+            FOUR_TO_92,
+            "2 poll 0 => fill 0.0 99000000111234000000\nlost 0 =>\nup 0 =>\n",
+            FOUR_TO_92,
+            FOUR_TO_93,
+        ],
+    },
+    // Sites differ where one was filled once more, and are equal again after four Fills of which none was a late entry.
+    Story {
+        name: "counted Fills",
+        site: SMALL,
+        radios: Some(1001),
+        told: &["\
+copy =>
+3 poll 0 => fill 0.0 99000000111234000000
+same => no
+poll 0 => fill 0.0 99000000111234000000
+same => yes
+"],
+    },
+];
+
+#[test]
+fn late_entries(rt: HostRuntime) -> Result<(), Fail> {
+    tell_all(&rt, &STORIES)
+}

@@ -2,7 +2,8 @@
 # make build   the proved program, at build/dmr_trunk
 # make test    the whole gate: every proof, the must-fail edits and the tests, and each program's stored run (docs/GATE.md)
 # make wrong-bodies [CRATE=name]   every wrong body that must be refused, those outside the gate too
-# make bench   words decoded, encoded and checked per second, beside two coders in C, on this machine; and all words with three flips
+# make bench   words decoded, encoded and checked per second, beside two coders in C, on this machine; all words with three flips; and
+#              how long a site of 1, 4 and 16 carriers takes for an event, idle and busy
 # make soak    a million random inputs through the engine, on two sites, compared with a reference model, by the proved program (some seconds, once it is proved)
 # make serve-check    the proved program serves sixteen carriers and their radios on loopback for half a minute; what comes back is checked
 # make serve-hostile  the proved program served to carriers and strangers that behave badly (some minutes)
@@ -30,6 +31,7 @@ bench:
 	@sed -n 's/^model name[^:]*: *//p' /proc/cpuinfo | uniq -c
 	@cd crates/dmr_bench && rt run -- --flips
 	@tools/bench/compare
+	@crates/dmr_bench/out/dmr_bench --site
 
 soak:
 	@cd crates/dmr_soak && rt run -- --inputs 500000 --counts

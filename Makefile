@@ -1,6 +1,6 @@
 # `make` alone says what there is.
 .DEFAULT_GOAL := help
-.PHONY: help demo build check fmt test wrong-bodies bench soak serve-check serve-hostile tools-check pictures package package-check install
+.PHONY: help demo build check fmt test wrong-bodies bench soak serve-check serve-hostile tools-check pictures package package-check maps install
 
 PREFIX ?= /usr/local
 DESTDIR ?=
@@ -42,11 +42,12 @@ test: ## the whole gate: every proof, the must-fail edits, the tests and each pr
 wrong-bodies: ## every wrong body that must be refused, those outside the gate too: of CRATE=name, or of all
 	@tools/wrong-bodies $(CRATE)
 
-bench: ## words decoded, encoded and checked per second, beside two coders in C; and all words with three flips
+bench: ## words per second beside two coders in C, all words with three flips, and events per second of sites of 1, 4 and 16 carriers
 	@date -u +%Y-%m-%d
 	@sed -n 's/^model name[^:]*: *//p' /proc/cpuinfo | uniq -c
 	@cd crates/dmr_bench && rt run -- --flips
 	@tools/bench/compare
+	@crates/dmr_bench/out/dmr_bench --site
 
 soak: ## a million random inputs through the engine, compared with a reference model, by the proved program
 	@cd crates/dmr_soak && rt run -- --inputs 500000 --counts
@@ -66,6 +67,9 @@ tools-check: build/dmr_trunk build/dmr_decode ## the tools of the field, over th
 
 pictures: build/dmr_trunk ## draws the pictures of the example scripts in docs/pictures again
 	for name in queued_call lost_carrier operator; do tools/timeline --site examples/two_carriers.toml --script examples/scripts/$$name.txt --program build/dmr_trunk --out docs/pictures/$$name.svg || exit; done
+
+maps: ## draws the maps of the crates and of a connection's states again, in docs/pictures
+	tools/draw-map
 
 build/dmr_trunk.1: docs/OPERATING.md tools/manual
 	mkdir -p build && tools/manual <docs/OPERATING.md >$@

@@ -6,3 +6,4 @@ pub mod WordsCases
 pub mod ReplayLemmas
 pub mod RunLemmas
 pub mod NumberLemmas
+pub mod UnsentLemmas

@@ -2,3 +2,5 @@ pub mod Inputs
 pub mod Script
 pub mod Words
 pub mod Replay
+pub mod Unsent
+pub mod Serving

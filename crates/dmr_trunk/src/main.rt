@@ -7,6 +7,7 @@
 //! is said in `notes`.
 #![tactic(auto)]
 
+mod connection;
 mod files;
 mod notes;
 mod pacer;
@@ -18,6 +19,7 @@ mod script;
 mod serve;
 mod serving;
 mod status;
+mod unsent;
 mod words;
 
 ghost use Rattle.std.specs.Prelude.{◌≡◌, IfOk, map, string_bytes};

@@ -3,7 +3,9 @@
 ghost use Rattle.std.specs.Prelude.{None, length};
 ghost use Rattle.dmr_wire.specs.Told.{GotWithin, PutWithin};
 
+use crate::connection::{Connection, PARTS};
 use crate::notes::{Cause, Notes, Whose};
+use crate::unsent::Unsent;
 use dmr_pdu::OutOfMemory;
 use dmr_wire::{Connect, Got, Port, Put, Waited, Wire};
 use log::Log;
@@ -11,109 +13,28 @@ use mio::net::{TcpListener, TcpStream};
 use mio::{Events, Interest, Poll, Token};
 use std::alloc::Global;
 use std::io;
-use std::io::{ErrorKind, Read, Write};
+use std::io::{ErrorKind, Read};
 use std::net::{Net, Shutdown, SocketAddr};
 use std::time::Duration;
 
 /// How many milliseconds a wait lasts at most.
 const WAIT: u64 = 100;
 
-/// How many parts a wait for octets or for a connection has. After each the worker asks whether its term is over, so that the others,
-/// who wait for the last worker when a term ends, do not wait long.
-const PARTS: u8 = 4;
-
-/// How many waits a connection's writes may take between two reads.
-const WRITE_WAITS: u8 = 50;
-
 /// How many reads are made of what comes after a connection's end.
 const LAST_READS: usize = 16;
 
-/// A connection, and what is known of its other side.
-#[derive(Drop)]
-struct Connection {
-    stream: TcpStream,
-    from: SocketAddr,
-    /// How many waits in a row brought no octet, and how many parts of the one that goes on.
-    silent: u16,
-    parts: u8,
-    /// How many waits its writes have taken since the last read.
-    unread: u8,
-    /// What ended it, once it is known.
-    ended: Option<Cause>,
-}
-
-impl Connection {
-    /// Reads once, without waiting.
-    fn read(&mut self, octets: &mut [u8]) -> Got
-        ensures { GotWithin result (length octets.new) }
-    {
-        self.unread = 0;
-        match self.stream.read(octets) {
-            Ok(0) => {
-                self.ended = Some(Cause::EndOfInput);
-                Got::End
-            }
-            Ok(count) => {
-                self.silent = 0;
-                self.parts = 0;
-                Got::Octets(count)
-            }
-            Err(error) => match error.kind() {
-                ErrorKind::WouldBlock => Got::Block,
-                ErrorKind::Interrupted => Got::Interrupted,
-                _ => {
-                    self.ended = Some(Cause::ReadFault);
-                    Got::Fault
-                }
-            },
-        }
+/// Ends the output, and reads what came and was not read. What is closed with octets unread breaks the connection off, and the other
+/// side may lose what was last written to it, as a REFUSED.
+fn finish(stream: &mut TcpStream) {
+    if stream.shutdown(Shutdown::Write).is_err() {
+        return;
     }
-
-    /// Writes once, without waiting.
-    fn write(&mut self, octets: &[u8]) -> Put
-        ensures { PutWithin result (length octets.now) }
-    {
-        match self.stream.write(octets) {
-            Ok(count) => Put::Octets(count),
-            Err(error) => match error.kind() {
-                ErrorKind::WouldBlock => Put::Block,
-                ErrorKind::Interrupted => Put::Interrupted,
-                _ => {
-                    self.ended = Some(Cause::WriteFault);
-                    Put::Fault
-                }
-            },
-        }
-    }
-
-    /// Counts a part of a wait that brought nothing. Whether the other side has been silent for so many waits.
-    fn is_silent(&mut self, silence: u16) -> bool {
-        self.parts = self.parts.saturating_add(1);
-        if self.parts < PARTS {
-            return false;
-        }
-        self.parts = 0;
-        self.silent = self.silent.saturating_add(1);
-        if self.silent < silence {
-            return false;
-        }
-        self.ended = Some(Cause::Silence);
-        true
-    }
-
-    /// Ends the output, and reads what came and was not read. What is closed with octets unread breaks the connection off, and the
-    /// other side may lose what was last written to it, as a REFUSED.
-    fn finish(&mut self) {
-        if self.stream.shutdown(Shutdown::Write).is_err() {
-            return;
-        }
-        let mut octets = [0; 1024];
-        for _ in 0..LAST_READS {
-            match self.stream.read(&mut octets) {
-                Ok(0) => return,
-                Ok(_) => {}
-                Err(_) => return,
-            }
+    let mut octets = [0; 1024];
+    for _ in 0..LAST_READS {
+        match stream.read(&mut octets) {
+            Ok(0) => return,
+            Ok(_) => {}
+            Err(_) => return,
         }
     }
 }
@@ -122,15 +43,19 @@ impl Connection {
 /// has ended.
 ///
 /// It polls the connection where there is one, and else the socket that listens, so nothing that others do ends a wait for the
-/// connection's octets. A wait lasts 100 ms, and is made in parts of 25 ms. A connection from which no octet came in a number of waits in a row is
-/// silent. Writes wait too, 50 times between two reads; the one that would have to wait longer would block.
+/// connection's octets. A wait lasts 100 ms, and is made in parts of 25 ms. A connection from which no octet came in a number of waits
+/// in a row is silent. Reads and writes never wait. What is written and not taken at once is kept, and sent before anything more is
+/// read; a connection on which that has not happened within 50 waits is silent too.
 #[derive(Drop)]
 pub struct SocketPort<'a, R> {
     whose: Whose,
     listener: TcpListener,
     poll: Poll,
     events: Events,
-    connection: Option<Connection>,
+    connection: Option<Connection<TcpStream>>,
+    // What was written to the connection and waits to be sent, and whether the connection is polled for that.
+    unsent: Unsent,
+    sends: bool,
     silence: u16,
     notes: Notes<'a, R>,
     // Connections cannot be taken, which has been noted.
@@ -163,6 +88,9 @@ impl<'a, R: Log> SocketPort<'a, R> {
         let Ok(events) = Events::with_capacity(alloc, 1) else {
             return Err(PortFault::OutOfMemory);
         };
+        let Ok(unsent) = Unsent::new(alloc) else {
+            return Err(PortFault::OutOfMemory);
+        };
         let notes = match Notes::new(rt, alloc) {
             Ok(Some(notes)) => notes,
             Ok(None) => return Err(PortFault::NoPoll),
@@ -187,6 +115,8 @@ impl<'a, R: Log> SocketPort<'a, R> {
             poll,
             events,
             connection: None,
+            unsent,
+            sends: false,
             silence,
             notes,
             refuses: false,
@@ -209,13 +139,15 @@ impl<'a, R: Log> SocketPort<'a, R> {
         }
     }
 
-    /// Lets the connection go, and polls the socket that listens.
+    /// Lets the connection go, and polls the socket that listens. What waits to be sent and is not taken at once is lost.
     fn let_go(&mut self) {
         let Some(mut connection) = self.connection.take() else {
             return;
         };
-        connection.finish();
         let cause = connection.ended.unwrap_or(Cause::Controller);
+        connection.send(&mut self.unsent);
+        self.unsent.clear();
+        finish(&mut connection.stream);
         self.notes.ended(self.whose, connection.from, cause);
         // Should it not be polled, it is still asked after each wait.
         let _ = self
@@ -233,14 +165,8 @@ impl<'a, R: Log> SocketPort<'a, R> {
             .register(&mut stream, Token(0), Interest::READABLE);
         // An answer goes out when it is written, and does not wait for the one after it.
         let _ = stream.set_nodelay(true);
-        self.connection = Some(Connection {
-            stream,
-            from,
-            silent: 0,
-            parts: 0,
-            unread: 0,
-            ended: None,
-        });
+        self.connection = Some(Connection::new(stream, from));
+        self.sends = false;
         self.notes.connected(self.whose, from);
         if let Err(error) = polled {
             self.notes.cannot_accept(self.whose, &error);
@@ -266,56 +192,28 @@ impl<'a, R: Log> SocketPort<'a, R> {
         }
     }
 
-    /// Polls the connection for this.
-    fn poll_for(&mut self, interest: Interest) -> bool {
-        match &mut self.connection {
-            Some(connection) => self
-                .poll
-                .registry()
-                .reregister(&mut connection.stream, Token(0), interest)
-                .is_ok(),
-            None => false,
+    /// Polls the connection for what it waits for: that octets can be sent, where some wait, or else that some have come. Should it not
+    /// be polled for that, it is still asked after each part of a wait.
+    fn poll_connection(&mut self) {
+        let sends = !self.unsent.is_empty();
+        if sends == self.sends {
+            return;
         }
-    }
-
-    /// Writes once, without waiting.
-    fn write_now(&mut self, octets: &[u8]) -> Put
-        ensures { PutWithin result (length octets.now) }
-    {
-        match &mut self.connection {
-            Some(connection) => connection.write(octets),
-            None => Put::Fault,
-        }
-    }
-
-    /// Waits once before a write. `false` where the connection has had its waits.
-    fn wait_to_write(&mut self) -> bool {
         let Some(connection) = &mut self.connection else {
-            return false;
+            return;
         };
-        if connection.unread >= WRITE_WAITS {
-            connection.ended = Some(Cause::NotRead);
-            return false;
+        let interest = if sends {
+            Interest::WRITABLE
+        } else {
+            Interest::READABLE
+        };
+        let registry = self.poll.registry();
+        if registry
+            .reregister(&mut connection.stream, Token(0), interest)
+            .is_ok()
+        {
+            self.sends = sends;
         }
-        connection.unread += 1;
-        self.wait_once(WAIT);
-        true
-    }
-
-    /// Writes once some octets are taken, or the connection has had its waits.
-    fn write_late(&mut self, octets: &[u8]) -> Put
-        ensures { PutWithin result (length octets.now) }
-    {
-        for _ in 0..=WRITE_WAITS {
-            if !self.wait_to_write() {
-                return Put::Block;
-            }
-            let put = self.write_now(octets);
-            if put != Put::Block {
-                return put;
-            }
-        }
-        Put::Block
     }
 }
 
@@ -324,24 +222,16 @@ impl<R: Log> Wire for SocketPort<'_, R> {
 
     fn read(&mut self, octets: &mut [u8]) -> Got {
         match &mut self.connection {
-            Some(connection) => connection.read(octets),
+            Some(connection) => connection.read(&mut self.unsent, octets),
             None => Got::Fault,
         }
     }
 
     fn write(&mut self, octets: &[u8]) -> Put {
-        let put = self.write_now(octets);
-        if put != Put::Block {
-            return put;
+        match &mut self.connection {
+            Some(connection) => connection.write(&mut self.unsent, octets),
+            None => Put::Fault,
         }
-        if !self.poll_for(Interest::WRITABLE) {
-            return Put::Fault;
-        }
-        let put = self.write_late(octets);
-        if !self.poll_for(Interest::READABLE) {
-            return Put::Fault;
-        }
-        put
     }
 }
 
@@ -368,14 +258,12 @@ impl<R: Log> Port for SocketPort<'_, R> {
     }
 
     fn wait(&mut self) -> Waited {
+        self.poll_connection();
         let happened = self.wait_once(WAIT / u64::from(PARTS));
         let Some(connection) = &mut self.connection else {
             return Waited::Silent;
         };
-        if happened {
-            return Waited::Again;
-        }
-        if connection.is_silent(self.silence) {
+        if !happened && connection.is_given_up(&self.unsent, self.silence) {
             return Waited::Silent;
         }
         Waited::Again

@@ -2,6 +2,7 @@
 
 ghost use Rattle.std.specs.Prelude.{◌≡◌, ◌⊎◌, IfOk, option_map};
 ghost use Rattle.dmr_trunk.specs.Replay.{IsPlanned, IsStatus};
+ghost use Rattle.dmr_trunk.specs.Serving.{status_of};
 
 use crate::replay::{ReplayFault, plan_of};
 use crate::serve::{ServeFault, serve};
@@ -20,7 +21,8 @@ use std::time::Clock;
 impl ServeFault {
     /// The exit status.
     pub fn status(&self) -> u8
-        ensures { (result ≡ FAULT) ⊎ (result ≡ AUDIT) ⊎ (result ≡ MEMORY) }
+        ensures is { result ≡ status_of self.now }
+        ensures one { (result ≡ FAULT) ⊎ (result ≡ AUDIT) ⊎ (result ≡ MEMORY) }
     {
         match self {
             ServeFault::CannotListen(_) | ServeFault::NoPoll => FAULT,

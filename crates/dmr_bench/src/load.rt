@@ -1,0 +1,248 @@
+//! Loads of a whole site, in one thread: what its carriers hear, frame by frame, and how long the engine takes for it.
+
+ghost use Rattle.std.specs.Prelude.{◌<◌};
+
+use dmr_bits::Octets10;
+use dmr_burst::write;
+use dmr_link::{Engine, Input, Outputs};
+use dmr_pdu::{CarrierNo, OutOfMemory, Pdu};
+use dmr_plan::Plan;
+use std::alloc::Global;
+
+/// The address that radios register at.
+const REGI: u32 = 0xFF_FEC6;
+
+/// How many talkgroups there are.
+const GROUPS: u32 = 16;
+
+/// A POLL.
+const POLL: &[u8] = &[0x03, 0x00];
+
+/// That the voice channel of slot 0, or of slot 1, is in use.
+const ACTIVE: [&[u8]; 2] = [&[0x04, 0x01, 0x00], &[0x04, 0x01, 0x01]];
+
+/// How many frames' bursts are made beforehand; then they begin anew.
+pub const BURSTS: u32 = 4_096;
+
+/// After how many frames what was put out is dropped.
+const KEPT: u32 = 256;
+
+/// What all sites have, carrier 0 being the control carrier. A call ends after 100 ticks of 60 ms, so slots fall free all the time.
+const SITE: &str = "\
+system = 0x0A51
+regi = 0xFFFEC6
+tsi = 0xFFFECA
+hang = 50
+maximum = 100
+ahoy_wait = 8
+ahoy_tries = 4
+grant_copies = 2
+clear_copies = 2
+backoff_low = 2
+backoff_high = 12
+tick_ms = 60
+silence = 50
+console_port = 7100
+radios = [[1, 5000]]
+groups = [1, 2, 3, 4, 5, 6, 7, 8, 9, 10, 11, 12, 13, 14, 15, 16]
+control = 0
+";
+
+/// The loads.
+#[derive(Clone, Copy)]
+pub enum Load {
+    /// Each carrier polls in each frame, and nothing else happens.
+    Polls,
+    /// A radio that is registered registers in each frame, and the control carrier polls.
+    Registrations,
+    /// In each frame a tick passes, and each carrier hears a burst on each of its slots and polls: voice on all slots but the control
+    /// slot, and there, in turn, a registration, a talkgroup request, an individual request, and the called radio's answer.
+    BusyHour,
+}
+
+impl Load {
+    /// What it is called.
+    pub fn name(self) -> &'static str {
+        match self {
+            Load::Polls => "idle polls",
+            Load::Registrations => "registrations",
+            Load::BusyHour => "busy hour",
+        }
+    }
+}
+
+/// What a carrier sends that heard a burst on slot 0.
+type Heard = [u8; 28];
+
+/// The octets of a PDU: its first octet, no feature set, 16 bits, and two numbers of 24 bits.
+fn octets_of(first: u8, half: u16, upper: u32, lower: u32) -> Octets10 {
+    let [high, low] = half.to_be_bytes();
+    let [_, a, b, c] = upper.to_be_bytes();
+    let [_, d, e, f] = lower.to_be_bytes();
+    [first, 0, high, low, a, b, c, d, e, f]
+}
+
+/// What is sent for the burst of a PDU.
+fn heard(octets: &Octets10) -> Heard {
+    let word = write(&Pdu::from_octets(octets));
+    let mut frame: Heard = [0; 28];
+    frame[0] = 0x02;
+    frame[1] = 26;
+    frame[3..].copy_from_slice(&word.to_octets());
+    frame
+}
+
+/// A radio's registration.
+fn registration(radio: u32) -> Heard {
+    heard(&octets_of(0x9F, 0x020E, REGI, radio))
+}
+
+/// The burst that the control slot hears in a frame, of so many radios.
+fn burst_of(load: Load, frame: u32, radios: u32) -> Heard {
+    let radios = radios.max(1);
+    let radio = 1 + (frame / 4).wrapping_mul(7_919) % radios;
+    let called = 1 + radio % radios;
+    match (load, frame % 4) {
+        (Load::BusyHour, 1) => heard(&octets_of(0x9F, 1, 1 + frame / 4 % GROUPS, radio)),
+        (Load::BusyHour, 2) => heard(&octets_of(0x9F, 0, called, radio)),
+        (Load::BusyHour, 3) => heard(&octets_of(0xA1, 0x88, radio, called)),
+        (Load::BusyHour, _) => registration(radio),
+        _ => registration(1 + frame.wrapping_mul(7_919) % radios),
+    }
+}
+
+/// The bursts that the control slot hears, frame by frame.
+pub fn bursts_of(alloc: Global, load: Load, radios: u32) -> Result<Vec<Heard>, OutOfMemory> {
+    let mut bursts = Vec::new(alloc);
+    for frame in 0..BURSTS {
+        bursts.push(burst_of(load, frame, radios))?;
+    }
+    Ok(bursts)
+}
+
+/// The plan of so many carriers, 16 at most.
+fn plan_of(alloc: Global, carriers: u32) -> Result<Option<Plan>, OutOfMemory> {
+    let mut text = String::from_str(alloc, SITE)?;
+    for number in 0..carriers.min(16) {
+        let row = format!(in alloc; "[[carrier]]\nnumber = {number}\nlpcn = {}\nport = {}\n", number + 1, number + 7_101)?;
+        text.push_str(row.as_str())?;
+    }
+    Ok(Plan::read(alloc, text.as_str()).ok())
+}
+
+/// A site at work, and counts of what came to it and what was put out.
+#[derive(Drop)]
+pub struct Scene {
+    alloc: Global,
+    engine: Engine,
+    outputs: Outputs,
+    carriers: u32,
+    /// How many events came: each poll, burst, use of a voice channel and tick is one.
+    pub events: u64,
+    /// How many octets were put out for carriers.
+    pub octets: u64,
+}
+
+impl Scene {
+    /// A site of so many carriers, all of them up, with so many radios registered. `None` where there can be no such site.
+    pub fn new(alloc: Global, carriers: u32, radios: u32) -> Result<Option<Scene>, OutOfMemory> {
+        let Some(plan) = plan_of(alloc, carriers)? else {
+            return Ok(None);
+        };
+        let mut scene = Scene {
+            alloc,
+            engine: Engine::new(alloc, plan)?,
+            outputs: Outputs::new(alloc),
+            carriers: carriers.min(16),
+            events: 0,
+            octets: 0,
+        };
+        for number in 0..scene.carriers {
+            let [.., carrier] = number.to_be_bytes();
+            scene.open(number)?;
+            scene.take(number, &[0x01, 0x04, 0x01, carrier, 0x00, carrier.wrapping_add(1)])?;
+        }
+        for radio in 0..radios {
+            scene.take(0, &registration(radio.wrapping_add(1)))?;
+            scene.take(0, POLL)?;
+        }
+        scene.begin()?;
+        Ok(Some(scene))
+    }
+
+    /// Counts what was put out, and drops it.
+    fn begin(&mut self) -> Result<(), OutOfMemory> {
+        for number in 0..16u32 {
+            let put_out = self.outputs.carrier(CarrierNo::new(number)).len();
+            self.octets = self.octets.wrapping_add(put_out as u64);
+        }
+        self.outputs = Outputs::new(self.alloc);
+        Ok(())
+    }
+
+    /// A carrier connects.
+    fn open(&mut self, number: u32) -> Result<(), OutOfMemory> {
+        let carrier = CarrierNo::new(number % 16);
+        self.engine.step(Input::Open(carrier), &mut self.outputs)
+    }
+
+    /// A carrier sends these octets; where there are none, a tick passes.
+    fn take(&mut self, number: u32, octets: &[u8]) -> Result<(), OutOfMemory> {
+        self.events = self.events.wrapping_add(1);
+        let carrier = CarrierNo::new(number % 16);
+        let input = if octets.is_empty() {
+            Input::Tick
+        } else {
+            Input::Bytes(carrier, octets)
+        };
+        self.engine.step(input, &mut self.outputs)
+    }
+
+    /// A frame of the busy hour at a carrier.
+    fn hear_all(&mut self, number: u32, burst: &Heard) -> Result<(), OutOfMemory> {
+        let [first, second] = ACTIVE;
+        if number == 0 {
+            self.take(number, burst)?;
+        } else {
+            self.take(number, first)?;
+        }
+        self.take(number, second)?;
+        self.take(number, POLL)
+    }
+
+    /// What comes in a frame.
+    fn frame(&mut self, load: Load, burst: &Heard) -> Result<(), OutOfMemory> {
+        match load {
+            Load::Polls => {
+                for number in 0..self.carriers {
+                    self.take(number, POLL)?;
+                }
+                Ok(())
+            }
+            Load::Registrations => {
+                self.take(0, burst)?;
+                self.take(0, POLL)
+            }
+            Load::BusyHour => {
+                self.take(0, &[])?;
+                for number in 0..self.carriers {
+                    self.hear_all(number, burst)?;
+                }
+                Ok(())
+            }
+        }
+    }
+
+    /// Takes so many frames of a load, whose bursts are given.
+    pub fn play(&mut self, load: Load, bursts: &[Heard], frames: u32) -> Result<(), OutOfMemory> {
+        for frame in 0..frames {
+            if let Some(burst) = bursts.get((frame % BURSTS) as usize) {
+                self.frame(load, burst)?;
+            }
+            if frame % KEPT == 0 {
+                self.begin()?;
+            }
+        }
+        self.begin()
+    }
+}

@@ -1,0 +1,152 @@
+//! A connection of a port: what is read from it and written to it, and how long it is waited for.
+
+ghost use Rattle.std.specs.Prelude.{◌≡◌, ◌≢◌, ℕ, ◌+◌, ◌*◌, ◌-◌, ◌^◌, [], length, min, nat_le, true, Some};
+ghost use Rattle.dmr_wire.specs.Told.{GotWithin, PutWithin};
+ghost use Rattle.dmr_trunk.specs.Unsent.{Passes, taken_by};
+
+use crate::notes::Cause;
+use crate::unsent::Unsent;
+use dmr_wire::{Got, Put};
+use std::io;
+use std::io::{ErrorKind, Read, Write};
+use std::net::SocketAddr;
+
+/// How many parts a wait for octets or for a connection has. After each the worker asks whether its term is over, so that the others,
+/// who wait for the last worker when a term ends, do not wait long.
+pub const PARTS: u32 = 4;
+
+/// How many waits what was written may take to be sent.
+const SEND_WAITS: u32 = 50;
+
+/// A connection, and what is known of its other side. What is written to it and not taken at once waits in a list, and is sent before
+/// anything else is read; so whoever reads nothing is not listened to either, and no more than the answers to one read ever wait.
+#[derive(Drop)]
+pub struct Connection<S: Drop> {
+    /// What carries the octets. Its reads and writes do not wait.
+    pub stream: S,
+    /// The other side's address.
+    pub from: SocketAddr,
+    /// How many parts of waits in a row brought no octet.
+    silent: u32,
+    /// How many parts of waits have passed since octets last began to wait to be sent.
+    unread: u32,
+    /// What ended it, once it is known.
+    pub ended: Option<Cause>,
+}
+
+impl<S: Read + Write + Drop> Connection<S> {
+    /// A connection that has just come.
+    pub fn new(stream: S, from: SocketAddr) -> Connection<S> {
+        Connection {
+            stream,
+            from,
+            silent: 0,
+            unread: 0,
+            ended: None,
+        }
+    }
+
+    /// Keeps what ended the connection, and answers whether the error is one that ends it.
+    fn fails(&mut self, error: &io::Error, cause: Cause) -> bool
+        ensures { self.new.stream ≡ self.old.stream }
+    {
+        match error.kind() {
+            ErrorKind::WouldBlock | ErrorKind::Interrupted => false,
+            _ => {
+                self.ended = Some(cause);
+                true
+            }
+        }
+    }
+
+    /// Sends what waits, as much of it as the other side takes, without waiting. Whether the connection goes on.
+    #[tactic(auto, using(crate::proofs::UnsentLemmas::passes_nothing, crate::proofs::UnsentLemmas::passes_on))]
+    pub fn send(&mut self, unsent: &mut Unsent) -> bool
+        ensures { Passes (S.contents self.old.stream) unsent.old [] (S.contents self.new.stream) unsent.new }
+    {
+        while !unsent.is_empty() {
+            match unsent.send(&mut self.stream) {
+                Ok(0) => return true,
+                Ok(_) => {}
+                Err(error) => return !self.fails(&error, Cause::WriteFault),
+            }
+        }
+        self.unread = 0;
+        true
+    }
+
+    /// Reads once, without waiting, behind what waits to be sent: while some of that is left, a read would block.
+    pub fn read(&mut self, unsent: &mut Unsent, octets: &mut [u8]) -> Got
+        ensures within { GotWithin result (length octets.new) }
+        ensures behind { (count : ℕ) → result ≡ Got.Octets count → unsent.new ≡ [] }
+    {
+        if !self.send(unsent) {
+            return Got::Fault;
+        }
+        if !unsent.is_empty() {
+            return Got::Block;
+        }
+        match self.stream.read(octets) {
+            Ok(0) => {
+                self.ended = Some(Cause::EndOfInput);
+                Got::End
+            }
+            Ok(count) => {
+                self.silent = 0;
+                Got::Octets(count)
+            }
+            Err(error) => {
+                if self.fails(&error, Cause::ReadFault) {
+                    Got::Fault
+                } else if error.kind() == ErrorKind::WouldBlock {
+                    Got::Block
+                } else {
+                    Got::Interrupted
+                }
+            }
+        }
+    }
+
+    /// Writes once, without waiting. What is not taken at once waits, as far as there is room.
+    pub fn write(&mut self, unsent: &mut Unsent, octets: &[u8]) -> Put
+        ensures within { PutWithin result (length octets.now) }
+        ensures passes { Passes (S.contents self.old.stream) unsent.old (taken_by result octets.now) (S.contents self.new.stream) unsent.new }
+    {
+        match unsent.write(&mut self.stream, octets) {
+            Ok(0) => {
+                self.ended = Some(Cause::NotRead);
+                Put::Block
+            }
+            Ok(count) => Put::Octets(count),
+            Err(error) => {
+                if self.fails(&error, Cause::WriteFault) {
+                    Put::Fault
+                } else {
+                    Put::Interrupted
+                }
+            }
+        }
+    }
+
+    /// Counts a part of a wait that brought nothing: neither an octet, nor room for one that waits to be sent. Whether the connection
+    /// has had all the waits that it may have: so many in a row without an octet, or 50 since octets began to wait.
+    pub fn is_given_up(&mut self, unsent: &Unsent, silence: u16) -> bool
+        ensures silent { unsent.now ≡ [] → (self.new.silent ≡ min (self.old.silent + 1) (2 ^ 32 - 1)) × (result ≡ nat_le (4 * silence) self.new.silent) × (result ≡ true → self.new.ended ≡ Some Cause.Silence) }
+        ensures unread { unsent.now ≢ [] → (self.new.unread ≡ min (self.old.unread + 1) (2 ^ 32 - 1)) × (result ≡ nat_le 200 self.new.unread) × (result ≡ true → self.new.ended ≡ Some Cause.NotRead) }
+    {
+        if unsent.is_empty() {
+            self.silent = self.silent.saturating_add(1);
+            if self.silent < PARTS * u32::from(silence) {
+                return false;
+            }
+            self.ended = Some(Cause::Silence);
+        } else {
+            self.unread = self.unread.saturating_add(1);
+            if self.unread < PARTS * SEND_WAITS {
+                return false;
+            }
+            self.ended = Some(Cause::NotRead);
+        }
+        true
+    }
+}

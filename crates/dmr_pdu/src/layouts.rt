@@ -1,4 +1,5 @@
-//! The table of layouts: where each field of each PDU stands in ten octets. It is read in both directions.
+//! The table of layouts: where each field of each PDU stands in ten octets. It is read in both directions, and
+//! gives the names of the fields in words.
 
 ghost use Rattle.std.specs.Prelude.{◌≡◌, ◌+◌, ◌<◌, ◌≤◌, ◌^◌, ℕ, IsTrue, IfSome, if◌then◌else◌};
 ghost use Rattle.dmr_bits.specs.Bits.{field_of, IsOctets};
@@ -9,6 +10,7 @@ use crate::numbers::{Address, Kind, Number, Reason};
 use crate::pdu::Pdu;
 use crate::slots::{Lpcn, SlotNo};
 use dmr_bits::{Octets10, field, set_field};
+use std::fmt;
 
 /// Where a number stands in ten octets: its first bit, 0 being the most significant bit of octet 0, and how many bits
 /// it has.
@@ -151,6 +153,40 @@ macro_rules! pdu_of {
             _ => return None,
         })
     };
+}
+
+/// What stands in a row, in words.
+macro_rules! shown {
+    ($field:ident: bool) => {
+        number_of(*$field)
+    };
+    ($field:ident: $type:ident) => {
+        $field
+    };
+}
+
+/// Writes the fields of a PDU in words, by its rows.
+macro_rules! words_of {
+    ($of:expr; $($name:ident = $opcode:literal { $($first:literal, $width:literal $(=> $field:ident: $type:ident)?;)* })*) => {{
+        let (pdu, f) = $of;
+        match pdu {
+            $(Pdu::$name { $($($field,)?)* } => {
+                $($(write!(f, " {}={}", stringify!($field), shown!($field: $type))?;)?)*
+            })*
+            Pdu::Other(octets) => {
+                write!(f, " ")?;
+                for octet in octets {
+                    write!(f, "{octet:02X}")?;
+                }
+            }
+        }
+        Ok(())
+    }};
+}
+
+/// Writes ` name=value` for each field of a PDU, in the order of its layout; of `Other` its ten octets in hexadecimal digits.
+pub(crate) fn show_fields<W: fmt::Write>(pdu: &Pdu, f: &mut fmt::Formatter<W>) -> fmt::Result {
+    layouts!(words_of, (pdu, f))
 }
 
 /// The octets that a PDU is written as: those of its layout, and those that `Other` carries.

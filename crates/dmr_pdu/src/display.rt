@@ -4,6 +4,7 @@
 use crate::layouts::show_fields;
 use crate::numbers::{Kind, Number, Reason};
 use crate::pdu::Pdu;
+use dmr_bits::Octets10;
 use std::fmt;
 
 /// The decimal number.
@@ -82,6 +83,50 @@ impl Reason {
             .find(|row| row.0 == *self)
             .map(|row| row.1)
     }
+}
+
+/// The value of a field, as it is shown.
+#[derive(Clone, Copy)]
+pub(crate) enum Shown {
+    /// The decimal number; of a flag its bit.
+    Number(u32),
+    /// The kind's name, where it has one.
+    Kind(Kind),
+    /// The reason's name, where it has one.
+    Reason(Reason),
+}
+
+impl fmt::Display for Shown {
+    fn fmt<W: fmt::Write>(&self, f: &mut fmt::Formatter<W>) -> fmt::Result {
+        match self {
+            Shown::Number(number) => write!(f, "{number}"),
+            Shown::Kind(kind) => write!(f, "{kind}"),
+            Shown::Reason(reason) => write!(f, "{reason}"),
+        }
+    }
+}
+
+/// Writes ` name=value` for each field.
+pub(crate) fn show_all<W: fmt::Write>(
+    fields: &[(&'static str, Shown)],
+    f: &mut fmt::Formatter<W>,
+) -> fmt::Result {
+    for (name, value) in fields {
+        write!(f, " {name}={value}")?;
+    }
+    Ok(())
+}
+
+/// Writes a space and ten octets in hexadecimal digits.
+pub(crate) fn show_octets<W: fmt::Write>(
+    octets: &Octets10,
+    f: &mut fmt::Formatter<W>,
+) -> fmt::Result {
+    write!(f, " ")?;
+    for octet in octets {
+        write!(f, "{octet:02X}")?;
+    }
+    Ok(())
 }
 
 impl Pdu {

@@ -6,6 +6,7 @@ ghost use Rattle.dmr_bits.specs.Bits.{field_of, IsOctets};
 ghost use Rattle.dmr_pdu.specs.Layout.{Holds, IsListed, Spells, fills, AllFit};
 ghost use Rattle.dmr_pdu.specs.Reading.{read_as, bit_of, channel};
 
+use crate::display::{Shown, show_all, show_octets};
 use crate::numbers::{Address, Kind, Number, Reason};
 use crate::pdu::Pdu;
 use crate::slots::{Lpcn, SlotNo};
@@ -155,38 +156,36 @@ macro_rules! pdu_of {
     };
 }
 
-/// What stands in a row, in words.
+/// What stands in a row, as it is shown.
 macro_rules! shown {
     ($field:ident: bool) => {
-        number_of(*$field)
+        Shown::Number(number_of(*$field))
+    };
+    ($field:ident: Kind) => {
+        Shown::Kind(*$field)
+    };
+    ($field:ident: Reason) => {
+        Shown::Reason(*$field)
     };
     ($field:ident: $type:ident) => {
-        $field
+        Shown::Number($field.get())
     };
 }
 
-/// Writes the fields of a PDU in words, by its rows.
-macro_rules! words_of {
+/// Shows the fields of a PDU, by its rows.
+macro_rules! shown_rows {
     ($of:expr; $($name:ident = $opcode:literal { $($first:literal, $width:literal $(=> $field:ident: $type:ident)?;)* })*) => {{
         let (pdu, f) = $of;
         match pdu {
-            $(Pdu::$name { $($($field,)?)* } => {
-                $($(write!(f, " {}={}", stringify!($field), shown!($field: $type))?;)?)*
-            })*
-            Pdu::Other(octets) => {
-                write!(f, " ")?;
-                for octet in octets {
-                    write!(f, "{octet:02X}")?;
-                }
-            }
+            $(Pdu::$name { $($($field,)?)* } => show_all(&[$($((stringify!($field), shown!($field: $type)),)?)*], f),)*
+            Pdu::Other(octets) => show_octets(octets, f),
         }
-        Ok(())
     }};
 }
 
-/// Writes ` name=value` for each field of a PDU, in the order of its layout; of `Other` its ten octets in hexadecimal digits.
+/// Writes ` name=value` for each field of a PDU, in the order of its layout; of `Other` its ten octets.
 pub(crate) fn show_fields<W: fmt::Write>(pdu: &Pdu, f: &mut fmt::Formatter<W>) -> fmt::Result {
-    layouts!(words_of, (pdu, f))
+    layouts!(shown_rows, (pdu, f))
 }
 
 /// The octets that a PDU is written as: those of its layout, and those that `Other` carries.

@@ -27,8 +27,8 @@ impl CarrierReader {
         }
     }
 
-    /// Prints the frames that octets complete, each with the number of its first octet, counted from 0 over the whole connection, and
-    /// the first octet from which no frame can follow.
+    /// Prints the frames that octets complete, each with the number of its first octet, counted from 0 over the whole connection,
+    /// and the first octet from which no frame can follow.
     pub fn show<W: Write>(&mut self, alloc: Global, octets: &[u8], out: &mut W) -> io::Result<()> {
         for octet in octets {
             let step = self.cutter.feed_byte(*octet);

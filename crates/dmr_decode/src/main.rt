@@ -1,10 +1,11 @@
-//! Says in words what the octets of a site are, as the controller reads them: `dmr_decode carrier HEX..` the frames that a carrier
-//! sent, `dmr_decode site HEX..` those that it was sent, `dmr_decode word HEX` the 25 octets of a word, `dmr_decode pdu HEX` ten octets; `dmr_decode replay`
-//! what a replay printed, `dmr_decode script` a script. `dmr_decode write PDU` goes the other way.
+//! Says in words what the octets of a site are, as the controller reads them: `dmr_decode carrier HEX..` the frames that a
+//! carrier sent, `dmr_decode site HEX..` those that it was sent, `dmr_decode word HEX` the 25 octets of a word, `dmr_decode pdu
+//! HEX` ten octets; `dmr_decode replay` what a replay printed, `dmr_decode script` a script. `dmr_decode write PDU` goes the
+//! other way.
 //!
 //! A word's meaning is `dmr_burst::read`'s, and frames from carriers are cut by `dmr_frames::Cutter`, so what is said is what the
-//! controller would make of it. `words_of_bursts` says what a word means, `carrier` and `site` go through the frames, `pdu_in_words` reads a PDU that is
-//! written in words, and `tasks` puts them together.
+//! controller would make of it. `words_of_bursts` says what a word means, `carrier` and `site` go through the frames,
+//! `pdu_in_words` reads a PDU that is written in words, and `tasks` puts them together.
 #![tactic(auto)]
 
 mod carrier;

@@ -18,7 +18,8 @@ struct Front<'a> {
     rest: &'a [u8],
 }
 
-/// Prints the frames of octets that went to a carrier, each with the number of its first octet, and the first octets that begin none.
+/// Prints the frames of octets that went to a carrier, each with the number of its first octet, and the first octets that begin
+/// none.
 pub fn show_site<W: Write>(alloc: Global, octets: &[u8], out: &mut W) -> io::Result<()> {
     let mut rest = octets;
     for _ in 0..octets.len() {

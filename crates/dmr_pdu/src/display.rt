@@ -1,8 +1,10 @@
 //! PDUs and their numbers in words: a PDU's name, and `name=value` for each of its fields. They are for people; octets are the
 //! format.
 
+use crate::layouts::show_fields;
 use crate::numbers::{Kind, Number, Reason};
 use crate::pdu::Pdu;
+use dmr_bits::Octets10;
 use std::fmt;
 
 /// The decimal number.
@@ -83,142 +85,73 @@ impl Reason {
     }
 }
 
-/// A flag as its bit.
-fn bit(flag: bool) -> u8 {
-    if flag { 1 } else { 0 }
+/// The value of a field, as it is shown.
+#[derive(Clone, Copy)]
+pub(crate) enum Shown {
+    /// The decimal number; of a flag its bit.
+    Number(u32),
+    /// The kind's name, where it has one.
+    Kind(Kind),
+    /// The reason's name, where it has one.
+    Reason(Reason),
 }
 
-/// The name of the PDU, and each field by its name: `C_RAND options=1 flags=0 kind=registration target=16776902 source=1001`. Of other octets
-/// the word `OTHER` and ten octets in hexadecimal digits.
-impl fmt::Display for Pdu {
+impl fmt::Display for Shown {
     fn fmt<W: fmt::Write>(&self, f: &mut fmt::Formatter<W>) -> fmt::Result {
         match self {
-            Pdu::Aloha {
-                sync,
-                version,
-                offset,
-                active,
-                mask,
-                function,
-                nrand_wait,
-                register,
-                backoff,
-                system,
-                address,
-            } => {
-                let (sync, offset) = (bit(*sync), bit(*offset));
-                let (active, register) = (bit(*active), bit(*register));
-                write!(
-                    f,
-                    "C_ALOHA sync={sync} version={version} offset={offset} active={active} mask={mask} "
-                )?;
-                write!(
-                    f,
-                    "function={function} nrand_wait={nrand_wait} register={register} "
-                )?;
-                write!(f, "backoff={backoff} system={system} address={address}")
-            }
-            Pdu::Ahoy {
-                options,
-                group,
-                kind,
-                called,
-                calling,
-            } => {
-                let group = bit(*group);
-                write!(
-                    f,
-                    "C_AHOY options={options} group={group} kind={kind} called={called} calling={calling}"
-                )
-            }
-            Pdu::Random {
-                options,
-                flags,
-                kind,
-                target,
-                source,
-            } => write!(
-                f,
-                "C_RAND options={options} flags={flags} kind={kind} target={target} source={source}"
-            ),
-            Pdu::Ackd {
-                info,
-                reason,
-                spare,
-                target,
-                additional,
-            } => {
-                let spare = bit(*spare);
-                write!(
-                    f,
-                    "C_ACKD info={info} reason={reason} spare={spare} target={target} additional={additional}"
-                )
-            }
-            Pdu::Acku {
-                info,
-                reason,
-                spare,
-                target,
-                additional,
-            } => {
-                let spare = bit(*spare);
-                write!(
-                    f,
-                    "C_ACKU info={info} reason={reason} spare={spare} target={target} additional={additional}"
-                )
-            }
-            Pdu::Clear {
-                lpcn,
-                group,
-                target,
-                source,
-            } => {
-                let group = bit(*group);
-                write!(
-                    f,
-                    "P_CLEAR lpcn={lpcn} group={group} target={target} source={source}"
-                )
-            }
-            Pdu::PvGrant {
-                lpcn,
-                slot,
-                target,
-                source,
-            } => write!(
-                f,
-                "PV_GRANT lpcn={lpcn} slot={slot} target={target} source={source}"
-            ),
-            Pdu::TvGrant {
-                lpcn,
-                slot,
-                late,
-                target,
-                source,
-            } => {
-                let late = bit(*late);
-                write!(
-                    f,
-                    "TV_GRANT lpcn={lpcn} slot={slot} late={late} target={target} source={source}"
-                )
-            }
-            Pdu::Move {
-                register,
-                backoff,
-                lpcn,
-            } => {
-                let register = bit(*register);
-                write!(
-                    f,
-                    "C_MOVE register={register} backoff={backoff} lpcn={lpcn}"
-                )
-            }
-            Pdu::Other(octets) => {
-                write!(f, "OTHER ")?;
-                for octet in octets {
-                    write!(f, "{octet:02X}")?;
-                }
-                Ok(())
-            }
+            Shown::Number(number) => write!(f, "{number}"),
+            Shown::Kind(kind) => write!(f, "{kind}"),
+            Shown::Reason(reason) => write!(f, "{reason}"),
         }
+    }
+}
+
+/// Writes ` name=value` for each field.
+pub(crate) fn show_all<W: fmt::Write>(
+    fields: &[(&'static str, Shown)],
+    f: &mut fmt::Formatter<W>,
+) -> fmt::Result {
+    for (name, value) in fields {
+        write!(f, " {name}={value}")?;
+    }
+    Ok(())
+}
+
+/// Writes a space and ten octets in hexadecimal digits.
+pub(crate) fn show_octets<W: fmt::Write>(
+    octets: &Octets10,
+    f: &mut fmt::Formatter<W>,
+) -> fmt::Result {
+    write!(f, " ")?;
+    for octet in octets {
+        write!(f, "{octet:02X}")?;
+    }
+    Ok(())
+}
+
+impl Pdu {
+    /// The PDU's name in the standard, or in the profile; `OTHER` for other octets.
+    pub fn name(&self) -> &'static str {
+        match self {
+            Pdu::Aloha { .. } => "C_ALOHA",
+            Pdu::Ahoy { .. } => "C_AHOY",
+            Pdu::Random { .. } => "C_RAND",
+            Pdu::Ackd { .. } => "C_ACKD",
+            Pdu::Acku { .. } => "C_ACKU",
+            Pdu::Clear { .. } => "P_CLEAR",
+            Pdu::PvGrant { .. } => "PV_GRANT",
+            Pdu::TvGrant { .. } => "TV_GRANT",
+            Pdu::Move { .. } => "C_MOVE",
+            Pdu::Other(_) => "OTHER",
+        }
+    }
+}
+
+/// The PDU's name, and each field by its own: `C_RAND options=1 flags=0 kind=registration target=16776902 source=1001`. Of
+/// other octets the word `OTHER` and ten octets in hexadecimal digits.
+impl fmt::Display for Pdu {
+    fn fmt<W: fmt::Write>(&self, f: &mut fmt::Formatter<W>) -> fmt::Result {
+        write!(f, "{}", self.name())?;
+        show_fields(self, f)
     }
 }

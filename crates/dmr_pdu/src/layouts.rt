@@ -1,14 +1,17 @@
-//! The table of layouts: where each field of each PDU stands in ten octets. It is read in both directions.
+//! The table of layouts: where each field of each PDU stands in ten octets. It is read in both directions, and
+//! gives the names of the fields in words.
 
 ghost use Rattle.std.specs.Prelude.{◌≡◌, ◌+◌, ◌<◌, ◌≤◌, ◌^◌, ℕ, IsTrue, IfSome, if◌then◌else◌};
 ghost use Rattle.dmr_bits.specs.Bits.{field_of, IsOctets};
 ghost use Rattle.dmr_pdu.specs.Layout.{Holds, IsListed, Spells, fills, AllFit};
 ghost use Rattle.dmr_pdu.specs.Reading.{read_as, bit_of, channel};
 
+use crate::display::{Shown, show_all, show_octets};
 use crate::numbers::{Address, Kind, Number, Reason};
 use crate::pdu::Pdu;
 use crate::slots::{Lpcn, SlotNo};
 use dmr_bits::{Octets10, field, set_field};
+use std::fmt;
 
 /// Where a number stands in ten octets: its first bit, 0 being the most significant bit of octet 0, and how many bits
 /// it has.
@@ -151,6 +154,38 @@ macro_rules! pdu_of {
             _ => return None,
         })
     };
+}
+
+/// What stands in a row, as it is shown.
+macro_rules! shown {
+    ($field:ident: bool) => {
+        Shown::Number(number_of(*$field))
+    };
+    ($field:ident: Kind) => {
+        Shown::Kind(*$field)
+    };
+    ($field:ident: Reason) => {
+        Shown::Reason(*$field)
+    };
+    ($field:ident: $type:ident) => {
+        Shown::Number($field.get())
+    };
+}
+
+/// Shows the fields of a PDU, by its rows.
+macro_rules! shown_rows {
+    ($of:expr; $($name:ident = $opcode:literal { $($first:literal, $width:literal $(=> $field:ident: $type:ident)?;)* })*) => {{
+        let (pdu, f) = $of;
+        match pdu {
+            $(Pdu::$name { $($($field,)?)* } => show_all(&[$($((stringify!($field), shown!($field: $type)),)?)*], f),)*
+            Pdu::Other(octets) => show_octets(octets, f),
+        }
+    }};
+}
+
+/// Writes ` name=value` for each field of a PDU, in the order of its layout; of `Other` its ten octets.
+pub(crate) fn show_fields<W: fmt::Write>(pdu: &Pdu, f: &mut fmt::Formatter<W>) -> fmt::Result {
+    layouts!(shown_rows, (pdu, f))
 }
 
 /// The octets that a PDU is written as: those of its layout, and those that `Other` carries.

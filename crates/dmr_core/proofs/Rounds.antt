@@ -26,11 +26,17 @@ abbrev pub between : (ℕ → Bool) → ℕ → ℕ → ℕ
 between g from to = counted g from (to - from)
 
 split : (g : ℕ → Bool) (from n m : ℕ) → counted g from (n + m) ≡ counted g from n + counted g (from + n) m
-split g from zero m = let there : from + 0 ≡ from = omega arith in rw there (omega arith)
+unfolding counted
+split g from zero m =
+    let there : from + 0 ≡ from = omega arith in
+    let all : zero + m ≡ m = omega arith in
+    omega (arith, ap (λ k. counted g k m) there, ap (counted g from) all)
 split g from (suc n) m =
     let there : from + 1 + n ≡ from + suc n = omega arith in
+    let all : suc n + m ≡ suc (n + m) = omega arith in
+    let first : counted g from (suc n + m) ≡ one (g from) + counted g (from + 1) (n + m) = ap (counted g from) all in
     let more : counted g (from + 1) (n + m) ≡ counted g (from + 1) n + counted g (from + 1 + n) m = split g (from + 1) n m in
-    omega (arith, more, ap (λ k. counted g k m) there)
+    omega (arith, first, more, ap (λ k. counted g k m) there)
 
 pub parts : (g : ℕ → Bool) (from mid to : ℕ) → from ≤ mid → mid ≤ to → between g from to ≡ between g from mid + between g mid to
 parts g from mid to low high =
@@ -40,6 +46,7 @@ parts g from mid to low high =
 
 -- one that passes is counted
 one_there : (g : ℕ → Bool) (at : ℕ) → g at ≡ true → between g at (at + 1) ≡ 1
+unfolding counted
 one_there g at h =
     let single : at + 1 - at ≡ 1 = omega arith in
     ap (counted g at) single ∙ rw h (omega arith)
@@ -53,6 +60,7 @@ IsWithin g from t d =
     ((from ≤ t) × (between g from (t + 1) ≤ d)) ⊎ ((t < from) × (between g from 32 + between g 0 (t + 1) ≤ d))
 
 pub at_first : (g : ℕ → Bool) (from t : ℕ) → t < 32 → IsWithin g from t (between g 0 32)
+unfolding counted
 at_first g from t small = either (cases_lt t from)
   where
     far : (from ≤ 32) ⊎ (32 < from) → t < from → between g from 32 + between g 0 (t + 1) ≤ between g 0 32
@@ -106,12 +114,15 @@ nearer g from t d at small h other (inr around) (inr high) =
 
 -- no more places have a talkgroup call than such calls stand
 none_passes : (g : ℕ → Bool) (from n : ℕ) → ((k : ℕ) → from ≤ k → g k ≡ false) → counted g from n ≡ 0
+unfolding counted
 none_passes g from zero none = refl
 none_passes g from (suc n) none =
     let more : counted g (from + 1) n ≡ 0 = none_passes g (from + 1) n (λ k low. none k (omega (arith, low))) in
-    rw (none from (omega arith)) more
+    let here : one (g from) ≡ 0 = ap one (none from (omega arith)) in
+    omega (arith, here, more)
 
 single : (g : ℕ → Bool) (at from n : ℕ) → ((k : ℕ) → g k ≡ true → k ≡ at) → counted g from n ≤ 1
+unfolding counted
 single g at from zero only = omega arith
 single g at from (suc n) only = either (g from) refl (single g at (from + 1) n only)
   where
@@ -121,11 +132,12 @@ single g at from (suc n) only = either (g from) refl (single g at (from + 1) n o
 
     either : (b : Bool) → g from ≡ b → counted g (from + 1) n ≤ 1 → one b + counted g (from + 1) n ≤ 1
     either true e more = let none : counted g (from + 1) n ≡ 0 = none_passes g (from + 1) n (λ k low. others e k low (g k) refl) in omega (arith, none)
-    either false e more = more
+    either false e more = omega (arith, more)
 
 sums : (g h f : ℕ → Bool) (from n : ℕ) → ((k : ℕ) → one (g k) ≤ one (h k) + one (f k)) → counted g from n ≤ counted h from n + counted f from n
-sums g h f from zero less = omega arith
-sums g h f from (suc n) less = omega (arith, less from, sums g h f (from + 1) n less)
+unfolding counted
+sums g h f from zero fewer = omega arith
+sums g h f from (suc n) fewer = omega (arith, fewer from, sums g h f (from + 1) n fewer)
 
 -- the slot of a call is at one place
 on_place : (s : Slot) (k : ℕ) → is_slot s (slot_at k) ≡ true → k ≡ place s

@@ -135,6 +135,14 @@ record IsTarget (calls : List Standing) (call : Call) : Type 0 where
 target_there : (calls : List Standing) (call : Call) → IsTarget calls call → is_group_at calls (place call.slot) ≡ true
 target_there calls call h = at_place calls call.slot true h.small (rw h.stands h.group)
 
+-- before the fourth the next number counts
+counted_on : (k : ℕ) → k < 4 → k ≢ 3 → one_filled k ≡ k + 1
+counted_on k few other = either (cases_lt k 3)
+  where
+    either : (k < 3) ⊎ (3 ≤ k) → one_filled k ≡ k + 1
+    either (inl low) = omega (arith, low)
+    either (inr high) = absurd (other (omega (arith, high, few)))
+
 -- a fill where no late entry is due
 not_due : (plan : Settings) (calls : List Standing) (t most n : ℕ) (now : Facts) (slot : Slot) (pdu : Pdu) → is_late_due now.fills ≡ false → now.fills < 4 → entry_of pdu ≡ late_entry plan now → IsGoing plan calls t most n now → IsGoing plan calls t most (n + 1) (done now (Fill slot pdu))
 unfolding late_entry
@@ -150,13 +158,6 @@ not_due plan calls t most n now slot pdu due few entry h =
       near = subst (λ (late : Option NamedSlot). IsWithin (is_group_at calls) (place_after (option_and_then (slot_named plan) late)) t h.d) (sym same) h.near;
       few = omega (arith, h.few, more);
     }
-  where
-    counted_on : (k : ℕ) → k < 4 → k ≢ 3 → one_filled k ≡ k + 1
-    counted_on k few other = either (cases_lt k 3)
-      where
-        either : (k < 3) ⊎ (3 ≤ k) → one_filled k ≡ k + 1
-        either (inl low) = omega (arith, low)
-        either (inr high) = absurd (other (omega (arith, high, few)))
 
 -- a late entry: it is the target's, or its turn is nearer
 due_turn : (plan : Settings) (calls : List Standing) (most n : ℕ) (call other : Call) (now : Facts) (slot : Slot) (pdu : Pdu) → IsPlan plan → IsSound plan now → IsTarget calls call → is_late_due now.fills ≡ true → pdu ≡ grant_pdu plan other true → IsTurn now.calls (place_after (last_slot plan now)) other → IsGoing plan calls (place call.slot) most n now → (pdu ≡ grant_pdu plan call true) ⊎ IsGoing plan calls (place call.slot) most (n + 1) (done now (Fill slot pdu))

@@ -3,7 +3,7 @@ use Rattle.std.specs.Prelude.{◌≡◌, ◌&&◌, ℕ, Bool, true, false, nat_e
 use Rattle.std.specs.Bool.{Decides, beq}
 use Rattle.std.specs.Cmp.{decided, IsEquivalence}
 use Rattle.std.specs.Cmp.Lexicographic.{pointwise, pointwise_decides, bytes_decides}
-use Rattle.std.proofs.Common.{ap, refl, eqb-true}
+use Rattle.std.proofs.Common.{ap, refl, eqb-true, rules}
 use Rattle.std.proofs.lemmas.Bool.{eq-eqb}
 use Rattle.std.proofs.lemmas.Bool.Decides.{Decides-and, Decides-eqb}
 use Rattle.dmr_plan.specs.Same.{are_same as are_same_plans, are_same-Decides as are_same_plans-Decides}

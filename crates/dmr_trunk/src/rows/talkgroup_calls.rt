@@ -6,7 +6,7 @@ use crate::rows::{
 use dmr_pdu::{Kind, OutOfMemory};
 
 /// Whole scripts over the site of `SITE`, and what they print: calls that begin, wait or are refused.
-static CALLS: [Case<'static>; 8] = [
+static CALLS: [Case<'static>; 9] = [
     // The second radio is let into the call that stands: a late grant, whose source is the first radio.
     Case {
         name: "two calls of one talkgroup",
@@ -35,6 +35,41 @@ carrier 0
   821A00129600AF087815403C1057F0B8A519002684B6205442CA92E0 8300  # slot 0: TV_GRANT late to 91 from 1001, channel 1 slot 1
   821A00003C162711600B7815580890050305862280421079005A2310 8300  # slot 0: C_ALOHA backoff 1
 carrier 1 8101018300  # WELCOME; DONE
+",
+    },
+    // While nothing waits the fourth fill is the late grant of the call that stands, and so is the eighth.
+    Case {
+        name: "late entry to a call",
+        script: "\
+open 0
+bytes 0 010401000001  # HELLO
+bytes 0 021A000EB49CDF34F2749CECBA5CB3B7C40E88138C9A38F96248E180  # 1001 registers
+bytes 0 0300  # POLL
+bytes 0 021A0002CB802309A215743869DFF0B4830E043E84D800DD03901230  # 1001 calls talkgroup 91
+bytes 0 0300  # POLL
+bytes 0 0300  # POLL
+bytes 0 0300  # POLL
+bytes 0 0300  # POLL
+bytes 0 0300  # POLL
+bytes 0 0300  # POLL
+bytes 0 0300  # POLL
+bytes 0 0300  # POLL
+bytes 0 0300  # POLL
+",
+        printed: "\
+carrier 0
+  810101  # WELCOME
+  821A0041C3028A48FC8F403DC06F00EDA0F783E497542E405CB83CB0 8300  # slot 0: C_ACKD Reg_Accepted to 1001
+  821A0012F300E50874154838405BD0B1610A082084B2201803629090 8300  # slot 0: TV_GRANT to 91 from 1001, channel 1 slot 1
+  821A00003C162711600B7815580890050305862280421079005A2310 8300  # slot 0: C_ALOHA backoff 1
+  821A00003C162711600B7815580890050305862280421079005A2310 8300  # slot 0: C_ALOHA backoff 1
+  821A00003C162711600B7815580890050305862280421079005A2310 8300  # slot 0: C_ALOHA backoff 1
+  821A00129600AF087815403C1057F0B8A519002684B6205442CA92E0 8300  # slot 0: TV_GRANT late to 91 from 1001, channel 1 slot 1
+  821A00003C162711600B7815580890050305862280421079005A2310 8300  # slot 0: C_ALOHA backoff 1
+  821A00003C162711600B7815580890050305862280421079005A2310 8300  # slot 0: C_ALOHA backoff 1
+  821A00003C162711600B7815580890050305862280421079005A2310 8300  # slot 0: C_ALOHA backoff 1
+  821A00129600AF087815403C1057F0B8A519002684B6205442CA92E0 8300  # slot 0: TV_GRANT late to 91 from 1001, channel 1 slot 1
+carrier 1 -
 ",
     },
     // Three calls hold all slots. The fourth request waits in line and is cancelled; there is nothing to cancel again.

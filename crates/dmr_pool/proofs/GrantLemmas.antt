@@ -222,7 +222,7 @@ grants_sent plan outboxes slot s pdu is_plan is within first = either (is_contro
     either : (b : Bool) → is_control plan slot ≡ b → grants_of plan outboxes s ≡ grants_of plan (sent outboxes slot) s + cond (b && names_slot plan s pdu) 1 0
     either true e =
         let there : box (sent outboxes slot) (control_slot plan) ≡ drop 1 (box outboxes (control_slot plan)) =
-            control_box plan outboxes slot (drop 1 (box outboxes slot)) e within ∙ ap (λ (t : Slot). drop 1 (box outboxes t)) (control_is plan slot e) in
+        control_box plan outboxes slot (drop 1 (box outboxes slot)) e within ∙ ap (λ (t : Slot). drop 1 (box outboxes t)) (control_is plan slot e) in
         in_less plan (box outboxes (control_slot plan)) pdu s (subst (λ (t : Slot). slice_get (box outboxes t) 0 ≡ Some pdu) (control_is plan slot e) first)
         ∙ ap (λ (xs : List Pdu). grants_in plan xs s + cond (names_slot plan s pdu) 1 0) (sym there)
     either false e = ap (λ (xs : List Pdu). grants_in plan xs s) (sym (other_box plan outboxes slot (drop 1 (box outboxes slot)) is.1 e)) ∙ omega arith
@@ -287,9 +287,9 @@ pub some_waited : (plan : Settings) (outboxes : List (List Pdu)) (counts : List 
 some_waited plan outboxes counts slot granted pdu is_plan is within first one is_granted counted =
     let here : is_this (Some granted) (slot_at (place granted)) ≡ true = this_at granted (place granted) is_granted.1 ∙ itself (place granted) in
     let more : grants_of plan outboxes (slot_at (place granted)) ≡ grants_of plan (sent outboxes slot) (slot_at (place granted)) + 1 =
-        grants_sent plan outboxes slot (slot_at (place granted)) pdu is_plan is within first
-        ∙ ap (λ (t : Option Slot). grants_of plan (sent outboxes slot) (slot_at (place granted)) + cond (is_this t (slot_at (place granted))) 1 0) one
-        ∙ ap (λ b. grants_of plan (sent outboxes slot) (slot_at (place granted)) + cond b 1 0) here in
+    grants_sent plan outboxes slot (slot_at (place granted)) pdu is_plan is within first
+    ∙ ap (λ (t : Option Slot). grants_of plan (sent outboxes slot) (slot_at (place granted)) + cond (is_this t (slot_at (place granted))) 1 0) one
+    ∙ ap (λ b. grants_of plan (sent outboxes slot) (slot_at (place granted)) + cond b 1 0) here in
     at_least (slice_index_or counts (place granted) 0) _ (counted (place granted) (omega (arith, is_granted.0, is_granted.1)) ∙ more)
   where
     itself : (n : ℕ) → (n == n) ≡ true
@@ -302,11 +302,11 @@ pub sent_counted : (plan : Settings) (outboxes : List (List Pdu)) (counts : List
     → AreCounted plan outboxes counts → AreCounted plan (sent outboxes slot) (slice_set counts (place granted) (slice_index_or counts (place granted) 0 - 1))
 sent_counted plan outboxes counts slot granted pdu is_plan is within first one is_granted size counted k below =
     cancelled _ _ (cond (k == place granted) 1 0) (
-      sym (lowered counts (place granted) k (omega (arith, is_granted.0, is_granted.1, size)) (some_waited plan outboxes counts slot granted pdu is_plan is within first one is_granted counted))
-      ∙ counted k below
-      ∙ grants_sent plan outboxes slot (slot_at k) pdu is_plan is within first
-      ∙ ap (λ (t : Option Slot). grants_of plan (sent outboxes slot) (slot_at k) + cond (is_this t (slot_at k)) 1 0) one
-      ∙ ap (λ b. grants_of plan (sent outboxes slot) (slot_at k) + cond b 1 0) (this_at granted k is_granted.1)
+    sym (lowered counts (place granted) k (omega (arith, is_granted.0, is_granted.1, size)) (some_waited plan outboxes counts slot granted pdu is_plan is within first one is_granted counted))
+    ∙ counted k below
+    ∙ grants_sent plan outboxes slot (slot_at k) pdu is_plan is within first
+    ∙ ap (λ (t : Option Slot). grants_of plan (sent outboxes slot) (slot_at k) + cond (is_this t (slot_at k)) 1 0) one
+    ∙ ap (λ b. grants_of plan (sent outboxes slot) (slot_at k) + cond b 1 0) (this_at granted k is_granted.1)
     )
   where
     cancelled : (m n d : ℕ) → m + d ≡ n + d → m ≡ n

@@ -170,7 +170,7 @@ module _ (plan : Settings) (up held : List Bool) (old : List (List Pdu)) (slot :
   granted_now : (granted : Slot) → slot_counted plan slot pdu ≡ Some granted → false ≡ is_free (stands (queued old slot pdu)) granted
   granted_now granted one =
       let more : grants_of plan (queued old slot pdu) granted ≡ grants_of plan old granted + 1 =
-          grants_queued plan old slot granted pdu is_plan is within ∙ ap (λ (t : Option Slot). grants_of plan old granted + cond (is_this t granted) 1 0) one ∙ ap (λ b. grants_of plan old granted + cond b 1 0) (this_itself granted) in
+      grants_queued plan old slot granted pdu is_plan is within ∙ ap (λ (t : Option Slot). grants_of plan old granted + cond (is_this t granted) 1 0) one ∙ ap (λ b. grants_of plan old granted + cond b 1 0) (this_itself granted) in
       sym (granted_not_free plan up (queued old slot pdu) (is_held held) granted (granted_count plan (queued old slot pdu) granted ∙ ap (nat_lt 0) more ∙ positive (grants_of plan old granted)))
     where
       positive : (n : ℕ) → nat_lt 0 (n + 1) ≡ true

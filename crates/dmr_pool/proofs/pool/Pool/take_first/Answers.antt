@@ -12,7 +12,7 @@ pub invariant_of-self : goal.invariant_of-self
 invariant_of-self c =
     let inside = c.self.inside in
     let told : (b : Bool) (s : Slot) → b ≡ is_free (record { plan = c.take.new.self.plan; up = inside.up; held = inside.held; outboxes = c.take.new.self.outboxes }) s → b ≡ is_free (record { plan = inside.outboxes.plan; up = inside.up; held = inside.held; outboxes = sent inside.outboxes.outboxes c.args.slot.now }) s =
-        λ b s e. e ∙ ap (λ (w : Waiting). is_free (record { plan = w.plan; up = inside.up; held = inside.held; outboxes = w.outboxes }) s) c.take.ensures in
+    λ b s e. e ∙ ap (λ (w : Waiting). is_free (record { plan = w.plan; up = inside.up; held = inside.held; outboxes = w.outboxes }) s) c.take.ensures in
     subst (λ (w : Waiting). AreMarked c.put-in-Some.new.self.bits (record { plan = w.plan; up = inside.up; held = inside.held; outboxes = w.outboxes })) (sym c.take.ensures)
     (took_one inside.outboxes.plan inside.up inside.held inside.outboxes.outboxes c.args.slot.now c.args.pdu.now c.keeps.ensures.plan c.keeps.ensures.outboxes c.put.ensures.numbers inside.free.bits c.put.new.self.bits c.put-in-Some.new.self.bits
     c.in-Some.granted c.is_free-is_idle.result c.is_free-is_idle-in-Some.result (ap (λ (s : Slots). slice_get (box s.outboxes c.args.slot.now) 0) c.self.view_is ∙ c.requires) c.put-in-Some.ensures.numbers

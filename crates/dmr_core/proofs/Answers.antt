@@ -111,7 +111,7 @@ individual_may plan now q p h up room registered =
     grind (arith, own, asked, acked)
 
 new_call_same : (plan : Settings) (now : Facts) (r : ℕ) (l : Line) → new_call plan now l ≡ new_call plan (done now (AskOver r)) l
-unfolding new_call lowest_free
+unfolding new_call
 new_call_same plan now r l = refl
 
 asking_engage : (plan : Settings) (now : Facts) (a : Asking) (test : Asking → Bool) → IsSound plan now → find test now.asks ≡ Some a → MayEngage plan (done now (AskOver a.ask.source)) (others_than a.ask.source now.asks) false a.ask.source a.ask.target

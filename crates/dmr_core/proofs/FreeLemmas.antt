@@ -49,7 +49,7 @@ module _ (plan : Settings) (now : Facts) (pool : Slots) (plan_is : pool.plan ≡
   pub pool_free : (slot : Slot) → IsSlot slot → is_free_in pool slot ≡ is_free plan now slot
   pool_free slot is =
       λ k. has_number_in (plan_is k).carriers slot.carrier && is_up (up_is k) slot.carrier && not (is_control (plan_is k) slot)
-          && not (holds slot is k) && is_empty (box (outboxes_are k) slot) && not (is_granted (plan_is k) (outboxes_are k) slot)
+      && not (holds slot is k) && is_empty (box (outboxes_are k) slot) && not (is_granted (plan_is k) (outboxes_are k) slot)
 
   pub pool_lowest : lowest_free_in pool ≡ lowest_free plan now
   unfolding lowest_free_by

@@ -1,5 +1,5 @@
 -- Whether PDUs are the same, from a place on.
-use Rattle.std.proofs.Common.{arith, ◌≡◌, ℕ, zero, suc, ◌+◌, ◌≤◌, List, [], ◌∷◌, Bool, true, false, refl, ap, subst, sym, add-one, drop, length}
+use Rattle.std.proofs.Common.{◌≡◌, ℕ, zero, suc, ◌+◌, List, [], ◌∷◌, subst, sym, add-one, drop}
 use Rattle.std.specs.Prelude.{◌&&◌, Some, slice_get}
 use Rattle.dmr_pdu.specs.declared.pdu.Pdu.{Pdu}
 use Rattle.dmr_pdu.specs.contracts.pdu.PduPartialEq.TheImpl as pdu_eq

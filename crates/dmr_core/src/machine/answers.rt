@@ -10,7 +10,7 @@ use super::Machine;
 use super::words::call_of_line;
 use crate::act::{Act, ActList};
 use crate::event::Event;
-use dmr_calls::{Ask, Call, Due};
+use dmr_calls::{Ask, Due};
 use dmr_pdu::{BoundedList, Reason, Slot, SlotNo};
 
 impl Machine {

@@ -124,7 +124,11 @@ pub fn bursts_of(alloc: Global, load: Load, radios: u32) -> Result<Vec<Heard>, O
 fn plan_of(alloc: Global, carriers: u32) -> Result<Option<Plan>, OutOfMemory> {
     let mut text = String::from_str(alloc, SITE)?;
     for number in 0..carriers.min(16) {
-        let row = format!(in alloc; "[[carrier]]\nnumber = {number}\nlpcn = {}\nport = {}\n", number + 1, number + 7_101)?;
+        let row = format!(in alloc;
+            "[[carrier]]\nnumber = {number}\nlpcn = {}\nport = {}\n",
+            number + 1,
+            number + 7_101
+        )?;
         text.push_str(row.as_str())?;
     }
     Ok(Plan::read(alloc, text.as_str()).ok())
@@ -160,7 +164,10 @@ impl Scene {
         for number in 0..scene.carriers {
             let [.., carrier] = number.to_be_bytes();
             scene.open(number)?;
-            scene.take(number, &[0x01, 0x04, 0x01, carrier, 0x00, carrier.wrapping_add(1)])?;
+            scene.take(
+                number,
+                &[0x01, 0x04, 0x01, carrier, 0x00, carrier.wrapping_add(1)],
+            )?;
         }
         for radio in 0..radios {
             scene.take(0, &registration(radio.wrapping_add(1)))?;

@@ -67,7 +67,7 @@ fn events_a_frame(load: Load, carriers: u32) -> u32 {
 }
 
 /// Prints a line: the load, carriers, registered radios, events a second, nanoseconds an event, the share of a processor that it takes at
-/// the air's rate in thousandths of a percent, and how many octets were put out.
+/// the air's rate, and how many octets were put out.
 fn print<R: Print>(rt: &R, load: Load, carriers: u32, radios: u32, took: &Took) -> io::Result<()> {
     let name = load.name();
     let nanos = took.nanos.max(1);
@@ -76,7 +76,11 @@ fn print<R: Print>(rt: &R, load: Load, carriers: u32, radios: u32, took: &Took) 
     let on_air = took.frames.saturating_mul(AIR_FRAME).max(1);
     let share = nanos.saturating_mul(100_000) / on_air;
     let octets = took.octets;
-    println!(rt; "{name}: {carriers} carriers, {radios} radios: {rate} events a second, {each} ns each, {share} / 1000 % at air rate; {octets} octets")
+    println!(rt;
+        "{name:<14} {carriers:>9} {radios:>7} {rate:>15} {each:>12} {:>9}.{:03} % {octets:>12}",
+        share / 1000,
+        share % 1000
+    )
 }
 
 /// Plays a load so often, and prints what the quickest took.
@@ -103,6 +107,9 @@ fn time<R: Print + AllocGlobal + Clock>(
 
 /// Plays each load on sites of some sizes, and prints what it takes.
 pub fn time_loads<R: Print + AllocGlobal + Clock>(rt: &R) -> io::Result<()> {
+    println!(rt;
+        "load            carriers  radios events a second     ns each  at air rate     put out"
+    )?;
     for load in LOADS {
         for carriers in CARRIERS {
             for radios in RADIOS {

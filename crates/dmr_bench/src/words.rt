@@ -236,4 +236,3 @@ pub fn show_flips<R: Print + Clock>(rt: &R) -> io::Result<()> {
     let millis = start.elapsed(rt)?.as_millis();
     println!(rt; "three flips: {as_sent} of {all} are read as the registration, in {millis} ms")
 }
-

@@ -1,9 +1,9 @@
 -- Calls by the numbers of their slots.
-use Rattle.std.proofs.Common.{arith, rules, ◌≡◌, ℕ, zero, suc, ◌+◌, ◌*◌, ◌<◌, List, [], ◌∷◌, length, Bool, true, false, refl, ap, sym, ◌∙◌, map, get_or, subst}
+use Rattle.std.proofs.Common.{arith, ◌≡◌, ℕ, suc, ◌+◌, ◌*◌, ◌<◌, List, [], ◌∷◌, Bool, true, false, refl, ap, ◌∙◌, map, get_or}
 use Rattle.std.specs.Prelude.{◌==◌, ◌&&◌, not, find, filter, Some, if◌then◌else◌}
 use Rattle.std.specs.List.{All}
 use Rattle.std.proofs.lemmas.Bool.Decides.{nat_tests}
-use Rattle.std.proofs.lemmas.List.Elements.{All-map, All-tail, All-head, All-weaker}
+use Rattle.std.proofs.lemmas.List.Elements.{All-map}
 use Rattle.dmr_pdu.specs.declared.slots.Slot.{Slot}
 use Rattle.dmr_calls.specs.declared.call.Standing.{Standing}
 use Rattle.dmr_calls.specs.Slots.{number_of, AreOnSlots}

@@ -1,5 +1,5 @@
 -- What a table of radios says of those that are registered.
-use Rattle.std.proofs.Common.{arith, ◌≡◌, ℕ, zero, suc, ◌<◌, ◌≤◌, List, [], ◌∷◌, length, Bool, true, false, Option, Some, None, refl, ap, ◌∙◌, get_or, eqb-true, eq-eqb}
+use Rattle.std.proofs.Common.{arith, ◌≡◌, ℕ, zero, suc, ◌<◌, ◌≤◌, List, [], ◌∷◌, length, Bool, true, false, Option, Some, None, refl, ap, eqb-true, eq-eqb}
 use Rattle.std.specs.Prelude.{◌==◌, ◌||◌, MatchOption}
 use mathlib.Core.Bool.{false≢true}
 use Rattle.std.specs.List.{All, Contains}

@@ -1,6 +1,6 @@
 -- Entries that are found and taken out.
-use Rattle.std.proofs.Common.{arith, ◌≡◌, ℕ, zero, suc, ◌+◌, ◌<◌, ◌≤◌, List, [], ◌∷◌, ◌++◌, length, Bool, true, false, refl, ap, sym, subst, ◌∙◌, get_or, take, drop}
-use Rattle.std.specs.Prelude.{◌||◌, Option, Some, None, find, filter, not, is_some, if◌then◌else◌}
+use Rattle.std.proofs.Common.{arith, ◌≡◌, ℕ, zero, suc, ◌<◌, List, [], ◌∷◌, length, Bool, true, false, refl, ap, ◌∙◌, get_or}
+use Rattle.std.specs.Prelude.{◌||◌, Some, None, find, filter, not, is_some, if◌then◌else◌}
 use mathlib.Core.Bool.{true≢false, false≢true}
 use Rattle.std.specs.List.{All, remove, list_any}
 use Rattle.dmr_table.specs.Entries.{without_first}

@@ -1,16 +1,15 @@
 -- What places say of the entries, and what becomes of them.
-use Rattle.std.proofs.Common.{arith, ◌≡◌, ◌≢◌, ℕ, zero, suc, ◌+◌, ◌-◌, ◌*◌, ◌<◌, ◌≤◌, List, [], ◌∷◌, ◌++◌, length, ◌⊎◌, inl, inr, subst, sym, ap, refl, ◌∙◌, true, false, get_or, map, take, drop, ltb, ltb-true, nat_lt, eq-eqb}
-use Rattle.std.specs.List.{All, AllPairs, AllWithin, insert, remove}
+use Rattle.std.proofs.Common.{arith, ◌≡◌, ◌≢◌, ℕ, ◌+◌, ◌-◌, ◌*◌, ◌<◌, ◌≤◌, List, [], ◌∷◌, ◌++◌, length, inl, inr, sym, ap, refl, ◌∙◌, true, false, get_or, take, drop, ltb, ltb-true, eq-eqb}
+use Rattle.std.specs.List.{All, AllPairs, insert}
 use Rattle.std.specs.List.Sorted.{IsNonDecreasingBy, IsPartitionPoint}
 use Rattle.std.proofs.lemmas.Bool.{cases_lt}
 use Rattle.std.proofs.lemmas.Bool.Decides.{nat_tests}
-use Rattle.std.proofs.lemmas.List.Edits.{length-insert, get_or-insert_below, get_or-insert_at, get_or-insert_above, length-remove, get_or-remove_below, get_or-remove_above}
-use Rattle.std.proofs.lemmas.List.Quantifiers.{all_pairs_remove}
-use Rattle.std.proofs.lemmas.List.Elements.{All-map, All-append, All-take, All-drop, All-cons, All-weaker}
+use Rattle.std.proofs.lemmas.List.Edits.{length-insert, get_or-insert_below, get_or-insert_at, get_or-insert_above}
+use Rattle.std.proofs.lemmas.List.Elements.{All-append, All-take, All-drop, All-cons, All-weaker}
 use Rattle.std.proofs.lemmas.List.{length_push, get_or_append_left, get_or_push}
 use Rattle.std.specs.Prelude.{◌==◌}
 use Rattle.dmr_table.specs.declared.places.Place.{Place}
-use Rattle.dmr_table.specs.Places.{rank_of, AreAscending, IsGap, HasFirst, lowered, IsPlaceIn, ArePlaces}
+use Rattle.dmr_table.specs.Places.{rank_of, AreAscending, IsGap, HasFirst, IsPlaceIn, ArePlaces}
 use Rattle.dmr_table.specs.Entries.{IsLeastFrom}
 use Rattle.dmr_table.proofs.EntriesLemmas.{IsFirst}
 

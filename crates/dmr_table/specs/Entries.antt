@@ -1,5 +1,5 @@
 -- Entries with keys.
-use Rattle.std.specs.Prelude.{◌≡◌, ℕ, ◌<◌, ◌≤◌, List, [], ◌∷◌, Bool, if◌then◌else◌}
+use Rattle.std.specs.Prelude.{ℕ, ◌≤◌, List, [], ◌∷◌, Bool, if◌then◌else◌}
 use Rattle.std.specs.List.{All, Contains}
 
 -- the entries without the first that passes the test

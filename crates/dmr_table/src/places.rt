@@ -1,6 +1,6 @@
 //! The places of entries, in the order of their keys.
 
-ghost use Rattle.std.specs.Prelude.{◌≡◌, ◌≤◌, ◌*◌, MatchOption, length, map};
+ghost use Rattle.std.specs.Prelude.{◌≡◌, ◌*◌, MatchOption, length, map};
 ghost use Rattle.dmr_table.specs.Places.{AreAscending, IsGap, HasFirst, rank_of, lowered as lowered_of};
 
 /// An entry's key, and its place among the entries.
@@ -47,7 +47,7 @@ pub fn count_before(places: &[Place], place: Place) -> usize
 /// Which of the places is the first from a key on, if any is.
 pub fn first_from(places: &[Place], key: u32) -> Option<usize>
     requires { AreAscending places.now }
-    ensures { MatchOption result (IsGap places.now (key * 65536) (length places.now)) (λ at'. HasFirst places.now key at') }
+    ensures { MatchOption result (IsGap places.now (key * 65536) (length places.now)) (HasFirst places.now key) }
 {
     let before = count_before(places, Place { key, index: 0 });
     if before < places.len() {

@@ -1,7 +1,7 @@
 //! The table.
 
-ghost use Rattle.std.specs.Prelude.{◌≡◌, ◌≢◌, ◌<◌, ◌≤◌, ◌++◌, ◌∷◌, ◌↔◌, ◌==◌, [], length, not, find, filter, set, slice_index_or, IsTrue, IfOk, MatchOption, is_some};
-ghost use Rattle.std.specs.List.{All, Contains, list_any};
+ghost use Rattle.std.specs.Prelude.{◌≡◌, ◌<◌, ◌≤◌, ◌++◌, ◌∷◌, ◌↔◌, ◌==◌, [], length, not, find, filter, set, slice_index_or, IsTrue, IfOk, MatchOption};
+ghost use Rattle.std.specs.List.{All, list_any};
 ghost use Rattle.dmr_table.specs.Entries.{without_first, IsLeastFrom};
 
 use crate::keyed::Keyed;
@@ -114,7 +114,7 @@ impl<V: Keyed, const MOST: usize> KeyedTable<V, MOST> {
         self.entries.push_reserved(entry);
     }
 
-    /// Puts an entry in the place of one that has the same key.
+    /// Puts an entry at a place, counted from 0, in place of one that has the same key.
     pub fn replace(&mut self, place: usize, entry: V)
         requires within { place < length self.old }
         requires same { (d : V) → V.key_of (slice_index_or self.old place d) ≡ V.key_of entry }

@@ -18,68 +18,37 @@ impl Keyed for Named {
     }
 }
 
-/// The names of entries, in their order.
-fn has_names(entries: &[Named], names: &str) -> bool {
-    entries.iter().map(|named| named.name).eq(names.chars())
+/// The name of what was found.
+fn name(found: Option<Named>) -> Option<char> {
+    found.map(|named| named.name)
 }
 
 #[test]
 fn finds_the_first_of_a_number_and_keeps_the_order(rt: HostRuntime) -> Result<(), Fail> {
     let mut table: KeyedTable<Named, 6> = KeyedTable::new(rt.alloc())?;
     for (number, name) in [(5, 'a'), (2, 'b'), (5, 'c'), (9, 'd'), (0, 'e'), (2, 'f')] {
-        table.push(Named { number, name });
+        if table.len() < 6 {
+            table.push(Named { number, name });
+        }
     }
-    assert_eq!(rt;
-        table.find(5),
-        Some(Named {
-            number: 5,
-            name: 'a'
-        })
-    );
-    assert_eq!(rt; table.find(6), None);
-    assert_eq!(rt;
-        table.least_from(6),
-        Some(Named {
-            number: 9,
-            name: 'd'
-        })
-    );
-    assert_eq!(rt; table.least_from(10), None);
-    assert_eq!(rt;
-        table.remove_first(5),
-        Some(Named {
-            number: 5,
-            name: 'a'
-        })
-    );
-    assert_eq!(rt;
-        table.find(5),
-        Some(Named {
-            number: 5,
-            name: 'c'
-        })
-    );
+    for (number, found) in [(5, Some('a')), (2, Some('b')), (6, None)] {
+        assert_eq!(rt; name(table.find(number)), found);
+    }
+    for (number, found) in [(0, Some('e')), (6, Some('d')), (10, None)] {
+        assert_eq!(rt; name(table.least_from(number)), found);
+    }
+    assert_eq!(rt; name(table.remove_first(5)), Some('a'));
     table.remove(2);
-    assert!(rt; has_names(table.as_slice(), "cde"));
-    table.push(Named {
-        number: 5,
-        name: 'g',
-    });
-    assert!(rt; has_names(table.as_slice(), "cdeg"));
-    assert_eq!(rt;
-        table.remove_first(5),
-        Some(Named {
+    if table.len() < 6 {
+        table.push(Named {
             number: 5,
-            name: 'c'
-        })
-    );
-    assert_eq!(rt;
-        table.find(5),
-        Some(Named {
-            number: 5,
-            name: 'g'
-        })
-    );
+            name: 'g',
+        });
+    }
+    let names = table.as_slice().iter().map(|named| named.name);
+    assert!(rt; names.eq(['c', 'd', 'e', 'g'].iter().copied()));
+    assert_eq!(rt; name(table.remove_first(5)), Some('c'));
+    assert_eq!(rt; name(table.find(5)), Some('g'));
     assert!(rt; table.has(0) && table.has(9) && !table.has(2));
     Ok(())
 }

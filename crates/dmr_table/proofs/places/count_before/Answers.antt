@@ -1,4 +1,4 @@
-use Rattle.std.proofs.Common.{rules, arith, ltb, ltb-true}
+use Rattle.std.proofs.Common.{rules, ltb}
 use Rattle.std.proofs.lemmas.List.Sorted.{IsPartitionPoint-from_clause, IsPartitionedBy-ltb}
 use Rattle.dmr_table.specs.Places.{rank_of}
 use Rattle.dmr_table.proofs.PlacesLemmas.{non_decreasing, gap_found}

@@ -1,5 +1,5 @@
-use Rattle.std.proofs.Common.{rules, ◌≡◌, ◌∷◌, [], ◌++◌}
-use Rattle.dmr_calls.specs.Asks.{HaveOwnSources, others_than, just_asked}
+use Rattle.std.proofs.Common.{rules, ◌≡◌}
+use Rattle.dmr_calls.specs.Asks.{HaveOwnSources, others_than}
 use Rattle.dmr_calls.proofs.OwnLemmas.{own_with}
 use Rattle.dmr_calls.proofs.calls.Calls.ask.Goals as goal
 

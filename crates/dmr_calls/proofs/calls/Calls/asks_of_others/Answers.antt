@@ -1,4 +1,4 @@
-use Rattle.std.proofs.Common.{arith, rules, ◌≡◌, ◌+◌, length, ap, sym, ◌∙◌}
+use Rattle.std.proofs.Common.{arith, rules, ◌≡◌, ◌+◌, length}
 use Rattle.std.specs.Prelude.{◌==◌, if◌then◌else◌}
 use Rattle.std.specs.List.{list_any}
 use Rattle.dmr_calls.specs.Asks.{others_than}

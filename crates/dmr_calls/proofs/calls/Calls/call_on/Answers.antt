@@ -1,7 +1,5 @@
-use Rattle.std.proofs.Common.{arith, rules, ◌≡◌, ◌<◌, ◌∙◌, sym, ap}
-use Rattle.std.specs.Prelude.{◌==◌, Option, Some, None, find, option_map}
-use Rattle.dmr_calls.specs.declared.call.Standing.{Standing}
-use Rattle.dmr_calls.specs.Slots.{AreOnSlots, number_of}
+use Rattle.std.proofs.Common.{rules, ◌≡◌, ◌<◌, ◌∙◌}
+use Rattle.std.specs.Prelude.{find}
 use Rattle.dmr_calls.specs.Calls.{is_slot}
 use Rattle.dmr_calls.proofs.SlotLemmas.{found_on_slot}
 use Rattle.dmr_calls.proofs.calls.Calls.call_on.Goals as goal

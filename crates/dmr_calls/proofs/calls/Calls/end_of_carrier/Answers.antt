@@ -1,8 +1,7 @@
-use Rattle.std.proofs.Common.{rules, arith, ◌≡◌, ◌+◌, ◌*◌, ◌<◌, List, ap, ◌∙◌}
+use Rattle.std.proofs.Common.{◌≡◌, ◌<◌, List, ap, ◌∙◌}
 use Rattle.std.proofs.lemmas.List.Elements.{All-filter}
 use Rattle.dmr_calls.specs.declared.call.Standing.{Standing}
 use Rattle.dmr_calls.specs.Standings.{Standings}
-use Rattle.dmr_calls.specs.Slots.{AreOnSlots}
 use Rattle.dmr_calls.specs.Calls.{on_other_carriers}
 use Rattle.dmr_calls.proofs.SlotLemmas.{left_on_carriers}
 use Rattle.dmr_calls.proofs.calls.Calls.end_of_carrier.Goals as goal

@@ -1,4 +1,4 @@
-use Rattle.std.proofs.Common.{◌≡◌, rules, sym, ◌∙◌, false}
+use Rattle.std.proofs.Common.{◌≡◌, rules, sym, false}
 use Rattle.std.specs.Prelude.{◌==◌, ◌&&◌, not}
 use Rattle.std.specs.List.{list_any}
 use Rattle.dmr_calls.specs.declared.line.Line.{Line}

@@ -1,5 +1,5 @@
-use Rattle.std.proofs.Common.{rules, arith, ◌≡◌, ◌≤◌, length, sym, ◌∙◌}
-use Rattle.dmr_table.specs.Places.{IsGap, HasFirst}
+use Rattle.std.proofs.Common.{rules, arith, ◌≤◌, length, sym}
+use Rattle.dmr_table.specs.Places.{HasFirst}
 use Rattle.dmr_table.proofs.FoundLemmas.{past_all, other_key, first_entry}
 use Rattle.dmr_table.proofs.table.KeyedTable.find.Goals as goal
 

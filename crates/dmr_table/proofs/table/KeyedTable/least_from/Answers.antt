@@ -1,5 +1,5 @@
-use Rattle.std.proofs.Common.{rules, arith, ◌≡◌, ◌≤◌, length, sym, ◌∙◌}
-use Rattle.dmr_table.specs.Places.{IsGap, HasFirst}
+use Rattle.std.proofs.Common.{rules, arith, ◌≤◌, length}
+use Rattle.dmr_table.specs.Places.{HasFirst}
 use Rattle.dmr_table.proofs.FoundLemmas.{least_entry, no_least}
 use Rattle.dmr_table.proofs.table.KeyedTable.least_from.Goals as goal
 

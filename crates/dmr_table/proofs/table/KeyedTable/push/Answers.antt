@@ -1,4 +1,4 @@
-use Rattle.std.proofs.Common.{rules, arith, ◌≡◌, ◌≤◌, ◌<◌, ◌+◌, ◌++◌, ◌∷◌, [], ap, length, vec_len}
+use Rattle.std.proofs.Common.{rules, arith, ◌≡◌, ◌≤◌, ◌<◌, ◌+◌, ap, length, vec_len}
 use Rattle.std.specs.List.{insert}
 use Rattle.dmr_table.specs.declared.places.Place.{Place}
 use Rattle.dmr_table.specs.Places.{IsGap, rank_of}

@@ -1,7 +1,6 @@
-use Rattle.std.proofs.Common.{rules, arith, ◌≡◌, ◌≤◌, ◌<◌, ◌+◌, ◌++◌, length, sym, ◌∙◌, get_or, map, take, drop, vec_len}
+use Rattle.std.proofs.Common.{rules, arith, ◌≡◌, ◌≤◌, ◌+◌, ◌++◌, length, sym, ◌∙◌, map, take, drop}
 use Rattle.std.proofs.lemmas.Grind.{common_steps}
 use Rattle.std.specs.List.{remove}
-use Rattle.dmr_table.specs.declared.places.Place.{Place}
 use Rattle.dmr_table.specs.Places.{HasFirst, lowered, ArePlaces}
 use Rattle.dmr_table.proofs.FoundLemmas.{past_all, other_key, first_entry}
 use Rattle.dmr_table.proofs.RemovalLemmas.{places_left}

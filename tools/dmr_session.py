@@ -30,6 +30,9 @@ class Input:
             return f"bytes {self.carrier} {self.octets.hex().upper()}"
         if self.kind == "tick":
             return "tick" if self.count == 1 else f"tick {self.count}"
+        line, end = self.octets[:-1], self.octets[-1:]
+        if end == b"\n" and all(32 <= octet < 127 for octet in line):
+            return f"say {line.decode('ascii')}"
         return f"text {self.octets.hex().upper()}"
 
 

@@ -37,7 +37,10 @@ fn fills_while_moving(rt: HostRuntime) -> Result<(), Fail> {
     assert_eq!(rt; access.fill(Some(Lpcn::new(7)), None).to_octets(), quiet);
     access.noise();
     let disturbed = [0xB9, 0, 0, 0, 0x12, 0, 0x07, 0, 0, 0];
-    assert_eq!(rt; access.fill(Some(Lpcn::new(7)), None).to_octets(), disturbed);
+    assert_eq!(rt;
+        access.fill(Some(Lpcn::new(7)), None).to_octets(),
+        disturbed
+    );
     Ok(())
 }
 

@@ -132,8 +132,11 @@ next_above calls last k call is first on =
       within = within;
       stands = subst (λ (s : Slot). call_on calls s ≡ Some call) (sym on.there) on.stands;
       group = on.group;
-      above = λ other site group behind. (above, λ below.
-          none_before calls (place_after last) k other first.before site.1 group (behind_last last other is site.1 behind) (omega (arith, at, below-place other call.slot site.1 within.1 below)));
+      above = λ other site group behind. (
+        above,
+        λ below.
+            none_before calls (place_after last) k other first.before site.1 group (behind_last last other is site.1 behind) (omega (arith, at, below-place other call.slot site.1 within.1 below)),
+      );
       around = λ no other site group below. no above;
     }
 

@@ -1,6 +1,6 @@
 -- The acts of each rule may be done.
 use Rattle.std.proofs.Common.{◌≡◌, ◌<◌, ◌≤◌, ◌+◌, ℕ, List, [], ◌∷◌, ◌++◌, Bool, true, false, refl, sym, ◌∙◌, ap, subst, arith, map, filter, length, drop}
-use Rattle.std.specs.Prelude.{fold, Option, Some, None, if◌then◌else◌, ◌&&◌, not, find, ◌==◌, slice_get, nat_le, nat_lt}
+use Rattle.std.specs.Prelude.{fold, Some, None, if◌then◌else◌, ◌&&◌, not, find, ◌==◌, slice_get, nat_le, nat_lt}
 use Rattle.std.specs.List.{list_any}
 use Rattle.std.specs.Option.{option_map_or}
 use Rattle.std.proofs.lemmas.Bool.Decides.{nat_tests}

@@ -1,5 +1,5 @@
 -- The carrier that has a channel.
-use Rattle.std.proofs.Common.{◌≡◌, ℕ, List, [], ◌∷◌, Bool, true, false, refl, sym, ◌∙◌, ap, subst}
+use Rattle.std.proofs.Common.{◌≡◌, ℕ, List, [], ◌∷◌, Bool, true, false, refl, ◌∙◌, ap}
 use Rattle.std.specs.List.{list_any}
 use Rattle.std.specs.Prelude.{Option, Some, cond, find, option_map, ◌==◌}
 use Rattle.dmr_plan.specs.declared.settings.Settings.{Settings}

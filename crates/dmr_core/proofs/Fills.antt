@@ -3,7 +3,6 @@ use Rattle.std.proofs.Common.{◌≡◌, ◌<◌, ℕ, Bool, true, false, List, 
 use Rattle.std.specs.Prelude.{Option, Some, None, MatchOption, IfSome, ◌&&◌, not, is_some, option_map, unwrap_or, if◌then◌else◌}
 use Rattle.dmr_pdu.specs.declared.slots.Slot.{Slot}
 use Rattle.dmr_pdu.specs.declared.pdu.Pdu.{Pdu}
-use Rattle.dmr_pdu.specs.declared.pdu.Pdu.TheVariants.{TvGrant}
 use Rattle.dmr_plan.specs.declared.settings.Settings.{Settings}
 use Rattle.dmr_access.specs.Fill.{aloha_of, fill_of, is_late_due}
 use Rattle.dmr_calls.specs.declared.call.Call.{Call}

@@ -1,6 +1,6 @@
 -- Late entries name the talkgroup calls in turn.
 use Rattle.std.proofs.Common.{◌≡◌, ◌≢◌, ◌<◌, ◌≤◌, ◌+◌, ◌-◌, ◌*◌, ◌⊎◌, inl, inr, ℕ, List, [], ◌∷◌, Bool, true, false, refl, sym, ◌∙◌, ap, subst, arith}
-use Rattle.std.specs.Prelude.{◌%◌, ◌==◌, ◌&&◌, not, is_some, fold, cond, Option, Some, None, MatchOption, IfSome, option_map, if◌then◌else◌}
+use Rattle.std.specs.Prelude.{◌%◌, ◌==◌, ◌&&◌, fold, Option, Some, None, MatchOption, IfSome, option_map, if◌then◌else◌}
 use Rattle.std.specs.List.{list_all}
 use Rattle.std.specs.Option.{option_and_then, option_map_or}
 use Rattle.std.proofs.lemmas.Bool.{cases_lt}
@@ -26,7 +26,7 @@ use Rattle.dmr_core.specs.declared.named.NamedSlot.{NamedSlot}
 use Rattle.dmr_core.specs.Facts.{Facts, done, facts_after, fills_by_act, fills_by_event, has_carrier, late_by_act, noted}
 use Rattle.dmr_core.specs.Late.{last_slot, next_call, slot_named}
 use Rattle.dmr_core.specs.Words.{lpcn_of}
-use Rattle.dmr_core.specs.Rules.{acts_of, grant_pdu, late_entry}
+use Rattle.dmr_core.specs.Rules.{grant_pdu, late_entry}
 use Rattle.dmr_core.specs.Journal.{IsLegal}
 use Rattle.dmr_core.specs.Sound.{IsPayload, IsSound, is_grant, total}
 use Rattle.dmr_core.specs.May.{AllMayDo, MayDo, entry_of}
@@ -235,9 +235,9 @@ acts_go plan calls most n call now (Fill slot pdu ∷ acts) p target sound may s
     elim (fill_step plan calls most n call now slot pdu p sound target may.0.late h) [
       | inl named ↦ inl (inl named)
       | inr going ↦ elim (acts_go plan calls most (n + 1) call (done now (Fill slot pdu)) acts p target (sound-done plan now (Fill slot pdu) (plan_known plan p) sound may.0) may.1 (and_true true (list_all is_steady_act acts) steady).1 going) [
-          | inl later ↦ inl (inr later)
-          | inr left ↦ inr (again plan calls (place call.slot) most (n + 1 + total fill_in acts) (n + (1 + total fill_in acts)) (fold done (done now (Fill slot pdu)) acts) (omega arith) left)
-        ]
+        | inl later ↦ inl (inr later)
+        | inr left ↦ inr (again plan calls (place call.slot) most (n + 1 + total fill_in acts) (n + (1 + total fill_in acts)) (fold done (done now (Fill slot pdu)) acts) (omega arith) left)
+      ]
     ]
 acts_go plan calls most n call now (Began other ∷ acts) p target sound may steady h = cc
 acts_go plan calls most n call now (Ended other ∷ acts) p target sound may steady h = cc
@@ -264,9 +264,9 @@ goes plan facts call (entry ∷ earlier) p sound legal target steady still =
     elim (goes plan facts call earlier p sound legal.1 target both.1 still) [
       | inl named ↦ inl (inr named)
       | inr going ↦ elim (acts_go plan facts.calls (talkgroup_calls facts.calls) (fills_in earlier) call (noted plan now entry.event) entry.acts.list p target (sound-noted plan now entry.event (plan_known plan p) before) may here.1 (going_event plan facts.calls (place call.slot) (talkgroup_calls facts.calls) (fills_in earlier) now entry.event here.0 going)) [
-          | inl named ↦ inl (inl named)
-          | inr left ↦ inr (subst (IsGoing plan facts.calls (place call.slot) (talkgroup_calls facts.calls) (fills_in (entry ∷ earlier))) (sym (facts_after-step plan facts entry earlier)) left)
-        ]
+        | inl named ↦ inl (inl named)
+        | inr left ↦ inr (subst (IsGoing plan facts.calls (place call.slot) (talkgroup_calls facts.calls) (fills_in (entry ∷ earlier))) (sym (facts_after-step plan facts entry earlier)) left)
+      ]
     ]
 
 -- a talkgroup call stands on a slot of the site

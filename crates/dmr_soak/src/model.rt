@@ -314,7 +314,9 @@ impl Model {
 
     /// The talkgroup call that a late entry names: from the slot of the last one on it is the nearest going round.
     fn next_entry(&self) -> Option<Request> {
-        let behind = self.last_entry.map_or(0, |slot| slot.place().saturating_add(1));
+        let behind = self
+            .last_entry
+            .map_or(0, |slot| slot.place().saturating_add(1));
         let is_named = |call: &&Request| call.stage == Stage::Call && call.group;
         let calls = self.requests.iter().filter(is_named);
         let calls = calls.copied();

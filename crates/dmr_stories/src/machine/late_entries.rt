@@ -20,8 +20,10 @@ poll 0 => send 0.0 B100002000005C0003EA
 /// Four Fills, the last of which is late entry of the call to 91, of that to 92, or of that to 93.
 const FOUR_TO_91: &str =
     "3 poll 0 => fill 0.0 99000000111234000000\npoll 0 => fill 0.0 B100001C00005B0003E9\n";
+
 const FOUR_TO_92: &str =
     "3 poll 0 => fill 0.0 99000000111234000000\npoll 0 => fill 0.0 B100002400005C0003EA\n";
+
 const FOUR_TO_93: &str =
     "3 poll 0 => fill 0.0 99000000111234000000\npoll 0 => fill 0.0 B100002C00005D0003EB\n";
 
@@ -138,13 +140,15 @@ poll 0 => fill 0.0 B100001C00005B0003E9
         name: "counted Fills",
         site: SMALL,
         radios: Some(1001),
-        told: &["\
+        told: &[
+            "\
 copy =>
 3 poll 0 => fill 0.0 99000000111234000000
 same => no
 poll 0 => fill 0.0 99000000111234000000
 same => yes
-"],
+",
+        ],
     },
 ];
 

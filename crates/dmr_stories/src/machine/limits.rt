@@ -136,7 +136,7 @@ poll 0 => send 0.0 A000014000040800007A
         ],
     },
     // A tick that ends a call, repeats an ask and serves a line, where grants and P_CLEARs are sent four times: 13
-    // acts, of which 9 put a PDU behind others.
+    // acts, of which 9 put a PDU behind others. The fourth fill before it is a late entry.
     Story {
         name: "busiest tick",
         site: LOUD,
@@ -161,7 +161,8 @@ poll 0 => send 0.0 9C0000000003EE0003ED
 6 tick =>
 tick => ended 0.1; queue 0.1 AE00001100005BFFFECA; queue 0.1 AE00001100005BFFFECA; \
     queue 0.1 AE00001100005BFFFECA; queue 0.1 AE00001100005BFFFECA
-4 poll 0 => fill 0.0 99000000111234000000; send 0.1 AE00001100005BFFFECA
+3 poll 0 => fill 0.0 99000000111234000000; send 0.1 AE00001100005BFFFECA
+poll 0 => fill 0.0 B100002400005C0003EA; send 0.1 AE00001100005BFFFECA
 tick => ended 1.0; queue 1.0 AE00001100005CFFFECA; queue 1.0 AE00001100005CFFFECA; \
     queue 1.0 AE00001100005CFFFECA; queue 1.0 AE00001100005CFFFECA; asked 1005 1006 0 2; \
     queue 0.0 9C0000000003EE0003ED; unlined 1004; began 0.1 1004 g94; queue 0.0 B100001800005E0003EC; \

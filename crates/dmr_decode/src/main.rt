@@ -15,7 +15,7 @@ mod tasks;
 mod words_of_bursts;
 
 use crate::tasks::{TaskFault, run};
-use std::io::{BufWriter, Write};
+use std::io::{BufWriter, Eprint, Write};
 use std::process::ExitCode;
 use std::{env, io};
 
@@ -51,6 +51,24 @@ fn input_of<R: AllocGlobal + Input>(rt: &R, rest: &[String]) -> io::Result<Strin
     Ok(text)
 }
 
+/// Does the task of a name, prints what it says, and answers the exit status.
+fn do_task<R: AllocGlobal + Print + Eprint>(rt: &R, task: &str, text: &str) -> io::Result<u8> {
+    let mut out = BufWriter::new(rt.alloc(), io::writer(rt))?;
+    let done = run(rt.alloc(), task, text, &mut out);
+    out.flush()?;
+    match done {
+        Ok(()) => Ok(0),
+        Err(TaskFault::NoSuchTask(_)) => {
+            rt.eprint(HELP)?;
+            Ok(2)
+        }
+        Err(fault) => {
+            eprintln!(rt; "dmr_decode: {fault}")?;
+            Ok(1)
+        }
+    }
+}
+
 fn main(rt: HostRuntime) -> io::Result<ExitCode> {
     let words = env::args(&rt)?.skip(1).collect::<Vec<String>>(rt.alloc())?;
     let [task, rest @ ..] = words.as_slice() else {
@@ -62,18 +80,5 @@ fn main(rt: HostRuntime) -> io::Result<ExitCode> {
         return Ok(ExitCode::from(0));
     }
     let text = input_of(&rt, rest)?;
-    let mut out = BufWriter::new(rt.alloc(), rt.stdout())?;
-    let status = match run(rt.alloc(), task.as_str(), text.as_str(), &mut out) {
-        Ok(()) => 0,
-        Err(TaskFault::NoSuchTask(_)) => {
-            rt.eprint(HELP)?;
-            2
-        }
-        Err(fault) => {
-            eprintln!(rt; "dmr_decode: {fault}")?;
-            1
-        }
-    };
-    out.flush()?;
-    Ok(ExitCode::from(status))
+    Ok(ExitCode::from(do_task(&rt, task.as_str(), text.as_str())?))
 }

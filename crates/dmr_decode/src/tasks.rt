@@ -116,20 +116,25 @@ fn written<'a, W: Write>(alloc: Global, text: &'a str, out: &mut W) -> Result<()
     Ok(show_burst(alloc, &pdu, out)?)
 }
 
-/// The lines of carriers, frame by frame, and the others as they are.
+/// What a replay printed, line by line.
 fn replay<'a, W: Write>(alloc: Global, text: &str, out: &mut W) -> Result<(), TaskFault<'a>> {
     for line in text.lines() {
-        let words: Vec<&str> = line.split_whitespace().collect(alloc)?;
-        match words.as_slice() {
-            ["carrier", number, "-"] => writeln!(out, "carrier {number}")?,
-            ["carrier", number, digits] => {
-                writeln!(out, "carrier {number}")?;
-                site(alloc, *digits, out)?;
-            }
-            _ => writeln!(out, "{line}")?,
-        }
+        replay_line(alloc, line, out)?;
     }
     Ok(())
+}
+
+/// The line of a carrier, frame by frame, or another as it is.
+fn replay_line<'a, W: Write>(alloc: Global, line: &str, out: &mut W) -> Result<(), TaskFault<'a>> {
+    let words: Vec<&str> = line.split_whitespace().collect(alloc)?;
+    match words.as_slice() {
+        ["carrier", number, "-"] => Ok(writeln!(out, "carrier {number}")?),
+        ["carrier", number, digits] => {
+            writeln!(out, "carrier {number}")?;
+            site(alloc, *digits, out)
+        }
+        _ => Ok(writeln!(out, "{line}")?),
+    }
 }
 
 /// The lines of a script as they are, and below each piece of a carrier's octets the frames that it completes.
@@ -140,23 +145,43 @@ fn script<'a, W: Write>(alloc: Global, text: &str, out: &mut W) -> Result<(), Ta
     }
     for line in text.lines() {
         writeln!(out, "{line}")?;
-        let words: Vec<&str> = line.split_whitespace().collect(alloc)?;
-        match words.as_slice() {
-            ["open", number] => {
-                if let Some(reader) = reader_of(readers.as_mut_slice(), *number) {
-                    *reader = CarrierReader::new();
-                }
-            }
-            ["bytes", number, digits] => {
-                if let Some(reader) = reader_of(readers.as_mut_slice(), *number) {
-                    let octets = octets_of(alloc, *digits)?;
-                    reader.show(alloc, octets.as_slice(), out)?;
-                }
-            }
-            _ => {}
-        }
+        script_line(alloc, line, readers.as_mut_slice(), out)?;
     }
     Ok(())
+}
+
+/// The frames that the line of a script completes.
+fn script_line<'a, W: Write>(
+    alloc: Global,
+    line: &str,
+    readers: &mut [CarrierReader],
+    out: &mut W,
+) -> Result<(), TaskFault<'a>> {
+    let words: Vec<&str> = line.split_whitespace().collect(alloc)?;
+    match words.as_slice() {
+        ["open", number] => {
+            if let Some(reader) = reader_of(readers, *number) {
+                *reader = CarrierReader::new();
+            }
+            Ok(())
+        }
+        ["bytes", number, digits] => match reader_of(readers, *number) {
+            Some(reader) => piece(alloc, *digits, reader, out),
+            None => Ok(()),
+        },
+        _ => Ok(()),
+    }
+}
+
+/// The frames that a piece of a carrier's octets completes.
+fn piece<'a, W: Write>(
+    alloc: Global,
+    digits: &str,
+    reader: &mut CarrierReader,
+    out: &mut W,
+) -> Result<(), TaskFault<'a>> {
+    let octets = octets_of(alloc, digits)?;
+    Ok(reader.show(alloc, octets.as_slice(), out)?)
 }
 
 /// The reader of the carrier whose number is written so.

@@ -20,4 +20,5 @@ pub mod Ages
 pub mod Orders
 pub mod Cases
 pub mod GroupCases
+pub mod LateCases
 pub mod IndividualCases

@@ -5,9 +5,11 @@
 # make bench   words decoded, encoded and checked per second, beside two coders in C, on this machine; and all words with three flips
 # make soak    a million random inputs through the engine, on two sites, compared with a reference model, by the proved program (some seconds, once it is proved)
 # make serve-check    the proved program serves sixteen carriers and their radios on loopback for half a minute; what comes back is checked
+# make serve-check FAULTS=1   the same for ten minutes, in which things go wrong all the time (docs/ROBUSTNESS.md)
+# make refuse-memory  each allocation and each thread of the proved program refused in turn (a minute or two)
 # make serve-hostile  the proved program served to carriers and strangers that behave badly (some minutes)
 # make install [PREFIX=/usr/local] [DESTDIR=]   the proved program, its manual page, a systemd unit, examples and documents
-.PHONY: demo build test wrong-bodies bench soak serve-check serve-hostile install
+.PHONY: demo build test wrong-bodies bench soak serve-check serve-hostile refuse-memory install
 
 PREFIX ?= /usr/local
 DESTDIR ?=
@@ -38,10 +40,14 @@ build/dmr_trunk:
 	@echo "no build/dmr_trunk: run 'make build' first"; exit 2
 
 serve-check: build/dmr_trunk
-	tools/carriers --site examples/sixteen_carriers.toml --program build/dmr_trunk --seconds 30 --polls 10000
+	tools/carriers --site examples/sixteen_carriers.toml --program build/dmr_trunk \
+		$(if $(FAULTS),--faults --seconds 600,--seconds 30 --polls 10000)
 
 serve-hostile: build/dmr_trunk
 	tools/serve-hostile build/dmr_trunk
+
+refuse-memory: build/dmr_trunk
+	tools/refuse-memory
 
 build/dmr_trunk.1: docs/OPERATING.md tools/manual
 	mkdir -p build && tools/manual <docs/OPERATING.md >$@

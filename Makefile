@@ -1,6 +1,6 @@
 # `make` alone says what there is.
 .DEFAULT_GOAL := help
-.PHONY: help demo build check fmt test wrong-bodies bench soak serve-check serve-hostile tools-check pictures package package-check maps install
+.PHONY: help demo build check fmt test wrong-bodies bench soak serve-check serve-hostile refuse-memory tools-check pictures package package-check maps install
 
 PREFIX ?= /usr/local
 DESTDIR ?=
@@ -55,11 +55,15 @@ soak: ## a million random inputs through the engine, compared with a reference m
 build/dmr_trunk build/dmr_decode:
 	@echo "no $@: run 'make build' first"; exit 2
 
-serve-check: build/dmr_trunk ## the proved program serves sixteen carriers on loopback for half a minute; what comes back is checked
-	tools/carriers --site examples/sixteen_carriers.toml --program build/dmr_trunk --seconds 30 --polls 10000
+serve-check: build/dmr_trunk ## the proved program serves sixteen carriers on loopback for half a minute; what comes back is checked. FAULTS=1: ten minutes of trouble
+	tools/carriers --site examples/sixteen_carriers.toml --program build/dmr_trunk \
+		$(if $(FAULTS),--faults --seconds 600,--seconds 30 --polls 10000)
 
 serve-hostile: build/dmr_trunk ## the proved program served to carriers and strangers that behave badly (some minutes)
 	tools/serve-hostile build/dmr_trunk
+
+refuse-memory: build/dmr_trunk ## each allocation and each thread of the proved program refused in turn (a minute or two)
+	tools/refuse-memory
 
 tools-check: build/dmr_trunk build/dmr_decode ## the tools of the field, over the proved programs (a minute)
 	tools/check-decode build/dmr_decode

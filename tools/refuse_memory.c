@@ -1,23 +1,37 @@
-/* Preloaded into the program, refuses its allocation of number REFUSE, counted from 1, and tells on standard error's
-   descriptor 9 how many it was asked for when the program ends. */
+/* Preloaded into a program, refuses its allocation of number REFUSE and the start of its thread of number REFUSE_THREAD, each
+   counted from 1. The file of descriptor 9, which must be open for reading and writing, always has how many allocations and how many
+   threads were asked for so far, as two numbers of 8 octets. */
 #define _GNU_SOURCE
 #include <dlfcn.h>
 #include <errno.h>
-#include <stdio.h>
+#include <pthread.h>
+#include <stdatomic.h>
 #include <stdlib.h>
+#include <sys/mman.h>
+#include <unistd.h>
 
-static long refused(void) {
-    static long number = -1;
-    if (number < 0) {
-        const char *text = getenv("REFUSE");
-        number = text ? atol(text) : 0;
-    }
-    return number;
+struct counts {
+    atomic_long allocations, threads;
+};
+
+static struct counts own, *counts = &own;
+
+__attribute__((constructor)) static void begin(void) {
+    if (ftruncate(9, sizeof own)) return;
+    void *place = mmap(NULL, sizeof own, PROT_READ | PROT_WRITE, MAP_SHARED, 9, 0);
+    if (place != MAP_FAILED) counts = place;
 }
 
-static long asked;
+static long number_in(const char *name) {
+    const char *text = getenv(name);
+    return text ? atol(text) : 0;
+}
 
-static int is_refused(void) { return ++asked == refused(); }
+static int is_refused(void) {
+    static long refused = -1;
+    if (refused < 0) refused = number_in("REFUSE");
+    return atomic_fetch_add(&counts->allocations, 1) + 1 == refused;
+}
 
 void *malloc(size_t size) {
     static void *(*real)(size_t);
@@ -47,7 +61,9 @@ int posix_memalign(void **place, size_t alignment, size_t size) {
     return real(place, alignment, size);
 }
 
-__attribute__((destructor)) static void tell(void) {
-    FILE *to = fdopen(9, "w");
-    if (to) fprintf(to, "%ld\n", asked);
+int pthread_create(pthread_t *thread, const pthread_attr_t *attributes, void *(*start)(void *), void *argument) {
+    static int (*real)(pthread_t *, const pthread_attr_t *, void *(*)(void *), void *);
+    if (!real) real = (int (*)(pthread_t *, const pthread_attr_t *, void *(*)(void *), void *))dlsym(RTLD_NEXT, "pthread_create");
+    if (atomic_fetch_add(&counts->threads, 1) + 1 == number_in("REFUSE_THREAD")) return EAGAIN;
+    return real(thread, attributes, start, argument);
 }

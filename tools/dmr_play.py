@@ -1,0 +1,239 @@
+"""The play of a site's carriers and the radios that they hear, for tools/carriers: what they send, and what is made of what comes back."""
+import heapq
+import random
+import selectors
+import time
+from collections import Counter, deque
+
+import dmr_air as air
+
+PERIOD = 0.060
+# a radio that hears nothing asks again after so many seconds
+PATIENCE = 2.0
+
+
+class Radio:
+    """A radio: registers, and then calls now and then."""
+
+    def __init__(self, address):
+        self.address, self.registered, self.asked, self.talks_until, self.call = address, False, None, 0.0, None
+
+
+class Radios:
+    """The radios of a site, what they send on the control slot, and what they make of what is sent to them."""
+
+    def __init__(self, site, count, seed, counts):
+        self.site, self.counts, self.random = site, counts, random.Random(seed)
+        self.radios = {address: Radio(address) for address in site.radios(count)}
+        self.to_send, self.groups = [], site.plan["groups"]
+        # the slot of each call that stands: (carrier, slot) to (target, source); and who talks there
+        self.talkers = {}
+        self.registrations, self.acknowledged = 0, 0
+
+    def burst(self, octets):
+        """A burst with up to three bits flipped, anywhere."""
+        return air.burst_of(octets, self.random.sample(range(196), self.random.choice((0, 0, 1, 2, 3))))
+
+    def next_request(self, now):
+        """What a radio sends on the control slot in this frame: the 25 octets of a burst, or None."""
+        if self.to_send:
+            return self.burst(self.to_send.pop())
+        if self.random.random() < 0.02:
+            self.counts["noise sent"] += 1
+            return air.burst_of(air.rand(14, self.site.plan["regi"], 1), self.random.sample(range(1, 196), 4))
+        waiting = [it for it in self.radios.values() if not it.registered and (it.asked is None or now - it.asked > PATIENCE)]
+        if waiting:
+            return self.register(waiting[0], now)
+        if self.random.random() < 0.25:
+            return self.begin_call(now)
+        return None
+
+    def register(self, radio, now):
+        if radio.asked is None:
+            self.registrations += 1
+        else:
+            self.counts["registrations sent again"] += 1
+        radio.asked = now
+        return self.burst(air.rand(14, self.site.plan["regi"], radio.address, self.site.register_options()))
+
+    def begin_call(self, now):
+        free = [it for it in self.radios.values() if it.registered and now - (it.asked or 0) > PATIENCE]
+        if not free:
+            return None
+        radio = self.random.choice(free)
+        radio.asked = now
+        if self.groups and self.random.random() < 0.6:
+            self.counts["talkgroup requests"] += 1
+            return self.burst(air.rand(1, self.random.choice(self.groups), radio.address))
+        self.counts["individual requests"] += 1
+        return self.burst(air.rand(0, self.random.choice(list(self.radios)), radio.address))
+
+    def hears(self, pdu, carrier, slot, now):
+        """What is sent on a slot of a carrier."""
+        if pdu.opcode == air.ACKD:
+            reason = air.REASONS.get(pdu.reason, hex(pdu.reason))
+            self.counts[f"acknowledged: {reason}"] += 1
+            radio = self.radios.get(pdu.target)
+            if radio and reason == "registered" and pdu.source == self.site.plan["regi"] and not radio.registered:
+                radio.registered = True
+                self.acknowledged += 1
+        elif pdu.opcode == air.AHOY:
+            self.counts["radios called"] += 1
+            if self.random.random() < 0.8:
+                self.to_send.append(air.acku(air.MS_ACCEPTED, pdu.source, pdu.target))
+        elif pdu.opcode in (air.PV_GRANT, air.TV_GRANT):
+            self.counts["grants"] += 1
+            self.talkers[self.site.by_lpcn.get(pdu.lpcn), pdu.slot] = now + self.random.uniform(0.2, 3.0)
+        elif pdu.opcode == air.CLEAR:
+            self.counts["clears"] += 1
+            self.talkers.pop((carrier, slot), None)
+
+    def talks(self, carrier, slot, now):
+        return self.talkers.get((carrier, slot), 0) > now
+
+
+class Slots:
+    """The grants and clears of each slot, with when the poll that brought them was sent and answered."""
+
+    def __init__(self):
+        self.events = {}
+
+    def note(self, key, what, sent, received):
+        self.events.setdefault(key, []).append((received, sent, what))
+
+    def overlaps(self):
+        """Grants to a call on a slot on which another's grant stands: no clear of the slot can have been before it."""
+        found = 0
+        for events in self.events.values():
+            clears = [it for it in events if it[2] is None]
+            grants = sorted(it for it in events if it[2] is not None)
+            for (_, sent_before, before), (received, _, call) in zip(grants, grants[1:]):
+                if call != before and not any(cleared > sent_before and asked < received for cleared, asked, _ in clears):
+                    found += 1
+        return found
+
+
+class Carrier:
+    """A carrier's connection: what was sent, and what is awaited."""
+
+    def __init__(self, play, row, begins):
+        self.play, self.number, self.lpcn = play, row["number"], row["lpcn"]
+        self.stream = air.connect(play.site.address, row["port"])
+        self.stream.setblocking(False)
+        self.buffer, self.sent, self.due, self.welcome = bytearray(), None, begins, False
+        self.stream.send(air.hello(self.number, self.lpcn))
+
+    def poll(self, now):
+        """Sends what is heard in a frame, and a poll."""
+        frames = b""
+        for slot in (0, 1):
+            if self.play.radios.talks(self.number, slot, now):
+                frames += air.active(slot)
+        if self.number == self.play.site.control:
+            burst = self.play.radios.next_request(now)
+            if burst is not None:
+                frames += air.rx(0, burst)
+                self.play.counts["bursts sent"] += 1
+        self.sent = time.perf_counter()
+        self.stream.send(frames + air.POLL)
+        self.play.counts["polls"] += 1
+
+    def take(self):
+        """Takes what came. Whether the poll is answered."""
+        octets = self.stream.recv(4096)
+        if not octets:
+            raise ConnectionError(f"carrier {self.number}: the controller ended the connection")
+        now = time.perf_counter()
+        self.buffer += octets
+        answered = False
+        for kind, body in air.frames_in(self.buffer):
+            if kind == air.TX_TYPE:
+                self.play.burst(self, body[0], body[1:], now)
+            elif kind == air.DONE_TYPE:
+                self.play.times.append(now - self.sent)
+                answered = True
+            elif kind == air.WELCOME_TYPE:
+                self.welcome = True
+            else:
+                raise ConnectionError(f"carrier {self.number}: frame {kind:02X}{body.hex()}")
+        return answered
+
+
+class Play:
+    """A whole play: carriers, radios, counts, and what was found wrong."""
+
+    def __init__(self, site, words):
+        self.site, self.words, self.counts, self.times = site, words, Counter(), []
+        self.radios = Radios(site, words.radios, words.seed, self.counts)
+        self.slots, self.faults, self.known = Slots(), Counter(), {}
+
+    def burst(self, carrier, slot, burst, now):
+        self.counts["bursts that came"] += 1
+        if burst not in self.known:
+            octets = air.meaning_of(burst)
+            self.known[burst] = air.Pdu(octets) if octets else None
+        pdu = self.known[burst]
+        if pdu is None:
+            self.faults["bursts that are no codeword with its check"] += 1
+            return
+        self.meant(pdu, carrier)
+        self.radios.hears(pdu, carrier.number, slot, time.monotonic())
+        if pdu.opcode in (air.PV_GRANT, air.TV_GRANT):
+            call = (pdu.opcode, pdu.target) if pdu.opcode == air.TV_GRANT else (pdu.opcode, pdu.target, pdu.source)
+            self.slots.note((self.site.by_lpcn.get(pdu.lpcn), pdu.slot), call, carrier.queued_since, now)
+        elif pdu.opcode == air.CLEAR:
+            self.slots.note((carrier.number, slot), None, carrier.sent, now)
+
+    def meant(self, pdu, carrier):
+        """Before anything else is made of a PDU. Where every poll is answered soon, what is sent has not waited long enough to matter."""
+        carrier.queued_since = carrier.sent
+
+    def run(self):
+        selector, began = selectors.DefaultSelector(), time.monotonic()
+        rows = self.site.rows
+        carriers = [Carrier(self, row, began + PERIOD * n / len(rows)) for n, row in enumerate(rows)]
+        for carrier in carriers:
+            selector.register(carrier.stream, selectors.EVENT_READ, carrier)
+        due = [(carrier.due, carrier.number, carrier) for carrier in carriers]
+        heapq.heapify(due)
+        ends, awaited = began + self.words.seconds, set()
+        while (now := time.monotonic()) < ends and (not self.words.polls or self.counts["polls"] < self.words.polls):
+            while due and due[0][0] <= now:
+                carrier = heapq.heappop(due)[2]
+                if carrier not in awaited:
+                    carrier.poll(now)
+                    awaited.add(carrier)
+                else:
+                    self.counts["polls that were late"] += 1
+                if not self.words.fast:
+                    carrier.due = max(carrier.due + PERIOD, now)
+                    heapq.heappush(due, (carrier.due, carrier.number, carrier))
+            pause = max(0.0, (due[0][0] if due else ends) - time.monotonic())
+            for key, _ in selector.select(min(pause, 0.1)):
+                if key.data.take():
+                    awaited.discard(key.data)
+                    if self.words.fast:
+                        heapq.heappush(due, (0.0, key.data.number, key.data))
+        self.drain(selector, awaited)
+        for carrier in carriers:
+            self.faults["carriers without WELCOME"] += not carrier.welcome
+            carrier.stream.setblocking(True)
+            carrier.stream.sendall(air.BYE)
+            carrier.stream.close()
+        return time.monotonic() - began
+
+    def drain(self, selector, awaited):
+        """Waits for the answers that are still to come."""
+        until = time.monotonic() + 5
+        while awaited and time.monotonic() < until:
+            for key, _ in selector.select(0.1):
+                if key.data.take():
+                    awaited.discard(key.data)
+        self.faults["polls without an answer"] += len(awaited)
+
+    def judge(self):
+        self.faults["grants on a slot on which another stands"] += self.slots.overlaps()
+        self.faults["registrations without an acknowledgement"] += self.radios.registrations - self.radios.acknowledged
+        if not self.radios.acknowledged:
+            self.faults["plays in which no radio registered"] += 1
+        return +self.faults

@@ -1,6 +1,6 @@
 # `make` alone says what there is.
 .DEFAULT_GOAL := help
-.PHONY: help demo build check fmt test wrong-bodies bench soak serve-check serve-hostile refuse-memory tools-check pictures package package-check maps install
+.PHONY: help demo build check fmt test wrong-bodies bench soak serve-check serve-hostile refuse-memory tools-check pictures package package-check maps trusted install
 
 PREFIX ?= /usr/local
 DESTDIR ?=
@@ -71,6 +71,9 @@ tools-check: build/dmr_trunk build/dmr_decode ## the tools of the field, over th
 
 pictures: build/dmr_trunk ## draws the pictures of the example scripts in docs/pictures again
 	for name in queued_call lost_carrier operator; do tools/timeline --site examples/two_carriers.toml --script examples/scripts/$$name.txt --program build/dmr_trunk --out docs/pictures/$$name.svg || exit; done
+
+trusted: ## lists again what a reader has to believe, in docs/TRUSTED.md
+	tools/trusted-definitions >docs/TRUSTED.md
 
 maps: ## draws the maps of the crates and of a connection's states again, in docs/pictures
 	tools/draw-map

@@ -6,7 +6,7 @@
 # make soak    a million random inputs through the engine, on two sites, compared with a reference model, by the proved program (some seconds, once it is proved)
 # make serve-check    the proved program serves sixteen carriers and their radios on loopback for half a minute; what comes back is checked
 # make serve-check FAULTS=1   the same for ten minutes, in which things go wrong all the time (docs/ROBUSTNESS.md)
-# make refuse-memory  each allocation and each thread of the proved program refused in turn (a minute or two)
+# make refuse-memory  each allocation of two replays by the proved program refused in turn (half a minute)
 # make serve-hostile  the proved program served to carriers and strangers that behave badly (some minutes)
 # make install [PREFIX=/usr/local] [DESTDIR=]   the proved program, its manual page, a systemd unit, examples and documents
 .PHONY: demo build test wrong-bodies bench soak serve-check serve-hostile refuse-memory install

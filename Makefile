@@ -62,7 +62,7 @@ serve-check: build/dmr_trunk ## the proved program serves sixteen carriers on lo
 serve-hostile: build/dmr_trunk ## the proved program served to carriers and strangers that behave badly (some minutes)
 	tools/serve-hostile build/dmr_trunk
 
-refuse-memory: build/dmr_trunk ## each allocation and each thread of the proved program refused in turn (a minute or two)
+refuse-memory: build/dmr_trunk ## each allocation of two replays by the proved program refused in turn (half a minute)
 	tools/refuse-memory
 
 tools-check: build/dmr_trunk build/dmr_decode ## the tools of the field, over the proved programs (a minute)

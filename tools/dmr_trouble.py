@@ -24,6 +24,8 @@ MORE_ADDRESSES, MORE_MEMORY = 64 * 1024 * 1024, 16 * 1024
 MOST_AWAITED = 100
 # how soon the controller has to end a connection that it has to end
 SOON = 10.0
+# how soon what the controller's system takes before nothing more can be written is full, a DONE of two octets for each poll
+FLOOD = 180.0
 
 NO_FRAMES = (b"\x06", b"\x01\x01", air.POLL[:1] + b"\x01", b"\x04\x01\x02", air.hello(0, 1), b"\xff" * 300, air.rx(0, b"\xff" * 25))
 
@@ -107,7 +109,7 @@ class TroubledCarrier:
             self.close("its carrier came again", now)
             self.connect(small=True)
             self.trouble = self.must_end = kind
-            self.until = now + 60
+            self.until = now + FLOOD
         elif kind == "silent":
             self.trouble = self.must_end = kind
             self.until = now + self.play.site.plan["silence"] * 0.1 + SOON
@@ -232,7 +234,7 @@ class TroubledOperator:
                 self.connect()
             elif self.asked is None and not quiet and self.random.random() < 0.01:
                 self.counts["operators who read nothing"] += 1
-                self.deaf, self.until = True, now + 60
+                self.deaf, self.until = True, now + FLOOD
             elif self.asked is None:
                 if not quiet and self.random.random() < 0.05:
                     self.stream.send(b"status")
@@ -346,8 +348,11 @@ class TroubledPlay(Play):
         if now >= self.next_trouble:
             self.next_trouble = now + self.random.expovariate(self.words.troubles)
             carrier = self.random.choice(carriers)
-            if carrier.welcome and carrier.trouble is None and carrier.stranger is None:
-                carrier.begin(self.random.choice(carrier.KINDS), now)
+            kind = self.random.choice(carrier.KINDS)
+            # one at a time floods the site: more would make terms so short that silence, which is counted in waits, takes minutes
+            flooded = kind == "never reads" and any(it.trouble == kind for it in carriers)
+            if carrier.welcome and carrier.trouble is None and carrier.stranger is None and not flooded:
+                carrier.begin(kind, now)
         if now >= self.next_stop and self.stopped_until is None:
             self.counts["times the controller was stopped"] += 1
             self.controller.process.send_signal(signal.SIGSTOP)

@@ -9,7 +9,8 @@ use Rattle.dmr_pdu.specs.declared.slots.Slot.{Slot}
 use Rattle.dmr_calls.specs.declared.call.Call.{Call}
 use Rattle.dmr_calls.specs.declared.call.Standing.{Standing}
 use Rattle.dmr_calls.specs.Calls.{call_on, is_slot}
-use Rattle.dmr_calls.specs.After.{is_group_on, place, slot_at, is_group_at, place_after, group_place, group_after, IsSlot, IsBelow, IsAbove, HasNoGroupCall, IsNextGroupCall}
+use Rattle.dmr_pdu.specs.Slots.{IsSlot, place, slot_at}
+use Rattle.dmr_calls.specs.After.{is_group_on, is_group_at, place_after, group_place, group_after, IsBelow, IsAbove, HasNoGroupCall, IsNextGroupCall}
 
 -- no place passes from one on and before another
 abbrev pub NonePass : (ℕ → Bool) → ℕ → ℕ → Type 0

@@ -6,15 +6,16 @@ use Rattle.std.proofs.lemmas.Bool.Decides.{nat_tests}
 use Rattle.std.proofs.lemmas.List.Elements.{All-map}
 use Rattle.dmr_pdu.specs.declared.slots.Slot.{Slot}
 use Rattle.dmr_calls.specs.declared.call.Standing.{Standing}
-use Rattle.dmr_calls.specs.Slots.{number_of, AreOnSlots}
+use Rattle.dmr_pdu.specs.Slots.{place}
+use Rattle.dmr_calls.specs.Slots.{AreOnSlots}
 use Rattle.dmr_calls.specs.Calls.{is_slot, counted, marked, on_other_slots, on_other_carriers}
 
 -- slots are the same where their numbers are
-pub same_number : (a b : Slot) → a.slot < 2 → b.slot < 2 → (number_of a == number_of b) ≡ is_slot a b
+pub same_number : (a b : Slot) → a.slot < 2 → b.slot < 2 → (place a == place b) ≡ is_slot a b
 same_number a b a_two b_two = grind (arith, nat_tests)
 
 -- a slot is another carrier's where its number is neither of two
-of_carrier : (a : Slot) (carrier : ℕ) → a.slot < 2 → (not (number_of a == 2 * carrier) && not (number_of a == 2 * carrier + 1)) ≡ not (a.carrier == carrier)
+of_carrier : (a : Slot) (carrier : ℕ) → a.slot < 2 → (not (place a == 2 * carrier) && not (place a == 2 * carrier + 1)) ≡ not (a.carrier == carrier)
 of_carrier a carrier two = grind (arith, nat_tests)
 
 -- tests that agree on all elements find the same
@@ -37,18 +38,18 @@ filter_twice p q (x ∷ xs) = by_first (p x) (filter_twice p q xs)
     by_first false more = more
 
 -- the first call on a slot is the first of its number
-pub found_on_slot : (calls : List Standing) (slot : Slot) → AreOnSlots calls → slot.slot < 2 → find (λ s. number_of s.call.slot == number_of slot) calls ≡ find (λ s. is_slot s.call.slot slot) calls
-found_on_slot calls slot on two = find_agree (λ s. number_of s.call.slot == number_of slot) (λ s. is_slot s.call.slot slot) calls (λ k d within. same_number _ slot (on k d within) two)
+pub found_on_slot : (calls : List Standing) (slot : Slot) → AreOnSlots calls → slot.slot < 2 → find (λ s. place s.call.slot == place slot) calls ≡ find (λ s. is_slot s.call.slot slot) calls
+found_on_slot calls slot on two = find_agree (λ s. place s.call.slot == place slot) (λ s. is_slot s.call.slot slot) calls (λ k d within. same_number _ slot (on k d within) two)
 
 -- the calls on other slots are those of other numbers
-pub left_on_slots : (calls : List Standing) (slot : Slot) → AreOnSlots calls → slot.slot < 2 → filter (λ s. not (number_of s.call.slot == number_of slot)) calls ≡ on_other_slots slot calls
-left_on_slots calls slot on two = filter_agree (λ s. not (number_of s.call.slot == number_of slot)) (λ s. not (is_slot s.call.slot slot)) calls (λ k d within. ap not (same_number _ slot (on k d within) two))
+pub left_on_slots : (calls : List Standing) (slot : Slot) → AreOnSlots calls → slot.slot < 2 → filter (λ s. not (place s.call.slot == place slot)) calls ≡ on_other_slots slot calls
+left_on_slots calls slot on two = filter_agree (λ s. not (place s.call.slot == place slot)) (λ s. not (is_slot s.call.slot slot)) calls (λ k d within. ap not (same_number _ slot (on k d within) two))
 
 -- the calls of other carriers are those of other numbers than a carrier's two
-pub left_on_carriers : (calls : List Standing) (carrier : ℕ) → AreOnSlots calls → filter (λ s. not (number_of s.call.slot == 2 * carrier + 1)) (filter (λ s. not (number_of s.call.slot == 2 * carrier)) calls) ≡ on_other_carriers carrier calls
+pub left_on_carriers : (calls : List Standing) (carrier : ℕ) → AreOnSlots calls → filter (λ s. not (place s.call.slot == 2 * carrier + 1)) (filter (λ s. not (place s.call.slot == 2 * carrier)) calls) ≡ on_other_carriers carrier calls
 left_on_carriers calls carrier on =
-    filter_twice (λ s. not (number_of s.call.slot == 2 * carrier)) (λ s. not (number_of s.call.slot == 2 * carrier + 1)) calls
-    ∙ filter_agree (λ s. not (number_of s.call.slot == 2 * carrier) && not (number_of s.call.slot == 2 * carrier + 1)) (λ s. not (s.call.slot.carrier == carrier)) calls (λ k d within. of_carrier _ carrier (on k d within))
+    filter_twice (λ s. not (place s.call.slot == 2 * carrier)) (λ s. not (place s.call.slot == 2 * carrier + 1)) calls
+    ∙ filter_agree (λ s. not (place s.call.slot == 2 * carrier) && not (place s.call.slot == 2 * carrier + 1)) (λ s. not (s.call.slot.carrier == carrier)) calls (λ k d within. of_carrier _ carrier (on k d within))
 
 -- a tick moves no call
 pub on_slots_after : (calls : List Standing) → AreOnSlots calls → AreOnSlots (map counted calls)

@@ -1,8 +1,9 @@
 -- Talkgroup calls in turn: going round the slots by carrier, then by number.
-use Rattle.std.specs.Prelude.{◌≡◌, ◌<◌, ℕ, ◌+◌, ◌-◌, ◌*◌, ◌/◌, ◌%◌, ◌⊎◌, List, Bool, true, false, Option, Some, None, find}
+use Rattle.std.specs.Prelude.{◌≡◌, ◌<◌, ℕ, ◌+◌, ◌-◌, ◌⊎◌, List, Bool, true, false, Option, Some, None, find}
 use Rattle.std.specs.List.{range_with_len}
 use Rattle.std.specs.Option.{option_and_then, option_map_or, option_or}
 use Rattle.dmr_pdu.specs.declared.slots.Slot.{Slot}
+use Rattle.dmr_pdu.specs.Slots.{IsSlot, place, slot_at}
 use Rattle.dmr_calls.specs.declared.call.Call.{Call}
 use Rattle.dmr_calls.specs.declared.call.Standing.{Standing}
 use Rattle.dmr_calls.specs.Calls.{call_on}
@@ -10,14 +11,6 @@ use Rattle.dmr_calls.specs.Calls.{call_on}
 -- the call on the slot is a talkgroup's
 abbrev pub is_group_on : List Standing → Slot → Bool
 is_group_on calls slot = option_map_or (λ (call : Call). call.group) (call_on calls slot) false
-
--- the slots of 16 carriers have places from 0 to 31: by carrier, then by number
-abbrev pub place : Slot → ℕ
-place slot = 2 * slot.carrier + slot.slot
-
--- the slot at a place
-abbrev pub slot_at : ℕ → Slot
-slot_at place = record { carrier = place / 2; slot = place % 2 }
 
 -- the call on the slot at a place is a talkgroup's
 abbrev pub is_group_at : List Standing → ℕ → Bool
@@ -35,10 +28,6 @@ group_place calls from = find (is_group_at calls) (range_with_len from (32 - fro
 unfoldable pub group_after : List Standing → Option Slot → Option Call
 group_after calls last =
     option_and_then (λ place. call_on calls (slot_at place)) (option_or (group_place calls (place_after last)) (group_place calls 0))
-
--- a slot of a carrier 0 to 15
-abbrev pub IsSlot : Slot → Type 0
-IsSlot slot = (slot.carrier < 16) × (slot.slot < 2)
 
 -- a slot is below another: by carrier, then by number
 abbrev pub IsBelow : Slot → Slot → Type 0

@@ -1,8 +1,5 @@
 //! Calls.
 
-ghost use Rattle.std.specs.Prelude.{◌≡◌};
-ghost use Rattle.dmr_calls.specs.Slots.{number_of};
-
 use dmr_pdu::{Address, Blank, Slot};
 use dmr_table::Keyed;
 
@@ -45,18 +42,13 @@ pub struct Standing {
     pub quiet: u16,
 }
 
-/// The number of a slot among all slots of the site: two for each carrier.
-pub fn slot_number(slot: &Slot) -> u32
-    ensures { result ≡ number_of slot.now }
-{
-    2 * slot.carrier.get() + slot.slot.get()
-}
-
 /// A call is found by its slot.
 impl Keyed for Standing {
-    ghost key_of = { λ s. number_of s.call.slot };
+    ghost use Rattle.dmr_pdu.specs.Slots.{place};
+
+    ghost key_of = { λ s. place s.call.slot };
 
     fn key(&self) -> u32 {
-        slot_number(&self.call.slot)
+        self.call.slot.index() as u32
     }
 }

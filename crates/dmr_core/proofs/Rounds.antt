@@ -7,7 +7,8 @@ use Rattle.dmr_pdu.specs.declared.slots.Slot.{Slot}
 use Rattle.dmr_calls.specs.declared.call.Call.{Call}
 use Rattle.dmr_calls.specs.declared.call.Standing.{Standing}
 use Rattle.dmr_calls.specs.Calls.{is_slot}
-use Rattle.dmr_calls.specs.After.{is_group_at, place, slot_at}
+use Rattle.dmr_pdu.specs.Slots.{place, slot_at}
+use Rattle.dmr_calls.specs.After.{is_group_at}
 use Rattle.dmr_calls.proofs.AfterLemmas.{IsFirst, NonePass, place-slot_at}
 use Rattle.dmr_core.specs.Turns.{talkgroup_calls}
 use Rattle.dmr_core.proofs.Slots.{same_slot, true_false}

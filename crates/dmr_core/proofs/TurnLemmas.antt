@@ -13,7 +13,8 @@ use Rattle.dmr_access.specs.Fill.{is_late_due, one_filled}
 use Rattle.dmr_calls.specs.declared.call.Call.{Call}
 use Rattle.dmr_calls.specs.declared.call.Standing.{Standing}
 use Rattle.dmr_calls.specs.Calls.{call_on}
-use Rattle.dmr_calls.specs.After.{is_group_at, place, place_after, slot_at}
+use Rattle.dmr_pdu.specs.Slots.{place, slot_at}
+use Rattle.dmr_calls.specs.After.{is_group_at, place_after}
 use Rattle.dmr_calls.proofs.AfterLemmas.{IsFirst, IsGroupOn, IsTurn, NonePass, at_place, slot_at-place, turn_of, turn_stands, place-slot_at}
 use Rattle.dmr_core.specs.declared.event.Event.{Event}
 use Rattle.dmr_core.specs.declared.event.Event.TheVariants.{Active, Lost, Say, Tick, Up}

@@ -7,7 +7,7 @@ ghost use Rattle.dmr_calls.specs.Due.{due_call};
 
 use super::{Calls, MOST_CALLS};
 use crate::answer::Full;
-use crate::call::{Call, Standing, slot_number};
+use crate::call::{Call, Standing};
 use crate::party::is_party;
 use crate::ticks::mark;
 use dmr_pdu::{Address, CarrierNo, Slot};
@@ -36,7 +36,7 @@ impl Calls {
         ensures calls { self.new ≡ record self.old { calls = on_other_slots slot self.old.calls } }
     {
         let first = self.call_on(slot);
-        self.calls.remove(slot_number(&slot));
+        self.calls.remove(slot.index() as u32);
         first
     }
 
@@ -60,7 +60,7 @@ impl Calls {
     pub fn call_on(&self, slot: Slot) -> Option<Call>
         ensures { result ≡ call_on self.now.calls slot }
     {
-        let found = self.calls.find(slot_number(&slot))?;
+        let found = self.calls.find(slot.index() as u32)?;
         Some(found.call)
     }
 

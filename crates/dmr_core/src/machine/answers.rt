@@ -7,7 +7,6 @@ ghost use Rattle.dmr_core.specs.Words.{standings};
 ghost use Rattle.dmr_core.specs.Rules.{acts_of, ended, poll, repeat, serve, tick};
 
 use super::Machine;
-use super::words::call_of_line;
 use crate::act::{Act, ActList};
 use crate::event::Event;
 use dmr_calls::{Ask, Due};
@@ -39,7 +38,7 @@ impl Machine {
         if let Some(line) = self.calls.first_line() {
             if let Some(slot) = self.lowest_free() {
                 acts.push(Act::Unlined(line.source));
-                self.add_begin(acts, &call_of_line(&line, slot));
+                self.add_begin(acts, &line.on(slot));
             }
         }
     }

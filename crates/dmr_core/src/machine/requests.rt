@@ -4,7 +4,6 @@ ghost use Rattle.std.specs.Prelude.{◌≡◌, ◌≤◌, ◌+◌, ◌++◌, len
 ghost use Rattle.dmr_core.specs.Rules.{answered, cancel, close, heard, individual, is_leaving, leaving, new_call, option_bit, registration, request, talkgroup};
 
 use super::Machine;
-use super::words::call_of_line;
 use crate::act::{Act, ActList};
 use crate::request::Request;
 use dmr_calls::{Ask, Line};
@@ -186,7 +185,7 @@ impl Machine {
         ensures acts { acts.new ≡ acts.old ++ new_call self.now.plan self.now.facts line.now }
     {
         if let Some(slot) = self.slot_for_new() {
-            self.add_begin(acts, &call_of_line(line, slot));
+            self.add_begin(acts, &line.on(slot));
         } else if self.calls.counts().lines < MOST_WAITING {
             acts.push(Act::Lined(*line));
             self.add_ack(acts, line.source, line.target, Reason::QUEUED_FOR_RESOURCE);

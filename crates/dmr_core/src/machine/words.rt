@@ -3,11 +3,11 @@
 ghost use Rattle.std.specs.Prelude.{◌≡◌, ◌≤◌, ◌+◌, ◌<◌, ◌∷◌, ◌++◌, [], length, replicate};
 ghost use Rattle.dmr_pool.specs.Free.{control_slot, is_control};
 ghost use Rattle.dmr_core.specs.Words.{has_room, is_engaged, is_up, lowest_free, lpcn_of, slot_for_new};
-ghost use Rattle.dmr_core.specs.Rules.{ack, ahoy, begin, call_of_line, clear, grant, grant_pdu};
+ghost use Rattle.dmr_core.specs.Rules.{ack, ahoy, begin, clear, grant, grant_pdu};
 
 use super::Machine;
 use crate::act::{Act, ActList};
-use dmr_calls::{Ask, Call, Line};
+use dmr_calls::{Ask, Call};
 use dmr_pdu::{Address, CarrierNo, Kind, Lpcn, Number, Pdu, Reason, Slot};
 
 /// With more PDUs than this in the control slot's outbox, requests are not answered.
@@ -182,18 +182,6 @@ impl Machine {
     {
         acts.push(Act::Began(*call));
         self.add_grant(acts, call, false);
-    }
-}
-
-/// The call that a line becomes on a slot.
-pub(super) fn call_of_line(line: &Line, slot: Slot) -> Call
-    ensures { result ≡ call_of_line line.now slot }
-{
-    Call {
-        slot,
-        source: line.source,
-        target: line.target,
-        group: line.group,
     }
 }
 

@@ -12,5 +12,5 @@ invariant_of-self c = (c.self.invariant.0, rw c.remove.ensures (All-filter _ (λ
 pub returns-clause-calls : goal.returns-clause-calls
 returns-clause-calls c =
     let two : c.args.slot.slot < 2 = search rules in
-    let left : c.remove.new.self ≡ on_other_slots c.args.slot c.self.inside.calls = rw c.slot_number.ensures at c.remove.ensures ∙ left_on_slots c.self.inside.calls c.args.slot c.self.invariant.1 two in
+    let left : c.remove.new.self ≡ on_other_slots c.args.slot c.self.inside.calls = rw c.index.ensures.value at c.remove.ensures ∙ left_on_slots c.self.inside.calls c.args.slot c.self.invariant.1 two in
     rw (← c.self.view_is) (ap (λ (xs : List Standing). let now : Standings = record { asks = c.self.inside.asks; lines = c.self.inside.lines; calls = xs } in now) left)

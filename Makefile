@@ -65,7 +65,7 @@ serve-hostile: build/dmr_trunk ## the proved program served to carriers and stra
 refuse-memory: build/dmr_trunk ## each allocation of two replays by the proved program refused in turn (half a minute)
 	tools/refuse-memory
 
-tools-check: build/dmr_trunk build/dmr_decode ## the tools of the field, over the proved programs (a minute)
+tools-check: build/dmr_trunk build/dmr_decode ## the tools of the field, over the proved programs (two minutes)
 	tools/check-decode build/dmr_decode
 	tools/check-grants build/dmr_trunk
 	tools/check-capture build/dmr_trunk

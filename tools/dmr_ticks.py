@@ -10,8 +10,9 @@ from dataclasses import dataclass
 
 from dmr_session import Input, SessionFault, read_printed
 
-# how many phases are tried; over how many pieces before the first difference a tick is moved; how many placings are replayed at most
-PHASES, REACH_BACK, MOST_PLACINGS = 24, 48, 3000
+# how many phases are tried; over how many pieces before the first difference a tick is moved; how many placings are replayed at most, and how many are kept
+# to be gone on from
+PHASES, REACH_BACK, MOST_PLACINGS, MOST_KEPT = 24, 48, 3000, 100
 
 
 @dataclass
@@ -102,12 +103,15 @@ class Search:
 
     def consider(self, gaps, moved):
         """Replays a placing, unless it was replayed before."""
-        if tuple(gaps) in self.seen:
+        name = hash(tuple(gaps))
+        if name in self.seen:
             return
-        self.seen.add(tuple(gaps))
+        self.seen.add(name)
         found = first_difference(self.pieces, self.program.replay(lines_of(self.pieces, gaps)))
         reach = len(self.pieces) if found is None else found
         heapq.heappush(self.open, (-reach, moved, len(self.seen), gaps, moves(gaps, reach)))
+        if len(self.open) > 2 * MOST_KEPT:
+            self.open = heapq.nsmallest(MOST_KEPT, self.open)
         if reach > self.reach:
             self.gaps, self.reach, self.moved = gaps, reach, moved
 

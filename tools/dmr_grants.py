@@ -3,8 +3,8 @@
 A grant waits for the control slot, a P_CLEAR for the call's own: where many PDUs wait and the hang time is short, a call may have ended, and been
 cleared, before its grant goes out (docs/SITE_MACHINE.md, "Words"). Such a grant is of a call that has ended. It is told from the grant of a call that
 begins by what the rules leave open: a slot is free only once every P_CLEAR and every grant of the call before it has gone out; a Fill says that nothing
-waits for the control slot; grants and P_CLEARs come in as many copies as the site file says. Where the same parties are granted again before a Fill,
-it is what comes next that tells: a P_CLEAR of theirs, or a late entry, says that a call of their own began.
+waits for the control slot; grants and P_CLEARs come in as many copies as the site file says; a call of the same parties is asked for anew. Where they
+are granted again before a Fill, and were not heard to ask, what comes next tells: a P_CLEAR of theirs, or a late entry, says that another call began.
 
 It is written from the documents alone, apart from the controller's code.
 """
@@ -36,6 +36,13 @@ def parties_granted(octets):
 def parties_cleared(octets):
     """Whom a P_CLEAR names: its source is the site."""
     return Parties(bool(octets[3] & 1), air.Pdu(octets).target)
+
+
+def parties_asked(octets):
+    """Whom a request for a call names; None of another request, and of what is none."""
+    kind = octets[3] & 15 if octets[:1] == b"\x9F" else None
+    pdu = air.Pdu(octets) if kind in (0, 1) else None
+    return pdu and Parties(kind == 1, pdu.target, pdu.source)
 
 
 def is_grant(octets):
@@ -82,7 +89,13 @@ class SlotCalls:
     clears: int = 0
     # grants of the last call's parties, of that call or of one that began after it; and whether the slot's carrier is up
     doubtful: list = field(default_factory=list)
+    # who was heard to ask for a call since the last one ended
+    asked: list = field(default_factory=list)
     up: bool = True
+
+    def ask(self, parties):
+        """A request for a call was heard, for whatever slot."""
+        self.asked.append(parties)
 
     def grant(self, mark, parties, late):
         """A grant that names the slot went out."""
@@ -90,9 +103,9 @@ class SlotCalls:
             self.stands.granted += not late
         elif not self.up:
             self.ended.append(mark)
-        elif self.stands is None and self.waits and self.last.parties is None:
+        elif self.stands is None and self.waits and self.last.parties is None and parties not in self.asked:
             self.doubtful.append((mark, parties, late))
-        elif self.stands is None and self.waits and self.last.parties.fits(parties):
+        elif self.stands is None and self.waits and self.last.parties and self.last.parties.fits(parties):
             self.grant_again(mark, parties, late)
         else:
             self.grant_anew(mark, parties, late)
@@ -103,6 +116,8 @@ class SlotCalls:
         if self.clears or self.last.owes(self.grant_copies):
             self.last.granted += not late
             self.ended.append(mark)
+        elif parties in self.asked and not late:
+            self.grant_anew(mark, parties, late)
         else:
             self.doubtful.append((mark, parties, late))
 
@@ -139,7 +154,7 @@ class SlotCalls:
 
     def end(self, mark, why):
         self.stands.ends, self.stands.why = mark, why
-        self.last, self.stands, self.waits = self.stands, None, True
+        self.last, self.stands, self.waits, self.asked = self.stands, None, True, []
 
     def clear(self, mark, parties):
         """A P_CLEAR went out on the slot."""
@@ -175,7 +190,7 @@ class SlotCalls:
             if self.stands:
                 self.end(mark, "carrier lost")
             else:
-                self.last, self.waits = Call(None), True
+                self.last, self.waits, self.asked = Call(None), True, []
 
     def over(self):
         """Nothing more comes."""

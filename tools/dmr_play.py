@@ -7,7 +7,7 @@ from collections import Counter
 from dataclasses import dataclass
 
 import dmr_air as air
-from dmr_grants import Parties, SlotCalls, is_fill, is_grant, is_late, parties_cleared, parties_granted
+from dmr_grants import Parties, SlotCalls, is_fill, is_grant, is_late, parties_asked, parties_cleared, parties_granted
 
 PERIOD = 0.060
 # a radio that hears nothing asks again after so many seconds
@@ -24,8 +24,8 @@ class Radio:
 class Radios:
     """The radios of a site, what they send on the control slot, and what they make of what is sent to them."""
 
-    def __init__(self, site, count, seed, counts):
-        self.site, self.counts, self.random = site, counts, random.Random(seed)
+    def __init__(self, site, count, seed, counts, slots):
+        self.site, self.counts, self.random, self.slots = site, counts, random.Random(seed), slots
         self.radios = {address: Radio(address) for address in site.radios(count)}
         self.to_send, self.groups = [], site.plan["groups"]
         # the slot of each call that stands: (carrier, slot) to (target, source); and who talks there
@@ -35,6 +35,12 @@ class Radios:
     def burst(self, octets):
         """A burst with up to three bits flipped, anywhere."""
         return air.burst_of(octets, self.random.sample(range(196), self.random.choice((0, 0, 1, 2, 3))))
+
+    def call_request(self, kind, target, source):
+        """The burst of a request for a call."""
+        octets = air.rand(kind, target, source)
+        self.slots.ask(octets)
+        return self.burst(octets)
 
     def next_request(self, now):
         """What a radio sends on the control slot in this frame: the 25 octets of a burst, or None."""
@@ -66,9 +72,9 @@ class Radios:
         radio.asked = now
         if self.groups and self.random.random() < 0.6:
             self.counts["talkgroup requests"] += 1
-            return self.burst(air.rand(1, self.random.choice(self.groups), radio.address))
+            return self.call_request(1, self.random.choice(self.groups), radio.address)
         self.counts["individual requests"] += 1
-        return self.burst(air.rand(0, self.random.choice(list(self.radios)), radio.address))
+        return self.call_request(0, self.random.choice(list(self.radios)), radio.address)
 
     def hears(self, octets, carrier, slot, now):
         """What is sent on a slot of a carrier."""
@@ -130,6 +136,11 @@ class Slots:
         parties = parties_cleared(octets)
         self.signs.setdefault(key, []).append(Sign(False, parties, since, received))
         self.of(key).clear(received, parties)
+
+    def ask(self, octets):
+        """A radio asks for a call."""
+        for calls in self.calls.values():
+            calls.ask(parties_asked(octets))
 
     def fill(self):
         for calls in self.calls.values():
@@ -215,8 +226,8 @@ class Play:
 
     def __init__(self, site, words):
         self.site, self.words, self.counts, self.times = site, words, Counter(), []
-        self.radios = Radios(site, words.radios, words.seed, self.counts)
         self.slots, self.faults, self.known = Slots(site.plan), Counter(), {}
+        self.radios = Radios(site, words.radios, words.seed, self.counts, self.slots)
 
     def burst(self, carrier, slot, burst, now):
         self.counts["bursts that came"] += 1

@@ -86,7 +86,7 @@ build/dmr_trunk.1: docs/OPERATING.md tools/manual
 package: build/dmr_trunk build/dmr_decode build/dmr_trunk.1 ## a Debian package of the proved programs, at build/dmr-trunk_VERSION_ARCH.deb
 	tools/package $(VERSION)
 
-package-check: package ## installs the package in a clean root and serves a site there (as root; wants debootstrap or a network)
+package-check: package ## installs the package in a clean root and serves a site there (as root; wants debootstrap and a network)
 	tools/check-package build/dmr-trunk_$(VERSION)_*.deb
 
 install: build/dmr_trunk build/dmr_decode build/dmr_trunk.1 ## the programs, tools, manual page, unit, examples and documents [PREFIX=/usr/local] [DESTDIR=]

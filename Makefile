@@ -65,8 +65,10 @@ serve-hostile: build/dmr_trunk ## the proved program served to carriers and stra
 refuse-memory: build/dmr_trunk ## each allocation of two replays by the proved program refused in turn (half a minute)
 	tools/refuse-memory
 
-tools-check: build/dmr_trunk build/dmr_decode ## the tools of the field, over the proved programs (a minute)
+tools-check: build/dmr_trunk build/dmr_decode ## the tools of the field, over the proved programs (two minutes)
 	tools/check-decode build/dmr_decode
+	tools/check-grants build/dmr_trunk
+	tools/check-capture build/dmr_trunk
 	tools/check-tools build/dmr_trunk
 
 pictures: build/dmr_trunk ## draws the pictures of the example scripts in docs/pictures again
@@ -84,14 +86,14 @@ build/dmr_trunk.1: docs/OPERATING.md tools/manual
 package: build/dmr_trunk build/dmr_decode build/dmr_trunk.1 ## a Debian package of the proved programs, at build/dmr-trunk_VERSION_ARCH.deb
 	tools/package $(VERSION)
 
-package-check: package ## installs the package in a clean root and serves a site there (as root; wants debootstrap or a network)
+package-check: package ## installs the package in a clean root and serves a site there (as root; wants debootstrap and a network)
 	tools/check-package build/dmr-trunk_$(VERSION)_*.deb
 
 install: build/dmr_trunk build/dmr_decode build/dmr_trunk.1 ## the programs, tools, manual page, unit, examples and documents [PREFIX=/usr/local] [DESTDIR=]
 	install -D -m 755 build/dmr_trunk $(DESTDIR)$(PREFIX)/bin/dmr_trunk
 	install -D -m 755 build/dmr_decode $(DESTDIR)$(PREFIX)/bin/dmr_decode
 	install -d $(DESTDIR)$(PREFIX)/share/dmr_trunk $(DESTDIR)$(PREFIX)/lib/systemd/system $(DESTDIR)$(PREFIX)/share/doc/dmr_trunk/examples/scripts
-	install -m 644 tools/dmr_air.py tools/dmr_console.py tools/dmr_session.py tools/dmr_ticks.py $(DESTDIR)$(PREFIX)/share/dmr_trunk
+	install -m 644 tools/dmr_*.py $(DESTDIR)$(PREFIX)/share/dmr_trunk
 	install -m 755 tools/siteview tools/timeline tools/capture tools/carriers $(DESTDIR)$(PREFIX)/share/dmr_trunk
 	for tool in siteview timeline capture; do ln -sf ../share/dmr_trunk/$$tool $(DESTDIR)$(PREFIX)/bin/dmr_$$tool; done
 	install -D -m 644 build/dmr_trunk.1 $(DESTDIR)$(PREFIX)/share/man/man1/dmr_trunk.1

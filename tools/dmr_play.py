@@ -3,9 +3,11 @@ import heapq
 import random
 import selectors
 import time
-from collections import Counter, deque
+from collections import Counter
+from dataclasses import dataclass
 
 import dmr_air as air
+from dmr_grants import Parties, SlotCalls, is_fill, is_grant, is_late, parties_asked, parties_cleared, parties_granted
 
 PERIOD = 0.060
 # a radio that hears nothing asks again after so many seconds
@@ -22,8 +24,8 @@ class Radio:
 class Radios:
     """The radios of a site, what they send on the control slot, and what they make of what is sent to them."""
 
-    def __init__(self, site, count, seed, counts):
-        self.site, self.counts, self.random = site, counts, random.Random(seed)
+    def __init__(self, site, count, seed, counts, slots):
+        self.site, self.counts, self.random, self.slots = site, counts, random.Random(seed), slots
         self.radios = {address: Radio(address) for address in site.radios(count)}
         self.to_send, self.groups = [], site.plan["groups"]
         # the slot of each call that stands: (carrier, slot) to (target, source); and who talks there
@@ -33,6 +35,12 @@ class Radios:
     def burst(self, octets):
         """A burst with up to three bits flipped, anywhere."""
         return air.burst_of(octets, self.random.sample(range(196), self.random.choice((0, 0, 1, 2, 3))))
+
+    def call_request(self, kind, target, source):
+        """The burst of a request for a call."""
+        octets = air.rand(kind, target, source)
+        self.slots.ask(octets)
+        return self.burst(octets)
 
     def next_request(self, now):
         """What a radio sends on the control slot in this frame: the 25 octets of a burst, or None."""
@@ -64,12 +72,13 @@ class Radios:
         radio.asked = now
         if self.groups and self.random.random() < 0.6:
             self.counts["talkgroup requests"] += 1
-            return self.burst(air.rand(1, self.random.choice(self.groups), radio.address))
+            return self.call_request(1, self.random.choice(self.groups), radio.address)
         self.counts["individual requests"] += 1
-        return self.burst(air.rand(0, self.random.choice(list(self.radios)), radio.address))
+        return self.call_request(0, self.random.choice(list(self.radios)), radio.address)
 
-    def hears(self, pdu, carrier, slot, now):
+    def hears(self, octets, carrier, slot, now):
         """What is sent on a slot of a carrier."""
+        pdu, late = air.Pdu(octets), is_late(octets)
         if pdu.opcode == air.ACKD:
             reason = air.REASONS.get(pdu.reason, hex(pdu.reason))
             self.counts[f"acknowledged: {reason}"] += 1
@@ -82,7 +91,10 @@ class Radios:
             if self.random.random() < 0.8:
                 self.to_send.append(air.acku(air.MS_ACCEPTED, pdu.source, pdu.target))
         elif pdu.opcode in (air.PV_GRANT, air.TV_GRANT):
-            self.counts["grants"] += 1
+            # who comes late listens
+            self.counts["late grants" if late else "grants"] += 1
+            if late:
+                return
             self.talkers[self.site.by_lpcn.get(pdu.lpcn), pdu.slot] = now + self.random.uniform(0.2, 3.0)
         elif pdu.opcode == air.CLEAR:
             self.counts["clears"] += 1
@@ -92,25 +104,73 @@ class Radios:
         return self.talkers.get((carrier, slot), 0) > now
 
 
+@dataclass(frozen=True)
+class Sign:
+    """A grant, a P_CLEAR or a loss that was seen of a slot: whose, none for a loss; since when it can have been so, and when it was received."""
+    grants: bool
+    parties: Parties | None
+    since: float
+    received: float
+
+    def can_end(self, grant, before):
+        """Whether it, a P_CLEAR or a loss, can have ended the call of a grant before another sign came. The call may have ended while its grant still waited."""
+        return (self.parties is None or self.parties.fits(grant.parties)) and self.received > grant.since and self.since < before.received
+
+
 class Slots:
-    """The grants and clears of each slot, with when the poll that brought them was sent and answered."""
+    """What was seen of each slot: whether one call stands on it at a time, and which grants were of calls that had ended."""
 
-    def __init__(self):
-        self.events = {}
+    def __init__(self, plan):
+        self.plan, self.signs, self.calls = plan, {}, {}
 
-    def note(self, key, what, sent, received):
-        self.events.setdefault(key, []).append((received, sent, what))
+    def of(self, key):
+        return self.calls.setdefault(key, SlotCalls(self.plan["grant_copies"], self.plan["clear_copies"]))
+
+    def grant(self, key, octets, since, received):
+        """A grant names the slot; it may have waited since the last Fill before it was asked for."""
+        parties = parties_granted(octets)
+        self.signs.setdefault(key, []).append(Sign(True, parties, since, received))
+        self.of(key).grant(received, parties, is_late(octets))
+
+    def clear(self, key, octets, since, received):
+        parties = parties_cleared(octets)
+        self.signs.setdefault(key, []).append(Sign(False, parties, since, received))
+        self.of(key).clear(received, parties)
+
+    def ask(self, octets):
+        """A radio asks for a call."""
+        for calls in self.calls.values():
+            calls.ask(parties_asked(octets))
+
+    def fill(self):
+        for calls in self.calls.values():
+            calls.fill()
+
+    def lost(self, number, since, received):
+        """A carrier was lost, and is up again; with the control carrier goes what waited for the control slot."""
+        for slot in (0, 1):
+            self.signs.setdefault((number, slot), []).append(Sign(False, None, since, received))
+            self.of((number, slot)).up_or_lost(received, False)
+            self.of((number, slot)).up_or_lost(received, True)
+        if number == self.plan["control"]:
+            for calls in self.calls.values():
+                calls.emptied()
 
     def overlaps(self):
-        """Grants to a call on a slot on which another's grant stands: no clear of the slot can have been before it."""
+        """Grants of a call on a slot on which another's grant stands: no P_CLEAR of the other, and no loss, can have been before it."""
         found = 0
-        for events in self.events.values():
-            clears = [it for it in events if it[2] is None]
-            grants = sorted(it for it in events if it[2] is not None)
-            for (_, sent_before, before), (received, _, call) in zip(grants, grants[1:]):
-                if call != before and not any(cleared > sent_before and asked < received for cleared, asked, _ in clears):
-                    found += 1
+        for signs in self.signs.values():
+            grants = sorted((it for it in signs if it.grants), key=lambda it: it.received)
+            ends = [it for it in signs if not it.grants]
+            for before, grant in zip(grants, grants[1:]):
+                found += grant.parties != before.parties and not any(it.can_end(before, grant) for it in ends)
         return found
+
+    def ended(self):
+        """How many grants were of calls that had ended."""
+        for calls in self.calls.values():
+            calls.over()
+        return sum(len(calls.ended) for calls in self.calls.values())
 
 
 class Carrier:
@@ -121,6 +181,8 @@ class Carrier:
         self.stream = air.connect(play.site.address, row["port"])
         self.stream.setblocking(False)
         self.buffer, self.sent, self.due, self.welcome = bytearray(), None, begins, False
+        # since when, at the earliest, what is sent now can have waited
+        self.queued_since = time.perf_counter()
         self.stream.send(air.hello(self.number, self.lpcn))
 
     def poll(self, now):
@@ -164,29 +226,27 @@ class Play:
 
     def __init__(self, site, words):
         self.site, self.words, self.counts, self.times = site, words, Counter(), []
-        self.radios = Radios(site, words.radios, words.seed, self.counts)
-        self.slots, self.faults, self.known = Slots(), Counter(), {}
+        self.slots, self.faults, self.known = Slots(site.plan), Counter(), {}
+        self.radios = Radios(site, words.radios, words.seed, self.counts, self.slots)
 
     def burst(self, carrier, slot, burst, now):
         self.counts["bursts that came"] += 1
         if burst not in self.known:
-            octets = air.meaning_of(burst)
-            self.known[burst] = air.Pdu(octets) if octets else None
-        pdu = self.known[burst]
-        if pdu is None:
+            self.known[burst] = air.meaning_of(burst)
+        octets = self.known[burst]
+        if octets is None:
             self.faults["bursts that are no codeword with its check"] += 1
             return
-        self.meant(pdu, carrier)
-        self.radios.hears(pdu, carrier.number, slot, time.monotonic())
-        if pdu.opcode in (air.PV_GRANT, air.TV_GRANT):
-            call = (pdu.opcode, pdu.target) if pdu.opcode == air.TV_GRANT else (pdu.opcode, pdu.target, pdu.source)
-            self.slots.note((self.site.by_lpcn.get(pdu.lpcn), pdu.slot), call, carrier.queued_since, now)
-        elif pdu.opcode == air.CLEAR:
-            self.slots.note((carrier.number, slot), None, carrier.sent, now)
-
-    def meant(self, pdu, carrier):
-        """Before anything else is made of a PDU. Where every poll is answered soon, what is sent has not waited long enough to matter."""
-        carrier.queued_since = carrier.sent
+        if is_fill(octets):
+            # nothing waited when it was asked for
+            carrier.queued_since = carrier.sent
+            self.slots.fill()
+        self.radios.hears(octets, carrier.number, slot, time.monotonic())
+        if is_grant(octets):
+            pdu = air.Pdu(octets)
+            self.slots.grant((self.site.by_lpcn.get(pdu.lpcn), pdu.slot), octets, carrier.queued_since, now)
+        elif octets[0] == air.CLEAR:
+            self.slots.clear((carrier.number, slot), octets, carrier.sent, now)
 
     def run(self):
         selector, began = selectors.DefaultSelector(), time.monotonic()
@@ -231,8 +291,12 @@ class Play:
                     awaited.discard(key.data)
         self.faults["polls without an answer"] += len(awaited)
 
+    def look_at_slots(self):
+        self.counts["grants of calls that had ended"] = self.slots.ended()
+        self.faults["grants on a slot on which another stands"] = self.slots.overlaps()
+
     def judge(self):
-        self.faults["grants on a slot on which another stands"] += self.slots.overlaps()
+        self.look_at_slots()
         self.faults["registrations without an acknowledgement"] += self.radios.registrations - self.radios.acknowledged
         if not self.radios.acknowledged:
             self.faults["plays in which no radio registered"] += 1

@@ -1,14 +1,18 @@
 """Where the ticks of a captured session stood: found by replaying it, since no port of a site tells its ticks.
 
 A site's clock goes on evenly, so the first guess is an even row of ticks, of each of several phases, beside the times of what was captured. A tick
-shows only where it changes an answer; where a replay's answers differ, the tick nearest to the first difference is moved to the other side of it.
+shows only where it changes an answer. Where a replay's answers differ, a tick is moved over the piece that is answered otherwise, or over one of those
+before it (where a call began, say), the nearest first; of all that was tried, the placing that answers alike for longest is gone on from.
 """
+import heapq
 import subprocess
 from dataclasses import dataclass
 
 from dmr_session import Input, SessionFault, read_printed
 
-PHASES = 24
+# how many phases are tried; over how many pieces before the first difference a tick is moved; how many placings are replayed at most, and how many are kept
+# to be gone on from
+PHASES, REACH_BACK, MOST_PLACINGS, MOST_KEPT = 24, 48, 3000, 100
 
 
 @dataclass
@@ -75,35 +79,50 @@ def first_difference(pieces, replayed):
 
 
 def moves(gaps, index):
-    """The gaps with one tick moved over the piece of an index: the nearest one before it to behind it, or the nearest behind it to before it."""
-    before = next((at for at in range(index, -1, -1) if gaps[at]), None)
-    behind = next((at for at in range(index + 1, len(gaps)) if gaps[at]), None)
-    for source, target in ((before, index + 1), (behind, index)):
-        if source is not None:
-            moved = list(gaps)
-            moved[source] -= 1
-            moved[target] += 1
-            yield moved
+    """The gaps with one tick moved over a piece: over that of an index, and then over those before it, the nearest first. The nearest tick before the piece
+    comes behind it, or the nearest behind before it; behind the last piece there are always more."""
+    for piece in range(index, max(-1, index - REACH_BACK), -1):
+        before = next((at for at in range(piece, -1, -1) if gaps[at]), None)
+        behind = next((at for at in range(piece + 1, len(gaps)) if gaps[at]), len(gaps))
+        for source, target in ((before, piece + 1), (behind, piece)):
+            if source is not None:
+                moved = [*gaps, 1]
+                moved[source] -= 1
+                moved[target] += 1
+                yield moved[:-1]
 
 
 class Search:
-    """The best placing of the ticks so far, and how far it answers alike."""
+    """The best placing of the ticks so far, how far it answers alike, and how many ticks it has moved; and the placings that are still to be gone on from, those
+    that answer alike for longest first."""
 
     def __init__(self, pieces, program):
         self.pieces, self.program = pieces, program
         self.gaps, self.reach, self.moved = None, -1, 0
+        self.seen, self.open = set(), []
 
-    def reach_of(self, gaps):
+    def consider(self, gaps, moved):
+        """Replays a placing, unless it was replayed before."""
+        name = hash(tuple(gaps))
+        if name in self.seen:
+            return
+        self.seen.add(name)
         found = first_difference(self.pieces, self.program.replay(lines_of(self.pieces, gaps)))
-        return len(self.pieces) if found is None else found
+        reach = len(self.pieces) if found is None else found
+        heapq.heappush(self.open, (-reach, moved, len(self.seen), gaps, moves(gaps, reach)))
+        if len(self.open) > 2 * MOST_KEPT:
+            self.open = heapq.nsmallest(MOST_KEPT, self.open)
+        if reach > self.reach:
+            self.gaps, self.reach, self.moved = gaps, reach, moved
 
-    def consider(self, gaps):
-        """Takes a placing that answers alike for longer. Whether it does."""
-        reach = self.reach_of(gaps)
-        if reach <= self.reach:
-            return False
-        self.gaps, self.reach = gaps, reach
-        return True
+    def go_on(self):
+        """Moves one more tick of the placing that answers alike for longest; one that leads no further is left for the next best."""
+        _, moved, _, _, further = self.open[0]
+        gaps = next(further, None)
+        if gaps is None:
+            heapq.heappop(self.open)
+        else:
+            self.consider(gaps, moved + 1)
 
     def is_done(self):
         return self.reach == len(self.pieces)
@@ -113,9 +132,9 @@ def place_ticks(pieces, seconds, program):
     """Looks for a placing of the ticks whose replay answers every piece as the site did."""
     search = Search(pieces, program)
     for phase in range(PHASES):
-        search.consider(even_gaps(pieces, seconds, phase / PHASES))
+        search.consider(even_gaps(pieces, seconds, phase / PHASES), 0)
         if search.is_done():
             return search
-    while not search.is_done() and any(search.consider(gaps) for gaps in moves(search.gaps, search.reach)):
-        search.moved += 1
+    while not search.is_done() and search.open and len(search.seen) < MOST_PLACINGS:
+        search.go_on()
     return search

@@ -192,8 +192,7 @@ class TroubledCarrier:
         elif kind == air.WELCOME_TYPE and not self.welcome:
             self.welcome = True
             # the calls of a carrier that was lost have ended
-            for slot in (0, 1):
-                self.play.slots.note((self.number, slot), None, self.down_since, received)
+            self.play.slots.lost(self.number, self.down_since, received)
             self.sent, self.queued_since = received, self.hello_at
         elif kind == air.REFUSED_TYPE and self.must_end == "refused":
             self.counts["refusals read"] += 1
@@ -313,11 +312,6 @@ class TroubledPlay(Play):
     def limit(self, what, most):
         resource.prlimit(self.controller.pid, what, (most, resource.prlimit(self.controller.pid, what)[1]))
 
-    def meant(self, pdu, carrier):
-        """A fill says that nothing waited when it was sent."""
-        if pdu.opcode in (air.ALOHA, air.MOVE):
-            carrier.queued_since = carrier.sent
-
     def run(self):
         began = time.monotonic()
         carriers = [TroubledCarrier(self, row, began + PERIOD * n / len(self.site.rows)) for n, row in enumerate(self.site.rows)]
@@ -401,7 +395,7 @@ class TroubledPlay(Play):
                 self.counts[f"noted: {what[1]}"] += 1
 
     def judge(self):
-        self.faults["grants on a slot on which another stands"] = self.slots.overlaps()
+        self.look_at_slots()
         return +self.faults
 
     def print_ends(self):

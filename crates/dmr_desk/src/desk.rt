@@ -1,6 +1,6 @@
 //! The desk: a book behind a lock, and seats round it.
 
-ghost use Rattle.std.specs.Prelude.{◌≡◌, ◌≤◌, ◌+◌, ℕ, length, IfOk, IfErr, OnOk};
+ghost use Rattle.std.specs.Prelude.{◌≡◌, ◌≤◌, ◌+◌, ◌↔◌, ◌⊎◌, ℕ, length, true, false, IsTrue, IfOk, IfErr, OnOk};
 ghost use Rattle.dmr_desk.specs.Pages.{AreKept, Pages, answer_to, entered};
 ghost use Rattle.dmr_desk.specs.Sitting.{deposited, empty_seats};
 ghost use Rattle.dmr_desk.specs.Opening.{IsLimit, IsNumber, IsRefused};
@@ -24,30 +24,56 @@ use std::sync::{Mutex, Wait, ledger};
 pub const PARTS: u64 = 18;
 
 /// What the lock keeps: the book, the ledger's total, which is how many entries the book has, the parts of the ledger that no
-/// seat has, and how many seats there are.
+/// seat has, how many seats there are, and whether the desk was abandoned.
 #[derive(Drop)]
 struct Locked<L: Ledger> {
     book: Book,
     total: ledger::Book<L>,
     rest: Share<L>,
     actors: u8,
+    abandoned: bool,
     ghost counted: { length book.entries ≡ total.total },
     ghost rest_is: { rest.parts + actors ≡ 18 },
     ghost rest_idle: { rest.amount ≡ 0 },
 }
 
 impl<L: Ledger> Locked<L> {
-    /// Tells the site an event from a seat. `Err`: there is no room, and nothing has changed; it has the number of the book's
-    /// entries.
+    /// Tells the site an event from a seat. `Err`: there is no room, or the desk was abandoned, and nothing has changed; it has the
+    /// number of the book's entries.
     fn tell(&mut self, seat: &mut Seat<L>, event: &Event) -> Result<Acts, TermOver>
         ensures acts { IfOk result (λ acts. acts ≡ answer_to self.old.book event.now) }
         ensures entered { IfOk result (λ acts. self.new.book ≡ entered self.old.book seat.old.actor event.now acts) }
         ensures deposited { IfOk result (λ acts. seat.new ≡ deposited seat.old event.now acts) }
         ensures over { IfErr result (λ over. (self.new.book ≡ self.old.book) × (seat.new ≡ seat.old) × (over.entries ≡ length self.old.book.entries)) }
         ensures among { IfErr result (λ over. length seat.old.deposits ≤ over.entries) }
+        ensures taken { OnOk result (self.old.abandoned ≡ false) }
+        ensures abandoned { self.new.abandoned ≡ self.old.abandoned }
     {
-        let Locked { book, total, .. } = self;
+        let Locked {
+            book,
+            total,
+            abandoned,
+            ..
+        } = self;
+        if *abandoned {
+            return Err(seat.refusal(book, total));
+        }
         seat.tell(book, total, event)
+    }
+
+    /// Whether the term is over: the book has as many entries as it may have, or the desk was abandoned.
+    fn is_over(&self) -> bool
+        ensures { IsTrue result ↔ ((length self.now.book.entries ≡ self.now.book.limit) ⊎ (self.now.abandoned ≡ true)) }
+    {
+        self.abandoned || self.book.is_full()
+    }
+
+    /// Abandons the desk, for good. The book stays as it is.
+    fn abandon(&mut self)
+        ensures abandoned { self.new.abandoned ≡ true }
+        ensures book { self.new.book ≡ self.old.book }
+    {
+        self.abandoned = true;
     }
 
     /// The report of the book and these seats, where there is one seat of each of so many actors, the book is of this site and
@@ -68,6 +94,7 @@ impl<L: Ledger> Locked<L> {
             mut total,
             rest,
             actors,
+            ..
         } = self;
         let (views, mut all) = gathered(seats, rest, actors, number)?;
         total.audit(&mut all);
@@ -157,6 +184,7 @@ impl<L: Ledger> SharedDesk<L> {
                     total,
                     rest,
                     actors,
+                    abandoned: false,
                 });
                 Ok((
                     SharedDesk {
@@ -174,8 +202,9 @@ impl<L: Ledger> SharedDesk<L> {
 
     /// Tells the site an event from a seat, and gives the site's answer, which the seat keeps with the event. It waits for the
     /// lock: one event is told at a time, whichever thread tells it. It takes no memory. `Err`: the journal has as many entries as
-    /// it may have, which are no fewer than were deposited from the seat; the site was not told, and nothing has changed. The
-    /// clauses say what becomes of the seat: what becomes of the site and the journal is behind the lock, and the report shows it.
+    /// it may have, or a thread of the desk's term could not be started; `entries` is how many it has, which are no fewer than were
+    /// deposited from the seat; the site was not told, and nothing has changed. The clauses say what becomes of the seat: what
+    /// becomes of the site and the journal is behind the lock, and the report shows it.
     pub fn deposit<R: Wait>(
         &self,
         rt: &R,
@@ -188,10 +217,17 @@ impl<L: Ledger> SharedDesk<L> {
         self.locked.lock(rt).tell(seat, &event)
     }
 
-    /// Whether the journal has as many entries as it may have. It waits for the lock, as [`deposit`](SharedDesk::deposit) does. No
-    /// clause says what it answers: contracts cannot name what is behind a lock.
+    /// Whether the journal has as many entries as it may have, or a thread of the desk's term could not be started. It waits for the
+    /// lock, as [`deposit`](SharedDesk::deposit) does. No clause says what it answers: contracts cannot name what is behind a lock.
     pub fn over<R: Wait>(&self, rt: &R) -> bool {
-        self.locked.lock(rt).book.is_full()
+        self.locked.lock(rt).is_over()
+    }
+
+    /// Abandons the desk, since a thread of its term could not be started: from now on it takes no event, and whoever asks is
+    /// answered that the term is over. It waits for the lock. The journal stays as it is. No clause says so: contracts cannot name
+    /// what is behind a lock.
+    pub(crate) fn abandon<R: Wait>(&self, rt: &R) {
+        self.locked.lock(rt).abandon();
     }
 
     /// Closes the desk, with its seats in any order. The report has the site, the journal, and the view of each actor, moved out of

@@ -7,7 +7,8 @@ pub enum Ending {
     Finished,
     /// Its gate was shut. The event that was to be handed in is kept by its link.
     GateShut,
-    /// The term is over. An event that the desk did not take is kept by the link; a tick is dropped.
+    /// The term is over: its journal has as many entries as it may have, or a thread of it could not be started; then `run_term`
+    /// gives no term. An event that the desk did not take is kept by the link; a tick is dropped.
     TermOver,
 }
 

@@ -39,7 +39,8 @@ pub enum TermFault {
     /// The desk was not opened, or there was no memory for what the workers hand back. No thread was started.
     #[error("the desk was not opened: {0}")]
     Open(OpenFault),
-    /// A thread could not be started. The workers that ran have ended.
+    /// A thread could not be started. The desk took no event from then on, and the workers that ran have ended: each did when it next
+    /// asked whether the term is over. What they had told the site is gone with it.
     #[error("a thread could not be started")]
     NoThread,
     /// The workers have ended, and the desk has no report.

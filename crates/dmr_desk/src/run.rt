@@ -105,8 +105,9 @@ where
 /// site, whose journal may have `limit` entries. The stations are those of the plan's carriers, one for each, in the order of their
 /// numbers; the actors are the stations, then the ticker, then the console. The term is over when all workers have ended: then the desk
 /// is closed, and its journal compared with what each worker was answered. All memory is taken before a thread is started, and each
-/// thread that was started is waited for. `Err`: the first fault that applies, in the order of [`TermFault`]; what was handed in is used
-/// up.
+/// thread that was started is waited for. Where a thread cannot be started, the desk takes no event from then on, and each worker that
+/// was started ends when it next asks whether the term is over; no clause says how soon it does. `Err`: the first fault that applies, in
+/// the order of [`TermFault`]; what was handed in is used up.
 pub fn run_term<P, G, T, C, R>(
     rt: &R,
     alloc: Global,

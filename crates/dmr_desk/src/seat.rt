@@ -58,6 +58,21 @@ impl<L: Ledger> Seat<L> {
         })
     }
 
+    /// What a refusal tells: how many entries the book has. They are no fewer than were deposited from here, where the ledger counts
+    /// the book's entries. Nothing changes.
+    pub(crate) fn refusal(&mut self, book: &Book, total: &mut ledger::Book<L>) -> TermOver
+        ensures seat { self.new ≡ self.old }
+        ensures total { total.new.total ≡ total.old.total }
+        ensures among { length self.old.deposits ≤ total.old.total }
+        ensures entries { result.entries ≡ length book.now.entries }
+    {
+        // It counts nothing, and tells that the seat's part is no more than the total.
+        total.audit(&mut self.share);
+        TermOver {
+            entries: book.len(),
+        }
+    }
+
     /// Tells the book an event as this actor, counts it in the ledger, and keeps it with the answer. `Err`: the book or the seat
     /// has no room, and nothing has changed; it has the number of the book's entries.
     pub(crate) fn tell(
@@ -73,14 +88,11 @@ impl<L: Ledger> Seat<L> {
         ensures counted { OnOk result (total.new.total ≡ total.old.total + 1) }
         ensures over { IfErr result (λ over. (book.new ≡ book.old) × (self.new ≡ self.old) × (total.new.total ≡ total.old.total) × (over.entries ≡ length book.old.entries)) }
     {
-        // It counts nothing, and tells that the seat's part is no more than the total.
-        total.audit(&mut self.share);
+        let over = self.refusal(book, total);
         // Where the seat is full the book is full too, since each deposit is an entry. No contract says so: nothing ties the
         // limits of the two.
         if self.deposits.len() >= self.limit {
-            return Err(TermOver {
-                entries: book.len(),
-            });
+            return Err(over);
         }
         let acts = book.apply(self.actor, *event)?;
         total.add(&mut self.share, 1);

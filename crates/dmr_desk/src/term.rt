@@ -192,7 +192,8 @@ where
 }
 
 /// Runs the workers, each in a thread of its own, from new seats: one for each station, then the ticker's, then the console's. `room` is
-/// for what the stations' workers hand back. `None` where a thread could not be started; those that were started have ended by then.
+/// for what the stations' workers hand back. `None` where a thread could not be started; the desk was abandoned then, and those that were
+/// started have ended.
 pub fn run_threads<S, T, C, L, R>(
     rt: &R,
     desk: &SharedDesk<L>,

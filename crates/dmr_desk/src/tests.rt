@@ -183,3 +183,55 @@ fn two_threads(rt: HostRuntime) {
         assert_eq!(rt; told, want);
     }
 }
+
+/// Asks again and again from a seat whether the term is over, until it is, and gives the seat back.
+fn wait_until_over<L: Ledger, R: Wait>(rt: &R, desk: &SharedDesk<L>, seat: Seat<L>) -> Seat<L> {
+    let mut at = SeatAt::new(rt, desk, seat);
+    for _ in rt.forever() {
+        if at.over() {
+            break;
+        }
+    }
+    at.into_seat()
+}
+
+/// A desk of ten entries that is abandoned behind its first, while another thread waits for the end: what it answers, and reports.
+fn abandon_behind_one<L: Ledger + Send + Sync, R: Abort + AllocGlobal + Wait + Threads + Sync>(
+    rt: &R,
+    blank: Blank,
+)
+    requires name { blank.name ≡ L.name }
+    requires parts { blank.parts ≡ L.parts }
+    requires eighteen { blank.parts ≡ 18 }
+{
+    let (desk, mut seats) = SharedDesk::<L>::open(rt.alloc(), blank, site(rt), 10, 1)
+        .map_err(|_| ())
+        .expect(rt, "a desk");
+    let mut at = SeatAt::new(rt, &desk, seats.pop().expect(rt, "a seat"));
+    assert!(rt; at.deposit(Event::Tick).is_ok());
+    assert!(rt; !at.over());
+    let seat = at.into_seat();
+    let shared = &desk;
+    let (seat, ()) = thread::join(
+        rt,
+        move || wait_until_over(rt, shared, seat),
+        move || shared.abandon(rt),
+    );
+    let mut at = SeatAt::new(rt, &desk, seat);
+    assert!(rt; at.over());
+    assert_eq!(rt; at.deposit(Event::Tick), Err(TermOver { entries: 1 }));
+    let seats = Vec::from_array(rt.alloc(), [at.into_seat()]).expect(rt, "memory");
+    let report = desk.close(rt, seats).expect(rt, "a report");
+    assert_eq!(rt; report.journal.as_slice().len(), 1);
+}
+
+/// The same, in a ledger of its own.
+fn abandon_one<R: Abort + AllocGlobal + Wait + Threads + Sync>(rt: &R) {
+    abandon_behind_one::<Brand, R>(rt, Blank::new(PARTS))
+}
+
+/// A desk that was abandoned takes no event and says that the term is over; what it took before is reported.
+#[test]
+fn abandoned(rt: HostRuntime) {
+    abandon_one(&rt);
+}

@@ -39,7 +39,7 @@ pub struct AllWork<S, T, C, L: Ledger> {
     pub console: LinkWork<C, L>,
 }
 
-/// Starts the console's worker, and waits for it. `None` where no thread could be started.
+/// Starts the console's worker, and waits for it. `None` where no thread could be started; the desk is abandoned then.
 fn run_console<'s, E, C, L, R>(
     rt: &'s R,
     scope: &'s Scope<'s, E>,
@@ -64,11 +64,15 @@ where
         { serve_at(rt, desk, station, seat) },
     ) {
         Ok(child) => Some(child.join(rt)),
-        Err(_) => None,
+        Err(_) => {
+            desk.abandon(rt);
+            None
+        }
     }
 }
 
-/// Starts the ticker and the console's worker, and waits for both. `None` where a thread could not be started.
+/// Starts the ticker and the console's worker, and waits for both. `None` where a thread could not be started; the desk is abandoned
+/// then, so that one that was started ends.
 fn run_others<'s, E, S, T, C, L, R>(
     rt: &'s R,
     scope: &'s Scope<'s, E>,
@@ -115,12 +119,15 @@ where
                 None => None,
             }
         }
-        Err(_) => None,
+        Err(_) => {
+            desk.abandon(rt);
+            None
+        }
     }
 }
 
-/// Starts the last station's worker, does the rest, and waits for it. `None` where a thread could not be started; those that were
-/// started have ended by then.
+/// Starts the last station's worker, does the rest, and waits for it. `None` where a thread could not be started; the desk was abandoned
+/// then, and those that were started have ended.
 fn run_all<'s, E, S, T, C, L, R>(
     rt: &'s R,
     scope: &'s Scope<'s, E>,
@@ -175,7 +182,10 @@ where
                 None => None,
             }
         }
-        Err(_) => None,
+        Err(_) => {
+            desk.abandon(rt);
+            None
+        }
     }
 }
 
@@ -198,8 +208,8 @@ pub struct Crew<S, T, C, L: Ledger> {
     ghost fits: { vec_len stations ≤ vec_capacity room },
 }
 
-/// Starts the workers of all that the crew has, and waits for them. `None` where a thread could not be started; those that were started
-/// have ended by then.
+/// Starts the workers of all that the crew has, and waits for them. `None` where a thread could not be started; the desk was abandoned
+/// then, and those that were started have ended.
 fn run_crew<'s, E, S, T, C, L, R>(
     rt: &'s R,
     scope: &'s Scope<'s, E>,
@@ -228,8 +238,8 @@ where
     run_all(rt, scope, desk, stations, seats, others, room)
 }
 
-/// Runs all workers, each in a thread of its own, and waits for them. `None` where a thread could not be started; those that were started
-/// have ended by then.
+/// Runs all workers, each in a thread of its own, and waits for them. `None` where a thread could not be started; the desk was abandoned
+/// then, so that each that was started ended when it next asked whether the term is over.
 pub fn start<S, T, C, L, R>(
     rt: &R,
     desk: &SharedDesk<L>,

@@ -24,7 +24,7 @@ pub enum ServeFault {
     CannotListen(u16),
     /// There was no poll for a port. Nothing was served.
     NoPoll,
-    /// A term was not begun, or its audit found a difference.
+    /// A term was not begun, lacked a thread, or its audit found a difference.
     Term(TermFault),
     /// Memory ran out. Nothing was served.
     OutOfMemory,

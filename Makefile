@@ -68,7 +68,7 @@ refuse-memory: build/dmr_trunk ## each allocation of two replays by the proved p
 tools-check: build/dmr_trunk build/dmr_decode ## the tools of the field, over the proved programs (two minutes)
 	tools/check-decode build/dmr_decode
 	tools/check-grants build/dmr_trunk
-	tools/check-capture
+	tools/check-capture build/dmr_trunk
 	tools/check-tools build/dmr_trunk
 
 pictures: build/dmr_trunk ## draws the pictures of the example scripts in docs/pictures again

@@ -15,16 +15,17 @@ help: ## this list
 	@echo "tools/carriers       plays carriers and radios against a served site"
 	@echo "tools/serve-hostile  plays carriers and strangers that behave badly"
 	@echo "tools/long-replay    how long a long replay takes"
-	@echo "tools/refuse-memory  refuses each allocation of a replay in turn"
+	@echo "tools/refuse-memory  refuses each allocation of the programs in turn"
 	@echo "each says more with --help, or in its first lines; docs/OPERATING.md has those for operators"
 
 demo: ## builds the program without its proofs and replays one registration (about a minute)
 	@cd crates/dmr_trunk && rt try -- --site data/site.toml --script data/registration.txt
 
-build: ## the proved programs, at build/dmr_trunk and build/dmr_decode (long, the first time)
+build: ## the proved programs, at build/dmr_trunk, dmr_decode and dmr_refusals (long, the first time)
 	cd crates/dmr_trunk && rt run -- --site data/site.toml --script data/registration.txt
 	cd crates/dmr_decode && rt run -- write C_RAND kind=registration source=1
-	mkdir -p build && cp crates/dmr_trunk/out/dmr_trunk build/dmr_trunk && cp crates/dmr_decode/out/dmr_decode build/dmr_decode
+	cd crates/dmr_refusals && rt run
+	mkdir -p build && cp crates/dmr_trunk/out/dmr_trunk crates/dmr_decode/out/dmr_decode crates/dmr_refusals/out/dmr_refusals build
 
 check: ## proves one crate over what earlier runs kept: make check CRATE=dmr_pool; all crates without CRATE
 ifdef CRATE
@@ -52,7 +53,7 @@ bench: ## words per second beside two coders in C, all words with three flips, a
 soak: ## a million random inputs through the engine, compared with a reference model, by the proved program
 	@cd crates/dmr_soak && rt run -- --inputs 500000 --counts
 
-build/dmr_trunk build/dmr_decode:
+build/dmr_trunk build/dmr_decode build/dmr_refusals:
 	@echo "no $@: run 'make build' first"; exit 2
 
 serve-check: build/dmr_trunk ## the proved program serves sixteen carriers on loopback for half a minute; what comes back is checked. FAULTS=1: ten minutes of trouble
@@ -62,7 +63,7 @@ serve-check: build/dmr_trunk ## the proved program serves sixteen carriers on lo
 serve-hostile: build/dmr_trunk ## the proved program served to carriers and strangers that behave badly (some minutes)
 	tools/serve-hostile build/dmr_trunk
 
-refuse-memory: build/dmr_trunk ## each allocation of two replays by the proved program refused in turn (half a minute)
+refuse-memory: build/dmr_trunk build/dmr_refusals ## each allocation of two replays, of each call and of a served term refused in turn, in the proved programs (a minute)
 	tools/refuse-memory
 
 tools-check: build/dmr_trunk build/dmr_decode ## the tools of the field, over the proved programs (two minutes)

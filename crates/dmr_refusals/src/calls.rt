@@ -1,0 +1,173 @@
+//! Calls of the plan, the site and what it stands on.
+
+use crate::verdict::{Verdict, verdict_if};
+use dmr_access::Access;
+use dmr_calls::{Calls, Line};
+use dmr_core::{Event, Site};
+use dmr_pdu::{Address, CarrierNo, Pdu, Slot, SlotNo};
+use dmr_plan::{Plan, PlanFault};
+use dmr_pool::Pool;
+use dmr_registry::Registry;
+use std::alloc::Global;
+
+/// A site of carriers 0 and 1, with channels 1 and 2.
+const SITE: &str =
+    "system = 0x1234\nregi = 0xFFFEC6\ntsi = 0xFFFECA\nleave_bit = 0\nhang = 100\nmaximum = 3000\nahoy_wait = 8\nahoy_tries = 3\ngrant_copies = 1\nclear_copies = 1\nbackoff_low = 1\nbackoff_high = 8\ntick_ms = 60\nsilence = 100\nconsole_port = 7100\nradios = [[1000, 1999]]\ngroups = [91, 92, 93, 94]\ncontrol = 0\n[[carrier]]\nnumber = 0\nlpcn = 1\nport = 7101\n[[carrier]]\nnumber = 1\nlpcn = 2\nport = 7102\n";
+
+/// The plan of that site.
+pub fn plan(alloc: Global) -> Option<Plan> {
+    Plan::read(alloc, SITE).ok()
+}
+
+/// The control slot.
+fn control_slot() -> Slot {
+    Slot {
+        carrier: CarrierNo::new(0),
+        slot: SlotNo::new(0),
+    }
+}
+
+/// The registration of radio 1001, and its call of talkgroup 91.
+const REQUESTS: [[u8; 10]; 2] = [
+    *b"\x9F\x00\x02\x0E\xFF\xFE\xC6\x00\x03\xE9",
+    *b"\x9F\x00\x00\x01\x00\x00\x5B\x00\x03\xE9",
+];
+
+/// A site on which radio 1001 is registered and calls.
+pub fn busy_site(alloc: Global) -> Option<Site> {
+    let mut site = Site::new(alloc, plan(alloc)?).ok()?;
+    site.apply(Event::Up(CarrierNo::new(0)));
+    for request in &REQUESTS {
+        site.apply(Event::Heard(control_slot(), Pdu::from_octets(request)));
+    }
+    Some(site)
+}
+
+/// Whether two sites are equal, answer some events alike, and are equal then.
+pub fn go_on_alike(mut site: Site, mut other: Site) -> bool {
+    let mut alike = site == other;
+    let carrier = CarrierNo::new(0);
+    let events = [Event::Poll(carrier), Event::Tick, Event::Poll(carrier)];
+    for event in &events {
+        alike = alike && site.apply(*event) == other.apply(*event);
+    }
+    alike && site == other
+}
+
+/// Reads a site file.
+pub fn read_plan(alloc: Global) -> Verdict {
+    match Plan::read(alloc, SITE) {
+        Ok(_) => Verdict::Done,
+        Err(PlanFault::OutOfMemory) => verdict_if(plan(alloc).is_some(), Verdict::Refused),
+        Err(_) => Verdict::Wrong,
+    }
+}
+
+/// Makes a site.
+pub fn new_site(alloc: Global) -> Verdict {
+    let Some(plan) = plan(alloc) else {
+        return Verdict::NotTried;
+    };
+    if Site::new(alloc, plan).is_ok() {
+        return Verdict::Done;
+    }
+    verdict_if(Site::new(alloc, plan).is_ok(), Verdict::Refused)
+}
+
+/// Two registered radios.
+fn registry(alloc: Global) -> Option<Registry> {
+    let mut registry = Registry::new(alloc).ok()?;
+    registry.join(Address::new(1002)).ok()?;
+    registry.join(Address::new(1001)).ok()?;
+    Some(registry)
+}
+
+/// Copies registered radios.
+pub fn clone_registry(alloc: Global) -> Verdict {
+    let (Some(registry), Some(other)) = (registry(alloc), registry(alloc)) else {
+        return Verdict::NotTried;
+    };
+    match registry.try_clone(alloc) {
+        Ok(copy) => verdict_if(copy == other, Verdict::Done),
+        Err(_) => verdict_if(registry == other, Verdict::Refused),
+    }
+}
+
+/// A disturbed control slot.
+fn access(alloc: Global) -> Option<Access> {
+    let mut access = Access::new(alloc, &plan(alloc)?).ok()?;
+    access.reset();
+    access.noise();
+    access.polled();
+    Some(access)
+}
+
+/// Copies the noise window.
+pub fn clone_access(alloc: Global) -> Verdict {
+    let (Some(access), Some(other)) = (access(alloc), access(alloc)) else {
+        return Verdict::NotTried;
+    };
+    match access.try_clone(alloc) {
+        Ok(copy) => verdict_if(copy == other, Verdict::Done),
+        Err(_) => verdict_if(access == other, Verdict::Refused),
+    }
+}
+
+/// The slots of a site whose carrier 0 is up, and for which a PDU waits.
+fn pool(alloc: Global) -> Option<Pool> {
+    let plan = plan(alloc)?;
+    let mut pool = Pool::new(alloc, &plan).ok()?;
+    let slot = control_slot();
+    if plan.carrier_with(slot.carrier).is_some() {
+        pool.up(slot.carrier);
+    }
+    if pool.is_up(slot.carrier) {
+        pool.push(slot, Pdu::from_octets(&[0; 10])).ok()?;
+    }
+    Some(pool)
+}
+
+/// Copies slots and outboxes.
+pub fn clone_pool(alloc: Global) -> Verdict {
+    let (Some(pool), Some(other)) = (pool(alloc), pool(alloc)) else {
+        return Verdict::NotTried;
+    };
+    match pool.try_clone(alloc) {
+        Ok(copy) => verdict_if(copy == other, Verdict::Done),
+        Err(_) => verdict_if(pool == other, Verdict::Refused),
+    }
+}
+
+/// A line.
+fn calls(alloc: Global) -> Option<Calls> {
+    let mut calls = Calls::new(alloc).ok()?;
+    let line = Line {
+        source: Address::new(1001),
+        target: Address::new(91),
+        group: true,
+    };
+    calls.line(line).ok()?;
+    Some(calls)
+}
+
+/// Copies asks, lines and calls.
+pub fn clone_calls(alloc: Global) -> Verdict {
+    let (Some(calls), Some(other)) = (calls(alloc), calls(alloc)) else {
+        return Verdict::NotTried;
+    };
+    match calls.try_clone(alloc) {
+        Ok(copy) => verdict_if(copy == other, Verdict::Done),
+        Err(_) => verdict_if(calls == other, Verdict::Refused),
+    }
+}
+
+/// Copies a site.
+pub fn clone_site(alloc: Global) -> Verdict {
+    let (Some(site), Some(other)) = (busy_site(alloc), busy_site(alloc)) else {
+        return Verdict::NotTried;
+    };
+    match site.try_clone(alloc) {
+        Ok(copy) => verdict_if(go_on_alike(copy, other), Verdict::Done),
+        Err(_) => verdict_if(go_on_alike(site, other), Verdict::Refused),
+    }
+}

@@ -1,0 +1,138 @@
+//! Calls of the engine: a story of two carriers and an operator.
+
+use crate::calls::plan;
+use crate::verdict::{Verdict, verdict_if};
+use dmr_link::{Engine, Input, Outputs};
+use dmr_pdu::CarrierNo;
+use std::alloc::Global;
+
+/// RX of radio 1001's registration on slot 0, and POLL.
+const FIRST_JOINS: &[u8] = &[
+    0x02, 0x1A, 0x00, 0x0E, 0xB4, 0x9C, 0xDF, 0x34, 0xF2, 0x74, 0x9C, 0xEC, 0xBA, 0x5C, 0xB3, 0xB7,
+    0xC4, 0x0E, 0x88, 0x13, 0x8C, 0x9A, 0x38, 0xF9, 0x62, 0x48, 0xE1, 0x80, 0x03, 0x00,
+];
+
+/// RX of radio 1002's registration, and POLL.
+const SECOND_JOINS: &[u8] = &[
+    0x02, 0x1A, 0x00, 0x0E, 0x9C, 0x9C, 0xCF, 0x35, 0xFA, 0x76, 0x84, 0xEE, 0xCA, 0x58, 0x53, 0xA6,
+    0x44, 0x2E, 0x88, 0x11, 0x8C, 0x90, 0x38, 0x6D, 0x63, 0xC8, 0xE2, 0x80, 0x03, 0x00,
+];
+
+/// RX of radio 1001's call of talkgroup 91, and POLL.
+const FIRST_CALLS: &[u8] = &[
+    0x02, 0x1A, 0x00, 0x02, 0xCB, 0x80, 0x23, 0x09, 0xA2, 0x15, 0x74, 0x38, 0x69, 0xDF, 0xF0, 0xB4,
+    0x83, 0x0E, 0x04, 0x3E, 0x84, 0xD8, 0x00, 0xDD, 0x03, 0x90, 0x12, 0x30, 0x03, 0x00,
+];
+
+/// RX of radio 1002's call of talkgroup 91, and POLL.
+const SECOND_CALLS: &[u8] = &[
+    0x02, 0x1A, 0x00, 0x02, 0xE3, 0x80, 0x33, 0x08, 0xAA, 0x17, 0x6C, 0x3A, 0x19, 0xDB, 0x10, 0xA5,
+    0x03, 0x2E, 0x04, 0x3C, 0x84, 0xD2, 0x00, 0x49, 0x02, 0x10, 0x11, 0x30, 0x03, 0x00,
+];
+
+/// What is put out for carrier 0: WELCOME; then a TX and DONE for each POLL: two acknowledgements A00000C4, the grant B1000018 and the late
+/// grant B100001C.
+const PUT_OUT: &[u8] = &[
+    0x81, 0x01, 0x01, 0x82, 0x1A, 0x00, 0x41, 0xC3, 0x02, 0x8A, 0x48, 0xFC, 0x8F, 0x40, 0x3D, 0xC0,
+    0x6F, 0x00, 0xED, 0xA0, 0xF7, 0x83, 0xE4, 0x97, 0x54, 0x2E, 0x40, 0x5C, 0xB8, 0x3C, 0xB0, 0x83,
+    0x00, 0x82, 0x1A, 0x00, 0x43, 0xC1, 0x00, 0x4A, 0x49, 0x6C, 0x8E, 0x48, 0x3C, 0xC0, 0x61, 0x40,
+    0xE7, 0x60, 0xE6, 0x03, 0xD3, 0x97, 0x58, 0x2E, 0x44, 0x5C, 0x38, 0x2C, 0xD0, 0x83, 0x00, 0x82,
+    0x1A, 0x00, 0x12, 0xF3, 0x00, 0xE5, 0x08, 0x74, 0x15, 0x48, 0x38, 0x40, 0x5B, 0xD0, 0xB1, 0x61,
+    0x0A, 0x08, 0x20, 0x84, 0xB2, 0x20, 0x18, 0x03, 0x62, 0x90, 0x90, 0x83, 0x00, 0x82, 0x1A, 0x00,
+    0x12, 0x96, 0x00, 0xAF, 0x08, 0x78, 0x15, 0x40, 0x3C, 0x10, 0x57, 0xF0, 0xB8, 0xA5, 0x19, 0x00,
+    0x26, 0x84, 0xB6, 0x20, 0x54, 0x42, 0xCA, 0x92, 0xE0, 0x83, 0x00,
+];
+
+/// What the operator is told.
+const TOLD: &[u8] = b"status carriers 2 radios 2 asks 0 lines 0 calls 1 fill aloha\n";
+
+/// Both carriers come up, radios 1001 and 1002 are registered and call talkgroup 91, each polled, and an operator asks.
+fn story() -> [Input<'static>; 9] {
+    let carrier = CarrierNo::new(0);
+    let other = CarrierNo::new(1);
+    [
+        Input::Open(carrier),
+        Input::Bytes(carrier, b"\x01\x04\x01\x00\x00\x01"),
+        Input::Open(other),
+        Input::Bytes(other, b"\x01\x04\x01\x01\x00\x02"),
+        Input::Bytes(carrier, FIRST_JOINS),
+        Input::Bytes(carrier, SECOND_JOINS),
+        Input::Bytes(carrier, FIRST_CALLS),
+        Input::Bytes(carrier, SECOND_CALLS),
+        Input::Text(b"status\n"),
+    ]
+}
+
+/// An engine that has just begun.
+fn engine(alloc: Global) -> Option<Engine> {
+    Engine::new(alloc, plan(alloc)?).ok()
+}
+
+/// Makes an engine.
+pub fn new_engine(alloc: Global) -> Verdict {
+    let Some(plan) = plan(alloc) else {
+        return Verdict::NotTried;
+    };
+    if Engine::new(alloc, plan).is_ok() {
+        return Verdict::Done;
+    }
+    verdict_if(engine(alloc).is_some(), Verdict::Refused)
+}
+
+/// Runs an engine over the story. Where it is refused, it has put out what the inputs that it took put out, and the others on the
+/// same engine give the rest.
+pub fn run_engine(alloc: Global) -> Verdict {
+    let (Some(mut engine), Some(other)) = (engine(alloc), engine(alloc)) else {
+        return Verdict::NotTried;
+    };
+    let inputs = story();
+    match engine.run(alloc, inputs.as_slice()) {
+        Ok(outputs) => verdict_if(are_whole(&outputs, &Outputs::new(alloc)), Verdict::Done),
+        Err(fault) => {
+            let front = inputs.get(..fault.done).unwrap_or(&[]);
+            let back = inputs.get(fault.done..).unwrap_or(&[]);
+            let right = puts_out(alloc, other, front, &fault.outputs)
+                && gives_the_rest(alloc, engine, back, &fault.outputs);
+            verdict_if(right, Verdict::Refused)
+        }
+    }
+}
+
+/// Whether an engine that takes these inputs puts out the same.
+fn puts_out(alloc: Global, mut engine: Engine, inputs: &[Input<'_>], outputs: &Outputs) -> bool {
+    match engine.run(alloc, inputs) {
+        Ok(others) => {
+            let (first, second) = (CarrierNo::new(0), CarrierNo::new(1));
+            others.carrier(first) == outputs.carrier(first)
+                && others.carrier(second) == outputs.carrier(second)
+                && others.console() == outputs.console()
+        }
+        Err(_) => false,
+    }
+}
+
+/// Whether an engine that takes these inputs puts out what these outputs lack.
+fn gives_the_rest(
+    alloc: Global,
+    mut engine: Engine,
+    inputs: &[Input<'_>],
+    outputs: &Outputs,
+) -> bool {
+    match engine.run(alloc, inputs) {
+        Ok(rest) => are_whole(outputs, &rest),
+        Err(_) => false,
+    }
+}
+
+/// Whether outputs and others behind them are all that is to be put out.
+fn are_whole(first: &Outputs, rest: &Outputs) -> bool {
+    let (carrier, other) = (CarrierNo::new(0), CarrierNo::new(1));
+    joins(first.carrier(carrier), rest.carrier(carrier), PUT_OUT)
+        && joins(first.carrier(other), rest.carrier(other), b"\x81\x01\x01")
+        && joins(first.console(), rest.console(), TOLD)
+}
+
+/// Whether octets and others behind them are a whole.
+fn joins(first: &[u8], rest: &[u8], whole: &[u8]) -> bool {
+    whole.starts_with(first) && whole.get(first.len()..) == Some(rest)
+}

@@ -1,0 +1,119 @@
+//! Desks that refuse, and what is left then.
+
+ghost use Rattle.std.specs.Prelude.{◌≡◌};
+
+use crate::site::quiet_site;
+use dmr_core::{Event, Site};
+use dmr_desk::{OpenFault, PARTS, SharedDesk};
+use dmr_link::TermOver;
+use dmr_pdu::CarrierNo;
+use std::alloc::Global;
+use std::marker::Brand;
+use std::sync::Wait;
+use std::sync::ledger::{Blank, Ledger};
+use std::test::Fail;
+
+/// Two events: carrier 0 comes up, and polls.
+fn two_events() -> [Event; 2] {
+    [Event::Up(CarrierNo::new(0)), Event::Poll(CarrierNo::new(0))]
+}
+
+/// The fault of a desk that is not opened, and the site that is handed back.
+fn refused<L: Ledger>(
+    alloc: Global,
+    blank: Blank,
+    site: Site,
+    limit: usize,
+    actors: u8,
+) -> Option<(OpenFault, Site)>
+    requires name { blank.name ≡ L.name }
+    requires parts { blank.parts ≡ L.parts }
+    requires eighteen { blank.parts ≡ 18 }
+{
+    SharedDesk::<L>::open(alloc, blank, site, limit, actors).err()
+}
+
+/// The same, in a ledger of its own.
+fn refusal_of(alloc: Global, site: Site, limit: usize, actors: u8) -> Option<(OpenFault, Site)> {
+    refused::<Brand>(alloc, Blank::new(PARTS), site, limit, actors)
+}
+
+/// Whether two sites answer an event alike.
+fn answer_alike(site: &mut Site, other: &mut Site, event: &Event) -> bool {
+    site.apply(*event) == other.apply(*event)
+}
+
+/// A desk that is not opened hands its site back, which answers all that follows as before.
+#[test]
+fn a_desk_that_is_not_opened(rt: HostRuntime) -> Result<(), Fail> {
+    for (limit, actors, want) in [
+        (0, 4, OpenFault::BadLimit),
+        (100_001, 4, OpenFault::BadLimit),
+        (0, 0, OpenFault::BadLimit),
+        (1, 0, OpenFault::BadActors),
+        (100_000, 19, OpenFault::BadActors),
+    ] {
+        let mut site = quiet_site(rt.alloc())?;
+        site.apply(Event::Up(CarrierNo::new(0)));
+        let mut copy = site.try_clone(rt.alloc())?;
+        let (fault, mut back) = refusal_of(rt.alloc(), site, limit, actors).ok_or(
+            "a desk that was opened",
+        )?;
+        assert_eq!(rt; fault, want);
+        assert!(rt; back == copy);
+        let poll = Event::Poll(CarrierNo::new(0));
+        let alike = answer_alike(&mut back, &mut copy, &poll);
+        assert!(rt; alike);
+        assert!(rt; back == copy);
+    }
+    Ok(())
+}
+
+/// What becomes of a desk with room for two events and one actor: whether the third was refused with two entries, the term was
+/// over then and not before, and the seat kept two; and the site and how many entries the report has.
+fn third_of_two<L: Ledger, R: Wait>(
+    rt: &R,
+    alloc: Global,
+    blank: Blank,
+    site: Site,
+) -> Option<(bool, Site, usize)>
+    requires name { blank.name ≡ L.name }
+    requires parts { blank.parts ≡ L.parts }
+    requires eighteen { blank.parts ≡ 18 }
+{
+    let (desk, mut seats) = SharedDesk::<L>::open(alloc, blank, site, 2, 1).ok()?;
+    let mut seat = seats.pop()?;
+    let mut refused = !desk.over(rt);
+    let events = two_events();
+    for event in &events {
+        refused = refused && desk.deposit(rt, &mut seat, *event).is_ok();
+    }
+    let over = desk.deposit(rt, &mut seat, Event::Tick).err();
+    refused = refused && over == Some(TermOver { entries: 2 }) && desk.over(rt);
+    refused = refused && seat.deposits().len() == 2;
+    seats.push(seat).ok()?;
+    let report = desk.close(rt, seats).ok()?;
+    let entries = report.journal.as_slice().len();
+    Some((refused, report.site, entries))
+}
+
+/// The same, in a ledger of its own.
+fn third_event<R: Wait>(rt: &R, alloc: Global, site: Site) -> Option<(bool, Site, usize)> {
+    third_of_two::<Brand, R>(rt, alloc, Blank::new(PARTS), site)
+}
+
+/// An event that a full journal refuses changes neither the seat nor the site.
+#[test]
+fn an_event_that_is_refused(rt: HostRuntime) -> Result<(), Fail> {
+    let site = quiet_site(rt.alloc())?;
+    let mut copy = site.try_clone(rt.alloc())?;
+    let events = two_events();
+    for event in &events {
+        copy.apply(*event);
+    }
+    let (refused, after, entries) = third_event(&rt, rt.alloc(), site).ok_or("a report")?;
+    assert!(rt; refused);
+    assert_eq!(rt; entries, 2);
+    assert!(rt; after == copy);
+    Ok(())
+}

@@ -1,0 +1,191 @@
+//! Terms whose ports fail at any call: what the peer's actor told the site, what its port took, how its last connection ended, and
+//! that the link owes nothing. What is to be written is known from the formats; the burst is one of the worked cases.
+//!
+//! A row is `A to B: STEPS => EVENTS; OCTETS; ENDED`, a term for each number N from A to B. The steps are what the peer's port answers
+//! (`steps`); the events are letters (`stage`), or `-`; the octets are so many first ones of the peer's answer, for each connection
+//! that has any. The link, once the term has ended, answers each further serve as its last connection ended, and touches nothing.
+
+mod carriers;
+mod closed;
+mod operators;
+mod peers;
+mod stage;
+mod steps;
+
+use self::peers::Peer;
+use self::stage::{Outcome, Stage};
+use self::steps::add_steps;
+use dmr_desk::Ending;
+use dmr_frames::Cause;
+use dmr_link::Ended;
+use dmr_wire::Step;
+use std::process::Abort;
+use std::sync::Wait;
+use std::test::Fail;
+use std::thread::Threads;
+
+/// What is to come of a term.
+#[derive(Clone, Copy)]
+struct Want<'a> {
+    peer: Peer,
+    events: &'a str,
+    octets: &'a str,
+    ended: Ended,
+}
+
+#[test]
+fn of_carriers(rt: HostRuntime) -> Result<(), Fail> {
+    try_all(&rt, Peer::Carrier, &carriers::ROWS)
+}
+
+/// Each type of a frame with each other length, before a HELLO and behind one: two connections for each, in one term for each type. The
+/// octet of the length is the last that comes, and nothing is read behind it.
+#[test]
+fn lengths_of_frames(rt: HostRuntime) -> Result<(), Fail> {
+    for (kind, right) in &carriers::TYPES {
+        try_lengths(&rt, kind, *right)?;
+    }
+    Ok(())
+}
+
+#[test]
+fn of_operators(rt: HostRuntime) -> Result<(), Fail> {
+    try_all(&rt, Peer::Operator, &operators::ROWS)
+}
+
+/// Tries each row.
+fn try_all<R: Abort + AllocGlobal + Wait + Threads + Sync>(
+    rt: &R,
+    peer: Peer,
+    tables: &[(&str, &str)],
+) -> Result<(), Fail> {
+    for (name, rows) in tables {
+        for row in rows.lines() {
+            let (rounds, row) = row.split_once(": ").ok_or("the rounds of a row")?;
+            let (first, last) = rounds.split_once(" to ").ok_or("the rounds of a row")?;
+            let first = first.parse::<usize>().ok().ok_or("the first round")?;
+            let last = last.parse::<usize>().ok().ok_or("the last round")?;
+            for round in first..=last {
+                try_row(rt, peer, name, row, round)?;
+            }
+        }
+    }
+    Ok(())
+}
+
+/// Runs the term of a type of frames, with each length but the right one.
+fn try_lengths<R: Abort + AllocGlobal + Wait + Threads + Sync>(
+    rt: &R,
+    kind: &str,
+    right: usize,
+) -> Result<(), Fail> {
+    let alloc = rt.alloc();
+    let words = format!(in alloc; "connect, hex {kind}NN, connect, hex 010401000001{kind}NN")?;
+    let mut steps = Vec::new(alloc);
+    let mut events = String::new(alloc);
+    let mut octets = String::from_str(alloc, "0")?;
+    for length in 0..256usize {
+        if length != right {
+            if !add_steps(alloc, &mut steps, &[], words.as_str(), length)? {
+                return Err("a step".into());
+            }
+            events.push_str("UL")?;
+            octets.push_str(" 3")?;
+        }
+    }
+    let want = Want {
+        peer: Peer::Carrier,
+        events: events.as_str(),
+        octets: octets.as_str(),
+        ended: Ended::BadFrame(Cause::BadLength),
+    };
+    let calls = try_term(rt, kind, steps, &want, right)?;
+    // Of each length: a connect and a read, a connect, a read and a write. Then the connect that is the last.
+    assert_eq!(rt; calls, Some(5 * 255 + 1), "{kind}");
+    Ok(())
+}
+
+/// Runs the term of a row's round.
+fn try_row<R: Abort + AllocGlobal + Wait + Threads + Sync>(
+    rt: &R,
+    peer: Peer,
+    name: &str,
+    row: &str,
+    round: usize,
+) -> Result<(), Fail> {
+    let (steps, rest) = row.split_once(" => ").ok_or("the steps of a row")?;
+    let (events, rest) = rest.split_once("; ").ok_or("the events of a row")?;
+    let (octets, ended) = rest.split_once("; ").ok_or("the octets of a row")?;
+    let want = Want {
+        peer,
+        events: if events == "-" { "" } else { events },
+        octets,
+        ended: ended_of(ended).ok_or("the ending of a row")?,
+    };
+    let mut answers = Vec::new(rt.alloc());
+    if !add_steps(rt.alloc(), &mut answers, peer.told(), steps, round)? {
+        return Err("a step".into());
+    }
+    try_term(rt, name, answers, &want, round)?;
+    Ok(())
+}
+
+/// Runs the term of these steps, and compares what comes of it. How many calls the peer's port answered.
+fn try_term<R: Abort + AllocGlobal + Wait + Threads + Sync>(
+    rt: &R,
+    name: &str,
+    steps: Vec<Step>,
+    want: &Want<'_>,
+    round: usize,
+) -> Result<Option<usize>, Fail> {
+    let mut outcome = Stage::new(rt.alloc(), want.peer, steps)?.run(rt, rt.alloc())?;
+    compare(rt, name, &outcome, want, round)?;
+    for _ in 0..2 {
+        serves_no_more(rt, name, &mut outcome, want.ended, round);
+    }
+    Ok(outcome.calls())
+}
+
+/// The ending of this name.
+fn ended_of(name: &str) -> Option<Ended> {
+    match name {
+        "closed" => Some(Ended::Closed),
+        "read fault" => Some(Ended::ReadFault),
+        "write fault" => Some(Ended::WriteFault),
+        "bad length" => Some(Ended::BadFrame(Cause::BadLength)),
+        "unknown type" => Some(Ended::BadFrame(Cause::UnknownType)),
+        _ => None,
+    }
+}
+
+/// Compares what came of a term with what was to come of it.
+fn compare(
+    rt: &(impl Abort + AllocGlobal),
+    name: &str,
+    outcome: &Outcome,
+    want: &Want<'_>,
+    round: usize,
+) -> Result<(), Fail> {
+    for ending in outcome.ends.as_slice() {
+        assert_eq!(rt; *ending, Ending::Finished, "{name}, {round}");
+    }
+    assert_eq!(rt; outcome.ends.len(), 4, "{name}, {round}");
+    let letters = outcome.letters(rt.alloc())?;
+    assert_eq!(rt; letters.as_str(), want.events, "{name}, {round}");
+    assert_eq!(rt; outcome.entries, want.events.len(), "{name}, {round}");
+    let octets = want.peer.answered(rt.alloc(), want.octets, round)?;
+    let octets = octets.ok_or("how many octets")?;
+    assert_eq!(rt; outcome.taken(), octets.as_slice(), "{name}, {round}");
+    assert!(rt; !outcome.is_live(), "{name}, {round}");
+    Ok(())
+}
+
+/// Serves the link, which has no connection, once more.
+fn serves_no_more(rt: &impl Abort, name: &str, outcome: &mut Outcome, wanted: Ended, round: usize) {
+    let calls = outcome.calls();
+    assert!(rt; calls.is_some(), "{name}, {round}");
+    let (ended, turns) = outcome.serve_again();
+    assert_eq!(rt; ended, wanted, "{name}, {round}");
+    assert_eq!(rt; turns, 0, "{name}, {round}");
+    assert_eq!(rt; outcome.calls(), calls, "{name}, {round}");
+}

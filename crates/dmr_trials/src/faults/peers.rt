@@ -1,0 +1,79 @@
+//! Who comes to a site, what it tells, and what it is answered.
+
+use std::alloc::{AllocError, Global};
+
+/// Who comes.
+#[derive(Clone, Copy, Debug, PartialEq, Eq)]
+pub enum Peer {
+    /// Carrier 0.
+    Carrier,
+    /// An operator.
+    Operator,
+}
+
+/// HELLO, the registration of radio 1001 on slot 0, and POLL.
+const TOLD: &[u8] = &[
+    0x01, 0x04, 0x01, 0x00, 0x00, 0x01, 0x02, 0x1A, 0x00, 0x0E, 0xB4, 0x9C, 0xDF, 0x34, 0xF2, 0x74,
+    0x9C, 0xEC, 0xBA, 0x5C, 0xB3, 0xB7, 0xC4, 0x0E, 0x88, 0x13, 0x8C, 0x9A, 0x38, 0xF9, 0x62, 0x48,
+    0xE1, 0x80, 0x03, 0x00,
+];
+
+/// WELCOME, the acknowledgement of the registration on slot 0, and DONE.
+const ANSWERED: &[u8] = &[
+    0x81, 0x01, 0x01, 0x82, 0x1A, 0x00, 0x41, 0xC3, 0x02, 0x8A, 0x48, 0xFC, 0x8F, 0x40, 0x3D, 0xC0,
+    0x6F, 0x00, 0xED, 0xA0, 0xF7, 0x83, 0xE4, 0x97, 0x54, 0x2E, 0x40, 0x5C, 0xB8, 0x3C, 0xB0, 0x83,
+    0x00,
+];
+
+/// Two lines.
+const SAID: &[u8] = b"status\nstay\n";
+
+/// What they are answered where no carrier is up and nothing stands.
+const REPLIES: &[u8] = b"status carriers 0 radios 0 asks 0 lines 0 calls 0 fill aloha\nok\n";
+
+impl Peer {
+    /// What it tells: 36 octets, or 12.
+    pub fn told(self) -> &'static [u8] {
+        match self {
+            Peer::Carrier => TOLD,
+            Peer::Operator => SAID,
+        }
+    }
+
+    /// The whole answer to that: 33 octets, or 64.
+    pub fn answer(self) -> &'static [u8] {
+        match self {
+            Peer::Carrier => ANSWERED,
+            Peer::Operator => REPLIES,
+        }
+    }
+
+    /// The first octets of its answer, once for each count, one after the other. `None` where a word is no count.
+    pub fn answered(
+        self,
+        alloc: Global,
+        counts: &str,
+        round: usize,
+    ) -> Result<Option<Vec<u8>>, AllocError> {
+        let mut octets = Vec::new(alloc);
+        for word in counts.split(' ') {
+            let Some(count) = number(word, round) else {
+                return Ok(None);
+            };
+            match self.answer().get(..count) {
+                Some(first) => octets.extend_from_slice(first)?,
+                None => return Ok(None),
+            }
+        }
+        Ok(Some(octets))
+    }
+}
+
+/// The number that a word is, `N` being that of the round.
+pub fn number(word: &str, round: usize) -> Option<usize> {
+    if word == "N" {
+        Some(round)
+    } else {
+        word.parse::<usize>().ok()
+    }
+}

@@ -1,0 +1,211 @@
+//! A term to which one peer comes, and nobody else, and what stands when it has ended.
+
+ghost use Rattle.std.specs.Prelude.{None};
+
+use super::closed::ClosedDesk;
+use super::peers::Peer;
+use crate::site::quiet_site;
+use arrayvec::ArrayVec;
+use dmr_core::{Command, Event, Site};
+use dmr_desk::{ConsoleStation, Ending, Pace, Pacer, Station, Term, TermFault, Views, run_term};
+use dmr_link::{ConsoleLink, Ended, Link, OpenGate};
+use dmr_pdu::{CarrierNo, Lpcn};
+use dmr_wire::{MemoryPort, Step};
+use std::alloc::{AllocError, Global};
+use std::sync::Wait;
+use std::test::Fail;
+use std::thread::Threads;
+
+/// The room of a port's record: so many answers, and so many octets.
+const ROOM: usize = 4096;
+
+/// As many entries as a term may need.
+const AMPLE: usize = 1000;
+
+/// The console's number among the actors.
+const CONSOLE: usize = 3;
+
+/// A pacer without ticks. It tells no record.
+#[derive(Clone, Copy)]
+struct NoTicks;
+
+impl Pacer for NoTicks {
+    ghost paced = { λ p. None };
+
+    fn next(&mut self) -> Pace {
+        Pace::Finished
+    }
+}
+
+/// A carrier's station.
+type CarrierStation = Station<MemoryPort, OpenGate>;
+
+/// What stands before a term.
+#[derive(Drop)]
+pub struct Stage {
+    site: Site,
+    stations: Vec<CarrierStation>,
+    console: ConsoleStation<MemoryPort>,
+    actor: usize,
+}
+
+/// What stands when a term has ended.
+#[derive(Drop)]
+pub struct Outcome {
+    /// How many entries the journal has.
+    pub entries: usize,
+    /// Why each actor's worker ended.
+    pub ends: ArrayVec<Ending, 18>,
+    views: Views,
+    station: CarrierStation,
+    console: ConsoleStation<MemoryPort>,
+    actor: usize,
+}
+
+/// A port of these steps.
+fn port_of(alloc: Global, steps: Vec<Step>) -> Result<MemoryPort, Fail> {
+    match MemoryPort::new(alloc, steps, ROOM) {
+        Ok(port) => Ok(port),
+        Err((refused, _)) => Err(refused.into()),
+    }
+}
+
+/// The station of a carrier with this channel, whose port answers by these steps.
+fn station_of(alloc: Global, number: u32, steps: Vec<Step>) -> Result<CarrierStation, Fail> {
+    let carrier = CarrierNo::try_new(number).ok_or("a carrier's number")?;
+    let lpcn = Lpcn::try_new(number.saturating_add(1)).ok_or("a channel")?;
+    Ok(Station {
+        link: Link::new(carrier, lpcn),
+        port: port_of(alloc, steps)?,
+        gate: OpenGate,
+    })
+}
+
+impl Stage {
+    /// A quiet site to which a peer comes, whose port answers by these steps.
+    pub fn new(alloc: Global, peer: Peer, steps: Vec<Step>) -> Result<Stage, Fail> {
+        let (of_carrier, of_operator, actor) = match peer {
+            Peer::Carrier => (steps, Vec::new(alloc), 0),
+            Peer::Operator => (Vec::new(alloc), steps, CONSOLE),
+        };
+        let mut stations = Vec::new(alloc);
+        stations.push(station_of(alloc, 0, of_carrier)?)?;
+        stations.push(station_of(alloc, 1, Vec::new(alloc))?)?;
+        Ok(Stage {
+            site: quiet_site(alloc)?,
+            stations,
+            console: ConsoleStation {
+                link: ConsoleLink::new(),
+                port: port_of(alloc, of_operator)?,
+            },
+            actor,
+        })
+    }
+
+    /// Runs the term.
+    pub fn run<R: Wait + Threads + Sync>(self, rt: &R, alloc: Global) -> Result<Outcome, Fail> {
+        let actor = self.actor;
+        let Term {
+            report,
+            ends,
+            mut stations,
+            console,
+            ..
+        } = run(rt, alloc, self)?;
+        stations.truncate(1);
+        Ok(Outcome {
+            entries: report.journal.as_slice().len(),
+            ends,
+            views: report.views,
+            station: stations.pop().ok_or("a station")?,
+            console,
+            actor,
+        })
+    }
+}
+
+/// Runs the term of a stage.
+fn run<R: Wait + Threads + Sync>(
+    rt: &R,
+    alloc: Global,
+    stage: Stage,
+) -> Result<Term<CarrierStation, NoTicks, ConsoleStation<MemoryPort>>, TermFault> {
+    run_term(
+        rt,
+        alloc,
+        stage.site,
+        AMPLE,
+        stage.stations,
+        NoTicks,
+        stage.console,
+    )
+}
+
+impl Outcome {
+    /// The events of the peer's actor, a letter for each: U is Up, H Heard, N Noise, P Poll and L Lost of carrier 0, S the command
+    /// `status`, Y `stay`, and ? any other.
+    pub fn letters(&self, alloc: Global) -> Result<String, AllocError> {
+        let mut letters = String::new(alloc);
+        if let Some(view) = self.views.as_slice().get(self.actor) {
+            for deposit in view.as_slice() {
+                letters.push(letter_of(&deposit.event))?;
+            }
+        }
+        Ok(letters)
+    }
+
+    /// The port of the peer.
+    fn port(&self) -> &MemoryPort {
+        if self.actor == CONSOLE {
+            &self.console.port
+        } else {
+            &self.station.port
+        }
+    }
+
+    /// All octets that the peer's port has taken.
+    pub fn taken(&self) -> &[u8] {
+        self.port().taken()
+    }
+
+    /// How many calls the peer's port has answered; `None` where it keeps no record.
+    pub fn calls(&self) -> Option<usize> {
+        Some(self.port().entries()?.len())
+    }
+
+    /// Whether the peer's link is live.
+    pub fn is_live(&self) -> bool {
+        if self.actor == CONSOLE {
+            self.console.link.live()
+        } else {
+            self.station.link.live()
+        }
+    }
+
+    /// Serves the peer's link once more, without opening it: how that ended, and how often the desk was turned to.
+    pub fn serve_again(&mut self) -> (Ended, usize) {
+        let mut desk = ClosedDesk { turns: 0 };
+        let ended = if self.actor == CONSOLE {
+            self.console.link.serve(&mut self.console.port, &mut desk)
+        } else {
+            let Station { link, port, gate } = &mut self.station;
+            link.serve(port, &mut desk, gate)
+        };
+        (ended, desk.turns)
+    }
+}
+
+/// The letter of an event.
+fn letter_of(event: &Event) -> char {
+    let (carrier, letter) = match event {
+        Event::Up(carrier) => (carrier.get(), 'U'),
+        Event::Heard(slot, _) => (slot.carrier.get(), 'H'),
+        Event::Noise(slot) => (slot.carrier.get(), 'N'),
+        Event::Poll(carrier) => (carrier.get(), 'P'),
+        Event::Lost(carrier) => (carrier.get(), 'L'),
+        Event::Say(Command::Status) => (0, 'S'),
+        Event::Say(Command::Stay) => (0, 'Y'),
+        _ => (0, '?'),
+    };
+    if carrier == 0 { letter } else { '?' }
+}

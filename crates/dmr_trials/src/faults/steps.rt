@@ -1,0 +1,106 @@
+//! What a port is to answer, in words, with `, ` between the steps.
+//!
+//! `connect` is a connection that comes. `first N` feeds the first N octets of what the peer tells, `behind N` those that follow them,
+//! and `hex` octets in hexadecimal digits, `NN` being that of the round. `read` and `write` say what a read or a write answers: `end`, `interrupted`, `block` or
+//! `fault`; `write N` takes N octets. `again` and `silent` are what a wait answers. `N x` before a step: so many of it.
+
+use super::peers::number;
+use dmr_wire::{Connect, Got, Put, Step, Waited};
+use std::alloc::{AllocError, Global};
+
+/// Adds the steps of these words, `told` being what the peer tells. Whether each word was one.
+pub fn add_steps(
+    alloc: Global,
+    steps: &mut Vec<Step>,
+    told: &[u8],
+    words: &str,
+    round: usize,
+) -> Result<bool, AllocError> {
+    for words in words.split(", ") {
+        let (times, words) = words.split_once(" x ").unwrap_or(("1", words));
+        let Some(times) = number(times, round) else {
+            return Ok(false);
+        };
+        for _ in 0..times {
+            match step_of(alloc, told, words, round)? {
+                Some(step) => steps.push(step)?,
+                None => return Ok(false),
+            }
+        }
+    }
+    Ok(true)
+}
+
+/// The step of words.
+fn step_of(
+    alloc: Global,
+    told: &[u8],
+    words: &str,
+    round: usize,
+) -> Result<Option<Step>, AllocError> {
+    if let Some(step) = answer_of(words, round) {
+        return Ok(Some(step));
+    }
+    let (word, rest) = words.split_once(' ').unwrap_or((words, ""));
+    if word == "hex" {
+        return hex_step(alloc, rest, round);
+    }
+    let octets = match (word, number(rest, round)) {
+        ("first", Some(count)) => told.get(..count),
+        ("behind", Some(count)) => told.get(count..),
+        _ => None,
+    };
+    match octets {
+        Some(octets) => Ok(Some(Step::Feed(octets.to_vec(alloc)?))),
+        None => Ok(None),
+    }
+}
+
+/// The step that gives no octets.
+fn answer_of(words: &str, round: usize) -> Option<Step> {
+    match words {
+        "connect" => Some(Step::Connect(Connect::Ready)),
+        "read end" => Some(Step::Read(Got::End)),
+        "read interrupted" => Some(Step::Read(Got::Interrupted)),
+        "read block" => Some(Step::Read(Got::Block)),
+        "read fault" => Some(Step::Read(Got::Fault)),
+        "write interrupted" => Some(Step::Write(Put::Interrupted)),
+        "write block" => Some(Step::Write(Put::Block)),
+        "write fault" => Some(Step::Write(Put::Fault)),
+        "again" => Some(Step::Wait(Waited::Again)),
+        "silent" => Some(Step::Wait(Waited::Silent)),
+        _ => {
+            let count = number(words.strip_prefix("write ")?, round)?;
+            Some(Step::Write(Put::Octets(count)))
+        }
+    }
+}
+
+/// The step that feeds octets, each of two digits.
+fn hex_step(alloc: Global, digits: &str, round: usize) -> Result<Option<Step>, AllocError> {
+    let mut octets = Vec::new(alloc);
+    let mut left = digits;
+    for _ in 0..digits.len() {
+        let Some((octet, rest)) = first_octet(left, round) else {
+            break;
+        };
+        octets.push(octet)?;
+        left = rest;
+    }
+    Ok(if left.is_empty() {
+        Some(Step::Feed(octets))
+    } else {
+        None
+    })
+}
+
+/// The octet of the first two digits, and what stands behind them.
+fn first_octet(digits: &str, round: usize) -> Option<(u8, &str)> {
+    let rest = digits.get(2..)?;
+    let octet = if digits.starts_with("NN") {
+        u8::try_from(round).ok()?
+    } else {
+        u8::from_str_radix(digits.get(0..2)?, 16).ok()?
+    };
+    Some((octet, rest))
+}

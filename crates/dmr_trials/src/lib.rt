@@ -1,0 +1,13 @@
+//! Trials of whole terms: a thread for each worker round one locked site, over ports that fail at any call; and of desks that
+//! refuse.
+//!
+//! The crate has tests alone, each a loop over a table. They stand here, above the desk, since a crate that has tests is proved
+//! twice.
+#![tactic(auto)]
+
+#[cfg(test)]
+mod desks;
+#[cfg(test)]
+mod faults;
+#[cfg(test)]
+mod site;

@@ -192,7 +192,9 @@ class Controller:
         with open(path, "w", encoding="utf-8") as it:
             it.write(site.text())
         self.notes = []
-        self.process = subprocess.Popen([program, "--site", path, "--serve", *words], stderr=subprocess.PIPE, text=True, **options)
+        # as deploy/dmr_trunk.service has it: what a term took is given back when the term ends
+        environment = {**os.environ, "MALLOC_MMAP_THRESHOLD_": "262144"}
+        self.process = subprocess.Popen([program, "--site", path, "--serve", *words], stderr=subprocess.PIPE, text=True, env=environment, **options)
         self.reader = threading.Thread(target=self.read, daemon=True)
         self.reader.start()
         self.pid = self.process.pid

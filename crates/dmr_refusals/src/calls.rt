@@ -1,4 +1,4 @@
-//! Calls of the plan, the site and what it stands on.
+//! Calls of the plan, the site and what it stands on, and of the port in memory.
 
 use crate::verdict::{Verdict, verdict_if};
 use dmr_access::Access;
@@ -8,6 +8,7 @@ use dmr_pdu::{Address, CarrierNo, Pdu, Slot, SlotNo};
 use dmr_plan::{Plan, PlanFault};
 use dmr_pool::Pool;
 use dmr_registry::Registry;
+use dmr_wire::{Connect, Got, MemoryPort, Step};
 use std::alloc::Global;
 
 /// A site of carriers 0 and 1, with channels 1 and 2.
@@ -169,5 +170,26 @@ pub fn clone_site(alloc: Global) -> Verdict {
     match site.try_clone(alloc) {
         Ok(copy) => verdict_if(go_on_alike(copy, other), Verdict::Done),
         Err(_) => verdict_if(go_on_alike(site, other), Verdict::Refused),
+    }
+}
+
+/// The steps of a port.
+fn steps(alloc: Global) -> Option<Vec<Step>> {
+    let octets = b"\x03\x00".to_vec(alloc).ok()?;
+    let mut steps = Vec::with_capacity(alloc, 3).ok()?;
+    steps.push(Step::Connect(Connect::Ready)).ok()?;
+    steps.push(Step::Feed(octets)).ok()?;
+    steps.push(Step::Read(Got::Fault)).ok()?;
+    Some(steps)
+}
+
+/// Makes a port in memory, which hands its steps back where it is refused.
+pub fn new_port(alloc: Global) -> Verdict {
+    let (Some(given), Some(other)) = (steps(alloc), steps(alloc)) else {
+        return Verdict::NotTried;
+    };
+    match MemoryPort::new(alloc, given, 64) {
+        Ok(_) => Verdict::Done,
+        Err((_, back)) => verdict_if(back == other, Verdict::Refused),
     }
 }

@@ -1,4 +1,4 @@
-//! Makes calls of the controller's libraries that take memory, each once, and says what it answered: `done`, `refused`, or
+//! Makes each public call of the controller's libraries that takes memory once, and says what it answered: `done`, `refused`, or
 //! `not tried` where there was no memory to get so far.
 //!
 //! `tools/refuse-memory` runs it again and again and refuses another allocation each time. A call that is refused has to answer so by
@@ -7,6 +7,7 @@
 #![tactic(auto)]
 
 mod calls;
+mod desks;
 mod runs;
 mod verdict;
 
@@ -26,6 +27,9 @@ fn main(rt: HostRuntime) -> io::Result<ExitCode> {
         ("Site::try_clone", calls::clone_site(alloc)),
         ("Engine::new", runs::new_engine(alloc)),
         ("Engine::run", runs::run_engine(alloc)),
+        ("MemoryPort::new", calls::new_port(alloc)),
+        ("Book::new", desks::new_book(alloc)),
+        ("SharedDesk::open", desks::open_desk(alloc)),
     ];
     let mut status = 0;
     for (call, verdict) in verdicts {

@@ -1,0 +1,45 @@
+//! Calls of the book and the shared desk, which hand their site back where they are refused.
+
+ghost use Rattle.std.specs.Prelude.{◌≡◌};
+
+use crate::calls::{busy_site, go_on_alike};
+use crate::verdict::{Verdict, verdict_if};
+use dmr_core::Site;
+use dmr_desk::{Book, OpenFault, PARTS, SharedDesk};
+use std::alloc::Global;
+use std::marker::Brand;
+use std::sync::ledger::{Blank, Ledger};
+
+/// Makes a book.
+pub fn new_book(alloc: Global) -> Verdict {
+    let (Some(site), Some(other)) = (busy_site(alloc), busy_site(alloc)) else {
+        return Verdict::NotTried;
+    };
+    match Book::new(alloc, site, 100) {
+        Ok(_) => Verdict::Done,
+        Err((_, back)) => verdict_if(go_on_alike(back, other), Verdict::Refused),
+    }
+}
+
+/// Opens a desk for four actors.
+pub fn open_desk(alloc: Global) -> Verdict {
+    let (Some(site), Some(other)) = (busy_site(alloc), busy_site(alloc)) else {
+        return Verdict::NotTried;
+    };
+    match refused::<Brand>(alloc, Blank::new(PARTS), site) {
+        None => Verdict::Done,
+        Some((OpenFault::OutOfMemory, back)) => {
+            verdict_if(go_on_alike(back, other), Verdict::Refused)
+        }
+        Some(_) => Verdict::Wrong,
+    }
+}
+
+/// Why a desk is not opened, and its site.
+fn refused<L: Ledger>(alloc: Global, blank: Blank, site: Site) -> Option<(OpenFault, Site)>
+    requires name { blank.name ≡ L.name }
+    requires parts { blank.parts ≡ L.parts }
+    requires eighteen { blank.parts ≡ 18 }
+{
+    SharedDesk::<L>::open(alloc, blank, site, 100, 4).err()
+}

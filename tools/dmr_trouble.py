@@ -26,6 +26,9 @@ MOST_AWAITED = 100
 SOON = 10.0
 # how soon what the controller's system takes before nothing more can be written is full, a DONE of two octets for each poll
 FLOOD = 180.0
+# how much longer silence may take than its plan's time: it is counted in parts of 25 ms that a worker has waited, and while a carrier
+# floods the site, terms of 5,000 entries end some 15 times a second, so that a waiting worker has time for one or two parts in each
+SLOWED = 4
 
 NO_FRAMES = (b"\x06", b"\x01\x01", air.POLL[:1] + b"\x01", b"\x04\x01\x02", air.hello(0, 1), b"\xff" * 300, air.rx(0, b"\xff" * 25))
 
@@ -112,7 +115,7 @@ class TroubledCarrier:
             self.until = now + FLOOD
         elif kind == "silent":
             self.trouble = self.must_end = kind
-            self.until = now + self.play.site.plan["silence"] * 0.1 + SOON
+            self.until = now + self.play.site.plan["silence"] * 0.1 * SLOWED + SOON
         elif kind == "slow":
             self.awaited.append(time.perf_counter())
             self.counts["polls"] += 1

@@ -11,6 +11,3 @@
 mod access;
 
 pub use access::Access;
-
-#[cfg(test)]
-mod tests;

@@ -63,6 +63,3 @@ pub fn meanings_are_single()
     // What was sent is meant.
     ensures flipped { (pdu : APdu) (sent word : List Bool) → IsBurst pdu sent → IsReadable pdu → distance word sent ≤ 3 → meaning_of word ≡ Some pdu }
 {}
-
-#[cfg(test)]
-mod tests;

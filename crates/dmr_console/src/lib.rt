@@ -17,6 +17,3 @@ pub use laws::{lines_in_any_cutting, lines_stand_before_their_ends};
 pub use line_cutter::{LineCutter, LineStep};
 pub use parsing::parse;
 pub use printing::{line_too_long, print, unknown_command};
-
-#[cfg(test)]
-mod tests;

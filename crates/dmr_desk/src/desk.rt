@@ -226,7 +226,7 @@ impl<L: Ledger> SharedDesk<L> {
     /// Abandons the desk, since a thread of its term could not be started: from now on it takes no event, and whoever asks is
     /// answered that the term is over. It waits for the lock. The journal stays as it is. No clause says so: contracts cannot name
     /// what is behind a lock.
-    pub(crate) fn abandon<R: Wait>(&self, rt: &R) {
+    pub fn abandon<R: Wait>(&self, rt: &R) {
         self.locked.lock(rt).abandon();
     }
 

@@ -52,8 +52,3 @@ pub use station::{ConsoleStation, Station};
 pub use term::Term;
 pub use view::View;
 pub use work::{work_carrier, work_console};
-
-#[cfg(test)]
-mod term_tests;
-#[cfg(test)]
-mod tests;

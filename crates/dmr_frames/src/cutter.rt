@@ -239,6 +239,3 @@ fn read_active(octet: u8) -> Step
         None => Step::Fault(Cause::BadSlot),
     }
 }
-
-#[cfg(test)]
-mod tests;

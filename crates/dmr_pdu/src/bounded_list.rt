@@ -139,33 +139,3 @@ impl<T: Blank + fmt::Debug, const N: usize> fmt::Debug for BoundedList<T, N> {
         write!(f, "{:?}", self.as_slice())
     }
 }
-
-#[cfg(test)]
-mod tests {
-    use super::*;
-    use crate::numbers::Address;
-    use std::test::Fail;
-
-    #[test]
-    fn lists_of_addresses(rt: HostRuntime) -> Result<(), Fail> {
-        let mut list = BoundedList::<Address, 3>::new();
-        assert!(rt; list.is_empty() && !list.is_full());
-        list.push(Address::new(91));
-        list.push(Address::new(1001));
-        let mut copy = list;
-        assert!(rt; copy == list);
-        copy.push(Address::new(0));
-        assert!(rt; copy != list && copy.is_full());
-        assert_eq!(rt; list.len(), 2);
-        assert_eq!(rt;
-            list.as_slice(),
-            [Address::new(91), Address::new(1001)].as_slice()
-        );
-        assert!(rt; list.clone()? == list);
-        let mut one = BoundedList::<Address, 3>::new();
-        one.push(Address::new(91));
-        let text = format!(in rt.alloc(); "{one:?}")?;
-        assert_eq!(rt; text.as_str(), "[Address { number: 91 }]");
-        Ok(())
-    }
-}

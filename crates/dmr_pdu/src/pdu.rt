@@ -181,6 +181,3 @@ impl Pdu {
         self == other
     }
 }
-
-#[cfg(test)]
-mod tests;

@@ -258,35 +258,3 @@ impl Blank for Lpcn {
         Lpcn { channel: 1 }
     }
 }
-
-#[cfg(test)]
-mod tests {
-    use super::*;
-    use std::test::Fail;
-
-    #[test]
-    fn channels(rt: HostRuntime) -> Result<(), Fail> {
-        assert_eq!(rt; Lpcn::try_new(0), None);
-        assert_eq!(rt; Lpcn::try_new(4095), None);
-        assert_eq!(rt; Lpcn::try_new(1), Some(Lpcn::blank()));
-        let highest = Lpcn::try_new(4094).ok_or("in range")?;
-        assert_eq!(rt; format!(in rt.alloc(); "{highest}")?.as_str(), "4094");
-        Ok(())
-    }
-
-    #[test]
-    fn slots(rt: HostRuntime) -> Result<(), Fail> {
-        assert_eq!(rt; CarrierNo::try_new(16), None);
-        assert_eq!(rt; SlotNo::try_new(2), None);
-        let slot = Slot {
-            carrier: CarrierNo::try_new(15).ok_or("in range")?,
-            slot: SlotNo::try_new(1).ok_or("in range")?,
-        };
-        assert!(rt; Slot::blank() < slot);
-        assert_eq!(rt; Slot::at(31), slot);
-        assert_eq!(rt; Slot::at(2).index(), 2);
-        let text = format!(in rt.alloc(); "{} {}", slot.carrier, slot.slot)?;
-        assert_eq!(rt; text.as_str(), "15 1");
-        Ok(())
-    }
-}

@@ -13,6 +13,3 @@ mod outboxes;
 mod pool;
 
 pub use pool::{Full, Pool};
-
-#[cfg(test)]
-mod tests;

@@ -8,6 +8,3 @@
 mod registry;
 
 pub use registry::{Full, Registry};
-
-#[cfg(test)]
-mod tests;

@@ -11,6 +11,3 @@ mod table;
 
 pub use keyed::Keyed;
 pub use table::KeyedTable;
-
-#[cfg(test)]
-mod tests;

@@ -10,4 +10,8 @@ mod desks;
 #[cfg(test)]
 mod faults;
 #[cfg(test)]
+mod shared;
+#[cfg(test)]
 mod site;
+#[cfg(test)]
+mod terms;

@@ -1,6 +1,6 @@
-//! Worked cases.
+//! A table of named numbers.
 
-use super::*;
+use dmr_table::{Keyed, KeyedTable};
 use std::test::Fail;
 
 /// A named number: several may have the same number.

@@ -1,6 +1,7 @@
 //! Worked octets of each kind of PDU, in both directions.
 
-use super::*;
+use dmr_bits::Octets10;
+use dmr_pdu::{Address, Kind, Lpcn, Number, Pdu, Reason, SlotNo};
 use std::process::Abort;
 
 /// That octets are read as a PDU, and that it is written as them.

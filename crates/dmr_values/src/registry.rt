@@ -1,7 +1,7 @@
-//! Worked cases.
+//! Radios that join and leave.
 
-use super::*;
 use dmr_pdu::Address;
+use dmr_registry::{Full, Registry};
 use std::test::Fail;
 
 #[test]

@@ -11,7 +11,7 @@ mod stories;
 use self::spelling::{octets_of, spelled, write_letters};
 use self::stage::{Outcome, Stage, new_steps};
 use self::stories::{HUNDRED_POLLS, STORIES, Want};
-use crate::{OpenFault, TermFault};
+use dmr_desk::{OpenFault, TermFault};
 use std::process::Abort;
 use std::test::Fail;
 

@@ -1,6 +1,6 @@
 //! What a port in memory answers, call by call, and what is kept of it.
 
-use crate::*;
+use dmr_wire::{Connect, Entry, Got, MemoryPort, Port, Put, Step, Waited, Wire};
 use std::alloc::Global;
 use std::process::Abort;
 use std::test::Fail;

@@ -2,22 +2,18 @@
 
 use super::meeting::{Hold, Meeting, MeetingPacer, MeetingPort};
 use super::stories::{NO_CARRIER, NOTHING_COMES};
-use crate::{ConsoleStation, Ending, Pace, Station, Term, TermFault, Views, run_term};
+use crate::site::quiet_site;
 use arrayvec::ArrayVec;
 use dmr_core::Site;
+use dmr_desk::{ConsoleStation, Ending, Pace, Station, Term, TermFault, Views, run_term};
 use dmr_link::{ConsoleLink, Link};
 use dmr_pdu::{CarrierNo, Lpcn};
-use dmr_plan::Plan;
 use dmr_wire::{Connect, Got, MemoryPort, Step, Waited};
 use std::alloc::Global;
 use std::sync::Wait;
 use std::sync::atomic::AtomicU64;
 use std::test::Fail;
 use std::thread::Threads;
-
-/// A site of carriers 0 and 1, with channels 1 and 2.
-const SITE: &str =
-    "system = 0x1234\nregi = 0xFFFEC6\ntsi = 0xFFFECA\nleave_bit = 0\nhang = 100\nmaximum = 3000\nahoy_wait = 8\nahoy_tries = 3\ngrant_copies = 1\nclear_copies = 1\nbackoff_low = 1\nbackoff_high = 8\ntick_ms = 60\nsilence = 100\nconsole_port = 7100\nradios = [[1000, 1999]]\ngroups = [91, 92, 93, 94]\ncontrol = 0\n[[carrier]]\nnumber = 0\nlpcn = 1\nport = 7101\n[[carrier]]\nnumber = 1\nlpcn = 2\nport = 7102\n";
 
 /// The room of a port's record: so many answers, and so many octets.
 const ROOM: usize = 4096;
@@ -148,7 +144,7 @@ impl<'a> Stage<'a> {
             stations.push(station_of(rt, steps, number, carrier)?)?;
         }
         Ok(Stage {
-            site: Site::new(alloc, Plan::read(alloc, SITE)?)?,
+            site: quiet_site(alloc)?,
             stations,
             pacer: MeetingPacer {
                 paces: opening.paces,

@@ -1,4 +1,4 @@
-use Rattle.dmr_desk.proofs.tests.abandon_one.Given as goal
+use Rattle.dmr_trials.proofs.shared.abandon_one.Given as goal
 
 abbrev pub ghosts-abandon_behind_one : goal.ghosts-abandon_behind_one
 ghosts-abandon_behind_one g a = record { name = a.blank.name; parts = a.blank.parts }

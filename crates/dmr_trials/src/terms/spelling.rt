@@ -1,7 +1,7 @@
 //! Events and frames, a letter for each.
 
-use crate::Views;
 use dmr_core::{Command, Event};
+use dmr_desk::Views;
 use std::alloc::{AllocError, Global};
 
 /// Letters, each group so many times.

@@ -1,4 +1,8 @@
-use super::*;
+//! Frames of the link, octet by octet, whole, and written.
+
+use dmr_bits::Word196;
+use dmr_frames::{Cause, Cutter, FrameIn, FrameOut, Refusal, Step, whole_frame, write_frame};
+use dmr_pdu::SlotNo;
 use std::process::Abort;
 use std::test::Fail;
 
@@ -146,4 +150,90 @@ fn other_lengths(rt: HostRuntime) {
             }
         }
     }
+}
+
+/// TX, on slot 0, of the acknowledgement of a registration, of the format's test vectors.
+const SENT: [u8; 28] = [
+    0x82, 0x1A, 0x00, 0x41, 0xC3, 0x02, 0x8A, 0x48, 0xFC, 0x8F, 0x40, 0x3D, 0xC0, 0x6F, 0x00, 0xED,
+    0xA0, 0xF7, 0x83, 0xE4, 0x97, 0x54, 0x2E, 0x40, 0x5C, 0xB8, 0x3C, 0xB0,
+];
+
+/// Asserts how a frame is spelled.
+fn expect_octets(rt: &impl Abort, frame: FrameOut, want: &[u8]) {
+    assert_eq!(rt; write_frame(&frame).as_slice(), want);
+}
+
+#[test]
+fn frames_written(rt: HostRuntime) -> Result<(), Fail> {
+    expect_octets(&rt, FrameOut::Welcome { version: 1 }, &[0x81, 0x01, 0x01]);
+    let mut burst = [0; 25];
+    burst.copy_from_slice(&SENT[3..]);
+    let word = Word196::from_octets(&burst)?;
+    expect_octets(
+        &rt,
+        FrameOut::Tx {
+            slot: SlotNo::new(0),
+            word,
+        },
+        &SENT,
+    );
+    expect_octets(&rt, FrameOut::Done, &[0x83, 0x00]);
+    expect_octets(
+        &rt,
+        FrameOut::Refused(Refusal::BadVersion),
+        &[0x84, 0x01, 0x01],
+    );
+    expect_octets(
+        &rt,
+        FrameOut::Refused(Refusal::WrongCarrier),
+        &[0x84, 0x01, 0x02],
+    );
+    Ok(())
+}
+
+/// Asserts what octets are.
+fn expect_whole(rt: &impl Abort, octets: &[u8], want: Option<FrameIn>) {
+    assert_eq!(rt; whole_frame(octets), want, "at {octets:?}");
+}
+
+#[test]
+fn one_frame(rt: HostRuntime) -> Result<(), Fail> {
+    let hello = FrameIn::Hello {
+        version: 1,
+        carrier: 0,
+        lpcn: 4094,
+    };
+    expect_whole(&rt, &[0x01, 0x04, 0x01, 0x00, 0x0F, 0xFE], Some(hello));
+    let mut burst = [0; 25];
+    burst.copy_from_slice(&RECEIVED[3..]);
+    let word = Word196::from_octets(&burst)?;
+    expect_whole(
+        &rt,
+        &RECEIVED,
+        Some(FrameIn::Rx {
+            slot: SlotNo::new(0),
+            word,
+        }),
+    );
+    expect_whole(&rt, &[0x03, 0x00], Some(FrameIn::Poll));
+    let slot = SlotNo::new(1);
+    expect_whole(&rt, &[0x04, 0x01, 0x01], Some(FrameIn::Active { slot }));
+    expect_whole(&rt, &[0x05, 0x00], Some(FrameIn::Bye));
+    Ok(())
+}
+
+#[test]
+fn no_frame(rt: HostRuntime) {
+    // Parts of a frame, the empty one among them.
+    for end in 0..RECEIVED.len() {
+        expect_whole(&rt, &RECEIVED[..end], None);
+    }
+    // Two frames, and a frame with an octet behind it or before it.
+    expect_whole(&rt, &[0x03, 0x00, 0x05, 0x00], None);
+    expect_whole(&rt, &[0x03, 0x00, 0x03], None);
+    expect_whole(&rt, &[0x03, 0x03, 0x00], None);
+    // A frame to a carrier, and faults.
+    expect_whole(&rt, &[0x83, 0x00], None);
+    expect_whole(&rt, &[0x03, 0x01], None);
+    expect_whole(&rt, &[0x04, 0x01, 0x02], None);
 }

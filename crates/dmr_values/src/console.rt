@@ -2,9 +2,12 @@
 
 ghost use Rattle.std.specs.Prelude.{◌<◌};
 
-use crate::*;
 use arrayvec::ArrayVec;
 use dmr_calls::{Call, Line};
+use dmr_console::{
+    LineCutter, LineStep, line_too_long, lines_in_any_cutting, lines_stand_before_their_ends,
+    parse, print, unknown_command,
+};
 use dmr_core::{Command, LineNo, Reply, SlotState, State};
 use dmr_pdu::{Address, BoundedList, CarrierNo, Lpcn, Slot, SlotNo};
 use std::process::Abort;

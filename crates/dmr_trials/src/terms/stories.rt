@@ -3,7 +3,7 @@
 use super::meeting::Hold;
 use super::spelling::Letters;
 use super::stage::{Carrier, Opening};
-use crate::{Ending, Pace};
+use dmr_desk::{Ending, Pace};
 use dmr_wire::Got;
 
 /// Why an actor's worker ends, where the schedule makes no difference to it; its events; and what its port has taken till then.

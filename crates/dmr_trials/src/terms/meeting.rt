@@ -2,7 +2,7 @@
 
 ghost use Rattle.std.specs.Prelude.{None, ⊤};
 
-use crate::{Pace, Pacer};
+use dmr_desk::{Pace, Pacer};
 use dmr_link::Gate;
 use dmr_wire::{Connect, Got, MemoryPort, Port, Put, Waited, Wire};
 use std::sync::atomic::{AtomicU64, Ordering};

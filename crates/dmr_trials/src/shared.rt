@@ -1,29 +1,20 @@
-//! Desks of a site of two carriers.
+//! Desks that are opened, shared by two threads, abandoned and closed.
 
 ghost use Rattle.std.specs.Prelude.{◌≡◌};
 
-use super::*;
+use crate::site::quiet_site;
 use dmr_core::{Command, Event, Reply, Site};
+use dmr_desk::{Book, CloseFault, OpenFault, PARTS, Report, Seat, SeatAt, SharedDesk};
 use dmr_link::{Desk, TermOver};
 use dmr_pdu::CarrierNo;
-use dmr_plan::Plan;
 use std::alloc::Global;
 use std::marker::Brand;
 use std::process::Abort;
 use std::sync::Wait;
 use std::sync::ledger::{Blank, Ledger};
+use std::test::Fail;
 use std::thread;
 use std::thread::Threads;
-
-/// A site of carriers 0 and 1, with channels 1 and 2.
-const SITE: &str =
-    "system = 0x1234\nregi = 0xFFFEC6\ntsi = 0xFFFECA\nleave_bit = 0\nhang = 100\nmaximum = 3000\nahoy_wait = 8\nahoy_tries = 3\ngrant_copies = 1\nclear_copies = 1\nbackoff_low = 1\nbackoff_high = 8\ntick_ms = 60\nsilence = 100\nconsole_port = 7100\nradios = [[1000, 1999]]\ngroups = [91, 92, 93, 94]\ncontrol = 0\n[[carrier]]\nnumber = 0\nlpcn = 1\nport = 7101\n[[carrier]]\nnumber = 1\nlpcn = 2\nport = 7102\n";
-
-/// A site on which nothing is up.
-fn site(rt: &(impl Abort + AllocGlobal)) -> Site {
-    let plan = Plan::read(rt.alloc(), SITE).expect(rt, "a plan");
-    Site::new(rt.alloc(), plan).expect(rt, "memory")
-}
 
 /// What became of a desk.
 #[derive(Clone, Copy, Debug, PartialEq, Eq)]
@@ -75,7 +66,7 @@ fn outcome_of<R: Wait>(
 
 /// A desk opens for 1 to 100,000 entries and 1 to 18 actors, and closes with all its seats alone.
 #[test]
-fn opens_and_closes(rt: HostRuntime) {
+fn opens_and_closes(rt: HostRuntime) -> Result<(), Fail> {
     for (limit, actors, kept, want) in [
         (0, 4, 4, Outcome::NotOpened(OpenFault::BadLimit)),
         (100_001, 0, 4, Outcome::NotOpened(OpenFault::BadLimit)),
@@ -87,16 +78,24 @@ fn opens_and_closes(rt: HostRuntime) {
         (100_000, 1, 1, Outcome::Closed(0, 1)),
     ] {
         assert_eq!(rt;
-            outcome_of(&rt, rt.alloc(), site(&rt), limit, actors, kept),
+            outcome_of(
+                &rt,
+                rt.alloc(),
+                quiet_site(rt.alloc())?,
+                limit,
+                actors,
+                kept
+            ),
             want
         );
     }
+    Ok(())
 }
 
 /// A book of one entry takes one event.
 #[test]
-fn book_of_one_entry(rt: HostRuntime) {
-    let mut book = Book::new(rt.alloc(), site(&rt), 1)
+fn book_of_one_entry(rt: HostRuntime) -> Result<(), Fail> {
+    let mut book = Book::new(rt.alloc(), quiet_site(rt.alloc())?, 1)
         .map_err(|_| ())
         .expect(&rt, "memory");
     let acts = book.apply(7, Event::Say(Command::Stay)).expect(&rt, "room");
@@ -104,6 +103,7 @@ fn book_of_one_entry(rt: HostRuntime) {
     assert_eq!(rt; book.apply(7, Event::Tick), Err(TermOver { entries: 1 }));
     assert_eq!(rt; book.as_slice().len(), 1);
     assert_eq!(rt; book.as_slice()[0].actor, 7);
+    Ok(())
 }
 
 /// Deposits an event again and again from a seat, until the term is over, and gives the seat back.
@@ -170,9 +170,11 @@ fn two_at_once<R: Wait + Threads + Sync>(
 
 /// What two threads deposited is the journal; where the limit is too low for both, the journal has as many entries as it says.
 #[test]
-fn two_threads(rt: HostRuntime) {
+fn two_threads(rt: HostRuntime) -> Result<(), Fail> {
     for (limit, want) in [(2000, 2000), (1500, 1500)] {
-        let report = two_at_once(&rt, rt.alloc(), site(&rt), limit).expect(&rt, "a report");
+        let report = two_at_once(&rt, rt.alloc(), quiet_site(rt.alloc())?, limit).expect(
+            &rt, "a report",
+        );
         let views = report.views.as_slice();
         assert_eq!(rt; views.len(), 2);
         assert_eq!(rt; report.journal.as_slice().len(), want);
@@ -182,6 +184,7 @@ fn two_threads(rt: HostRuntime) {
             .saturating_add(views[1].as_slice().len());
         assert_eq!(rt; told, want);
     }
+    Ok(())
 }
 
 /// Asks again and again from a seat whether the term is over, until it is, and gives the seat back.
@@ -199,12 +202,13 @@ fn wait_until_over<L: Ledger, R: Wait>(rt: &R, desk: &SharedDesk<L>, seat: Seat<
 fn abandon_behind_one<L: Ledger + Send + Sync, R: Abort + AllocGlobal + Wait + Threads + Sync>(
     rt: &R,
     blank: Blank,
+    site: Site,
 )
     requires name { blank.name ≡ L.name }
     requires parts { blank.parts ≡ L.parts }
     requires eighteen { blank.parts ≡ 18 }
 {
-    let (desk, mut seats) = SharedDesk::<L>::open(rt.alloc(), blank, site(rt), 10, 1)
+    let (desk, mut seats) = SharedDesk::<L>::open(rt.alloc(), blank, site, 10, 1)
         .map_err(|_| ())
         .expect(rt, "a desk");
     let mut at = SeatAt::new(rt, &desk, seats.pop().expect(rt, "a seat"));
@@ -226,12 +230,13 @@ fn abandon_behind_one<L: Ledger + Send + Sync, R: Abort + AllocGlobal + Wait + T
 }
 
 /// The same, in a ledger of its own.
-fn abandon_one<R: Abort + AllocGlobal + Wait + Threads + Sync>(rt: &R) {
-    abandon_behind_one::<Brand, R>(rt, Blank::new(PARTS))
+fn abandon_one<R: Abort + AllocGlobal + Wait + Threads + Sync>(rt: &R, site: Site) {
+    abandon_behind_one::<Brand, R>(rt, Blank::new(PARTS), site)
 }
 
 /// A desk that was abandoned takes no event and says that the term is over; what it took before is reported.
 #[test]
-fn abandoned(rt: HostRuntime) {
-    abandon_one(&rt);
+fn abandoned(rt: HostRuntime) -> Result<(), Fail> {
+    abandon_one(&rt, quiet_site(rt.alloc())?);
+    Ok(())
 }

@@ -1,6 +1,10 @@
-use super::*;
-use dmr_bits::Octets10;
-use dmr_pdu::{Address, Kind, Number, Reason};
+//! Worked bursts of each kind of PDU.
+
+use dmr_bits::{Octets10, Word196};
+use dmr_bptc::encode;
+use dmr_burst::{read, write};
+use dmr_csbk::seal;
+use dmr_pdu::{Address, Kind, Number, Pdu, Reason};
 use std::test::Fail;
 
 /// The registration request of radio 1001, and its burst: a test vector of the format.

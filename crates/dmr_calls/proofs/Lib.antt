@@ -1,5 +1,5 @@
 pub mod AnyLemmas
 pub mod EngagedLemmas
-pub mod OwnLemmas
+pub mod OwnAskLemmas
 pub mod SlotLemmas
 pub mod AfterLemmas

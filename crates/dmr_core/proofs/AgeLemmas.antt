@@ -26,13 +26,13 @@ use Rattle.dmr_core.specs.May.{MayDo}
 use Rattle.dmr_core.specs.Laws.{EachAct, Throughout}
 use Rattle.dmr_core.specs.Ages.{age_on, asked_in, begins_on, is_active, is_asked, is_begin, quiet_on, stirs_on, ticks_in, ticks_since, waited_of}
 use Rattle.dmr_core.proofs.PlanLemmas.{KnowsPlan}
-use Rattle.dmr_core.proofs.ListLemmas.{equal_numbers}
-use Rattle.dmr_core.proofs.Apart.{marked_call, same_slots}
-use Rattle.dmr_core.proofs.Choices.{or_false}
-use Rattle.dmr_core.proofs.Slots.{free_is, same_slot}
-use Rattle.dmr_core.proofs.SafeLaws.{throughout}
-use Rattle.dmr_core.proofs.LastOpened.{everywhere, find_gone, find_kept, find_new, find_same}
-use Rattle.dmr_core.proofs.Steps.{facts_after-step}
+use Rattle.dmr_core.proofs.NumberLemmas.{equal_numbers}
+use Rattle.dmr_core.proofs.CallsAreApart.{marked_call, same_slots}
+use Rattle.dmr_core.proofs.ChoiceLemmas.{or_false}
+use Rattle.dmr_core.proofs.SlotsStaySound.{free_is, same_slot}
+use Rattle.dmr_core.proofs.ActsAreSafe.{throughout}
+use Rattle.dmr_core.proofs.LastOpenerLemmas.{everywhere, find_gone, find_kept, find_new, find_same}
+use Rattle.dmr_core.proofs.FactsFollowEntries.{facts_after-step}
 
 -- what is seen is this number, if anything is
 abbrev Says : Option ℕ → ℕ → Type 0

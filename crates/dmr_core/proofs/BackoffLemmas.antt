@@ -16,10 +16,10 @@ use Rattle.dmr_core.specs.Words.{is_up}
 use Rattle.dmr_core.specs.Journal.{IsLegal}
 use Rattle.dmr_core.specs.Sound.{IsSound}
 use Rattle.dmr_core.specs.Backoff.{counted, noises_within, recent_noises}
-use Rattle.dmr_core.proofs.ListLemmas.{equal_numbers, flipped, other_number}
-use Rattle.dmr_core.proofs.Events.{cleared}
-use Rattle.dmr_core.proofs.Plans.{plan_known}
-use Rattle.dmr_core.proofs.SafeLaws.{sound_after}
+use Rattle.dmr_core.proofs.NumberLemmas.{equal_numbers, flipped, other_number}
+use Rattle.dmr_core.proofs.EventsKeepSound.{cleared}
+use Rattle.dmr_core.proofs.PlansAreKnown.{plan_known}
+use Rattle.dmr_core.proofs.ActsAreSafe.{sound_after}
 
 no_sum : (m n : ℕ) → sum (take n (replicate m 0)) ≡ 0
 no_sum zero zero = refl

@@ -18,11 +18,11 @@ use Rattle.dmr_core.specs.Words.{is_up, stands_on}
 use Rattle.dmr_core.specs.Rules.{acts_of}
 use Rattle.dmr_core.specs.Sound.{IsSound}
 use Rattle.dmr_core.specs.Down.{IsOfNoCarrier}
-use Rattle.dmr_core.proofs.ListLemmas.{equal_numbers}
-use Rattle.dmr_core.proofs.Choices.{and_true, or_false}
-use Rattle.dmr_core.proofs.Events.{not_control}
-use Rattle.dmr_core.proofs.Plans.{plan_known}
-use Rattle.dmr_core.proofs.Slots.{itself, true_false}
+use Rattle.dmr_core.proofs.NumberLemmas.{equal_numbers}
+use Rattle.dmr_core.proofs.ChoiceLemmas.{and_true, or_false}
+use Rattle.dmr_core.proofs.EventsKeepSound.{not_control}
+use Rattle.dmr_core.proofs.PlansAreKnown.{plan_known}
+use Rattle.dmr_core.proofs.SlotsStaySound.{itself, true_false}
 
 same_up : (up : List Bool) (c : ℕ) → slice_index_or up c false ≡ false → slice_set up c false ≡ up
 same_up [] c h = refl

@@ -10,9 +10,9 @@ use Rattle.dmr_calls.specs.Calls.{is_slot, just_begun, with_call, counted, marke
 use Rattle.dmr_pool.specs.Slots.{IsSlot, place, is_held, released}
 use Rattle.dmr_core.specs.Words.{stands_on}
 use Rattle.dmr_core.specs.Held.{HoldsCalls}
-use Rattle.dmr_core.proofs.Lists.{any-push}
-use Rattle.dmr_core.proofs.Apart.{same_slots, stands_on-map, marked_call}
-use Rattle.dmr_core.proofs.Slots.{same_slot, other_place}
+use Rattle.dmr_core.proofs.ListLemmas.{any-push}
+use Rattle.dmr_core.proofs.CallsAreApart.{same_slots, stands_on-map, marked_call}
+use Rattle.dmr_core.proofs.SlotsStaySound.{same_slot, other_place}
 
 or_true : (b : Bool) → (b || true) ≡ true
 or_true true = refl

@@ -13,8 +13,8 @@ use Rattle.dmr_core.specs.declared.entry.Entry.{Entry}
 use Rattle.dmr_core.specs.Facts.{Facts, facts_after, since, unchanged, registered_by_act, up_by_event, has_carrier}
 use Rattle.dmr_core.specs.Words.{is_registered, is_up}
 use Rattle.dmr_core.specs.Last.{or_earlier, last_word, stands, no_event, no_act, of_registration, of_carrier}
-use Rattle.dmr_core.proofs.ListLemmas.{equal_numbers, flipped, other_number}
-use Rattle.dmr_core.proofs.Events.{cleared}
+use Rattle.dmr_core.proofs.NumberLemmas.{equal_numbers, flipped, other_number}
+use Rattle.dmr_core.proofs.EventsKeepSound.{cleared}
 
 joined_one : (rs : List ℕ) (q r : ℕ) → list_any (λ p. p == r) (rs ++ q ∷ []) ≡ unwrap_or (if q == r then Some true else None) (list_any (λ p. p == r) rs)
 joined_one [] q r = cases (q == r)

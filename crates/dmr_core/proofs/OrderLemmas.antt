@@ -27,14 +27,14 @@ use Rattle.dmr_core.specs.May.{MayDo}
 use Rattle.dmr_core.specs.Laws.{EachAct, Throughout}
 use Rattle.dmr_core.specs.Orders.{IsInOrder, asked_by, begun_by, joined_by, last_of_each, lined_by, opened, slots_of_calls, sources_of_asks, sources_of_lines}
 use Rattle.dmr_core.proofs.PlanLemmas.{KnowsPlan}
-use Rattle.dmr_core.proofs.ListLemmas.{equal_itself, equal_numbers}
-use Rattle.dmr_core.proofs.Lists.{any-push}
-use Rattle.dmr_core.proofs.Apart.{marked_call, same_slots}
-use Rattle.dmr_core.proofs.Choices.{or_false}
-use Rattle.dmr_core.proofs.Slots.{free_is, itself as slot_itself, same_slot}
-use Rattle.dmr_core.proofs.SafeLaws.{source_counts, throughout}
-use Rattle.dmr_core.proofs.LastOpened.{everywhere, no_line}
-use Rattle.dmr_core.proofs.Steps.{facts_after-step}
+use Rattle.dmr_core.proofs.NumberLemmas.{equal_itself, equal_numbers}
+use Rattle.dmr_core.proofs.ListLemmas.{any-push}
+use Rattle.dmr_core.proofs.CallsAreApart.{marked_call, same_slots}
+use Rattle.dmr_core.proofs.ChoiceLemmas.{or_false}
+use Rattle.dmr_core.proofs.SlotsStaySound.{free_is, itself as slot_itself, same_slot}
+use Rattle.dmr_core.proofs.ActsAreSafe.{source_counts, throughout}
+use Rattle.dmr_core.proofs.LastOpenerLemmas.{everywhere, no_line}
+use Rattle.dmr_core.proofs.FactsFollowEntries.{facts_after-step}
 
 -- the test is of equality
 record Equals {X : Type 0} (same : X → X → Bool) : Type 0 where

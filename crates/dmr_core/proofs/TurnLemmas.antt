@@ -33,20 +33,20 @@ use Rattle.dmr_core.specs.Sound.{IsPayload, IsSound, is_grant, total}
 use Rattle.dmr_core.specs.May.{AllMayDo, MayDo, entry_of}
 use Rattle.dmr_core.specs.Turns.{FillsInTurn, HasFillOf, IsFilledWith, IsLateOf, NamesStanding, fill_in, fills_in, fills_since, is_steady, is_steady_act, is_steady_event, is_turn, talkgroup_calls}
 use Rattle.dmr_core.proofs.PlanLemmas.{KnowsPlan}
-use Rattle.dmr_core.proofs.ListLemmas.{equal_numbers, other_number}
-use Rattle.dmr_core.proofs.Choices.{and_true}
-use Rattle.dmr_core.proofs.Slots.{true_false}
-use Rattle.dmr_core.proofs.Own.{call_stands}
-use Rattle.dmr_core.proofs.Fills.{late_stands}
-use Rattle.dmr_core.proofs.Steps.{facts_after-step}
-use Rattle.dmr_core.proofs.Done.{sound-done}
-use Rattle.dmr_core.proofs.Events.{sound-noted}
-use Rattle.dmr_core.proofs.Answers.{acts_may}
-use Rattle.dmr_core.proofs.SafeLaws.{sound_after}
-use Rattle.dmr_core.proofs.LastOpened.{call_noted}
-use Rattle.dmr_core.proofs.Plans.{plan_known}
-use Rattle.dmr_core.proofs.Channels.{channel_known}
-use Rattle.dmr_core.proofs.Rounds.{IsWithin, at_first, between, few_places, nearer, some_left}
+use Rattle.dmr_core.proofs.NumberLemmas.{equal_numbers, other_number}
+use Rattle.dmr_core.proofs.ChoiceLemmas.{and_true}
+use Rattle.dmr_core.proofs.SlotsStaySound.{true_false}
+use Rattle.dmr_core.proofs.GrantsAreOwn.{call_stands}
+use Rattle.dmr_core.proofs.FillsAreLateEntries.{late_stands}
+use Rattle.dmr_core.proofs.FactsFollowEntries.{facts_after-step}
+use Rattle.dmr_core.proofs.ActsKeepSound.{sound-done}
+use Rattle.dmr_core.proofs.EventsKeepSound.{sound-noted}
+use Rattle.dmr_core.proofs.AnswersMayBeDone.{acts_may}
+use Rattle.dmr_core.proofs.ActsAreSafe.{sound_after}
+use Rattle.dmr_core.proofs.LastOpenerLemmas.{call_noted}
+use Rattle.dmr_core.proofs.PlansAreKnown.{plan_known}
+use Rattle.dmr_core.proofs.ChannelLemmas.{channel_known}
+use Rattle.dmr_core.proofs.RoundLemmas.{IsWithin, at_first, between, few_places, nearer, some_left}
 
 -- a fill is the late entry that is due
 pub fills_turn : (plan : Settings) (now : Facts) (act : Act) → IsSound plan now → MayDo plan now act → FillsInTurn plan now act

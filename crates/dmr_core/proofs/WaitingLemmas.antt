@@ -21,14 +21,14 @@ use Rattle.dmr_core.specs.Sound.{IsSound}
 use Rattle.dmr_core.specs.May.{AllMayDo, MayDo, MayQueue}
 use Rattle.dmr_core.specs.Waiting.{queued_by, sent_by, is_turn, since_turn}
 use Rattle.dmr_core.proofs.PlanLemmas.{KnowsPlan}
-use Rattle.dmr_core.proofs.ListLemmas.{equal_numbers, flipped, other_number}
-use Rattle.dmr_core.proofs.Apart.{same_slots}
-use Rattle.dmr_core.proofs.Slots.{other_place, same_slot, within_boxes}
-use Rattle.dmr_core.proofs.Done.{sound-done}
-use Rattle.dmr_core.proofs.Events.{emptied_box, sound-noted}
-use Rattle.dmr_core.proofs.Answers.{acts_may}
-use Rattle.dmr_core.proofs.SafeLaws.{sound_after}
-use Rattle.dmr_core.proofs.Steps.{facts_after-step}
+use Rattle.dmr_core.proofs.NumberLemmas.{equal_numbers, flipped, other_number}
+use Rattle.dmr_core.proofs.CallsAreApart.{same_slots}
+use Rattle.dmr_core.proofs.SlotsStaySound.{other_place, same_slot, within_boxes}
+use Rattle.dmr_core.proofs.ActsKeepSound.{sound-done}
+use Rattle.dmr_core.proofs.EventsKeepSound.{emptied_box, sound-noted}
+use Rattle.dmr_core.proofs.AnswersMayBeDone.{acts_may}
+use Rattle.dmr_core.proofs.ActsAreSafe.{sound_after}
+use Rattle.dmr_core.proofs.FactsFollowEntries.{facts_after-step}
 
 -- another slot's outbox changes nothing there
 other_box : (there : Slot) (boxes : List (List Pdu)) (slot : Slot) (v : List Pdu) → there.slot < 2 → slot.slot < 2 → is_slot slot there ≡ false → box boxes there ++ [] ≡ box (slice_set boxes (place slot) v) there

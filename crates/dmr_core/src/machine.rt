@@ -1,7 +1,7 @@
 //! The parts of a site, and what each event and act does to them.
 
-ghost use Rattle.std.specs.Prelude.{◌≡◌, [], ◌∷◌, fold, IfOk, None};
-ghost use Rattle.dmr_core.specs.declared.event.Event.TheVariants.{Up, Lost};
+ghost use Rattle.std.specs.Prelude.{◌≡◌, ◌≢◌, [], ◌∷◌, fold, IfOk, None};
+ghost use Rattle.dmr_core.specs.declared.event.Event.TheVariants.{Up, Lost, Tick};
 ghost use Rattle.dmr_core.specs.Facts.{facts_after, noted, done, nothing};
 ghost use Rattle.dmr_core.specs.Rules.{acts_of};
 ghost use Rattle.dmr_core.specs.declared.act.Act.TheVariants.{Began, Ended};
@@ -9,11 +9,13 @@ ghost use Rattle.dmr_pool.specs.Slots.{IsSlot};
 ghost use Rattle.dmr_core.specs.May.{MayBegin, MayDo, AllMayDo};
 ghost use Rattle.dmr_core.specs.Same.{are_same};
 
-mod answers;
+mod acts;
 mod console;
+mod heard;
 mod late;
-mod requests;
-mod words;
+mod poll;
+mod slots;
+mod tick;
 
 use crate::act::{Act, ActList};
 use crate::command::Command;
@@ -21,7 +23,7 @@ use crate::event::Event;
 use crate::named::NamedSlot;
 use dmr_access::Access;
 use dmr_calls::{Call, Calls};
-use dmr_pdu::{CarrierNo, Lpcn, OutOfMemory, Slot};
+use dmr_pdu::{BoundedList, CarrierNo, Lpcn, OutOfMemory, Slot};
 use dmr_plan::Plan;
 use dmr_pool::Pool;
 use dmr_registry::Registry;
@@ -229,6 +231,25 @@ impl Machine {
     {
         for act in acts {
             self.perform(act);
+        }
+    }
+
+    /// The answer to an event other than a tick.
+    fn answer(&self, event: &Event) -> ActList
+        requires { event.now ≢ Tick }
+        ensures { result ≡ acts_of self.now.plan self.now.facts event.now }
+    {
+        match event {
+            Event::Heard(slot, pdu) => {
+                if self.is_up(slot.carrier) && self.is_control(slot) && self.has_room() {
+                    self.heard(pdu)
+                } else {
+                    BoundedList::new()
+                }
+            }
+            Event::Poll(carrier) => self.poll(*carrier),
+            Event::Say(command) => self.commanded(command),
+            _ => BoundedList::new(),
         }
     }
 

@@ -4,10 +4,9 @@ ghost use Rattle.std.specs.Prelude.{◌≡◌, ◌≤◌, ◌<◌, ◌+◌, ◌+
 ghost use Rattle.dmr_core.specs.declared.command.Command.TheVariants.{Status};
 ghost use Rattle.dmr_core.specs.Rules.{commanded};
 ghost use Rattle.dmr_calls.specs.Calls.{call_on};
-ghost use Rattle.dmr_core.specs.Words.{is_free, stands_on};
 ghost use Rattle.dmr_core.specs.Replies.{all_shown, at_most_one, calls_of, dropping, ending, reply_of, reply_to, shown, state_of};
 
-use super::{Machine, numbers_of};
+use super::Machine;
 use crate::act::{Act, ActList};
 use crate::command::Command;
 use crate::event::Event;
@@ -119,23 +118,6 @@ impl Machine {
         if let Some(call) = self.calls.call_on(Slot::new(carrier, slot)) {
             calls.push(call);
         }
-    }
-
-    /// Whether a call stands on a slot.
-    #[tactic(auto, using(crate::proofs::ConsoleLemmas::called))]
-    fn stands_on(&self, slot: &Slot) -> bool
-        ensures { result ≡ stands_on self.now.facts.calls slot.now }
-    {
-        self.calls.call_on(*slot).is_some()
-    }
-
-    /// Whether a call can begin on a slot.
-    #[tactic(auto, using(crate::proofs::FreeLemmas::pool_free))]
-    fn is_free(&self, slot: &Slot) -> bool
-        ensures { result ≡ is_free self.now.plan self.now.facts slot.now }
-    {
-        numbers_of(slot);
-        self.pool.is_free(*slot)
     }
 
     /// How a slot stands: the first state that applies.

@@ -1,5 +1,5 @@
 use Rattle.dmr_core.proofs.AgeLemmas.{ages_count, quiet_counts, waits_count}
-use Rattle.dmr_core.proofs.Plans.{plan_known}
+use Rattle.dmr_core.proofs.PlansAreKnown.{plan_known}
 use Rattle.dmr_core.proofs.laws.ages_count_ticks.Goals as goal
 
 pub returns-clause-age : goal.returns-clause-age

@@ -1,6 +1,6 @@
 use Rattle.dmr_core.proofs.LastLemmas.{registered_by_last, up_by_last}
-use Rattle.dmr_core.proofs.LastOpened.{ask_by_last, call_by_last, late_by_last, line_by_last, move_by_last}
-use Rattle.dmr_core.proofs.Plans.{plan_known}
+use Rattle.dmr_core.proofs.LastOpenerLemmas.{ask_by_last, call_by_last, late_by_last, line_by_last, move_by_last}
+use Rattle.dmr_core.proofs.PlansAreKnown.{plan_known}
 use Rattle.dmr_core.proofs.laws.decided_by_the_last.Goals as goal
 
 pub returns-clause-registered : goal.returns-clause-registered

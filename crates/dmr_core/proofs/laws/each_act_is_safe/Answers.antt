@@ -1,6 +1,6 @@
 use Rattle.dmr_core.specs.Laws.{BeginsOnFree, GrantsKnown, SendsOwn}
-use Rattle.dmr_core.proofs.Plans.{plan_known}
-use Rattle.dmr_core.proofs.SafeLaws.{throughout, begins_on_free, grants_known, sends_own, quiet_after_reset}
+use Rattle.dmr_core.proofs.PlansAreKnown.{plan_known}
+use Rattle.dmr_core.proofs.ActsAreSafe.{throughout, begins_on_free, grants_known, sends_own, quiet_after_reset}
 use Rattle.dmr_core.proofs.laws.each_act_is_safe.Goals as goal
 
 pub returns-clause-free : goal.returns-clause-free

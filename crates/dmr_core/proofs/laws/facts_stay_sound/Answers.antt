@@ -1,9 +1,9 @@
-use Rattle.dmr_core.proofs.Plans.{plan_known}
-use Rattle.dmr_core.proofs.SafeLaws.{sound_after}
-use Rattle.dmr_core.proofs.Empty.{nothing_is_sound}
-use Rattle.dmr_core.proofs.Few.{acts_few}
-use Rattle.dmr_core.proofs.Answers.{acts_may}
-use Rattle.dmr_core.proofs.Polls.{two_at_a_poll}
+use Rattle.dmr_core.proofs.PlansAreKnown.{plan_known}
+use Rattle.dmr_core.proofs.ActsAreSafe.{sound_after}
+use Rattle.dmr_core.proofs.NothingIsSound.{nothing_is_sound}
+use Rattle.dmr_core.proofs.AnswerSizes.{acts_few}
+use Rattle.dmr_core.proofs.AnswersMayBeDone.{acts_may}
+use Rattle.dmr_core.proofs.PollSizes.{two_at_a_poll}
 use Rattle.dmr_core.proofs.laws.facts_stay_sound.Goals as goal
 
 pub returns-clause-sound : goal.returns-clause-sound

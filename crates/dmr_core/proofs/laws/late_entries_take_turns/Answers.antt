@@ -1,6 +1,6 @@
 use Rattle.dmr_core.specs.Turns.{FillsInTurn, NamesStanding}
-use Rattle.dmr_core.proofs.Plans.{plan_known}
-use Rattle.dmr_core.proofs.SafeLaws.{throughout}
+use Rattle.dmr_core.proofs.PlansAreKnown.{plan_known}
+use Rattle.dmr_core.proofs.ActsAreSafe.{throughout}
 use Rattle.dmr_core.proofs.TurnLemmas.{fills_count, fills_turn, named_within, names_standing}
 use Rattle.dmr_core.proofs.laws.late_entries_take_turns.Goals as goal
 

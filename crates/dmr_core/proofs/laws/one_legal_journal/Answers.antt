@@ -1,4 +1,4 @@
-use Rattle.dmr_core.proofs.Runs.{journal_is_legal, same_answers}
+use Rattle.dmr_core.proofs.OneLegalJournal.{journal_is_legal, same_answers}
 use Rattle.dmr_core.proofs.laws.one_legal_journal.Goals as goal
 
 pub returns-clause-legal : goal.returns-clause-legal

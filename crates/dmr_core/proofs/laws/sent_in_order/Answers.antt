@@ -1,4 +1,4 @@
-use Rattle.dmr_core.proofs.Plans.{plan_known}
+use Rattle.dmr_core.proofs.PlansAreKnown.{plan_known}
 use Rattle.dmr_core.proofs.WaitingLemmas.{sent_then_waits}
 use Rattle.dmr_core.proofs.laws.sent_in_order.Goals as goal
 

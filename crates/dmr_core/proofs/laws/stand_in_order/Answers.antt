@@ -1,5 +1,5 @@
 use Rattle.dmr_core.proofs.OrderLemmas.{asks_in_order, calls_in_order, lines_in_order, registered_in_order}
-use Rattle.dmr_core.proofs.Plans.{plan_known}
+use Rattle.dmr_core.proofs.PlansAreKnown.{plan_known}
 use Rattle.dmr_core.proofs.laws.stand_in_order.Goals as goal
 
 pub returns-clause-registered : goal.returns-clause-registered

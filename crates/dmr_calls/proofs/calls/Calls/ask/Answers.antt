@@ -1,6 +1,6 @@
 use Rattle.std.proofs.Common.{rules, ◌≡◌}
 use Rattle.dmr_calls.specs.Asks.{HaveOwnSources, others_than}
-use Rattle.dmr_calls.proofs.OwnLemmas.{own_with}
+use Rattle.dmr_calls.proofs.OwnAskLemmas.{own_with}
 use Rattle.dmr_calls.proofs.calls.Calls.ask.Goals as goal
 
 pub invariant_of-self : goal.invariant_of-self

@@ -2,7 +2,7 @@ use Rattle.std.proofs.Common.{arith, rules, ◌≡◌, ◌+◌, length}
 use Rattle.std.specs.Prelude.{◌==◌, if◌then◌else◌}
 use Rattle.std.specs.List.{list_any}
 use Rattle.dmr_calls.specs.Asks.{others_than}
-use Rattle.dmr_calls.proofs.OwnLemmas.{others_count}
+use Rattle.dmr_calls.proofs.OwnAskLemmas.{others_count}
 use Rattle.dmr_calls.proofs.calls.Calls.asks_of_others.Goals as goal
 
 pub returns : goal.returns

@@ -1,4 +1,4 @@
-use Rattle.dmr_calls.proofs.OwnLemmas.{own_after}
+use Rattle.dmr_calls.proofs.OwnAskLemmas.{own_after}
 use Rattle.dmr_calls.proofs.SlotLemmas.{on_slots_after}
 use Rattle.dmr_calls.proofs.calls.Calls.count.Goals as goal
 

@@ -2,7 +2,7 @@ use Rattle.std.proofs.Common.{◌≡◌, rules, sym, ap, ◌∙◌, false}
 use Rattle.std.specs.Prelude.{◌==◌, Option, Some, None, find}
 use Rattle.std.specs.Option.{option_map_or}
 use Rattle.dmr_calls.specs.declared.ask.Asking.{Asking}
-use Rattle.dmr_calls.proofs.OwnLemmas.{own_ask_read}
+use Rattle.dmr_calls.proofs.OwnAskLemmas.{own_ask_read}
 use Rattle.dmr_calls.proofs.calls.Calls.has_own_ask.Goals as goal
 
 pub returns-in_default : goal.returns-in_default

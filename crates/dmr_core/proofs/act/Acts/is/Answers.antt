@@ -1,5 +1,5 @@
 use Rattle.std.proofs.Common.{sym, ◌∙◌}
-use Rattle.dmr_core.proofs.Equality.{acts_eq-Decides}
+use Rattle.dmr_core.proofs.EqualityLemmas.{acts_eq-Decides}
 use Rattle.dmr_core.proofs.act.Acts.is.Goals as goal
 
 pub returns : goal.returns

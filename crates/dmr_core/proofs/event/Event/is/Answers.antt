@@ -1,5 +1,5 @@
 use Rattle.std.proofs.Common.{sym, ◌∙◌}
-use Rattle.dmr_core.proofs.Equality.{event_eq-Decides}
+use Rattle.dmr_core.proofs.EqualityLemmas.{event_eq-Decides}
 use Rattle.dmr_core.proofs.event.Event.is.Goals as goal
 
 pub returns : goal.returns

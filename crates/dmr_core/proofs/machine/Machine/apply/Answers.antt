@@ -1,5 +1,5 @@
 use Rattle.std.proofs.Common.{rules, None}
-use Rattle.dmr_core.proofs.Steps.{facts_after-entry}
+use Rattle.dmr_core.proofs.FactsFollowEntries.{facts_after-entry}
 use Rattle.dmr_core.proofs.machine.Machine.apply.Goals as goal
 
 pub returns-clause-facts : goal.returns-clause-facts

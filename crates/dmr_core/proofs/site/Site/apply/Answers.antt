@@ -1,9 +1,9 @@
 use Rattle.std.proofs.Common.{[], ◌∷◌, sym, subst}
 use Rattle.dmr_core.specs.Replies.{reply_to}
 use Rattle.dmr_core.specs.State.{State, IsSite}
-use Rattle.dmr_core.proofs.SafeLaws.{sound_after, same_saying}
-use Rattle.dmr_core.proofs.Plans.{plan_known}
-use Rattle.dmr_core.proofs.Answers.{acts_may}
+use Rattle.dmr_core.proofs.ActsAreSafe.{sound_after, same_saying}
+use Rattle.dmr_core.proofs.PlansAreKnown.{plan_known}
+use Rattle.dmr_core.proofs.AnswersMayBeDone.{acts_may}
 use Rattle.dmr_core.proofs.site.Site.apply.Goals as goal
 
 pub invariant_of-self : goal.invariant_of-self

@@ -1,6 +1,6 @@
 use Rattle.std.proofs.Common.{subst, sym}
 use Rattle.dmr_core.specs.State.{State, IsSite}
-use Rattle.dmr_core.proofs.Empty.{nothing_is_sound}
+use Rattle.dmr_core.proofs.NothingIsSound.{nothing_is_sound}
 use Rattle.dmr_core.proofs.site.Site.new.Goals as goal
 
 pub invariant_of-result : goal.invariant_of-result

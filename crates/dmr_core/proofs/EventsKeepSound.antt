@@ -23,12 +23,12 @@ use Rattle.dmr_core.specs.Facts.{Facts, has_carrier, noted, moving_by_event}
 use Rattle.dmr_core.specs.Words.{is_up, stands_on}
 use Rattle.dmr_core.specs.Sound.{IsPayload, IsSound, engagements, in_ask, in_call, in_line, is_grant, is_own, party, total}
 use Rattle.dmr_core.proofs.PlanLemmas.{KnowsPlan}
-use Rattle.dmr_core.proofs.ListLemmas.{equal_numbers, flipped, other_number}
-use Rattle.dmr_core.proofs.Lists.{total-filter, total-map, any_before, any-map, length-filter_le}
-use Rattle.dmr_core.proofs.Choices.{and_true}
-use Rattle.dmr_core.proofs.Apart.{marked_call, apart-map, apart-filter, stands_on-map}
-use Rattle.dmr_core.proofs.Slots.{true_false}
-use Rattle.dmr_core.proofs.Own.{call_after}
+use Rattle.dmr_core.proofs.NumberLemmas.{equal_numbers, flipped, other_number}
+use Rattle.dmr_core.proofs.ListLemmas.{total-filter, total-map, any_before, any-map, length-filter_le}
+use Rattle.dmr_core.proofs.ChoiceLemmas.{and_true}
+use Rattle.dmr_core.proofs.CallsAreApart.{marked_call, apart-map, apart-filter, stands_on-map}
+use Rattle.dmr_core.proofs.SlotsStaySound.{true_false}
+use Rattle.dmr_core.proofs.GrantsAreOwn.{call_after}
 
 -- only calls changed, each of which is the call it was
 call_or : (x y : Standing) (b : Bool) (o p : Option Standing) → x.call ≡ y.call → option_map (λ (z : Standing). z.call) o ≡ option_map (λ (z : Standing). z.call) p → option_map (λ (z : Standing). z.call) (cond b (Some x) o) ≡ option_map (λ (z : Standing). z.call) (cond b (Some y) p)

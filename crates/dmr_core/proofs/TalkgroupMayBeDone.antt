@@ -17,10 +17,10 @@ use Rattle.dmr_core.specs.Rules.{ack, begin, grant, new_call, talkgroup}
 use Rattle.dmr_core.specs.Sound.{IsSound}
 use Rattle.dmr_core.specs.May.{AllMayDo, MayDo, MayEngage}
 use Rattle.dmr_core.proofs.PlanLemmas.{KnowsPlan}
-use Rattle.dmr_core.proofs.Choices.{lowest_is_free}
-use Rattle.dmr_core.proofs.Own.{found_stands}
-use Rattle.dmr_core.proofs.Done.{sound-done}
-use Rattle.dmr_core.proofs.Blocks.{ack_may, grant_may, begin_may, group_engage, lowest_small, few_with_free}
+use Rattle.dmr_core.proofs.ChoiceLemmas.{lowest_is_free}
+use Rattle.dmr_core.proofs.GrantsAreOwn.{found_stands}
+use Rattle.dmr_core.proofs.ActsKeepSound.{sound-done}
+use Rattle.dmr_core.proofs.PartsMayBeDone.{ack_may, grant_may, begin_may, group_engage, lowest_small, few_with_free}
 
 new_lowest : (plan : Settings) (now : Facts) (slot : Slot) → slot_for_new plan now ≡ Some slot → lowest_free plan now ≡ Some slot
 new_lowest plan now slot h = chosen (is_empty now.lines) h

@@ -18,7 +18,7 @@ use Rattle.dmr_core.specs.Facts.{Facts, done}
 use Rattle.dmr_core.specs.Words.{is_registered}
 use Rattle.dmr_core.specs.Sound.{IsSound, engagements, in_ask, in_call, in_line, party}
 use Rattle.dmr_core.specs.May.{MayDo}
-use Rattle.dmr_core.proofs.Lists.{total-append, total-filter, any-push}
+use Rattle.dmr_core.proofs.ListLemmas.{total-append, total-filter, any-push}
 
 -- what a new call or line adds
 pub with_call : (calls : List Standing) (asks : List Asking) (lines : List Line) (call : Call) (r : ℕ) → engagements (calls ++ just_begun call ∷ []) asks lines r ≡ engagements calls asks lines r + party r call.group call.source call.target

@@ -21,7 +21,7 @@ use Rattle.dmr_core.specs.Facts.{Facts, done}
 use Rattle.dmr_core.specs.Words.{is_up}
 use Rattle.dmr_core.specs.Sound.{IsSound, has_group_call}
 use Rattle.dmr_core.specs.May.{MayDo}
-use Rattle.dmr_core.proofs.Lists.{any_before, any-push, length-filter_le}
+use Rattle.dmr_core.proofs.ListLemmas.{any_before, any-push, length-filter_le}
 
 listed_or : (plan : Settings) (g target : ℕ) (group : Bool) (old : Bool) → (old ≡ true → lists_group plan g ≡ true) → (group ≡ true → lists_group plan target ≡ true) → (old || (group && (target == g))) ≡ true → lists_group plan g ≡ true
 listed_or plan g target group true h k e = h refl

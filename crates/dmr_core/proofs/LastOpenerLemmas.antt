@@ -28,13 +28,13 @@ use Rattle.dmr_core.specs.May.{MayDo}
 use Rattle.dmr_core.specs.Laws.{EachAct, Throughout}
 use Rattle.dmr_core.specs.Last.{closed_with, last_word, no_act, of_ask, of_call, of_late, of_line, of_move, stands}
 use Rattle.dmr_core.proofs.PlanLemmas.{KnowsPlan}
-use Rattle.dmr_core.proofs.ListLemmas.{equal_numbers}
-use Rattle.dmr_core.proofs.Apart.{marked_call}
-use Rattle.dmr_core.proofs.Slots.{free_is, same_slot}
-use Rattle.dmr_core.proofs.Own.{call_begun, call_on-filter}
-use Rattle.dmr_core.proofs.SafeLaws.{source_counts, throughout}
+use Rattle.dmr_core.proofs.NumberLemmas.{equal_numbers}
+use Rattle.dmr_core.proofs.CallsAreApart.{marked_call}
+use Rattle.dmr_core.proofs.SlotsStaySound.{free_is, same_slot}
+use Rattle.dmr_core.proofs.GrantsAreOwn.{call_begun, call_on-filter}
+use Rattle.dmr_core.proofs.ActsAreSafe.{source_counts, throughout}
 use Rattle.dmr_core.proofs.LastLemmas.{later_first}
-use Rattle.dmr_core.proofs.Steps.{facts_after-step}
+use Rattle.dmr_core.proofs.FactsFollowEntries.{facts_after-step}
 
 -- each act leaves what it says, or what stood before it
 abbrev Leaves : {X : Type 0} → (Facts → X) → (Act → Option X) → Facts → Act → Type 0

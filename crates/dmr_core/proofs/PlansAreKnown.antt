@@ -9,10 +9,10 @@ use Rattle.dmr_plan.specs.IsPlan.{IsPlan}
 use Rattle.dmr_core.specs.Facts.{has_carrier}
 use Rattle.dmr_core.specs.Words.{lpcn_of}
 use Rattle.dmr_core.proofs.PlanLemmas.{KnowsPlan}
-use Rattle.dmr_core.proofs.ListLemmas.{equal_itself, equal_numbers, row_below}
-use Rattle.dmr_core.proofs.Choices.{find_passes, or_false}
-use Rattle.dmr_core.proofs.Slots.{true_false}
-use Rattle.dmr_core.proofs.SafeLaws.{find_any}
+use Rattle.dmr_core.proofs.NumberLemmas.{equal_itself, equal_numbers, row_below}
+use Rattle.dmr_core.proofs.ChoiceLemmas.{find_passes, or_false}
+use Rattle.dmr_core.proofs.SlotsStaySound.{true_false}
+use Rattle.dmr_core.proofs.ActsAreSafe.{find_any}
 
 -- no two rows have one channel
 abbrev pub HasOwnChannels : List CarrierRow → Type 0

@@ -1,7 +1,8 @@
-//! What answers a PDU that was heard on the control slot.
+//! What answers a PDU that was heard on the control slot: a request, or the answer of a called radio.
 
 ghost use Rattle.std.specs.Prelude.{◌≡◌, ◌≤◌, ◌+◌, ◌++◌, length};
-ghost use Rattle.dmr_core.specs.Rules.{answered, cancel, close, heard, individual, is_leaving, leaving, new_call, option_bit, registration, request, talkgroup};
+ghost use Rattle.dmr_core.specs.Words.{is_engaged};
+ghost use Rattle.dmr_core.specs.Rules.{answered, cancel, heard, individual, is_leaving, leaving, new_call, option_bit, registration, request, talkgroup};
 
 use super::Machine;
 use crate::act::{Act, ActList};
@@ -95,28 +96,6 @@ impl Machine {
         }
     }
 
-    /// What a radio is engaged by is over.
-    #[tactic(auto, unfolding(crate::specs::Rules::close))]
-    pub(super) fn add_close(&self, acts: &mut ActList, radio: Address)
-        requires { length acts.old + 5 ≤ 16 }
-        ensures acts { acts.new ≡ acts.old ++ close self.now.plan self.now.facts radio }
-        ensures few { length acts.new ≤ length acts.old + 5 }
-    {
-        if let Some(call) = self.calls.call_of(radio) {
-            self.add_clear(acts, &call);
-        } else if let Some(ask) = self.calls.ask_of(radio) {
-            acts.push(Act::AskOver(ask.source));
-        } else if let Some(ask) = self.calls.ask_to(radio) {
-            acts.push(Act::AskOver(ask.source));
-            self.add_ack(acts, ask.source, ask.target, Reason::NOREG_MS_AWAY);
-        } else if let Some(line) = self.calls.line_of(radio) {
-            acts.push(Act::Unlined(line.source));
-        } else if let Some(line) = self.calls.line_to(radio) {
-            acts.push(Act::Unlined(line.source));
-            self.add_ack(acts, line.source, line.target, Reason::NOREG_MS_AWAY);
-        }
-    }
-
     /// What answers a radio that leaves.
     #[tactic(auto, unfolding(crate::specs::Rules::leaving))]
     fn leaving(&self, request: &Request) -> ActList
@@ -176,6 +155,13 @@ impl Machine {
             );
         }
         acts
+    }
+
+    /// Whether a radio is engaged.
+    fn is_engaged(&self, radio: Address) -> bool
+        ensures { result ≡ is_engaged self.now.facts radio }
+    {
+        self.calls.engaged(radio).is_some()
     }
 
     /// A call where a slot is free and no line stands, else a line, else neither.

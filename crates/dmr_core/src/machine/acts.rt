@@ -1,83 +1,14 @@
-//! What the rules ask of a site, and the acts that they are made of.
+//! The acts that answers are made of.
 
 ghost use Rattle.std.specs.Prelude.{◌≡◌, ◌≤◌, ◌+◌, ◌<◌, ◌∷◌, ◌++◌, [], length, replicate};
-ghost use Rattle.dmr_pool.specs.Free.{control_slot, is_control};
-ghost use Rattle.dmr_core.specs.Words.{has_room, is_engaged, is_up, lowest_free, lpcn_of, slot_for_new};
-ghost use Rattle.dmr_core.specs.Rules.{ack, ahoy, begin, clear, grant, grant_pdu};
+ghost use Rattle.dmr_core.specs.Rules.{ack, ahoy, begin, clear, close, grant, grant_pdu};
 
 use super::Machine;
 use crate::act::{Act, ActList};
 use dmr_calls::{Ask, Call};
-use dmr_pdu::{Address, CarrierNo, Kind, Lpcn, Number, Pdu, Reason, Slot};
-
-/// With more PDUs than this in the control slot's outbox, requests are not answered.
-const ROOM: usize = 56;
+use dmr_pdu::{Address, Kind, Number, Pdu, Reason};
 
 impl Machine {
-    /// Slot 0 of the control carrier.
-    pub(super) fn control_slot(&self) -> Slot
-        ensures { result ≡ control_slot self.now.plan }
-    {
-        self.pool.control_slot()
-    }
-
-    /// Whether a slot is the control slot.
-    pub(super) fn is_control(&self, slot: &Slot) -> bool
-        ensures { result ≡ is_control self.now.plan slot.now }
-    {
-        self.pool.is_control(*slot)
-    }
-
-    /// Whether a carrier is up.
-    pub(super) fn is_up(&self, carrier: CarrierNo) -> bool
-        ensures { result ≡ is_up self.now.facts carrier }
-    {
-        self.pool.is_up(carrier)
-    }
-
-    /// Whether there is room for the answer to a request.
-    pub(super) fn has_room(&self) -> bool
-        ensures { result ≡ has_room self.now.plan self.now.facts }
-    {
-        self.pool.waiting(self.control_slot()) <= ROOM
-    }
-
-    /// Whether a radio is engaged.
-    pub(super) fn is_engaged(&self, radio: Address) -> bool
-        ensures { result ≡ is_engaged self.now.facts radio }
-    {
-        self.calls.engaged(radio).is_some()
-    }
-
-    /// The channel of a carrier.
-    fn lpcn_of(&self, carrier: CarrierNo) -> Lpcn
-        ensures { result ≡ lpcn_of self.now.plan carrier }
-    {
-        match self.plan.carrier_with(carrier) {
-            Some(row) => row.lpcn,
-            None => Lpcn::new(1),
-        }
-    }
-
-    /// The first of all slots that is free.
-    #[tactic(auto, using(crate::proofs::FreeLemmas::pool_lowest))]
-    pub(super) fn lowest_free(&self) -> Option<Slot>
-        ensures { result ≡ lowest_free self.now.plan self.now.facts }
-    {
-        self.pool.free_slot()
-    }
-
-    /// A slot for a new call: lines come first.
-    pub(super) fn slot_for_new(&self) -> Option<Slot>
-        ensures { result ≡ slot_for_new self.now.plan self.now.facts }
-    {
-        if self.calls.has_lines() {
-            None
-        } else {
-            self.lowest_free()
-        }
-    }
-
     /// Acknowledges to a source, with a target besides.
     pub(super) fn add_ack(
         &self,
@@ -119,7 +50,7 @@ impl Machine {
     }
 
     /// As many grants of a call as the plan says.
-    #[tactic(auto, using(crate::proofs::Plans::plan_known), unfolding(crate::specs::Rules::grant))]
+    #[tactic(auto, using(crate::proofs::PlansAreKnown::plan_known), unfolding(crate::specs::Rules::grant))]
     pub(super) fn add_grant(&self, acts: &mut ActList, call: &Call, late: bool)
         requires { length acts.old + 4 ≤ 16 }
         ensures acts { acts.new ≡ acts.old ++ grant self.now.plan call.now late }
@@ -154,7 +85,7 @@ impl Machine {
     }
 
     /// A call ends, and its slot is told so as often as the plan says.
-    #[tactic(auto, using(crate::proofs::Plans::plan_known), unfolding(crate::specs::Rules::clear))]
+    #[tactic(auto, using(crate::proofs::PlansAreKnown::plan_known), unfolding(crate::specs::Rules::clear))]
     pub(super) fn add_clear(&self, acts: &mut ActList, call: &Call)
         requires { length acts.old + 5 ≤ 16 }
         ensures acts { acts.new ≡ acts.old ++ clear self.now.plan call.now }
@@ -182,6 +113,28 @@ impl Machine {
     {
         acts.push(Act::Began(*call));
         self.add_grant(acts, call, false);
+    }
+
+    /// What a radio is engaged by is over.
+    #[tactic(auto, unfolding(crate::specs::Rules::close))]
+    pub(super) fn add_close(&self, acts: &mut ActList, radio: Address)
+        requires { length acts.old + 5 ≤ 16 }
+        ensures acts { acts.new ≡ acts.old ++ close self.now.plan self.now.facts radio }
+        ensures few { length acts.new ≤ length acts.old + 5 }
+    {
+        if let Some(call) = self.calls.call_of(radio) {
+            self.add_clear(acts, &call);
+        } else if let Some(ask) = self.calls.ask_of(radio) {
+            acts.push(Act::AskOver(ask.source));
+        } else if let Some(ask) = self.calls.ask_to(radio) {
+            acts.push(Act::AskOver(ask.source));
+            self.add_ack(acts, ask.source, ask.target, Reason::NOREG_MS_AWAY);
+        } else if let Some(line) = self.calls.line_of(radio) {
+            acts.push(Act::Unlined(line.source));
+        } else if let Some(line) = self.calls.line_to(radio) {
+            acts.push(Act::Unlined(line.source));
+            self.add_ack(acts, line.source, line.target, Reason::NOREG_MS_AWAY);
+        }
     }
 }
 

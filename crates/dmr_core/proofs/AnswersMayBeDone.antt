@@ -34,18 +34,18 @@ use Rattle.dmr_core.specs.Rules.{ack, acts_of, ahoy, answered, begin, cancel, cl
 use Rattle.dmr_core.specs.Sound.{IsSound, engagements, in_ask, in_line, is_grant, total}
 use Rattle.dmr_core.specs.May.{AllMayDo, MayDo, MayEngage}
 use Rattle.dmr_core.proofs.PlanLemmas.{KnowsPlan}
-use Rattle.dmr_core.proofs.ListLemmas.{equal_itself, not_itself}
-use Rattle.dmr_core.proofs.Lists.{total-filter, total_found, total_some, length-filter_le}
+use Rattle.dmr_core.proofs.NumberLemmas.{equal_itself, not_itself}
+use Rattle.dmr_core.proofs.ListLemmas.{total-filter, total_found, total_some, length-filter_le}
 use Rattle.dmr_core.proofs.FreeLemmas.{granted_known}
-use Rattle.dmr_core.proofs.Choices.{and_true, any-filter, by_if, by_option, lowest_is_free}
-use Rattle.dmr_core.proofs.Slots.{same_slot, IsFree, free_is, true_false, other_place, any_more}
-use Rattle.dmr_core.proofs.Own.{found_stands, call_stands}
-use Rattle.dmr_core.proofs.Fills.{fill_may}
-use Rattle.dmr_core.proofs.Done.{sound-done, sound-acts, may-append}
-use Rattle.dmr_core.proofs.Events.{sound-noted, put_either}
-use Rattle.dmr_core.proofs.Blocks.{individual_engage, queue_may, read_put, none_on_control, ack_may, grant_may, clear_may, begin_may, lowest_small, few_with_free}
-use Rattle.dmr_core.proofs.Group.{talkgroup_may, new_call_may}
-use Rattle.dmr_core.proofs.Closing.{IsCleared, cleared_is, Closes, close_closes, found_ask}
+use Rattle.dmr_core.proofs.ChoiceLemmas.{and_true, any-filter, by_if, by_option, lowest_is_free}
+use Rattle.dmr_core.proofs.SlotsStaySound.{same_slot, IsFree, free_is, true_false, other_place, any_more}
+use Rattle.dmr_core.proofs.GrantsAreOwn.{found_stands, call_stands}
+use Rattle.dmr_core.proofs.FillsAreLateEntries.{fill_may}
+use Rattle.dmr_core.proofs.ActsKeepSound.{sound-done, sound-acts, may-append}
+use Rattle.dmr_core.proofs.EventsKeepSound.{sound-noted, put_either}
+use Rattle.dmr_core.proofs.PartsMayBeDone.{individual_engage, queue_may, read_put, none_on_control, ack_may, grant_may, clear_may, begin_may, lowest_small, few_with_free}
+use Rattle.dmr_core.proofs.TalkgroupMayBeDone.{talkgroup_may, new_call_may}
+use Rattle.dmr_core.proofs.ClosingMayBeDone.{IsCleared, cleared_is, Closes, close_closes, found_ask}
 
 -- registration
 gone_may : (plan : Settings) (now later : Facts) (q : Request) (b : Bool) → KnowsPlan plan → IsSound plan later → is_up later plan.control ≡ true → length (outbox later (control_slot plan)) ≤ 57 → engagements later.calls later.asks later.lines q.source ≡ 0 → AllMayDo plan later ((if b then Left q.source ∷ [] else []) ++ ack plan q.source q.target 0x60)

@@ -11,7 +11,7 @@ use Rattle.dmr_pdu.specs.Slots.{place, slot_at}
 use Rattle.dmr_calls.specs.After.{is_group_at}
 use Rattle.dmr_calls.proofs.AfterLemmas.{IsFirst, NonePass, place-slot_at}
 use Rattle.dmr_core.specs.Turns.{talkgroup_calls}
-use Rattle.dmr_core.proofs.Slots.{same_slot, true_false}
+use Rattle.dmr_core.proofs.SlotsStaySound.{same_slot, true_false}
 
 -- one where the test passes
 abbrev pub one : Bool → ℕ

@@ -30,10 +30,10 @@ use Rattle.dmr_core.specs.Rules.{ack, acts_of, ahoy, answered, begin, cancel, cl
 use Rattle.dmr_core.specs.Sound.{IsSound, total}
 use Rattle.dmr_core.specs.Counts.{AreFew, elsewhere, on_control}
 use Rattle.dmr_core.proofs.PlanLemmas.{KnowsPlan}
-use Rattle.dmr_core.proofs.Choices.{by_option}
-use Rattle.dmr_core.proofs.Slots.{itself}
-use Rattle.dmr_core.proofs.Own.{found_stands, call_stands}
-use Rattle.dmr_core.proofs.Events.{sound-noted}
+use Rattle.dmr_core.proofs.ChoiceLemmas.{by_option}
+use Rattle.dmr_core.proofs.SlotsStaySound.{itself}
+use Rattle.dmr_core.proofs.GrantsAreOwn.{found_stands, call_stands}
+use Rattle.dmr_core.proofs.EventsKeepSound.{sound-noted}
 
 total-both : {X : Type 0} (f : X → ℕ) (xs ys : List X) → total f (xs ++ ys) ≡ total f xs + total f ys
 total-both f [] ys = omega arith

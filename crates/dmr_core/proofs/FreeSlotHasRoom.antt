@@ -10,7 +10,7 @@ use Rattle.dmr_calls.specs.Calls.{is_slot}
 use Rattle.dmr_pool.specs.Slots.{place}
 use Rattle.dmr_core.specs.Words.{stands_on}
 use Rattle.dmr_core.specs.Sound.{AreApart}
-use Rattle.dmr_core.proofs.Choices.{or_false}
+use Rattle.dmr_core.proofs.ChoiceLemmas.{or_false}
 
 abbrev places : List Standing → List ℕ
 places [] = []

@@ -26,14 +26,14 @@ use Rattle.dmr_core.specs.Rules.{ack, clear, close}
 use Rattle.dmr_core.specs.Sound.{IsSound, engagements, in_ask, in_call, in_line, party, total}
 use Rattle.dmr_core.specs.May.{AllMayDo}
 use Rattle.dmr_core.proofs.PlanLemmas.{KnowsPlan}
-use Rattle.dmr_core.proofs.ListLemmas.{not_itself}
-use Rattle.dmr_core.proofs.Lists.{total_found}
-use Rattle.dmr_core.proofs.Choices.{or_false, find_passes}
-use Rattle.dmr_core.proofs.Apart.{same_slots}
-use Rattle.dmr_core.proofs.Slots.{itself, other_place}
-use Rattle.dmr_core.proofs.Own.{found_stands, call_stands}
-use Rattle.dmr_core.proofs.Done.{sound-done}
-use Rattle.dmr_core.proofs.Blocks.{ack_may, clear_may, not_engaged, read_put}
+use Rattle.dmr_core.proofs.NumberLemmas.{not_itself}
+use Rattle.dmr_core.proofs.ListLemmas.{total_found}
+use Rattle.dmr_core.proofs.ChoiceLemmas.{or_false, find_passes}
+use Rattle.dmr_core.proofs.CallsAreApart.{same_slots}
+use Rattle.dmr_core.proofs.SlotsStaySound.{itself, other_place}
+use Rattle.dmr_core.proofs.GrantsAreOwn.{found_stands, call_stands}
+use Rattle.dmr_core.proofs.ActsKeepSound.{sound-done}
+use Rattle.dmr_core.proofs.PartsMayBeDone.{ack_may, clear_may, not_engaged, read_put}
 
 -- what copies of a PDU leave as it was
 abbrev put : Facts → ℕ → Slot → Pdu → Facts

@@ -7,7 +7,7 @@ use Rattle.dmr_plan.specs.declared.settings.Settings.{Settings}
 use Rattle.dmr_pool.specs.Slots.{place}
 use Rattle.dmr_core.specs.Facts.{nothing}
 use Rattle.dmr_core.specs.Sound.{IsSound, is_grant}
-use Rattle.dmr_core.proofs.Slots.{true_false}
+use Rattle.dmr_core.proofs.SlotsStaySound.{true_false}
 
 pub none_up : (n c : ℕ) → slice_index_or (replicate n false) c false ≡ false
 none_up zero c = refl

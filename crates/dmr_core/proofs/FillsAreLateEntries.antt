@@ -20,7 +20,7 @@ use Rattle.dmr_core.specs.Rules.{grant_pdu, late_entry}
 use Rattle.dmr_core.specs.Sound.{IsSound, is_grant}
 use Rattle.dmr_core.specs.May.{MayDo, MayName, entry_of}
 use Rattle.dmr_core.specs.Turns.{IsLateOf}
-use Rattle.dmr_core.proofs.Slots.{true_false}
+use Rattle.dmr_core.proofs.SlotsStaySound.{true_false}
 
 pub counted-done : (plan : Settings) (now : Facts) (act : Act) → IsSound plan now → (done now act).fills < 4
 counted-done plan now (Fill slot pdu) h = omega arith

@@ -25,12 +25,12 @@ use Rattle.dmr_core.specs.Rules.{ack, begin, clear, grant, grant_pdu}
 use Rattle.dmr_core.specs.Sound.{IsPayload, IsSound, engagements, in_ask, in_call, in_line, is_grant, party, total}
 use Rattle.dmr_core.specs.May.{AllMayDo, IsGrantOf, MayBegin, MayEngage, MayName}
 use Rattle.dmr_core.proofs.PlanLemmas.{KnowsPlan}
-use Rattle.dmr_core.proofs.ListLemmas.{equal_numbers}
-use Rattle.dmr_core.proofs.Choices.{or_false}
-use Rattle.dmr_core.proofs.Slots.{itself, IsFree, free_is, true_false}
-use Rattle.dmr_core.proofs.Own.{call_begun, call_stands}
-use Rattle.dmr_core.proofs.Done.{sound-done}
-use Rattle.dmr_core.proofs.Places.{few_calls, AreOnSlots}
+use Rattle.dmr_core.proofs.NumberLemmas.{equal_numbers}
+use Rattle.dmr_core.proofs.ChoiceLemmas.{or_false}
+use Rattle.dmr_core.proofs.SlotsStaySound.{itself, IsFree, free_is, true_false}
+use Rattle.dmr_core.proofs.GrantsAreOwn.{call_begun, call_stands}
+use Rattle.dmr_core.proofs.ActsKeepSound.{sound-done}
+use Rattle.dmr_core.proofs.FreeSlotHasRoom.{few_calls, AreOnSlots}
 
 -- what is read where something was put is no longer than that
 pub read_put : {X : Type 0} (xs : List (List X)) (i : ℕ) (v : List X) → length (get_or (set xs i v) i []) ≤ length v

@@ -26,18 +26,18 @@ use Rattle.dmr_core.specs.Sound.{IsSound, in_call, is_grant, is_own, party, tota
 use Rattle.dmr_core.specs.May.{AllMayDo, MayDo, MayName}
 use Rattle.dmr_core.specs.Laws.{BeginsOnFree, EachAct, GrantsKnown, NamesKnown, QuietActs, QuietAfterReset, SendsOwn, Throughout, grants_on, has_call, is_reset, names_carrier, reset_by_act, reset_by_event}
 use Rattle.dmr_core.proofs.PlanLemmas.{KnowsPlan}
-use Rattle.dmr_core.proofs.ListLemmas.{equal_itself, equal_numbers}
-use Rattle.dmr_core.proofs.Lists.{total_some, any-map, any-push}
-use Rattle.dmr_core.proofs.Choices.{or_false, and_true, any-filter, not_true}
-use Rattle.dmr_core.proofs.Steps.{facts_after-step}
-use Rattle.dmr_core.proofs.Slots.{IsFree, free_is, true_false, same_slot}
-use Rattle.dmr_core.proofs.Own.{named_own, call_stands, own_itself, not_grant_own}
-use Rattle.dmr_core.proofs.Closing.{found_call}
-use Rattle.dmr_core.proofs.Blocks.{left_or}
-use Rattle.dmr_core.proofs.Apart.{marked_call}
-use Rattle.dmr_core.proofs.Done.{sound-done, sound-acts}
-use Rattle.dmr_core.proofs.Events.{sound-noted}
-use Rattle.dmr_core.proofs.Answers.{acts_may}
+use Rattle.dmr_core.proofs.NumberLemmas.{equal_itself, equal_numbers}
+use Rattle.dmr_core.proofs.ListLemmas.{total_some, any-map, any-push}
+use Rattle.dmr_core.proofs.ChoiceLemmas.{or_false, and_true, any-filter, not_true}
+use Rattle.dmr_core.proofs.FactsFollowEntries.{facts_after-step}
+use Rattle.dmr_core.proofs.SlotsStaySound.{IsFree, free_is, true_false, same_slot}
+use Rattle.dmr_core.proofs.GrantsAreOwn.{named_own, call_stands, own_itself, not_grant_own}
+use Rattle.dmr_core.proofs.ClosingMayBeDone.{found_call}
+use Rattle.dmr_core.proofs.PartsMayBeDone.{left_or}
+use Rattle.dmr_core.proofs.CallsAreApart.{marked_call}
+use Rattle.dmr_core.proofs.ActsKeepSound.{sound-done, sound-acts}
+use Rattle.dmr_core.proofs.EventsKeepSound.{sound-noted}
+use Rattle.dmr_core.proofs.AnswersMayBeDone.{acts_may}
 
 -- sound facts stay sound
 pub sound_after : (plan : Settings) (facts : Facts) (journal : List Entry) → KnowsPlan plan → IsSound plan facts → IsLegal plan facts journal → IsSound plan (facts_after plan facts journal)

@@ -21,10 +21,10 @@ use Rattle.dmr_core.specs.Sound.{AreApart, IsPayload, IsSound, is_grant}
 use Rattle.dmr_core.specs.May.{MayDo, MayName}
 use Rattle.dmr_core.proofs.FreeLemmas.{granted_known}
 use Rattle.dmr_core.proofs.PlanLemmas.{KnowsPlan}
-use Rattle.dmr_core.proofs.ListLemmas.{equal_numbers}
-use Rattle.dmr_core.proofs.Lists.{any_before, any-push}
-use Rattle.dmr_core.proofs.Choices.{or_false, and_true, not_true}
-use Rattle.dmr_core.proofs.Apart.{apart-filter, apart-append}
+use Rattle.dmr_core.proofs.NumberLemmas.{equal_numbers}
+use Rattle.dmr_core.proofs.ListLemmas.{any_before, any-push}
+use Rattle.dmr_core.proofs.ChoiceLemmas.{or_false, and_true, not_true}
+use Rattle.dmr_core.proofs.CallsAreApart.{apart-filter, apart-append}
 
 pub same_slot : (a b : Slot) → is_slot a b ≡ true → a ≡ b
 same_slot a b h =

@@ -7,7 +7,7 @@ use Rattle.dmr_calls.specs.declared.call.Standing.{Standing}
 use Rattle.dmr_calls.specs.Calls.{is_slot, marked}
 use Rattle.dmr_core.specs.Words.{stands_on}
 use Rattle.dmr_core.specs.Sound.{AreApart}
-use Rattle.dmr_core.proofs.Choices.{any-filter, or_false}
+use Rattle.dmr_core.proofs.ChoiceLemmas.{any-filter, or_false}
 
 pub same_slots : (a b : Slot) → is_slot a b ≡ is_slot b a
 same_slots a b = grind (arith, nat_tests)

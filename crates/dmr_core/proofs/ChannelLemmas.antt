@@ -8,11 +8,11 @@ use Rattle.dmr_plan.specs.IsPlan.{IsPlan}
 use Rattle.dmr_core.specs.Facts.{has_carrier}
 use Rattle.dmr_core.specs.Late.{carrier_on}
 use Rattle.dmr_core.specs.Words.{lpcn_of}
-use Rattle.dmr_core.proofs.ListLemmas.{equal_itself, equal_numbers}
-use Rattle.dmr_core.proofs.Choices.{find_passes}
-use Rattle.dmr_core.proofs.Slots.{true_false}
-use Rattle.dmr_core.proofs.SafeLaws.{find_any}
-use Rattle.dmr_core.proofs.Plans.{HasOwnChannels, own_channels, found_row, lpcn_is}
+use Rattle.dmr_core.proofs.NumberLemmas.{equal_itself, equal_numbers}
+use Rattle.dmr_core.proofs.ChoiceLemmas.{find_passes}
+use Rattle.dmr_core.proofs.SlotsStaySound.{true_false}
+use Rattle.dmr_core.proofs.ActsAreSafe.{find_any}
+use Rattle.dmr_core.proofs.PlansAreKnown.{HasOwnChannels, own_channels, found_row, lpcn_is}
 
 -- the row of a carrier is the one that has its channel
 own_row : (rows : List CarrierRow) (c : ℕ) (x : CarrierRow) → HasOwnChannels rows → find (λ r. r.number == c) rows ≡ Some x → find (λ r. r.lpcn == x.lpcn) rows ≡ Some x

@@ -18,9 +18,9 @@ use Rattle.dmr_core.specs.Rules.{grant_pdu}
 use Rattle.dmr_core.specs.Sound.{AreApart, IsSound, is_grant, is_own}
 use Rattle.dmr_core.specs.May.{MayDo, MayName}
 use Rattle.dmr_core.proofs.PlanLemmas.{KnowsPlan}
-use Rattle.dmr_core.proofs.ListLemmas.{equal_itself, equal_numbers}
-use Rattle.dmr_core.proofs.Choices.{or_false, and_true}
-use Rattle.dmr_core.proofs.Slots.{same_slot, itself, after_put, within_boxes, free_is, all-drop, all_more, true_false}
+use Rattle.dmr_core.proofs.NumberLemmas.{equal_itself, equal_numbers}
+use Rattle.dmr_core.proofs.ChoiceLemmas.{or_false, and_true}
+use Rattle.dmr_core.proofs.SlotsStaySound.{same_slot, itself, after_put, within_boxes, free_is, all-drop, all_more, true_false}
 
 -- the call that is found stands there
 pub call_stands : (cs : List Standing) (slot : Slot) (call : Call) → call_on cs slot ≡ Some call → (stands_on cs slot ≡ true) × (call.slot ≡ slot)

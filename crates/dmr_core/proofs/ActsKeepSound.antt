@@ -7,11 +7,11 @@ use Rattle.dmr_core.specs.Facts.{Facts, done}
 use Rattle.dmr_core.specs.Sound.{IsSound}
 use Rattle.dmr_core.specs.May.{AllMayDo, MayDo}
 use Rattle.dmr_core.proofs.PlanLemmas.{KnowsPlan}
-use Rattle.dmr_core.proofs.Slots.{payload-done, quiet-done, down-done, elsewhere-done, few_waiting-done, apart-done, slots-done}
-use Rattle.dmr_core.proofs.Own.{own-done}
-use Rattle.dmr_core.proofs.Engaged.{once-done, parties-done}
-use Rattle.dmr_core.proofs.Fills.{counted-done, unfilled-done, unnamed-done}
-use Rattle.dmr_core.proofs.Limits.{called-done, lined-done, asks-done, few_asks-done, lines-done, few_calls-done, few_lines-done, few_radios-done, distinct-done}
+use Rattle.dmr_core.proofs.SlotsStaySound.{payload-done, quiet-done, down-done, elsewhere-done, few_waiting-done, apart-done, slots-done}
+use Rattle.dmr_core.proofs.GrantsAreOwn.{own-done}
+use Rattle.dmr_core.proofs.RadiosEngagedOnce.{once-done, parties-done}
+use Rattle.dmr_core.proofs.FillsAreLateEntries.{counted-done, unfilled-done, unnamed-done}
+use Rattle.dmr_core.proofs.LimitsAreKept.{called-done, lined-done, asks-done, few_asks-done, lines-done, few_calls-done, few_lines-done, few_radios-done, distinct-done}
 
 pub sound-done : (plan : Settings) (now : Facts) (act : Act) → KnowsPlan plan → IsSound plan now → MayDo plan now act → IsSound plan (done now act)
 sound-done plan now act p h may = record {

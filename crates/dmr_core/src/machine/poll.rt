@@ -1,0 +1,38 @@
+//! What a carrier is sent in its next two slots.
+
+ghost use Rattle.std.specs.Prelude.{◌≡◌, ◌≤◌, ◌<◌, ◌+◌, ◌++◌, length};
+ghost use Rattle.dmr_core.specs.declared.event.Event.TheVariants.{Poll};
+ghost use Rattle.dmr_core.specs.Rules.{acts_of, poll};
+
+use super::Machine;
+use crate::act::{Act, ActList};
+use dmr_pdu::{BoundedList, CarrierNo, Slot, SlotNo};
+
+impl Machine {
+    /// What answers a carrier's poll: for slot 0, then for slot 1; nothing where the carrier isn't up.
+    pub(super) fn poll(&self, carrier: CarrierNo) -> ActList
+        ensures { result ≡ acts_of self.now.plan self.now.facts (Poll carrier) }
+    {
+        let mut acts = BoundedList::new();
+        if self.is_up(carrier) {
+            self.add_poll(&mut acts, &Slot::new(carrier, SlotNo::new(0)));
+            self.add_poll(&mut acts, &Slot::new(carrier, SlotNo::new(1)));
+        }
+        acts
+    }
+
+    /// The first PDU that waits for a slot, or what fills the control slot.
+    #[tactic(auto, unfolding(crate::specs::Rules::poll))]
+    fn add_poll(&self, acts: &mut ActList, slot: &Slot)
+        requires { length acts.old < 16 }
+        ensures acts { acts.new ≡ acts.old ++ poll self.now.plan self.now.facts slot.now }
+        ensures few { length acts.new ≤ length acts.old + 1 }
+    {
+        if let Some(pdu) = self.pool.first(*slot) {
+            acts.push(Act::Send(*slot, pdu));
+        } else if self.is_control(slot) {
+            let pdu = self.access.next_fill(self.moving, self.late_entry());
+            acts.push(Act::Fill(*slot, pdu));
+        }
+    }
+}

@@ -1,0 +1,87 @@
+//! What the rules ask of slots: which is the control slot, which is up, has room, is free for a call.
+
+ghost use Rattle.std.specs.Prelude.{◌≡◌};
+ghost use Rattle.dmr_pool.specs.Free.{control_slot, is_control};
+ghost use Rattle.dmr_core.specs.Words.{has_room, is_free, is_up, lowest_free, lpcn_of, slot_for_new, stands_on};
+
+use super::{Machine, numbers_of};
+use dmr_pdu::{CarrierNo, Lpcn, Slot};
+
+/// With more PDUs than this in the control slot's outbox, requests are not answered.
+const ROOM: usize = 56;
+
+impl Machine {
+    /// Slot 0 of the control carrier.
+    pub(super) fn control_slot(&self) -> Slot
+        ensures { result ≡ control_slot self.now.plan }
+    {
+        self.pool.control_slot()
+    }
+
+    /// Whether a slot is the control slot.
+    pub(super) fn is_control(&self, slot: &Slot) -> bool
+        ensures { result ≡ is_control self.now.plan slot.now }
+    {
+        self.pool.is_control(*slot)
+    }
+
+    /// Whether a carrier is up.
+    pub(super) fn is_up(&self, carrier: CarrierNo) -> bool
+        ensures { result ≡ is_up self.now.facts carrier }
+    {
+        self.pool.is_up(carrier)
+    }
+
+    /// Whether there is room for the answer to a request.
+    pub(super) fn has_room(&self) -> bool
+        ensures { result ≡ has_room self.now.plan self.now.facts }
+    {
+        self.pool.waiting(self.control_slot()) <= ROOM
+    }
+
+    /// The channel of a carrier.
+    pub(super) fn lpcn_of(&self, carrier: CarrierNo) -> Lpcn
+        ensures { result ≡ lpcn_of self.now.plan carrier }
+    {
+        match self.plan.carrier_with(carrier) {
+            Some(row) => row.lpcn,
+            None => Lpcn::new(1),
+        }
+    }
+
+    /// Whether a call stands on a slot.
+    #[tactic(auto, using(crate::proofs::ConsoleLemmas::called))]
+    pub(super) fn stands_on(&self, slot: &Slot) -> bool
+        ensures { result ≡ stands_on self.now.facts.calls slot.now }
+    {
+        self.calls.call_on(*slot).is_some()
+    }
+
+    /// Whether a call can begin on a slot.
+    #[tactic(auto, using(crate::proofs::FreeLemmas::pool_free))]
+    pub(super) fn is_free(&self, slot: &Slot) -> bool
+        ensures { result ≡ is_free self.now.plan self.now.facts slot.now }
+    {
+        numbers_of(slot);
+        self.pool.is_free(*slot)
+    }
+
+    /// The first of all slots that is free.
+    #[tactic(auto, using(crate::proofs::FreeLemmas::pool_lowest))]
+    pub(super) fn lowest_free(&self) -> Option<Slot>
+        ensures { result ≡ lowest_free self.now.plan self.now.facts }
+    {
+        self.pool.free_slot()
+    }
+
+    /// A slot for a new call: lines come first.
+    pub(super) fn slot_for_new(&self) -> Option<Slot>
+        ensures { result ≡ slot_for_new self.now.plan self.now.facts }
+    {
+        if self.calls.has_lines() {
+            None
+        } else {
+            self.lowest_free()
+        }
+    }
+}

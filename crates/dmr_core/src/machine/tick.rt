@@ -1,0 +1,86 @@
+//! What a tick brings about.
+
+ghost use Rattle.std.specs.Prelude.{◌≡◌, ◌≤◌, ◌+◌, ◌++◌, length};
+ghost use Rattle.dmr_calls.specs.Due.{due_of};
+ghost use Rattle.dmr_core.specs.Words.{standings};
+ghost use Rattle.dmr_core.specs.Rules.{ended, repeat, serve, tick};
+
+use super::Machine;
+use crate::act::{Act, ActList};
+use dmr_calls::{Ask, Due};
+use dmr_pdu::{BoundedList, Reason};
+
+impl Machine {
+    /// What a tick brings about, after it was counted.
+    #[tactic(auto, unfolding(crate::specs::Rules::tick))]
+    pub(super) fn tick(&self) -> ActList
+        ensures { result ≡ tick self.now.plan self.now.facts }
+    {
+        let mut acts = BoundedList::new();
+        self.add_ended(&mut acts);
+        if self.has_room() {
+            self.add_repeat(&mut acts);
+            self.add_serve(&mut acts);
+        }
+        acts
+    }
+
+    /// What is due by the plan.
+    fn due(&self) -> Due
+        ensures { result ≡ due_of (standings self.now.facts) self.now.plan.hang self.now.plan.maximum self.now.plan.ahoy_wait }
+    {
+        let plan = &self.plan;
+        self.calls
+            .due(plan.hang(), plan.maximum(), plan.ahoy_wait())
+    }
+
+    /// The first call that is over ends.
+    #[tactic(auto, unfolding(crate::specs::Rules::ended))]
+    fn add_ended(&self, acts: &mut ActList)
+        requires { length acts.old + 5 ≤ 16 }
+        ensures acts { acts.new ≡ acts.old ++ ended self.now.plan self.now.facts.calls }
+        ensures few { length acts.new ≤ length acts.old + 5 }
+    {
+        if let Some(slot) = self.due().call {
+            if let Some(call) = self.calls.call_on(slot) {
+                self.add_clear(acts, &call);
+            }
+        }
+    }
+
+    /// The ask with the oldest C_AHOY, once more or given up.
+    #[tactic(auto, unfolding(crate::specs::Rules::repeat))]
+    fn add_repeat(&self, acts: &mut ActList)
+        requires { length acts.old + 2 ≤ 16 }
+        ensures acts { acts.new ≡ acts.old ++ repeat self.now.plan self.now.facts }
+        ensures few { length acts.new ≤ length acts.old + 2 }
+    {
+        if let Some(ask) = self.due().ask {
+            if ask.attempt < self.plan.ahoy_tries() {
+                acts.push(Act::Asked(Ask {
+                    attempt: ask.attempt + 1,
+                    ..ask
+                }));
+                self.add_ahoy(acts, &ask);
+            } else {
+                acts.push(Act::AskOver(ask.source));
+                self.add_ack(acts, ask.source, ask.target, Reason::NOREG_MS_AWAY);
+            }
+        }
+    }
+
+    /// A slot for the first line.
+    #[tactic(auto, unfolding(crate::specs::Rules::serve))]
+    fn add_serve(&self, acts: &mut ActList)
+        requires { length acts.old + 6 ≤ 16 }
+        ensures acts { acts.new ≡ acts.old ++ serve self.now.plan self.now.facts }
+        ensures few { length acts.new ≤ length acts.old + 6 }
+    {
+        if let Some(line) = self.calls.first_line() {
+            if let Some(slot) = self.lowest_free() {
+                acts.push(Act::Unlined(line.source));
+                self.add_begin(acts, &line.on(slot));
+            }
+        }
+    }
+}

@@ -2,10 +2,11 @@
 use Rattle.std.specs.Prelude.{ℕ, List, [], ◌∷◌, ◌++◌, Bool, not, ◌==◌, ◌&&◌, nat_le, nat_lt, length, filter, find, take, drop, Option, slice_get, if◌then◌else◌}
 use Rattle.std.specs.List.{list_any}
 use Rattle.dmr_calls.specs.declared.line.Line.{Line}
+use Rattle.dmr_calls.specs.declared.calls.TheConstants.{MOST_LINES}
 
 -- the lines with one more at the end, where fewer than 32 stand
 abbrev pub with_line : List Line → Line → List Line
-with_line lines line = if nat_le 32 (length lines) then lines else lines ++ line ∷ []
+with_line lines line = if nat_le MOST_LINES (length lines) then lines else lines ++ line ∷ []
 
 -- the lines of other sources
 abbrev pub without_line : ℕ → List Line → List Line

@@ -1,4 +1,4 @@
--- Calls are on slots.
+-- That calls are on slots, as the table keeps them. Nothing above rests on this definition.
 use Rattle.std.specs.Prelude.{◌<◌, List}
 use Rattle.std.specs.List.{All}
 use Rattle.dmr_calls.specs.declared.call.Standing.{Standing}

@@ -3,6 +3,7 @@ use Rattle.std.specs.Prelude.{◌≤◌, List, [], length}
 use Rattle.dmr_calls.specs.declared.ask.Asking.{Asking}
 use Rattle.dmr_calls.specs.declared.line.Line.{Line}
 use Rattle.dmr_calls.specs.declared.call.Standing.{Standing}
+use Rattle.dmr_calls.specs.declared.calls.TheConstants.{MOST_ASKS, MOST_CALLS, MOST_LINES}
 
 -- the asks, lines and calls
 pub record Standings : Type 0 where
@@ -16,6 +17,6 @@ nothing = record { asks = []; lines = []; calls = [] }
 
 -- at most 32 asks, 32 lines and 31 calls stand
 pub record AreFew (now : Standings) : Type 0 where
-  pub asks : length now.asks ≤ 32
-  pub lines : length now.lines ≤ 32
-  pub calls : length now.calls ≤ 31
+  pub asks : length now.asks ≤ MOST_ASKS
+  pub lines : length now.lines ≤ MOST_LINES
+  pub calls : length now.calls ≤ MOST_CALLS

@@ -22,14 +22,14 @@ use dmr_table::KeyedTable;
 use std::alloc::Global;
 use std::marker::Model;
 
-/// The most asks at a time.
-pub(crate) const MOST_ASKS: usize = 32;
+/// The most asks that stand at a time: 32, by this project's profile.
+pub const MOST_ASKS: usize = 32;
 
-/// The most lines at a time.
-const MOST_LINES: usize = 32;
+/// The most lines that stand at a time: 32, by this project's profile.
+pub const MOST_LINES: usize = 32;
 
-/// The most calls at a time.
-pub(crate) const MOST_CALLS: usize = 31;
+/// The most calls that stand at a time: 31, one for each slot of 16 carriers but the control slot.
+pub const MOST_CALLS: usize = 31;
 
 /// The asks, lines and calls of a site. Contracts see it as the three lists: the asks with the oldest C_AHOY in front, the
 /// lines in the order of lining, and the calls in the order of beginning, asks and calls with the ticks that are counted

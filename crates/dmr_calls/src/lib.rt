@@ -17,5 +17,5 @@ mod ticks;
 pub use answer::{Counts, Due, Engagement, Full};
 pub use ask::{Ask, Asking};
 pub use call::{Call, Standing};
-pub use calls::Calls;
+pub use calls::{Calls, MOST_ASKS, MOST_CALLS, MOST_LINES};
 pub use line::Line;

@@ -1,4 +1,4 @@
--- The grants that wait for the control slot, counted for each slot.
+-- The grants that wait for the control slot, counted for each slot, as the pool keeps them. Nothing above rests on these definitions.
 use Rattle.std.specs.Prelude.{◌≡◌, ℕ, ◌<◌, ◌≤◌, List, length, ◌==◌, if◌then◌else◌, Option, None, option_map, slice_index_or}
 use Rattle.std.specs.List.{All, count_by, find}
 use Rattle.std.specs.Option.{option_map_or}
@@ -8,6 +8,7 @@ use Rattle.dmr_pdu.specs.declared.pdu.Pdu.TheVariants.{PvGrant, TvGrant}
 use Rattle.dmr_plan.specs.declared.settings.Settings.{Settings}
 use Rattle.dmr_plan.specs.declared.carriers.CarrierRow.{CarrierRow}
 use Rattle.dmr_plan.specs.Carriers.{row_with}
+use Rattle.dmr_pool.specs.declared.outbox.TheConstants.{MOST_PDUS_OF_A_SLOT}
 use Rattle.dmr_pool.specs.Slots.{box, slot_at}
 use Rattle.dmr_pool.specs.Free.{control_slot, is_control, names}
 
@@ -24,7 +25,7 @@ grants_of plan outboxes slot =
 -- there are 32 outboxes, and in each at most 64 PDUs wait
 pub record AreOutboxes (outboxes : List (List Pdu)) : Type 0 where
   pub size : length outboxes ≡ 32
-  pub few : All (λ box. length box ≤ 64) outboxes
+  pub few : All (λ box. length box ≤ MOST_PDUS_OF_A_SLOT) outboxes
 
 -- the counts are those of the slots at their places
 abbrev pub AreCounted : Settings → List (List Pdu) → List ℕ → Type 0

@@ -1,4 +1,4 @@
--- Sets of slots as bits.
+-- Sets of slots as bits, by which the pool keeps which slots are free. Nothing above rests on these definitions.
 use Rattle.std.specs.Prelude.{◌≡◌, ◌≢◌, ℕ, ◌<◌, ◌==◌, Bool, true, false}
 use Rattle.std.specs.Int.{bit_at}
 use Rattle.dmr_pdu.specs.declared.slots.Slot.{Slot}

@@ -12,4 +12,5 @@ mod outbox;
 mod outboxes;
 mod pool;
 
+pub use outbox::MOST_PDUS_OF_A_SLOT;
 pub use pool::{Full, Pool};

@@ -1,6 +1,7 @@
 //! What waits to be sent on a slot.
 
 ghost use Rattle.std.specs.Prelude.{◌≡◌, ◌≤◌, ◌<◌, ◌+◌, ◌∷◌, ◌++◌, ◌&&◌, [], length, drop, slice_get, IfOk};
+ghost use Rattle.dmr_pool.specs.declared.outbox.TheConstants.{MOST_PDUS_OF_A_SLOT};
 ghost use Rattle.dmr_pool.specs.Same.{are_same_pdus};
 
 use circular_buffer::HeapCircularBuffer;
@@ -8,8 +9,8 @@ use dmr_pdu::{OutOfMemory, Pdu};
 use std::alloc::Global;
 use std::marker::Model;
 
-/// The most PDUs that wait for a slot.
-pub const MOST_WAITING: usize = 64;
+/// The most PDUs that wait for a slot: 64, by this project's profile.
+pub const MOST_PDUS_OF_A_SLOT: usize = 64;
 
 /// The PDUs that wait for a slot, at most 64. Contracts see it as the list of them, the oldest first.
 #[derive(Drop)]
@@ -20,12 +21,13 @@ pub struct Outbox {
 impl Model for Outbox {
     ghost use Rattle.std.specs.Prelude.{◌≡◌, ◌≤◌, List, length};
     ghost use Rattle.dmr_pdu.specs.declared.pdu.Pdu.{Pdu};
+    ghost use Rattle.dmr_pool.specs.declared.outbox.TheConstants.{MOST_PDUS_OF_A_SLOT};
 
     ghost Value = { List Pdu };
 
     ghost view = { λ outbox. outbox.waiting.items };
 
-    ghost invariant = { λ outbox. (outbox.waiting.capacity ≡ 64) × (length outbox.waiting.items ≤ 64) };
+    ghost invariant = { λ outbox. (outbox.waiting.capacity ≡ MOST_PDUS_OF_A_SLOT) × (length outbox.waiting.items ≤ MOST_PDUS_OF_A_SLOT) };
 }
 
 impl Outbox {
@@ -34,7 +36,7 @@ impl Outbox {
         ensures { IfOk result (λ outbox. outbox ≡ []) }
     {
         Ok(Outbox {
-            waiting: HeapCircularBuffer::with_capacity(alloc, MOST_WAITING)?,
+            waiting: HeapCircularBuffer::with_capacity(alloc, MOST_PDUS_OF_A_SLOT)?,
         })
     }
 
@@ -42,7 +44,7 @@ impl Outbox {
     pub fn try_clone(&self, alloc: Global) -> Result<Outbox, OutOfMemory>
         ensures { IfOk result (λ copy. copy ≡ self.now) }
     {
-        let mut waiting = HeapCircularBuffer::with_capacity(alloc, MOST_WAITING)?;
+        let mut waiting = HeapCircularBuffer::with_capacity(alloc, MOST_PDUS_OF_A_SLOT)?;
         let (older, newer) = self.waiting.as_slices();
         waiting.extend_from_slice(older);
         waiting.extend_from_slice(newer);
@@ -52,7 +54,7 @@ impl Outbox {
     /// How many PDUs wait: 0 to 64.
     pub fn len(&self) -> usize
         ensures value { result ≡ length self.now }
-        ensures few { result ≤ 64 }
+        ensures few { result ≤ MOST_PDUS_OF_A_SLOT }
     {
         self.waiting.len()
     }
@@ -76,20 +78,21 @@ impl Outbox {
         }
     }
 
-    /// Puts a PDU behind those that wait. There must be a place for it: a full ring would give up the one that has waited longest.
+    /// Puts a PDU behind those that wait. There must be a place for it.
     pub fn push(&mut self, pdu: Pdu)
-        requires { length self.old < 64 }
+        requires { length self.old < MOST_PDUS_OF_A_SLOT }
         ensures { self.new ≡ self.old ++ pdu ∷ [] }
     {
-        let _ = self.waiting.push_back(pdu);
+        self.waiting.try_push_back(pdu).unwrap();
     }
 
-    /// Takes out the PDU that has waited longest, if one waits.
-    pub fn take(&mut self) -> Option<Pdu>
-        ensures first { result ≡ slice_get self.old 0 }
+    /// Takes out the PDU that has waited longest. One must wait.
+    pub fn take(&mut self) -> Pdu
+        requires { 0 < length self.old }
+        ensures first { slice_get self.old 0 ≡ Some result }
         ensures rest { self.new ≡ drop 1 self.old }
     {
-        self.waiting.pop_front()
+        self.waiting.pop_front().unwrap()
     }
 
     /// Takes out all PDUs.

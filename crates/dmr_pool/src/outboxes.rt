@@ -3,6 +3,7 @@
 ghost use Rattle.std.specs.Prelude.{◌≡◌, ◌<◌, [], ◌≤◌, length, replicate, slice_get, IfOk};
 ghost use Rattle.std.specs.Cmp.Lexicographic.{pointwise};
 ghost use Rattle.dmr_plan.specs.IsPlan.{IsPlan};
+ghost use Rattle.dmr_pool.specs.declared.outbox.TheConstants.{MOST_PDUS_OF_A_SLOT};
 ghost use Rattle.dmr_pool.specs.Slots.{box, emptied, queued, sent};
 ghost use Rattle.dmr_pool.specs.Free.{control_slot, is_control, is_granted};
 ghost use Rattle.dmr_pool.specs.Grants.{AreOutboxes, slot_counted, slot_granted, slot_tuned};
@@ -144,7 +145,7 @@ impl Outboxes {
 
     /// Puts a PDU behind those that wait for a slot. There must be a place for it.
     pub fn push(&mut self, slot: &Slot, pdu: &Pdu)
-        requires { length (box self.old.outboxes slot.now) < 64 }
+        requires { length (box self.old.outboxes slot.now) < MOST_PDUS_OF_A_SLOT }
         ensures { self.new ≡ record { plan = self.old.plan; outboxes = queued self.old.outboxes slot.now pdu.now } }
     {
         let granted = self.slot_counted(slot, pdu);
@@ -162,7 +163,7 @@ impl Outboxes {
     {
         let granted = self.slot_counted(slot, pdu);
         self.plan.keeps();
-        let _ = self.outboxes[slot.index()].take();
+        self.outboxes[slot.index()].take();
         if let Some(granted) = granted {
             self.grants[granted.index()] -= 1;
         }
@@ -190,7 +191,7 @@ impl Outboxes {
     /// How many PDUs wait for a slot: 0 to 64.
     pub fn waiting(&self, slot: &Slot) -> usize
         ensures value { result ≡ length (box self.now.outboxes slot.now) }
-        ensures few { result ≤ 64 }
+        ensures few { result ≤ MOST_PDUS_OF_A_SLOT }
     {
         self.outboxes[slot.index()].len()
     }

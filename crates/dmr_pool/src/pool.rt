@@ -2,6 +2,7 @@
 
 ghost use Rattle.std.specs.Prelude.{◌≡◌, ◌<◌, ◌≤◌, ◌↔◌, length, filter, slice_get, slice_set, true, false, IsTrue, IsErr, IfOk, OnOk, OnErr, MatchOption};
 ghost use Rattle.dmr_plan.specs.Carriers.{has_number_in};
+ghost use Rattle.dmr_pool.specs.declared.outbox.TheConstants.{MOST_PDUS_OF_A_SLOT};
 ghost use Rattle.dmr_pool.specs.Slots.{box, is_up, emptied, released, queued, sent, place, nothing_on};
 ghost use Rattle.dmr_pool.specs.Free.{control_slot, is_control, is_free, lowest_free, HasNoFreeSlot, IsLowestFree};
 ghost use Rattle.dmr_pool.specs.Marks.{AreMarked};
@@ -9,7 +10,7 @@ ghost use Rattle.dmr_pool.specs.Kept.{AreKept};
 ghost use Rattle.dmr_pool.specs.Same.{are_alike, are_same};
 
 use crate::marks::Marks;
-use crate::outbox::MOST_WAITING;
+use crate::outbox::MOST_PDUS_OF_A_SLOT;
 use crate::outboxes::Outboxes;
 use dmr_pdu::{CarrierNo, OutOfMemory, Pdu, Slot};
 use dmr_plan::Plan;
@@ -230,11 +231,11 @@ impl Pool {
     /// changed.
     pub fn push(&mut self, slot: Slot, pdu: Pdu) -> Result<(), Full>
         requires { IsTrue (is_up self.old.up slot.carrier) }
-        ensures full { IsErr result ↔ (length (box self.old.outboxes slot) ≡ 64) }
+        ensures full { IsErr result ↔ (length (box self.old.outboxes slot) ≡ MOST_PDUS_OF_A_SLOT) }
         ensures ok { OnOk result (self.new ≡ record self.old { outboxes = queued self.old.outboxes slot pdu }) }
         ensures err { OnErr result (self.new ≡ self.old) }
     {
-        if self.waiting(slot) >= MOST_WAITING {
+        if self.waiting(slot) >= MOST_PDUS_OF_A_SLOT {
             return Err(Full);
         }
         self.put(&slot, &pdu);
@@ -242,8 +243,8 @@ impl Pool {
     }
 
     /// Puts a PDU behind those that wait for a slot. There must be a place for it.
-    fn put(&mut self, slot: &Slot, pdu: &Pdu)
-        requires { length (box self.old.outboxes slot.now) < 64 }
+    pub fn put(&mut self, slot: &Slot, pdu: &Pdu)
+        requires { length (box self.old.outboxes slot.now) < MOST_PDUS_OF_A_SLOT }
         ensures { self.new ≡ record self.old { outboxes = queued self.old.outboxes slot.now pdu.now } }
     {
         self.outboxes.keeps();
@@ -264,8 +265,8 @@ impl Pool {
         Some(pdu)
     }
 
-    /// Takes out the PDU that has waited longest for a slot.
-    fn take_first(&mut self, slot: &Slot, pdu: &Pdu)
+    /// Takes out the PDU that has waited longest for a slot, which must be this one.
+    pub fn take_first(&mut self, slot: &Slot, pdu: &Pdu)
         requires { slice_get (box self.old.outboxes slot.now) 0 ≡ Some pdu.now }
         ensures { self.new ≡ record self.old { outboxes = sent self.old.outboxes slot.now } }
     {
@@ -289,7 +290,7 @@ impl Pool {
     /// How many PDUs wait for a slot: 0 to 64.
     pub fn waiting(&self, slot: Slot) -> usize
         ensures value { result ≡ length (box self.now.outboxes slot) }
-        ensures few { result ≤ 64 }
+        ensures few { result ≤ MOST_PDUS_OF_A_SLOT }
     {
         self.outboxes.waiting(&slot)
     }

@@ -7,4 +7,4 @@
 
 mod registry;
 
-pub use registry::{Full, Registry};
+pub use registry::{Full, MOST_RADIOS, Registry};

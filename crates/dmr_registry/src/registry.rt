@@ -1,7 +1,8 @@
 //! The set of registered radios, in the order of joining.
 
-ghost use Rattle.std.specs.Prelude.{◌≡◌, ℕ, ◌≤◌, ◌↔◌, [], length, IsTrue, IfOk, MatchOption, nat_eq};
+ghost use Rattle.std.specs.Prelude.{◌≡◌, ℕ, ◌≤◌, ◌<◌, ◌↔◌, [], ◌∷◌, ◌++◌, length, false, IsTrue, IfOk, MatchOption, nat_eq};
 ghost use Rattle.std.specs.List.{All, Contains};
+ghost use Rattle.dmr_registry.specs.declared.registry.TheConstants.{MOST_RADIOS};
 ghost use Rattle.dmr_registry.specs.Radios.{AreDistinct, is_held, answer_to_join, joined, without};
 ghost use Rattle.dmr_registry.specs.Least.{held_from, least_from, AreLeast};
 
@@ -11,8 +12,8 @@ use dmr_table::KeyedTable;
 use std::alloc::Global;
 use std::marker::Model;
 
-/// The most radios that can be registered at a time.
-const MOST_RADIOS: usize = 4096;
+/// The most radios that can be registered at a time: 4,096, by this project's profile.
+pub const MOST_RADIOS: usize = 4096;
 
 /// There is no place for another radio: 4,096 others are registered.
 #[derive(Clone, Copy, Debug, PartialEq, Eq)]
@@ -27,6 +28,7 @@ pub struct Registry {
 
 impl Model for Registry {
     ghost use Rattle.std.specs.Prelude.{List, ℕ};
+    ghost use Rattle.dmr_registry.specs.declared.registry.TheConstants.{MOST_RADIOS};
     ghost use Rattle.dmr_registry.specs.Radios.{AreDistinct};
 
     ghost Value = { List ℕ };
@@ -58,7 +60,7 @@ impl Registry {
     /// How many radios are registered: 0 to 4,096.
     pub fn len(&self) -> usize
         ensures value { result ≡ length self.now }
-        ensures few { result ≤ 4096 }
+        ensures few { result ≤ MOST_RADIOS }
     {
         self.radios.len()
     }
@@ -73,7 +75,7 @@ impl Registry {
     /// The registered radios, the one that joined first in front. There are at most 4,096, and none stands twice.
     pub fn as_slice(&self) -> &[Address]
         ensures value { result.now ≡ self.now }
-        ensures few { length self.now ≤ 4096 }
+        ensures few { length self.now ≤ MOST_RADIOS }
         ensures distinct { AreDistinct self.now }
     {
         self.radios.as_slice()
@@ -99,8 +101,17 @@ impl Registry {
         if self.len() >= MOST_RADIOS {
             return Err(Full);
         }
-        self.radios.push(radio);
+        self.add(radio);
         Ok(true)
+    }
+
+    /// Registers a radio that isn't registered, behind those that are. There must be a place for it.
+    pub fn add(&mut self, radio: Address)
+        requires fresh { is_held self.old radio ≡ false }
+        requires room { length self.old < MOST_RADIOS }
+        ensures { self.new ≡ self.old ++ radio ∷ [] }
+    {
+        self.radios.push(radio);
     }
 
     /// Takes a radio out, and answers whether it was registered. The others keep their order.
@@ -109,8 +120,15 @@ impl Registry {
         ensures radios { self.new ≡ without self.old radio }
     {
         let was_held = self.has(radio);
-        self.radios.remove(radio.get());
+        self.remove(radio);
         was_held
+    }
+
+    /// Takes a radio out, if it is registered. The others keep their order.
+    pub fn remove(&mut self, radio: Address)
+        ensures { self.new ≡ without self.old radio }
+    {
+        self.radios.remove(radio.get());
     }
 
     /// The 16 least registered radios from a number on, in ascending order; all of them where there are fewer.

@@ -1,7 +1,8 @@
 //! The asks among what stands.
 
-ghost use Rattle.std.specs.Prelude.{◌≡◌, length, is_err};
-ghost use Rattle.dmr_calls.specs.Asks.{others_than, has_no_place, with_ask, ask_of, ask_to, has_own_ask, without_ask_to};
+ghost use Rattle.std.specs.Prelude.{◌≡◌, ◌<◌, [], ◌∷◌, ◌++◌, length, is_err};
+ghost use Rattle.dmr_calls.specs.declared.calls.TheConstants.{MOST_ASKS};
+ghost use Rattle.dmr_calls.specs.Asks.{just_asked, others_than, has_no_place, with_ask, ask_of, ask_to, has_own_ask, without_ask_to};
 ghost use Rattle.dmr_calls.specs.Engaged.{ask_with};
 ghost use Rattle.dmr_calls.specs.Due.{due_ask};
 
@@ -21,9 +22,21 @@ impl Calls {
         if self.asks_of_others(ask.source) >= MOST_ASKS {
             return Err(Full);
         }
-        self.ask_over(ask.source);
-        self.asks.push(Asking { ask, waited: 0 });
+        self.add_ask(&ask);
         Ok(())
+    }
+
+    /// A C_AHOY was sent: the ask stands behind the others, with no tick since then. It takes the place of the ask of the
+    /// same source, if there is one. There must be a place for it: fewer than 32 asks of other sources stand.
+    pub fn add_ask(&mut self, ask: &Ask)
+        requires { length (others_than ask.now.source self.old.asks) < MOST_ASKS }
+        ensures { self.new ≡ record self.old { asks = others_than ask.now.source self.old.asks ++ just_asked ask.now ∷ [] } }
+    {
+        self.ask_over(ask.source);
+        self.asks.push(Asking {
+            ask: *ask,
+            waited: 0,
+        });
     }
 
     /// Takes out the ask of a radio, if there is one.

@@ -1,6 +1,7 @@
 //! The lines among what stands.
 
-ghost use Rattle.std.specs.Prelude.{◌≡◌, ◌≤◌, nat_le, length, is_err};
+ghost use Rattle.std.specs.Prelude.{◌≡◌, ◌≤◌, ◌<◌, [], ◌∷◌, ◌++◌, nat_le, length, is_err};
+ghost use Rattle.dmr_calls.specs.declared.calls.TheConstants.{MOST_LINES};
 ghost use Rattle.dmr_calls.specs.Lines.{with_line, without_line, first_line, lines_from, has_lines, line_of, line_to, has_group_line, has_own_group_line, has_own_line};
 ghost use Rattle.dmr_calls.specs.Engaged.{line_with};
 
@@ -23,14 +24,22 @@ fn from_place(lines: &[Line], place: usize) -> &[Line]
 impl Calls {
     /// Puts a line behind the others. `Err` where 32 lines stand; then nothing changes.
     pub fn line(&mut self, line: Line) -> Result<(), Full>
-        ensures full { is_err result ≡ nat_le 32 (length self.old.lines) }
+        ensures full { is_err result ≡ nat_le MOST_LINES (length self.old.lines) }
         ensures lines { self.new ≡ record self.old { lines = with_line self.old.lines line } }
     {
         if self.lines.len() >= MOST_LINES {
             return Err(Full);
         }
-        self.lines.push(line);
+        self.add_line(&line);
         Ok(())
+    }
+
+    /// Puts a line behind the others. There must be a place for it.
+    pub fn add_line(&mut self, line: &Line)
+        requires { length self.old.lines < MOST_LINES }
+        ensures { self.new ≡ record self.old { lines = self.old.lines ++ line.now ∷ [] } }
+    {
+        self.lines.push(*line);
     }
 
     /// Takes out the lines of a radio.

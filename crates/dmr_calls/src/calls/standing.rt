@@ -1,7 +1,8 @@
 //! The calls among what stands.
 
-ghost use Rattle.std.specs.Prelude.{◌≡◌, nat_le, length, map, is_err};
-ghost use Rattle.dmr_calls.specs.Calls.{marked, with_call, on_other_slots, on_other_carriers, call_on, group_call, own_group_call, own_call};
+ghost use Rattle.std.specs.Prelude.{◌≡◌, ◌<◌, [], ◌∷◌, ◌++◌, nat_le, length, map, is_err};
+ghost use Rattle.dmr_calls.specs.declared.calls.TheConstants.{MOST_CALLS};
+ghost use Rattle.dmr_calls.specs.Calls.{just_begun, marked, with_call, on_other_slots, on_other_carriers, call_on, group_call, own_group_call, own_call};
 ghost use Rattle.dmr_calls.specs.Engaged.{call_of};
 ghost use Rattle.dmr_calls.specs.Due.{due_call};
 
@@ -16,18 +17,26 @@ impl Calls {
     /// A call begins: it stands behind the others, with no tick since then. `Err` where 31 calls stand; then nothing
     /// changes.
     pub fn begin(&mut self, call: Call) -> Result<(), Full>
-        ensures full { is_err result ≡ nat_le 31 (length self.old.calls) }
+        ensures full { is_err result ≡ nat_le MOST_CALLS (length self.old.calls) }
         ensures calls { self.new ≡ record self.old { calls = with_call self.old.calls call } }
     {
         if self.calls.len() >= MOST_CALLS {
             return Err(Full);
         }
+        self.add_call(call);
+        Ok(())
+    }
+
+    /// A call begins: it stands behind the others, with no tick since then. There must be a place for it.
+    pub fn add_call(&mut self, call: Call)
+        requires { length self.old.calls < MOST_CALLS }
+        ensures { self.new ≡ record self.old { calls = self.old.calls ++ just_begun call ∷ [] } }
+    {
         self.calls.push(Standing {
             call,
             age: 0,
             quiet: 0,
         });
-        Ok(())
     }
 
     /// Takes out the calls on a slot, and gives the first of them.
@@ -36,8 +45,15 @@ impl Calls {
         ensures calls { self.new ≡ record self.old { calls = on_other_slots slot self.old.calls } }
     {
         let first = self.call_on(slot);
-        self.calls.remove(slot.index() as u32);
+        self.end_all_on(&slot);
         first
+    }
+
+    /// Takes out the calls on a slot, if any stand there.
+    pub fn end_all_on(&mut self, slot: &Slot)
+        ensures { self.new ≡ record self.old { calls = on_other_slots slot.now self.old.calls } }
+    {
+        self.calls.remove(slot.index() as u32);
     }
 
     /// Takes out the calls on the slots of a carrier.

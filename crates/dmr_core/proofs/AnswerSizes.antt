@@ -30,7 +30,7 @@ use Rattle.dmr_core.specs.Rules.{ack, acts_of, ahoy, answered, begin, cancel, cl
 use Rattle.dmr_core.specs.Sound.{IsSound, total}
 use Rattle.dmr_core.specs.Counts.{AreFew, elsewhere, on_control}
 use Rattle.dmr_core.proofs.PlanLemmas.{KnowsPlan}
-use Rattle.dmr_core.proofs.ChoiceLemmas.{by_option}
+use Rattle.dmr_core.proofs.ChoiceLemmas.{by_drop, by_end, by_option}
 use Rattle.dmr_core.proofs.SlotsStaySound.{itself}
 use Rattle.dmr_core.proofs.GrantsAreOwn.{found_stands, call_stands}
 use Rattle.dmr_core.proofs.EventsKeepSound.{sound-noted}
@@ -229,19 +229,17 @@ polls_few plan now c =
     few-append plan (sent plan now a (outbox now a)) (sent plan now b (outbox now b)) 1 0 0 1 0 0 (sent_few plan now a (outbox now a)) (sent_few plan now b (outbox now b))
 
 -- so it is with each command
-commanded_few : (plan : Settings) (now : Facts) (command : Command) → KnowsPlan plan → IsSound plan now → AreFew plan (commanded plan now command) 13 5 4
+commanded_few : (plan : Settings) (now : Facts) (command : Command) → KnowsPlan plan → IsSound plan now → AreFew plan (commanded plan now command).list 13 5 4
 unfolding commanded
 commanded_few plan now (Drop r) p h =
-    if_few plan (is_registered now r && has_room plan now) (close plan now r ++ Left r ∷ []) 13 5 4
-    (few-within plan (close plan now r ++ Left r ∷ []) 6 1 4 13 5 4
+    by_drop (λ acts. AreFew plan acts 13 5 4) (is_registered now r) (has_room plan now) (close plan now r ++ Left r ∷ []) (none_few plan 13 5 4)
+    (λ k. few-within plan (close plan now r ++ Left r ∷ []) 6 1 4 13 5 4
     (few-append plan (close plan now r) (Left r ∷ []) 5 1 4 1 0 0 (close_few plan now r p h) (plain_few plan (Left r) [] 0 0 0 refl refl (none_few plan 0 0 0)))
     (omega arith) (omega arith) (omega arith))
 commanded_few plan now (End c s) p h =
     let slot : Slot = record { carrier = c; slot = s } in
-    if_few plan (has_carrier plan c) _ 13 5 4
-    (by_option (λ acts. AreFew plan acts 13 5 4) (λ (call : Call). clear plan call) (call_on now.calls slot) []
+    by_end (λ acts. AreFew plan acts 13 5 4) (has_carrier plan c) (λ (call : Call). clear plan call) (call_on now.calls slot) (none_few plan 13 5 4)
     (λ call k. few-within plan (clear plan call) 5 0 4 13 5 4 (clear_few plan now call p h (found_stands (λ s. is_slot s.call.slot slot) now.calls call h.apart k)) (omega arith) (omega arith) (omega arith))
-    (none_few plan 13 5 4))
 commanded_few plan now _ p h = none_few plan 13 5 4
 
 -- so it is with each event

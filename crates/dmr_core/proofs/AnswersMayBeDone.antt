@@ -37,7 +37,7 @@ use Rattle.dmr_core.proofs.PlanLemmas.{KnowsPlan}
 use Rattle.dmr_core.proofs.NumberLemmas.{equal_itself, not_itself}
 use Rattle.dmr_core.proofs.ListLemmas.{total-filter, total_found, total_some, length-filter_le}
 use Rattle.dmr_core.proofs.FreeLemmas.{granted_known}
-use Rattle.dmr_core.proofs.ChoiceLemmas.{and_true, any-filter, by_if, by_option, lowest_is_free}
+use Rattle.dmr_core.proofs.ChoiceLemmas.{by_drop, by_end, and_true, any-filter, by_if, by_option, lowest_is_free}
 use Rattle.dmr_core.proofs.SlotsStaySound.{same_slot, IsFree, free_is, true_false, other_place, any_more}
 use Rattle.dmr_core.proofs.GrantsAreOwn.{found_stands, call_stands}
 use Rattle.dmr_core.proofs.FillsAreLateEntries.{fill_may}
@@ -475,17 +475,17 @@ dropped_may plan now r p h room =
     let c : Closes plan now r (close plan now r) = close_closes plan now r p h room in
     may-append plan (close plan now r) (Left r ∷ []) now c.may (c.closed.gone, tt)
 
-ended_may : (plan : Settings) (now : Facts) (slot : Slot) → KnowsPlan plan → IsSound plan now → AllMayDo plan now (option_map_or (λ (call : Call). clear plan call) (call_on now.calls slot) [])
-ended_may plan now slot p h =
-    by_option (AllMayDo plan now) (λ (call : Call). clear plan call) (call_on now.calls slot) []
-    (λ call k. clear_may plan now call p h (found_stands (λ s. is_slot s.call.slot slot) now.calls call h.apart k)) tt
+ended_may : (plan : Settings) (now : Facts) (slot : Slot) (call : Call) → KnowsPlan plan → IsSound plan now → call_on now.calls slot ≡ Some call → AllMayDo plan now (clear plan call)
+ended_may plan now slot call p h k = clear_may plan now call p h (found_stands (λ s. is_slot s.call.slot slot) now.calls call h.apart k)
 
-commanded_may : (plan : Settings) (now : Facts) (command : Command) → KnowsPlan plan → IsSound plan now → AllMayDo plan (noted plan now (Say command)) (commanded plan now command)
+commanded_may : (plan : Settings) (now : Facts) (command : Command) → KnowsPlan plan → IsSound plan now → AllMayDo plan (noted plan now (Say command)) (commanded plan now command).list
 unfolding commanded
 commanded_may plan now (Drop r) p h =
-    if_may plan now (is_registered now r && has_room plan now) (close plan now r ++ Left r ∷ [])
-    (λ k. dropped_may plan now r p h (room_is plan now (and_true (is_registered now r) (has_room plan now) k).1))
-commanded_may plan now (End c s) p h = if_may plan now (has_carrier plan c) _ (λ k. ended_may plan now (record { carrier = c; slot = s }) p h)
+    by_drop (AllMayDo plan now) (is_registered now r) (has_room plan now) (close plan now r ++ Left r ∷ []) tt
+    (λ k. dropped_may plan now r p h (room_is plan now k))
+commanded_may plan now (End c s) p h =
+    let slot : Slot = record { carrier = c; slot = s } in
+    by_end (AllMayDo plan now) (has_carrier plan c) (λ (call : Call). clear plan call) (call_on now.calls slot) tt (λ call k. ended_may plan now slot call p h k)
 commanded_may plan now _ p h = tt
 
 -- each event's acts may be done

@@ -1,12 +1,12 @@
 -- The slots that are held stay those of the calls.
 use Rattle.std.proofs.Common.{◌≡◌, ◌<◌, ◌≢◌, ◌+◌, ◌*◌, ℕ, zero, suc, List, [], ◌∷◌, ◌++◌, Bool, true, false, refl, sym, ◌∙◌, ap, subst, arith, length, length-set, map}
-use Rattle.std.specs.Prelude.{not, cond, ◌||◌, ◌&&◌, ◌==◌, slice_set, slice_index_or, replicate, nat_le, if◌then◌else◌}
+use Rattle.std.specs.Prelude.{not, cond, ◌||◌, ◌&&◌, ◌==◌, slice_set, slice_index_or, replicate}
 use Rattle.std.proofs.lemmas.Bool.Decides.{nat_tests}
 use Rattle.std.proofs.lemmas.List.{get_or-set_same, get_or-set_other}
 use Rattle.dmr_pdu.specs.declared.slots.Slot.{Slot}
 use Rattle.dmr_calls.specs.declared.call.Call.{Call}
 use Rattle.dmr_calls.specs.declared.call.Standing.{Standing}
-use Rattle.dmr_calls.specs.Calls.{is_slot, just_begun, with_call, counted, marked, on_other_slots, on_other_carriers}
+use Rattle.dmr_calls.specs.Calls.{is_slot, just_begun, counted, marked, on_other_slots, on_other_carriers}
 use Rattle.dmr_pool.specs.Slots.{IsSlot, place, is_held, released}
 use Rattle.dmr_core.specs.Words.{stands_on}
 use Rattle.dmr_core.specs.Held.{HoldsCalls}
@@ -153,9 +153,3 @@ none (suc n) (suc i) = none n i
 
 pub at_first : HoldsCalls (replicate 32 false) []
 at_first s is = none 32 (place s)
-
--- a call that has a place begins
-pub with_begun : (calls : List Standing) (call : Call) → length calls < 31 → with_call calls call ≡ calls ++ just_begun call ∷ []
-with_begun calls call few =
-    let e : nat_le 31 (length calls) ≡ false = grind (arith, nat_tests) in
-    ap (λ (b : Bool). if b then calls else calls ++ just_begun call ∷ []) e

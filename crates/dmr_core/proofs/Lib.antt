@@ -36,3 +36,7 @@ mod FreeLemmas
 mod EqualityLemmas
 pub mod ConsoleLemmas
 pub mod PollSizes
+mod Cases
+mod GroupCases
+mod LateCases
+mod IndividualCases

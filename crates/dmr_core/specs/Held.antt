@@ -1,4 +1,4 @@
--- That the slots which are held are those of the calls.
+-- That the slots which are held are those of the calls, as the machine keeps them. Nothing above rests on this definition.
 use Rattle.std.specs.Prelude.{◌≡◌, List, Bool}
 use Rattle.dmr_pdu.specs.declared.slots.Slot.{Slot}
 use Rattle.dmr_calls.specs.declared.call.Standing.{Standing}

@@ -15,6 +15,10 @@ answer plan facts journal event = record {
   said = reply_to plan (facts_after plan facts journal) event;
 }
 
+-- the entry of an event and its answer, where it doesn't matter who brought the event
+abbrev pub entry_by_nobody : Event → Acts → Entry
+entry_by_nobody event acts = record { actor = 0; event = event; acts = acts }
+
 -- each entry's acts are the answer of the entries before it
 abbrev pub IsLegal : Settings → Facts → List Entry → Type 0
 IsLegal plan facts [] = Unit {0}
@@ -25,7 +29,7 @@ abbrev pub journal_of : Settings → Facts → List Event → List Entry
 journal_of plan facts [] = []
 journal_of plan facts (event ∷ earlier) =
     let journal = journal_of plan facts earlier in
-    record { actor = 0; event = event; acts = answer plan facts journal event } ∷ journal
+    entry_by_nobody event (answer plan facts journal event) ∷ journal
 
 -- the events of a journal
 abbrev pub events_of : List Entry → List Event

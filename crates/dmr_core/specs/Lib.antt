@@ -1,6 +1,7 @@
 pub mod Facts
 pub mod Words
 pub mod Late
+pub mod Shown
 pub mod Rules
 pub mod Replies
 pub mod Journal
@@ -18,7 +19,3 @@ pub mod Down
 pub mod Backoff
 pub mod Ages
 pub mod Orders
-pub mod Cases
-pub mod GroupCases
-pub mod LateCases
-pub mod IndividualCases

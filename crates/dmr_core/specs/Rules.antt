@@ -1,5 +1,5 @@
--- The acts that answer an event.
-use Rattle.std.specs.Prelude.{ℕ, ◌+◌, ◌/◌, ◌%◌, ◌^◌, List, [], ◌∷◌, ◌++◌, Bool, true, false, not, if◌then◌else◌, ◌==◌, ◌&&◌, ◌||◌, nat_lt, nat_le, length, replicate, Option, None, is_some, option_map}
+-- What answers an event.
+use Rattle.std.specs.Prelude.{ℕ, ◌+◌, ◌-◌, ◌/◌, ◌%◌, ◌^◌, List, [], ◌∷◌, ◌++◌, Bool, true, false, not, if◌then◌else◌, ◌==◌, ◌&&◌, ◌||◌, nat_lt, nat_le, length, filter, replicate, Option, Some, None, is_some, option_map}
 use Rattle.std.specs.Option.{option_map_or}
 use Rattle.dmr_pdu.specs.declared.slots.Slot.{Slot}
 use Rattle.dmr_pdu.specs.declared.pdu.Pdu.{Pdu}
@@ -8,13 +8,16 @@ use Rattle.dmr_pdu.specs.Kinds.{registration as registration_kind, cancel as can
 use Rattle.dmr_pdu.specs.Reasons.{not_supported, perm_user_refused, transient_sys_refused, noreg_ms_away, sysbusy_refused, call_cancel_refused, reg_refused, reg_denied, ms_not_registered, called_party_busy, group_not_allowed, ms_accepted, message_accepted, reg_accepted, queued_for_resource, wait}
 use Rattle.dmr_plan.specs.declared.settings.Settings.{Settings}
 use Rattle.dmr_plan.specs.Plan.{lists_radio, lists_group}
+use Rattle.dmr_registry.specs.declared.registry.TheConstants.{MOST_RADIOS}
+use Rattle.dmr_registry.specs.Least.{least_from}
 use Rattle.dmr_access.specs.Fill.{fill_of, is_late_due}
 use Rattle.dmr_calls.specs.declared.ask.Ask.{Ask}
 use Rattle.dmr_calls.specs.declared.line.Line.{Line}
 use Rattle.dmr_calls.specs.declared.call.Call.{Call}
 use Rattle.dmr_calls.specs.declared.call.Standing.{Standing}
+use Rattle.dmr_calls.specs.declared.calls.TheConstants.{MOST_ASKS, MOST_LINES}
 use Rattle.dmr_calls.specs.Asks.{ask_of, ask_to, has_own_ask}
-use Rattle.dmr_calls.specs.Lines.{first_line, line_of, line_to, has_group_line, has_own_group_line, has_own_line}
+use Rattle.dmr_calls.specs.Lines.{first_line, lines_from, line_of, line_to, has_group_line, has_own_group_line, has_own_line}
 use Rattle.dmr_calls.specs.Calls.{call_on, group_call, own_group_call, own_call}
 use Rattle.dmr_calls.specs.Engaged.{call_of}
 use Rattle.dmr_calls.specs.Due.{due_call, due_ask}
@@ -23,11 +26,15 @@ use Rattle.dmr_core.specs.declared.request.Request.{Request}
 use Rattle.dmr_core.specs.declared.event.Event.{Event}
 use Rattle.dmr_core.specs.declared.event.Event.TheVariants.{Heard, Poll, Tick, Say}
 use Rattle.dmr_core.specs.declared.command.Command.{Command}
-use Rattle.dmr_core.specs.declared.command.Command.TheVariants.{Drop, End}
+use Rattle.dmr_core.specs.declared.command.Command.TheVariants as command
+use Rattle.dmr_core.specs.declared.reply.Reply.{Reply}
+use Rattle.dmr_core.specs.declared.reply.Reply.TheVariants as reply
 use Rattle.dmr_core.specs.declared.act.Act.{Act}
+use Rattle.dmr_core.specs.declared.act.Acts.{Acts}
 use Rattle.dmr_core.specs.declared.act.Act.TheVariants.{Queue, Send, Fill, Joined, Left, Asked, AskOver, Lined, Unlined, Began, Ended}
 use Rattle.dmr_core.specs.Facts.{Facts, asks_by_event, calls_by_event, has_carrier}
 use Rattle.dmr_core.specs.Late.{next_call}
+use Rattle.dmr_core.specs.Shown.{all_shown, calls_of}
 use Rattle.dmr_core.specs.Words.{is_up, outbox, lpcn_of, lowest_free, slot_for_new, has_room, is_registered, is_engaged}
 
 -- C_ACKD to the source, for the reason, with the target besides
@@ -86,14 +93,14 @@ registration plan now q =
     if is_leaving plan q.options then leaving plan now q else
     if not (lists_radio plan q.source) then ack plan q.source q.target reg_denied else
     if is_registered now q.source then ack plan q.source q.target reg_accepted else
-    if nat_le 4096 (length now.registered) then ack plan q.source q.target reg_refused else
+    if nat_le MOST_RADIOS (length now.registered) then ack plan q.source q.target reg_refused else
     (Joined q.source ∷ ack plan q.source q.target reg_accepted)
 
 -- a call where a slot is free and no line stands, else a line, else neither
 unfoldable pub new_call : Settings → Facts → Line → List Act
 new_call plan now line =
     option_map_or (λ (slot : Slot). begin plan (call_of_line line slot)) (slot_for_new plan now)
-    (if nat_lt (length now.lines) 32 then Lined line ∷ ack plan line.source line.target queued_for_resource else ack plan line.source line.target sysbusy_refused)
+    (if nat_lt (length now.lines) MOST_LINES then Lined line ∷ ack plan line.source line.target queued_for_resource else ack plan line.source line.target sysbusy_refused)
 
 -- a talkgroup request
 unfoldable pub talkgroup : Settings → Facts → Request → List Act
@@ -120,7 +127,7 @@ individual plan now q =
     if is_engaged now q.source then ack plan q.source q.target transient_sys_refused else
     if not (is_registered now q.target) then ack plan q.source q.target noreg_ms_away else
     if is_engaged now q.target then ack plan q.source q.target called_party_busy else
-    if nat_lt (length now.asks) 32
+    if nat_lt (length now.asks) MOST_ASKS
     then Asked (record { source = q.source; target = q.target; options = q.options; attempt = 1 }) ∷ ack plan q.source q.target wait
     ++ ahoy plan (record { source = q.source; target = q.target; options = q.options; attempt = 1 })
     else ack plan q.source q.target sysbusy_refused)
@@ -191,12 +198,39 @@ sent plan now slot (pdu ∷ pdus) = Send slot pdu ∷ []
 unfoldable pub poll : Settings → Facts → Slot → List Act
 poll plan now slot = sent plan now slot (outbox now slot)
 
--- an operator's command: a registered radio is dropped, where there is room for what that brings about; the call on a slot ends
-unfoldable pub commanded : Settings → Facts → Command → List Act
-commanded plan now (Drop r) = if is_registered now r && has_room plan now then close plan now r ++ Left r ∷ [] else []
-commanded plan now (End c s) =
-    if has_carrier plan c then option_map_or (λ (call : Call). clear plan call) (call_on now.calls (record { carrier = c; slot = s })) [] else []
-commanded plan now _ = []
+-- a command that changes nothing has this reply alone
+abbrev pub reply_alone : Reply → Acts
+reply_alone reply = record { list = []; said = Some reply }
+
+-- a command is done by these acts, and the reply says so
+abbrev pub acts_and_done : List Act → Acts
+acts_and_done acts = record { list = acts; said = Some reply.Done }
+
+-- a radio is dropped: where it is registered, and there is room for what that brings about, what it is engaged by is over and it is registered no more
+abbrev pub drop_radio : Settings → Facts → ℕ → Acts
+drop_radio plan now r =
+    if not (is_registered now r) then reply_alone reply.NotRegistered else
+    if not (has_room plan now) then reply_alone reply.Busy else
+    acts_and_done (close plan now r ++ Left r ∷ [])
+
+-- the call on a slot is ended
+abbrev pub end_call : Settings → Facts → Slot → Acts
+end_call plan now slot =
+    if not (has_carrier plan slot.carrier) then reply_alone reply.NoCarrier else
+    option_map_or (λ (call : Call). acts_and_done (clear plan call)) (call_on now.calls slot) (reply_alone reply.NoCall)
+
+-- an operator's command: its acts and its reply
+unfoldable pub commanded : Settings → Facts → Command → Acts
+commanded plan now command.Status =
+    reply_alone (reply.Status (length (filter (λ up. up) now.up)) (length now.registered) (length now.asks) (length now.lines) (length now.calls) now.moving)
+commanded plan now (command.Radios from) = reply_alone (reply.Radios (least_from now.registered from))
+commanded plan now (command.Calls c) = reply_alone (if has_carrier plan c then reply.Calls (calls_of now.calls c) else reply.NoCarrier)
+commanded plan now (command.Lines from) = reply_alone (reply.Lines from (lines_from now.lines (from - 1)))
+commanded plan now command.Slots = reply_alone (reply.Slots (all_shown plan now))
+commanded plan now (command.Drop r) = drop_radio plan now r
+commanded plan now (command.End c s) = end_call plan now (record { carrier = c; slot = s })
+commanded plan now (command.Move lpcn) = acts_and_done []
+commanded plan now command.Stay = acts_and_done []
 
 -- the acts that answer the event, from what stands when it comes; a tick is counted first
 abbrev pub acts_of : Settings → Facts → Event → List Act
@@ -205,5 +239,5 @@ acts_of plan now (Heard slot pdu) =
 acts_of plan now (Poll c) =
     if is_up now c then poll plan now (record { carrier = c; slot = 0 }) ++ poll plan now (record { carrier = c; slot = 1 }) else []
 acts_of plan now Tick = tick plan (record now { calls = calls_by_event now.calls Tick; asks = asks_by_event plan now.asks Tick })
-acts_of plan now (Say command) = commanded plan now command
+acts_of plan now (Say command) = (commanded plan now command).list
 acts_of plan now _ = []

@@ -13,6 +13,9 @@ use Rattle.dmr_calls.specs.declared.call.Call.{Call}
 use Rattle.dmr_calls.specs.declared.call.Standing.{Standing}
 use Rattle.dmr_calls.specs.Calls.{call_on}
 use Rattle.dmr_calls.specs.Lines.{has_group_line}
+use Rattle.dmr_registry.specs.declared.registry.TheConstants.{MOST_RADIOS}
+use Rattle.dmr_calls.specs.declared.calls.TheConstants.{MOST_ASKS, MOST_CALLS, MOST_LINES}
+use Rattle.dmr_pool.specs.declared.outbox.TheConstants.{MOST_PDUS_OF_A_SLOT}
 use Rattle.dmr_pool.specs.Free.{control_slot, is_control}
 use Rattle.dmr_core.specs.Facts.{Facts, has_carrier}
 use Rattle.dmr_core.specs.Words.{is_up, outbox, lpcn_of, is_registered, stands_on}
@@ -94,11 +97,11 @@ pub record IsSound (plan : Settings) (facts : Facts) : Type 0 where
   pub elsewhere : (slot : Slot) → slot.slot < 2 → is_control plan slot ≡ false → list_any is_grant (outbox facts slot) ≡ false
   pub own : (slot : Slot) (call : Call) → call_on facts.calls slot ≡ Some call → list_all (is_own plan call) (outbox facts (control_slot plan)) ≡ true
   -- limits
-  pub few_calls : length facts.calls ≤ 31
-  pub few_asks : length facts.asks ≤ 32
-  pub few_lines : length facts.lines ≤ 32
-  pub few_radios : length facts.registered ≤ 4096
-  pub few_waiting : (slot : Slot) → slot.slot < 2 → length (outbox facts slot) ≤ 64
+  pub few_calls : length facts.calls ≤ MOST_CALLS
+  pub few_asks : length facts.asks ≤ MOST_ASKS
+  pub few_lines : length facts.lines ≤ MOST_LINES
+  pub few_radios : length facts.registered ≤ MOST_RADIOS
+  pub few_waiting : (slot : Slot) → slot.slot < 2 → length (outbox facts slot) ≤ MOST_PDUS_OF_A_SLOT
   -- there are noise numbers exactly while the control carrier is up
   pub noiseless : is_up facts plan.control ≡ false → facts.noise ≡ []
   pub window : is_up facts plan.control ≡ true → length facts.noise ≡ 32

@@ -1,6 +1,6 @@
 //! What the site does.
 
-ghost use Rattle.std.specs.Prelude.{◌≡◌, ◌↔◌, IsTrue};
+ghost use Rattle.std.specs.Prelude.{◌≡◌, ◌↔◌, IsTrue, None};
 
 use crate::reply::Reply;
 use dmr_calls::{Ask, Call, Line};
@@ -56,6 +56,13 @@ pub struct Acts {
 }
 
 impl Acts {
+    /// These acts, and no reply.
+    pub fn without_reply(list: ActList) -> Acts
+        ensures { result ≡ record { list = list; said = None } }
+    {
+        Acts { list, said: None }
+    }
+
     /// Whether the two are the same answer: the same acts in the same order, and the same reply. It answers as `==` does, and
     /// says what that means.
     pub fn is(&self, other: &Acts) -> bool

@@ -1,9 +1,11 @@
 //! The parts of a site, and what each event and act does to them.
 
-ghost use Rattle.std.specs.Prelude.{◌≡◌, ◌≢◌, [], ◌∷◌, fold, IfOk, None};
-ghost use Rattle.dmr_core.specs.declared.event.Event.TheVariants.{Up, Lost, Tick};
+ghost use Rattle.std.specs.Prelude.{◌≡◌, ◌≢◌, [], ◌∷◌, fold, IfOk};
+ghost use Rattle.dmr_core.specs.declared.event.Event.TheVariants.{Up, Lost, Heard, Tick};
 ghost use Rattle.dmr_core.specs.Facts.{facts_after, noted, done, nothing};
 ghost use Rattle.dmr_core.specs.Rules.{acts_of};
+ghost use Rattle.dmr_core.specs.Replies.{reply_to};
+ghost use Rattle.dmr_core.specs.Journal.{entry_by_nobody};
 ghost use Rattle.dmr_core.specs.declared.act.Act.TheVariants.{Began, Ended};
 ghost use Rattle.dmr_pool.specs.Slots.{IsSlot};
 ghost use Rattle.dmr_core.specs.May.{MayBegin, MayDo, AllMayDo};
@@ -17,13 +19,13 @@ mod poll;
 mod slots;
 mod tick;
 
-use crate::act::{Act, ActList};
+use crate::act::{Act, ActList, Acts};
 use crate::command::Command;
 use crate::event::Event;
 use crate::named::NamedSlot;
 use dmr_access::Access;
 use dmr_calls::{Call, Calls};
-use dmr_pdu::{BoundedList, CarrierNo, Lpcn, OutOfMemory, Slot};
+use dmr_pdu::{BoundedList, CarrierNo, Lpcn, OutOfMemory, Pdu, Slot};
 use dmr_plan::Plan;
 use dmr_pool::Pool;
 use dmr_registry::Registry;
@@ -180,7 +182,7 @@ impl Machine {
         numbers_of(&call.slot);
         self.pool.keeps();
         self.pool.hold(call.slot);
-        let _ = self.calls.begin(*call);
+        self.calls.add_call(*call);
     }
 
     /// The call on a slot ends, and no longer holds it.
@@ -190,7 +192,7 @@ impl Machine {
         numbers_of(slot);
         self.pool.keeps();
         self.pool.release(*slot);
-        let _ = self.calls.end(*slot);
+        self.calls.end_all_on(slot);
     }
 
     /// An act opens and closes what stands.
@@ -199,26 +201,14 @@ impl Machine {
         ensures { self.new ≡ record { plan = self.old.plan; facts = done self.old.facts act.now } }
     {
         match act {
-            Act::Queue(slot, pdu) => {
-                let _ = self.pool.push(*slot, *pdu);
-            }
-            Act::Send(slot, _) => {
-                let _ = self.pool.take(*slot);
-            }
+            Act::Queue(slot, pdu) => self.pool.put(slot, pdu),
+            Act::Send(slot, pdu) => self.pool.take_first(slot, pdu),
             Act::Fill(slot, pdu) => self.fill(slot, pdu),
-            Act::Joined(radio) => {
-                let _ = self.registry.join(*radio);
-            }
-            Act::Left(radio) => {
-                let _ = self.registry.leave(*radio);
-            }
-            Act::Asked(ask) => {
-                let _ = self.calls.ask(*ask);
-            }
+            Act::Joined(radio) => self.registry.add(*radio),
+            Act::Left(radio) => self.registry.remove(*radio),
+            Act::Asked(ask) => self.calls.add_ask(ask),
             Act::AskOver(source) => self.calls.ask_over(*source),
-            Act::Lined(line) => {
-                let _ = self.calls.line(*line);
-            }
+            Act::Lined(line) => self.calls.add_line(line),
             Act::Unlined(source) => self.calls.unline(*source),
             Act::Began(call) => self.begin(call),
             Act::Ended(slot) => self.end(slot),
@@ -234,33 +224,38 @@ impl Machine {
         }
     }
 
+    /// What answers a PDU in a slot: only on the control slot, with room, is one answered.
+    fn heard_on(&self, slot: &Slot, pdu: &Pdu) -> ActList
+        ensures { result ≡ acts_of self.now.plan self.now.facts (Heard slot.now pdu.now) }
+    {
+        if self.is_up(slot.carrier) && self.is_control(slot) && self.has_room() {
+            self.heard(pdu)
+        } else {
+            BoundedList::new()
+        }
+    }
+
     /// The answer to an event other than a tick.
-    fn answer(&self, event: &Event) -> ActList
+    fn answer(&self, event: &Event) -> Acts
         requires { event.now ≢ Tick }
-        ensures { result ≡ acts_of self.now.plan self.now.facts event.now }
+        ensures { result ≡ record { list = acts_of self.now.plan self.now.facts event.now; said = reply_to self.now.plan self.now.facts event.now } }
     {
         match event {
-            Event::Heard(slot, pdu) => {
-                if self.is_up(slot.carrier) && self.is_control(slot) && self.has_room() {
-                    self.heard(pdu)
-                } else {
-                    BoundedList::new()
-                }
-            }
-            Event::Poll(carrier) => self.poll(*carrier),
+            Event::Heard(slot, pdu) => Acts::without_reply(self.heard_on(slot, pdu)),
+            Event::Poll(carrier) => Acts::without_reply(self.poll(*carrier)),
             Event::Say(command) => self.commanded(command),
-            _ => BoundedList::new(),
+            _ => Acts::without_reply(BoundedList::new()),
         }
     }
 
     /// Notes an event, and answers it: a tick is counted first.
-    fn noted(&mut self, event: &Event) -> ActList
-        ensures acts { result ≡ acts_of self.old.plan self.old.facts event.now }
+    fn noted(&mut self, event: &Event) -> Acts
+        ensures acts { result ≡ record { list = acts_of self.old.plan self.old.facts event.now; said = reply_to self.old.plan self.old.facts event.now } }
         ensures facts { self.new ≡ record { plan = self.old.plan; facts = noted self.old.plan self.old.facts event.now } }
     {
         if let Event::Tick = event {
             self.note(event);
-            self.tick()
+            Acts::without_reply(self.tick())
         } else {
             let acts = self.answer(event);
             self.note(event);
@@ -269,13 +264,13 @@ impl Machine {
     }
 
     /// Answers an event, and stands after it as an entry of both says.
-    pub fn apply(&mut self, event: &Event) -> ActList
+    pub fn apply(&mut self, event: &Event) -> Acts
         requires { AllMayDo self.old.plan (noted self.old.plan self.old.facts event.now) (acts_of self.old.plan self.old.facts event.now) }
-        ensures acts { result ≡ acts_of self.old.plan self.old.facts event.now }
-        ensures facts { self.new ≡ record { plan = self.old.plan; facts = facts_after self.old.plan self.old.facts (record { actor = 0; event = event.now; acts = record { list = result; said = None } } ∷ []) } }
+        ensures acts { result ≡ record { list = acts_of self.old.plan self.old.facts event.now; said = reply_to self.old.plan self.old.facts event.now } }
+        ensures facts { self.new ≡ record { plan = self.old.plan; facts = facts_after self.old.plan self.old.facts (entry_by_nobody event.now result ∷ []) } }
     {
         let acts = self.noted(event);
-        self.perform_all(acts.as_slice());
+        self.perform_all(acts.list.as_slice());
         acts
     }
 

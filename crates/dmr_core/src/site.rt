@@ -2,6 +2,7 @@
 
 ghost use Rattle.std.specs.Prelude.{◌≡◌, ◌↔◌, [], ◌∷◌, IfOk, IsTrue};
 ghost use Rattle.dmr_core.specs.Facts.{facts_after, nothing};
+ghost use Rattle.dmr_core.specs.Journal.{entry_by_nobody};
 ghost use Rattle.dmr_core.specs.Replies.{reply_to};
 ghost use Rattle.dmr_core.specs.Rules.{acts_of};
 ghost use Rattle.dmr_core.specs.Same.{are_same};
@@ -58,14 +59,9 @@ impl Site {
     pub fn apply(&mut self, event: Event) -> Acts
         ensures acts { result.list ≡ acts_of self.old.plan self.old.facts event }
         ensures said { result.said ≡ reply_to self.old.plan self.old.facts event }
-        ensures facts { self.new ≡ record { plan = self.old.plan; facts = facts_after self.old.plan self.old.facts (record { actor = 0; event = event; acts = result } ∷ []) } }
+        ensures facts { self.new ≡ record { plan = self.old.plan; facts = facts_after self.old.plan self.old.facts (entry_by_nobody event result ∷ []) } }
     {
-        let event = &event;
-        let said = self.machine.reply_to(event);
-        Acts {
-            list: self.machine.apply(event),
-            said,
-        }
+        self.machine.apply(&event)
     }
 
     /// A site of its own with the same plan and facts. `Err` where there is no memory for it; this site stays as it is.

@@ -1,6 +1,6 @@
 //! The acts that answers are made of.
 
-ghost use Rattle.std.specs.Prelude.{◌≡◌, ◌≤◌, ◌+◌, ◌<◌, ◌∷◌, ◌++◌, [], length, replicate};
+ghost use Rattle.std.specs.Prelude.{◌≡◌, ◌≤◌, ◌+◌, ◌<◌, ◌++◌, length, replicate};
 ghost use Rattle.dmr_core.specs.Rules.{ack, ahoy, begin, clear, close, grant, grant_pdu};
 
 use super::Machine;

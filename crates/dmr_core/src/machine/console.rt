@@ -1,92 +1,112 @@
-//! What an operator's commands bring about, and the replies.
+//! What answers an operator's commands: the acts and the reply, decided together.
 
-ghost use Rattle.std.specs.Prelude.{◌≡◌, ◌≤◌, ◌<◌, ◌+◌, ◌++◌, length};
-ghost use Rattle.dmr_core.specs.declared.command.Command.TheVariants.{Status};
-ghost use Rattle.dmr_core.specs.Rules.{commanded};
+ghost use Rattle.std.specs.Prelude.{◌≡◌, ◌≤◌, ◌<◌, ◌+◌, ◌++◌, length, filter, if◌then◌else◌};
+ghost use Rattle.dmr_core.specs.declared.reply.Reply.TheVariants.{Calls, NoCarrier, Status};
+ghost use Rattle.dmr_core.specs.Rules.{acts_and_done, commanded, drop_radio, end_call, reply_alone};
 ghost use Rattle.dmr_calls.specs.Calls.{call_on};
-ghost use Rattle.dmr_core.specs.Replies.{all_shown, at_most_one, calls_of, dropping, ending, reply_of, reply_to, shown, state_of};
+ghost use Rattle.dmr_core.specs.Facts.{has_carrier};
+ghost use Rattle.dmr_core.specs.Shown.{all_shown, at_most_one, calls_of, shown, state_of};
 
 use super::Machine;
-use crate::act::{Act, ActList};
+use crate::act::{Act, ActList, Acts};
 use crate::command::Command;
-use crate::event::Event;
 use crate::reply::{Reply, SlotState, State};
 use dmr_calls::Call;
 use dmr_pdu::{Address, BoundedList, CarrierNo, Slot, SlotNo};
 
+/// The answer to a command that changes nothing by itself.
+fn reply_alone(reply: Reply) -> Acts
+    ensures { result ≡ reply_alone reply }
+{
+    Acts {
+        list: BoundedList::new(),
+        said: Some(reply),
+    }
+}
+
+/// The answer to a command that is done, by these acts.
+fn acts_and_done(list: ActList) -> Acts
+    ensures { result ≡ acts_and_done list }
+{
+    Acts {
+        list,
+        said: Some(Reply::Done),
+    }
+}
+
 impl Machine {
-    /// What a command brings about.
+    /// What answers a command.
     #[tactic(auto, unfolding(crate::specs::Rules::commanded))]
-    pub(super) fn commanded(&self, command: &Command) -> ActList
+    pub(super) fn commanded(&self, command: &Command) -> Acts
         ensures { result ≡ commanded self.now.plan self.now.facts command.now }
     {
-        let mut acts = BoundedList::new();
         match command {
-            Command::Drop(radio) => {
-                if self.registry.has(*radio) && self.has_room() {
-                    self.add_close(&mut acts, *radio);
-                    acts.push(Act::Left(*radio));
-                }
-            }
-            Command::End(carrier, slot) => {
-                if self.plan.carrier_with(*carrier).is_some() {
-                    let slot = Slot::new(*carrier, *slot);
-                    if let Some(call) = self.calls.call_on(slot) {
-                        self.add_clear(&mut acts, &call);
-                    }
-                }
-            }
-            _ => {}
-        }
-        acts
-    }
-
-    /// The reply to an event: only a command has one.
-    pub fn reply_to(&self, event: &Event) -> Option<Reply>
-        ensures { result ≡ reply_to self.now.plan self.now.facts event.now }
-    {
-        match event {
-            Event::Say(command) => Some(self.reply_of(command)),
-            _ => None,
-        }
-    }
-
-    /// The reply to a command.
-    #[tactic(auto, unfolding(crate::specs::Replies::reply_of))]
-    fn reply_of(&self, command: &Command) -> Reply
-        ensures { result ≡ reply_of self.now.plan self.now.facts command.now }
-    {
-        match command {
-            Command::Status => self.status(),
+            Command::Status => reply_alone(self.status()),
             Command::Radios(from) => {
                 let radios = self.registry.from_number(*from);
-                Reply::Radios(BoundedList::from_slice(radios.as_slice()))
+                reply_alone(Reply::Radios(BoundedList::from_slice(radios.as_slice())))
             }
-            Command::Calls(carrier) => {
-                if self.plan.carrier_with(*carrier).is_some() {
-                    Reply::Calls(self.calls_of(*carrier))
-                } else {
-                    Reply::NoCarrier
-                }
-            }
+            Command::Calls(carrier) => reply_alone(self.calls_or_no_carrier(*carrier)),
             Command::Lines(from) => {
                 let lines = self.calls.lines_from(usize::from(from.get()) - 1);
-                Reply::Lines {
+                reply_alone(Reply::Lines {
                     from: *from,
                     rows: BoundedList::from_slice(lines.as_slice()),
-                }
+                })
             }
-            Command::Slots => Reply::Slots(self.slots()),
-            Command::Drop(radio) => self.dropping(*radio),
-            Command::End(carrier, slot) => self.ending(&Slot::new(*carrier, *slot)),
-            Command::Move(_) | Command::Stay => Reply::Done,
+            Command::Slots => reply_alone(Reply::Slots(self.slots())),
+            Command::Drop(radio) => self.drop_radio(*radio),
+            Command::End(carrier, slot) => self.end_call(&Slot::new(*carrier, *slot)),
+            Command::Move(_) | Command::Stay => acts_and_done(BoundedList::new()),
+        }
+    }
+
+    /// Drops a radio: where it is registered, and there is room for what that brings about, what it is engaged by is over
+    /// and it is registered no more.
+    fn drop_radio(&self, radio: Address) -> Acts
+        ensures { result ≡ drop_radio self.now.plan self.now.facts radio }
+    {
+        if !self.registry.has(radio) {
+            reply_alone(Reply::NotRegistered)
+        } else if !self.has_room() {
+            reply_alone(Reply::Busy)
+        } else {
+            let mut acts = BoundedList::new();
+            self.add_close(&mut acts, radio);
+            acts.push(Act::Left(radio));
+            acts_and_done(acts)
+        }
+    }
+
+    /// Ends the call on a slot of a carrier of the plan, if one stands there.
+    fn end_call(&self, slot: &Slot) -> Acts
+        ensures { result ≡ end_call self.now.plan self.now.facts slot.now }
+    {
+        if self.plan.carrier_with(slot.carrier).is_none() {
+            reply_alone(Reply::NoCarrier)
+        } else if let Some(call) = self.calls.call_on(*slot) {
+            let mut acts = BoundedList::new();
+            self.add_clear(&mut acts, &call);
+            acts_and_done(acts)
+        } else {
+            reply_alone(Reply::NoCall)
+        }
+    }
+
+    /// The calls on a carrier, or that the plan has none of this number.
+    fn calls_or_no_carrier(&self, carrier: CarrierNo) -> Reply
+        ensures { result ≡ (if has_carrier self.now.plan carrier then Calls (calls_of self.now.facts.calls carrier) else NoCarrier) }
+    {
+        if self.plan.carrier_with(carrier).is_some() {
+            Reply::Calls(self.calls_of(carrier))
+        } else {
+            Reply::NoCarrier
         }
     }
 
     /// What stands, in numbers.
-    #[tactic(auto, unfolding(crate::specs::Replies::reply_of))]
     fn status(&self) -> Reply
-        ensures { result ≡ reply_of self.now.plan self.now.facts Status }
+        ensures { result ≡ Status (length (filter (λ up. up) self.now.facts.up)) (length self.now.facts.registered) (length self.now.facts.asks) (length self.now.facts.lines) (length self.now.facts.calls) self.now.facts.moving }
     {
         let counts = self.calls.counts();
         Reply::Status {
@@ -159,32 +179,6 @@ impl Machine {
                 slot: *slot,
                 state: self.state_of(slot),
             });
-        }
-    }
-
-    /// The reply where a radio is to be dropped.
-    fn dropping(&self, radio: Address) -> Reply
-        ensures { result ≡ dropping self.now.plan self.now.facts radio }
-    {
-        if !self.registry.has(radio) {
-            Reply::NotRegistered
-        } else if !self.has_room() {
-            Reply::Busy
-        } else {
-            Reply::Done
-        }
-    }
-
-    /// The reply where the call on a slot is to end.
-    fn ending(&self, slot: &Slot) -> Reply
-        ensures { result ≡ ending self.now.plan self.now.facts slot.now }
-    {
-        if self.plan.carrier_with(slot.carrier).is_none() {
-            Reply::NoCarrier
-        } else if self.calls.call_on(*slot).is_none() {
-            Reply::NoCall
-        } else {
-            Reply::Done
         }
     }
 }

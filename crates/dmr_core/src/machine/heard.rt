@@ -7,14 +7,9 @@ ghost use Rattle.dmr_core.specs.Rules.{answered, cancel, heard, individual, is_l
 use super::Machine;
 use crate::act::{Act, ActList};
 use crate::request::Request;
-use dmr_calls::{Ask, Line};
+use dmr_calls::{Ask, Line, MOST_ASKS, MOST_LINES};
 use dmr_pdu::{Address, BoundedList, Kind, Number, Options, Pdu, Reason};
-
-/// The most radios that can be registered.
-const MOST_RADIOS: usize = 4096;
-
-/// The most asks, and the most lines, at a time.
-const MOST_WAITING: usize = 32;
+use dmr_registry::MOST_RADIOS;
 
 /// Whether the option bit is 1, bit 0 being the last of the seven.
 fn has_option(options: Options, bit: u8) -> bool
@@ -172,7 +167,7 @@ impl Machine {
     {
         if let Some(slot) = self.slot_for_new() {
             self.add_begin(acts, &line.on(slot));
-        } else if self.calls.counts().lines < MOST_WAITING {
+        } else if self.calls.counts().lines < MOST_LINES {
             acts.push(Act::Lined(*line));
             self.add_ack(acts, line.source, line.target, Reason::QUEUED_FOR_RESOURCE);
         } else {
@@ -239,7 +234,7 @@ impl Machine {
             self.add_ack(&mut acts, source, target, Reason::NOREG_MS_AWAY);
         } else if self.is_engaged(target) {
             self.add_ack(&mut acts, source, target, Reason::CALLED_PARTY_BUSY);
-        } else if self.calls.counts().asks < MOST_WAITING {
+        } else if self.calls.counts().asks < MOST_ASKS {
             let ask = &Ask {
                 source,
                 target,

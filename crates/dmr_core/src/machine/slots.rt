@@ -7,8 +7,8 @@ ghost use Rattle.dmr_core.specs.Words.{has_room, is_free, is_up, lowest_free, lp
 use super::{Machine, numbers_of};
 use dmr_pdu::{CarrierNo, Lpcn, Slot};
 
-/// With more PDUs than this in the control slot's outbox, requests are not answered.
-const ROOM: usize = 56;
+/// The most PDUs in the control slot's outbox with which there is room for another answer: 56, by this project's profile.
+pub const MOST_WITH_ROOM: usize = 56;
 
 impl Machine {
     /// Slot 0 of the control carrier.
@@ -36,7 +36,7 @@ impl Machine {
     pub(super) fn has_room(&self) -> bool
         ensures { result ≡ has_room self.now.plan self.now.facts }
     {
-        self.pool.waiting(self.control_slot()) <= ROOM
+        self.pool.waiting(self.control_slot()) <= MOST_WITH_ROOM
     }
 
     /// The channel of a carrier.

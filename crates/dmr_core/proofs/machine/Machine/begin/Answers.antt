@@ -1,5 +1,4 @@
-use Rattle.std.proofs.Common.{List, sym, subst, ap, ◌∙◌, refl}
-use Rattle.dmr_calls.specs.declared.call.Standing.{Standing}
+use Rattle.std.proofs.Common.{sym, subst, ap, ◌∙◌, refl}
 use Rattle.dmr_calls.specs.Standings.{Standings}
 use Rattle.dmr_pool.specs.Slots.{Slots, is_held}
 use Rattle.dmr_core.specs.Facts.{Facts}
@@ -7,7 +6,7 @@ use Rattle.dmr_core.specs.State.{State}
 use Rattle.dmr_core.specs.Words.{stands_on}
 use Rattle.dmr_core.specs.May.{MayBegin}
 use Rattle.dmr_core.proofs.FreeLemmas.{pool_free}
-use Rattle.dmr_core.proofs.HeldLemmas.{begun, with_begun}
+use Rattle.dmr_core.proofs.HeldLemmas.{begun}
 use Rattle.dmr_core.proofs.machine.Machine.begin.Goals as goal
 
 pub hold-requires : goal.hold-requires
@@ -29,7 +28,6 @@ hold-requires c =
 
 pub invariant_of-self : goal.invariant_of-self
 invariant_of-self c =
-    let may = subst (λ (s : State). MayBegin s.plan s.facts c.args.call.now) (sym c.self.view_is) c.requires in
     let calls = c.self.inside.calls.calls in
     let held = c.self.inside.pool.held in
     let call = c.args.call.now in (
@@ -38,5 +36,8 @@ invariant_of-self c =
       λ s is.
           ap (λ (p : Slots). is_held p.held s) c.hold.ensures
           ∙ begun held calls call c.keeps.ensures.held c.numbers_of.ensures c.self.invariant.2 s is
-          ∙ sym (ap (λ (n : Standings). stands_on n.calls s) c.begin.ensures.calls ∙ ap (λ (cs : List Standing). stands_on cs s) (with_begun calls call may.few)),
+          ∙ sym (ap (λ (n : Standings). stands_on n.calls s) c.add_call.ensures),
     )
+
+pub add_call-requires : goal.add_call-requires
+add_call-requires c = let may = subst (λ (s : State). MayBegin s.plan s.facts c.args.call.now) (sym c.self.view_is) c.requires in may.few

@@ -12,5 +12,5 @@ invariant_of-self c = (
   λ s is.
       ap (λ (p : Slots). is_held p.held s) c.release.ensures
       ∙ ended c.self.inside.pool.held c.self.inside.calls.calls c.args.slot.now c.keeps.ensures.held c.numbers_of.ensures c.self.invariant.2 s is
-      ∙ sym (ap (λ (n : Standings). stands_on n.calls s) c.end.ensures.calls),
+      ∙ sym (ap (λ (n : Standings). stands_on n.calls s) c.end_all_on.ensures),
 )

@@ -1,7 +1,7 @@
 use Rattle.std.proofs.Common.{[], ◌∷◌, sym, subst}
-use Rattle.dmr_core.specs.Replies.{reply_to}
+use Rattle.dmr_core.specs.Journal.{entry_by_nobody}
 use Rattle.dmr_core.specs.State.{State, IsSite}
-use Rattle.dmr_core.proofs.ActsAreSafe.{sound_after, same_saying}
+use Rattle.dmr_core.proofs.ActsAreSafe.{sound_after}
 use Rattle.dmr_core.proofs.PlansAreKnown.{plan_known}
 use Rattle.dmr_core.proofs.AnswersMayBeDone.{acts_may}
 use Rattle.dmr_core.proofs.site.Site.apply.Goals as goal
@@ -12,7 +12,7 @@ invariant_of-self c =
     subst P (sym c.apply.ensures.facts)
     (record {
       plan = c.self.invariant.plan;
-      sound = sound_after c.self.inside.machine.plan c.self.inside.machine.facts (record { actor = 0; event = c.args.event; acts = record { list = c.apply.result; said = reply_to c.self.inside.machine.plan c.self.inside.machine.facts c.args.event } } ∷ []) (plan_known c.self.inside.machine.plan c.self.invariant.plan) c.self.invariant.sound (same_saying (reply_to c.self.inside.machine.plan c.self.inside.machine.facts c.args.event) _ _ c.apply.ensures.acts, tt);
+      sound = sound_after c.self.inside.machine.plan c.self.inside.machine.facts (entry_by_nobody c.args.event c.apply.result ∷ []) (plan_known c.self.inside.machine.plan c.self.invariant.plan) c.self.invariant.sound (c.apply.ensures.acts, tt);
     })
 
 pub apply-requires : goal.apply-requires

@@ -14,8 +14,8 @@ use Rattle.dmr_core.specs.declared.event.Event.{Event}
 use Rattle.dmr_core.specs.declared.event.Event.TheVariants.{Lost, Heard, Tick}
 use Rattle.dmr_core.specs.declared.act.Act.TheVariants.{Queue, Left, Asked, AskOver, Began, Ended, Lined, Unlined}
 use Rattle.dmr_core.specs.Rules.{acts_of}
-use Rattle.dmr_core.specs.Cases.{site, slot, all_rules, leaves, acked, talks, call}
-use Rattle.dmr_core.specs.GroupCases.{next, answers, aged, three_calls, one_line, many_lines, standing, cleared, calls_off}
+use Rattle.dmr_core.proofs.Cases.{site, slot, all_rules, leaves, acked, talks, call}
+use Rattle.dmr_core.proofs.GroupCases.{next, answers, aged, three_calls, one_line, many_lines, standing, cleared, calls_off}
 
 -- a radio calls a radio
 abbrev pub rings : ℕ → ℕ → Event

@@ -6,7 +6,7 @@ use Rattle.dmr_core.specs.declared.event.Event.{Event}
 use Rattle.dmr_core.specs.declared.event.Event.TheVariants.{Up, Poll}
 use Rattle.dmr_core.specs.declared.act.Act.TheVariants.{Fill}
 use Rattle.dmr_core.specs.Rules.{late_entry}
-use Rattle.dmr_core.specs.Cases.{all_rules, idle, last, registers, slot, talks}
+use Rattle.dmr_core.proofs.Cases.{all_rules, idle, last, registers, slot, talks}
 
 -- two talkgroup calls stand, and were granted; then the control carrier polls so often
 abbrev pub polled : ℕ → List Event

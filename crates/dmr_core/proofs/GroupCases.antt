@@ -16,13 +16,13 @@ use Rattle.dmr_core.specs.declared.event.Event.TheVariants.{Up, Lost, Heard, Act
 use Rattle.dmr_core.specs.declared.act.Act.{Act}
 use Rattle.dmr_core.specs.declared.act.Act.TheVariants.{Queue, Send, Fill, Left, Began, Ended, Lined, Unlined}
 use Rattle.dmr_core.specs.Facts.{Facts, facts_after, nothing}
-use Rattle.dmr_core.specs.Journal.{answer}
+use Rattle.dmr_core.specs.Journal.{answer, entry_by_nobody}
 use Rattle.dmr_core.specs.Rules.{acts_of}
-use Rattle.dmr_core.specs.Cases.{site, slot, all_rules, registers, leaves, acked, idle, talks, call}
+use Rattle.dmr_core.proofs.Cases.{site, slot, all_rules, registers, leaves, acked, idle, talks, call}
 
 -- what stands after the event and its answer
 abbrev pub next : Facts → Event → Facts
-next now event = facts_after site now (record { actor = 0; event = event; acts = answer site now [] event } ∷ [])
+next now event = facts_after site now (entry_by_nobody event (answer site now [] event) ∷ [])
 
 -- the same after these events, the first of them first
 abbrev pub next_all : Facts → List Event → Facts

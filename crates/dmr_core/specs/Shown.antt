@@ -1,0 +1,38 @@
+-- What replies show of what stands.
+use Rattle.std.specs.Prelude.{ℕ, List, [], ◌∷◌, ◌++◌, not, if◌then◌else◌, Option, Some, None, flat_map}
+use Rattle.dmr_pdu.specs.declared.slots.Slot.{Slot}
+use Rattle.dmr_plan.specs.declared.settings.Settings.{Settings}
+use Rattle.dmr_calls.specs.declared.call.Call.{Call}
+use Rattle.dmr_calls.specs.declared.call.Standing.{Standing}
+use Rattle.dmr_calls.specs.Calls.{call_on}
+use Rattle.dmr_pool.specs.Free.{all_slots, is_control}
+use Rattle.dmr_core.specs.declared.reply.SlotState.{SlotState}
+use Rattle.dmr_core.specs.declared.reply.State.{State}
+use Rattle.dmr_core.specs.declared.reply.State.TheVariants as state
+use Rattle.dmr_core.specs.Facts.{Facts, has_carrier}
+use Rattle.dmr_core.specs.Words.{is_free, is_up, stands_on}
+
+-- a call, if there is one, as a list
+abbrev pub at_most_one : Option Call → List Call
+at_most_one None = []
+at_most_one (Some call) = call ∷ []
+
+-- the calls on a carrier, by slot
+abbrev pub calls_of : List Standing → ℕ → List Call
+calls_of calls c = at_most_one (call_on calls (record { carrier = c; slot = 0 })) ++ at_most_one (call_on calls (record { carrier = c; slot = 1 }))
+
+-- how a slot stands: the first that applies
+abbrev pub state_of : Settings → Facts → Slot → State
+state_of plan now slot =
+    if is_control plan slot then state.Control else
+    if not (is_up now slot.carrier) then state.Down else
+    if stands_on now.calls slot then state.Call else
+    if is_free plan now slot then state.Free else state.Waiting
+
+-- a slot, and how it stands, if the plan has its carrier
+abbrev pub shown : Settings → Facts → Slot → List SlotState
+shown plan now slot = if has_carrier plan slot.carrier then record { slot = slot; state = state_of plan now slot } ∷ [] else []
+
+-- so each slot, by carrier number, then slot
+unfoldable pub all_shown : Settings → Facts → List SlotState
+all_shown plan now = flat_map (shown plan now) all_slots

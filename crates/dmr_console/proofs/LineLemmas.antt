@@ -1,12 +1,17 @@
--- What a cutter keeps of an open line, and the lines of streams.
-use Rattle.std.proofs.Common.{◌≡◌, ℕ, ◌<◌, Bool, true, false, cond, List, [], ◌∷◌, ◌++◌, length, eqb, ltb, refl, sym, ap, ◌∙◌, arith, map, append_assoc, length-append, length-take-le, Result, Ok, Err, ◌↔◌}
+-- What a cutter keeps of an open line, the lines of streams, and streams in pieces.
+use Rattle.std.proofs.Common.{◌≡◌, ◌≢◌, ℕ, ◌-◌, ◌<◌, Bool, true, false, cond, List, [], ◌∷◌, ◌++◌, length, eqb, ltb, take, slice_index_or, refl, sym, ap, ◌∙◌, arith, map, append_assoc, length-append, length-take-le, All, Result, Ok, Err, ◌↔◌}
 use Rattle.std.specs.Result.{IsOk, OnOk, OnErr}
-use Rattle.std.specs.List.{onto_first}
+use Rattle.std.specs.List.{flat_map, fold, scan}
 use Rattle.std.proofs.lemmas.Bool.{ltb-true, ltb-false, lt-ltb, ne_eqb}
-use Rattle.std.proofs.lemmas.List.{take_all, take_at, append-nil, take-append-le}
+use Rattle.std.proofs.lemmas.List.{take_all, take_at, append-nil, take-append-le, get_or_push, length_push, map-append}
+use Rattle.std.proofs.lemmas.List.Elements.{All-nil, All-push}
+use Rattle.std.proofs.lemmas.List.Folds.{fold_along}
+use Rattle.std.proofs.lemmas.List.Splits.{slice_split_at, slice_split_none}
+use Rattle.std.proofs.lemmas.List.Sums.{fold-append}
 use Rattle.arrayvec.specs.ArrayVec.{ArrayVec}
+use Rattle.dmr_pdu.proofs.CuttingLemmas.{items-append}
 use Rattle.dmr_console.specs.declared.line_cutter.LineStep.{LineStep}
-use Rattle.dmr_console.specs.declared.line_cutter.LineStep.TheVariants.{Need, Line, TooLong}
+use Rattle.dmr_console.specs.declared.line_cutter.LineStep.TheVariants.{Line, TooLong}
 use Rattle.dmr_console.specs.Lines.{parts_of, all_but_last, last_of, without_cr, line_of, lines_in, open_in, kept}
 use Rattle.dmr_console.specs.Steps.{step_at, left_by, line_brought, lines_from, rest_from}
 
@@ -28,70 +33,59 @@ left_other old begun new x (Err e) is other room pushed same full =
     let left : left_by old x ≡ kept (old ++ x ∷ []) = rw (ne_eqb x 10 other) refl in
     ap (λ (v : ArrayVec ℕ). v.items) same ∙ sym (kept_full begun.items x full) ∙ ap (λ (xs : List ℕ). kept (xs ++ x ∷ [])) is ∙ sym left
 
--- ---- streams
+-- ---- streams, octet by octet: the lines that are ended, and the one that is open
 
--- the parts of octets behind begun ones
-abbrev pub cut : List ℕ → List ℕ → List (List ℕ)
-cut begun [] = begun ∷ []
-cut begun (x ∷ xs) = cond (eqb x 10) (begun ∷ cut [] xs) (cut (begun ++ x ∷ []) xs)
+-- what an octet leaves of an open line, and the line that it ends
+abbrev next : List ℕ → ℕ → List ℕ
+next begun x = cond (eqb x 10) [] (begun ++ x ∷ [])
 
-abbrev onto : List ℕ → List (List ℕ) → List (List ℕ)
-onto begun [] = begun ∷ []
-onto begun (part ∷ parts) = (begun ++ part) ∷ parts
+abbrev ended : List ℕ → ℕ → List (List ℕ)
+ended begun x = cond (eqb x 10) (begun ∷ []) []
 
-onto_nil_first : (x : ℕ) (parts : List (List ℕ)) → onto [] (onto_first x parts) ≡ onto_first x parts
-onto_nil_first x [] = refl
-onto_nil_first x (part ∷ parts) = refl
+-- the lines that octets end
+abbrev all_ended : List ℕ → List ℕ → List (List ℕ)
+all_ended begun xs = flat_map (λ lines. lines) (scan next ended begun xs)
 
-onto_nil_cons : (x : ℕ) (xs : List ℕ) (b : Bool) → eqb x 10 ≡ b → onto [] (parts_of (x ∷ xs)) ≡ parts_of (x ∷ xs)
-onto_nil_cons x xs true e = rw e refl
-onto_nil_cons x xs false e = rw e (onto_nil_first x (parts_of xs))
+-- no octet is an LF
+abbrev Inside : List ℕ → Type 0
+Inside octets = All (λ x. eqb x 10 ≡ false) octets
 
-onto_nil : (xs : List ℕ) → onto [] (parts_of xs) ≡ parts_of xs
-onto_nil [] = refl
-onto_nil (x ∷ xs) = onto_nil_cons x xs (eqb x 10) refl
+nothing_inside : Inside []
+nothing_inside = All-nil (λ x. eqb x 10 ≡ false)
 
-onto_onto : (begun : List ℕ) (x : ℕ) (parts : List (List ℕ)) → onto (begun ++ x ∷ []) parts ≡ onto begun (onto_first x parts)
-onto_onto begun x [] = refl
-onto_onto begun x (part ∷ parts) = ap (λ (p : List ℕ). p ∷ parts) (append_assoc begun (x ∷ []) part)
+next_inside : (begun : List ℕ) (x : ℕ) (b : Bool) → eqb x 10 ≡ b → Inside begun → Inside (next begun x)
+next_inside begun x true e h = rw e nothing_inside
+next_inside begun x false e h = rw e (All-push (λ y. eqb y 10 ≡ false) begun x h e)
 
-cut_cons : (x : ℕ) (xs begun : List ℕ) (b : Bool) → eqb x 10 ≡ b → ((p : List ℕ) → cut p xs ≡ onto p (parts_of xs)) → cut begun (x ∷ xs) ≡ onto begun (parts_of (x ∷ xs))
-cut_cons x xs begun true e h =
-    let left : cut begun (x ∷ xs) ≡ begun ∷ cut [] xs = rw e refl in
-    let right : parts_of (x ∷ xs) ≡ [] ∷ parts_of xs = rw e refl in
-    left ∙ (λ i. (sym (append-nil begun) i) ∷ ((h [] ∙ onto_nil xs) i)) ∙ ap (onto begun) (sym right)
-cut_cons x xs begun false e h =
-    let left : cut begun (x ∷ xs) ≡ cut (begun ++ x ∷ []) xs = rw e refl in
-    let right : parts_of (x ∷ xs) ≡ onto_first x (parts_of xs) = rw e refl in
-    left ∙ h (begun ++ x ∷ []) ∙ onto_onto begun x (parts_of xs) ∙ ap (onto begun) (sym right)
+all_inside : (begun xs : List ℕ) → Inside begun → Inside (fold next begun xs)
+all_inside begun [] h = h
+all_inside begun (x ∷ xs) h = all_inside (next begun x) xs (next_inside begun x (eqb x 10) refl h)
 
-cut_is : (xs begun : List ℕ) → cut begun xs ≡ onto begun (parts_of xs)
-cut_is [] begun = ap (λ (p : List ℕ). p ∷ []) (sym (append-nil begun))
-cut_is (x ∷ xs) begun = cut_cons x xs begun (eqb x 10) refl (cut_is xs)
+-- the parts of octets, behind a line that is open
+abbrev AreParts : List ℕ → List ℕ → Type 0
+AreParts begun xs = Inside begun → parts_of (begun ++ xs) ≡ all_ended begun xs ++ fold next begun xs ∷ []
 
-pub parts_cut : (xs : List ℕ) → parts_of xs ≡ cut [] xs
-parts_cut xs = sym (cut_is xs [] ∙ onto_nil xs)
+one_part : (begun : List ℕ) (x : ℕ) (xs : List ℕ) (b : Bool) → eqb x 10 ≡ b → ((p : List ℕ) → AreParts p xs) → AreParts begun (x ∷ xs)
+one_part begun x xs true e more h = slice_split_at (λ y. eqb y 10) begun x xs h e ∙ rw e (ap (λ (ps : List (List ℕ)). begun ∷ ps) (more [] nothing_inside))
+one_part begun x xs false e more h = ap parts_of (sym (append_assoc begun (x ∷ []) xs)) ∙ rw e (more (begun ++ x ∷ []) (All-push (λ y. eqb y 10 ≡ false) begun x h e))
 
--- there is always a last part
-some_cons : (x : ℕ) (xs part begun : List ℕ) (b : Bool) → eqb x 10 ≡ b →
-    ((p : List ℕ) → (all_but_last (part ∷ cut p xs) ≡ part ∷ all_but_last (cut p xs)) × (last_of (part ∷ cut p xs) ≡ last_of (cut p xs))) →
-    (all_but_last (part ∷ cut begun (x ∷ xs)) ≡ part ∷ all_but_last (cut begun (x ∷ xs))) × (last_of (part ∷ cut begun (x ∷ xs)) ≡ last_of (cut begun (x ∷ xs)))
-some_cons x xs part begun true e h =
-    let at : cut begun (x ∷ xs) ≡ begun ∷ cut [] xs = rw e refl in (
-      ap (λ (ps : List (List ℕ)). all_but_last (part ∷ ps)) at ∙ sym (ap (λ (ps : List (List ℕ)). part ∷ all_but_last ps) at),
-      ap (λ (ps : List (List ℕ)). last_of (part ∷ ps)) at ∙ sym (ap last_of at),
-    )
-some_cons x xs part begun false e h =
-    let at : cut begun (x ∷ xs) ≡ cut (begun ++ x ∷ []) xs = rw e refl in (
-      ap (λ (ps : List (List ℕ)). all_but_last (part ∷ ps)) at ∙ (h (begun ++ x ∷ [])).0 ∙ sym (ap (λ (ps : List (List ℕ)). part ∷ all_but_last ps) at),
-      ap (λ (ps : List (List ℕ)). last_of (part ∷ ps)) at ∙ (h (begun ++ x ∷ [])).1 ∙ sym (ap last_of at),
+parts_are : (xs begun : List ℕ) → AreParts begun xs
+parts_are [] begun h = ap parts_of (append-nil begun) ∙ slice_split_none (λ x. eqb x 10) begun h
+parts_are (x ∷ xs) begun h = one_part begun x xs (eqb x 10) refl (parts_are xs) h
+
+-- so these are the lines of the stream, and what is open in it
+stream_is : (begun xs : List ℕ) → Inside begun → (lines_in (begun ++ xs) ≡ map line_of (all_ended begun xs)) × (open_in (begun ++ xs) ≡ fold next begun xs)
+stream_is begun xs h =
+    let front : List (List ℕ) = all_ended begun xs in
+    let last : List ℕ = fold next begun xs in
+    let before : length (front ++ last ∷ []) - 1 ≡ length front = omega (arith, length_push front last) in (
+      ap (λ (ps : List (List ℕ)). map line_of (all_but_last ps)) (parts_are xs begun h)
+          ∙ ap (map line_of) (ap (λ (n : ℕ). take n (front ++ last ∷ [])) before ∙ take_at front (last ∷ []) (length front) refl),
+      ap last_of (parts_are xs begun h) ∙ get_or_push front last [] (length (front ++ last ∷ []) - 1) (sym before),
     )
 
-pub some_parts : (xs part begun : List ℕ) → (all_but_last (part ∷ cut begun xs) ≡ part ∷ all_but_last (cut begun xs)) × (last_of (part ∷ cut begun xs) ≡ last_of (cut begun xs))
-some_parts [] part begun = (refl, refl)
-some_parts (x ∷ xs) part begun = some_cons x xs part begun (eqb x 10) refl (some_parts xs part)
+-- ---- what is kept says what the line is
 
--- what is kept says what the line is
 line_kept_by : (begun : List ℕ) (b : Bool) → ltb 80 (length begun) ≡ b → line_of (kept begun) ≡ line_of begun
 line_kept_by begun true e =
     let more : 80 < length begun = ltb-true 80 (length begun) e in
@@ -121,68 +115,70 @@ brought_by a false line = refl
 brought_line : (octets : List ℕ) → line_brought (line_of octets) ≡ line_of octets ∷ []
 brought_line octets = brought_by TooLong (ltb 80 (length octets)) (without_cr octets)
 
--- ---- octet by octet
+-- ---- the cutter: as the stream, with what it keeps of an open line
 
-from_cons : (x : ℕ) (xs begun : List ℕ) (b : Bool) → eqb x 10 ≡ b → ((p : List ℕ) → lines_from (kept p) xs ≡ map line_of (all_but_last (cut p xs))) →
-    lines_from (kept begun) (x ∷ xs) ≡ map line_of (all_but_last (cut begun (x ∷ xs)))
-from_cons x xs begun true e h =
-    let step : step_at (kept begun) x ≡ line_of begun = rw e (line_kept begun) in
-    let left : left_by (kept begun) x ≡ [] = rw e refl in
-    let at : cut begun (x ∷ xs) ≡ begun ∷ cut [] xs = rw e refl in
-    (λ i. line_brought (step i) ++ lines_from (left i) xs)
-    ∙ (λ i. brought_line begun i ++ h [] i)
-    ∙ sym (ap (λ (ps : List (List ℕ)). map line_of (all_but_last ps)) at ∙ ap (map line_of) (some_parts xs begun []).0)
-from_cons x xs begun false e h =
-    let step : step_at (kept begun) x ≡ Need = rw e refl in
-    let left : left_by (kept begun) x ≡ kept (begun ++ x ∷ []) = rw e (kept_more begun x) in
-    let at : cut begun (x ∷ xs) ≡ cut (begun ++ x ∷ []) xs = rw e refl in
-    (λ i. line_brought (step i) ++ lines_from (left i) xs)
-    ∙ h (begun ++ x ∷ []) ∙ sym (ap (λ (ps : List (List ℕ)). map line_of (all_but_last ps)) at)
+left_kept : (begun : List ℕ) (x : ℕ) (b : Bool) → eqb x 10 ≡ b → left_by (kept begun) x ≡ kept (next begun x)
+left_kept begun x true e = rw e refl
+left_kept begun x false e = rw e (kept_more begun x)
 
-from_is : (xs begun : List ℕ) → lines_from (kept begun) xs ≡ map line_of (all_but_last (cut begun xs))
-from_is [] begun = refl
-from_is (x ∷ xs) begun = from_cons x xs begun (eqb x 10) refl (from_is xs)
+brought_kept : (begun : List ℕ) (x : ℕ) (b : Bool) → eqb x 10 ≡ b → line_brought (step_at (kept begun) x) ≡ map line_of (ended begun x)
+brought_kept begun x true e = rw e (ap line_brought (line_kept begun) ∙ brought_line begun)
+brought_kept begun x false e = rw e refl
 
-rest_cons : (x : ℕ) (xs begun : List ℕ) (b : Bool) → eqb x 10 ≡ b → ((p : List ℕ) → rest_from (kept p) xs ≡ kept (last_of (cut p xs))) →
-    rest_from (kept begun) (x ∷ xs) ≡ kept (last_of (cut begun (x ∷ xs)))
-rest_cons x xs begun true e h =
-    let left : left_by (kept begun) x ≡ [] = rw e refl in
-    let at : cut begun (x ∷ xs) ≡ begun ∷ cut [] xs = rw e refl in
-    ap (λ (p : List ℕ). rest_from p xs) left ∙ h []
-    ∙ sym (ap (λ (ps : List (List ℕ)). kept (last_of ps)) at ∙ ap kept (some_parts xs begun []).1)
-rest_cons x xs begun false e h =
-    let left : left_by (kept begun) x ≡ kept (begun ++ x ∷ []) = rw e (kept_more begun x) in
-    let at : cut begun (x ∷ xs) ≡ cut (begun ++ x ∷ []) xs = rw e refl in
-    ap (λ (p : List ℕ). rest_from p xs) left ∙ h (begun ++ x ∷ []) ∙ sym (ap (λ (ps : List (List ℕ)). kept (last_of ps)) at)
+from_is : (begun xs : List ℕ) → lines_from (kept begun) xs ≡ map line_of (all_ended begun xs)
+from_is begun [] = refl
+from_is begun (x ∷ xs) =
+    (λ i. brought_kept begun x (eqb x 10) refl i ++ lines_from (left_kept begun x (eqb x 10) refl i) xs)
+    ∙ ap (λ (ls : List LineStep). map line_of (ended begun x) ++ ls) (from_is (next begun x) xs)
+    ∙ sym (map-append line_of (ended begun x) (all_ended (next begun x) xs))
 
-rest_is : (xs begun : List ℕ) → rest_from (kept begun) xs ≡ kept (last_of (cut begun xs))
-rest_is [] begun = refl
-rest_is (x ∷ xs) begun = rest_cons x xs begun (eqb x 10) refl (rest_is xs)
+rest_is : (begun xs : List ℕ) → rest_from (kept begun) xs ≡ kept (fold next begun xs)
+rest_is begun xs =
+    let Keeps : List ℕ → List ℕ → Type 0 = λ a b. a ≡ kept b in
+    fold_along left_by next Keeps (λ a b x e. ap (λ (c : List ℕ). left_by c x) e ∙ left_kept b x (eqb x 10) refl) (kept begun) begun xs refl
 
 -- the octets one by one bring the lines of the stream, and leave what is open
 pub lines_whole : (octets : List ℕ) → lines_from [] octets ≡ lines_in octets
-lines_whole octets = from_is octets [] ∙ ap (λ (ps : List (List ℕ)). map line_of (all_but_last ps)) (sym (parts_cut octets))
+lines_whole octets = from_is [] octets ∙ sym (stream_is [] octets nothing_inside).0
 
 pub rest_whole : (octets : List ℕ) → rest_from [] octets ≡ kept (open_in octets)
-rest_whole octets = rest_is octets [] ∙ ap (λ (ps : List (List ℕ)). kept (last_of ps)) (sym (parts_cut octets))
-
-pub lines_from-append : (begun a b : List ℕ) → lines_from begun (a ++ b) ≡ lines_from begun a ++ lines_from (rest_from begun a) b
-lines_from-append begun [] b = refl
-lines_from-append begun (x ∷ a) b =
-    ap (λ (ls : List LineStep). line_brought (step_at begun x) ++ ls) (lines_from-append (left_by begun x) a b)
-    ∙ sym (append_assoc (line_brought (step_at begun x)) (lines_from (left_by begun x) a) (lines_from (rest_from (left_by begun x) a) b))
-
-pub rest_from-append : (begun a b : List ℕ) → rest_from begun (a ++ b) ≡ rest_from (rest_from begun a) b
-rest_from-append begun [] b = refl
-rest_from-append begun (x ∷ a) b = rest_from-append (left_by begun x) a b
+rest_whole octets = rest_is [] octets ∙ ap kept (sym (stream_is [] octets nothing_inside).1)
 
 -- one octet more
 pub one_more : (octets begun new : List ℕ) (x : ℕ) (r : LineStep) → begun ≡ kept (open_in octets) → r ≡ step_at begun x → new ≡ left_by begun x →
     (lines_in (octets ++ x ∷ []) ≡ lines_in octets ++ line_brought r) × (new ≡ kept (open_in (octets ++ x ∷ [])))
 one_more octets begun new x r is step left =
     let at : rest_from [] octets ≡ begun = rest_whole octets ∙ sym is in (
-      sym (lines_whole (octets ++ x ∷ [])) ∙ lines_from-append [] octets (x ∷ [])
+      sym (lines_whole (octets ++ x ∷ [])) ∙ items-append left_by step_at line_brought [] octets (x ∷ [])
           ∙ (λ i. lines_whole octets i ++ lines_from (at i) (x ∷ []))
           ∙ ap (λ (ls : List LineStep). lines_in octets ++ ls) (append-nil (line_brought (step_at begun x)) ∙ ap line_brought (sym step)),
-      left ∙ sym (sym (rest_whole (octets ++ x ∷ [])) ∙ rest_from-append [] octets (x ∷ []) ∙ ap (λ (p : List ℕ). left_by p x) at),
+      left ∙ sym (sym (rest_whole (octets ++ x ∷ [])) ∙ fold-append left_by [] octets (x ∷ []) ∙ ap (λ (p : List ℕ). left_by p x) at),
+    )
+
+-- ---- laws
+
+inside : (octets : List ℕ) → All (λ x. x ≢ 10) octets → Inside octets
+inside octets h = λ k d lt. ne_eqb (slice_index_or octets k d) 10 (h k d lt)
+
+pub line_before_lf : (octets more : List ℕ) → All (λ octet. octet ≢ 10) octets →
+    (lines_in (octets ++ 10 ∷ more) ≡ line_of octets ∷ lines_in more) × (open_in (octets ++ 10 ∷ more) ≡ open_in more)
+line_before_lf octets more h =
+    let whole = stream_is octets (10 ∷ more) (inside octets h) in
+    let rest = stream_is [] more nothing_inside in
+    (whole.0 ∙ ap (λ (ls : List LineStep). line_of octets ∷ ls) (sym rest.0), whole.1 ∙ sym rest.1)
+
+pub open_without_lf : (octets : List ℕ) → All (λ octet. octet ≢ 10) octets → (lines_in octets ≡ []) × (open_in octets ≡ octets)
+open_without_lf octets h =
+    let parts : parts_of octets ≡ octets ∷ [] = slice_split_none (λ x. eqb x 10) octets (inside octets h) in
+    (ap (λ (ps : List (List ℕ)). map line_of (all_but_last ps)) parts, ap last_of parts)
+
+pub lines_in_pieces : (a b : List ℕ) → (lines_in (a ++ b) ≡ lines_in a ++ lines_in (open_in a ++ b)) × (open_in (a ++ b) ≡ open_in (open_in a ++ b))
+lines_in_pieces a b =
+    let rest : List ℕ = fold next [] a in
+    let whole = stream_is [] (a ++ b) nothing_inside in
+    let first = stream_is [] a nothing_inside in
+    let second = stream_is rest b (all_inside [] a nothing_inside) in (
+      whole.0 ∙ ap (map line_of) (items-append next ended (λ lines. lines) [] a b) ∙ map-append line_of (all_ended [] a) (all_ended rest b)
+          ∙ sym ((λ i. first.0 i ++ lines_in (first.1 i ++ b)) ∙ ap (λ (ls : List LineStep). map line_of (all_ended [] a) ++ ls) second.0),
+      whole.1 ∙ fold-append next [] a b ∙ sym (ap (λ (begun : List ℕ). open_in (begun ++ b)) first.1 ∙ second.1),
     )

@@ -1,5 +1,5 @@
 -- Lines of a stream of octets.
-use Rattle.std.specs.Prelude.{◌≢◌, ◌≤◌, ℕ, ◌==◌, ◌-◌, All, List, [], ◌∷◌, length, take, map, slice_index, if◌then◌else◌, nat_lt}
+use Rattle.std.specs.Prelude.{◌≢◌, ◌≤◌, ℕ, ◌==◌, ◌-◌, All, List, [], length, take, map, slice_index, slice_index_or, if◌then◌else◌, nat_lt}
 use Rattle.std.specs.List.{slice_split}
 use Rattle.dmr_console.specs.declared.line_cutter.LineStep.{LineStep}
 use Rattle.dmr_console.specs.declared.line_cutter.LineStep.TheVariants.{Line, TooLong}
@@ -10,15 +10,11 @@ parts_of octets = slice_split (λ octet. octet == 10) octets
 
 -- all parts but the last
 abbrev pub all_but_last : List (List ℕ) → List (List ℕ)
-all_but_last [] = []
-all_but_last (part ∷ []) = []
-all_but_last (part ∷ next ∷ parts) = part ∷ all_but_last (next ∷ parts)
+all_but_last parts = take (length parts - 1) parts
 
 -- the last part
 abbrev pub last_of : List (List ℕ) → List ℕ
-last_of [] = []
-last_of (part ∷ []) = part
-last_of (part ∷ next ∷ parts) = last_of (next ∷ parts)
+last_of parts = slice_index_or parts (length parts - 1) []
 
 -- octets without the one CR at their end, if one stands there
 abbrev pub without_cr : List ℕ → List ℕ

@@ -1,5 +1,6 @@
 -- What each octet brings, from the open line that it meets.
 use Rattle.std.specs.Prelude.{ℕ, ◌==◌, List, [], ◌∷◌, ◌++◌, if◌then◌else◌}
+use Rattle.std.specs.List.{flat_map, fold, scan}
 use Rattle.dmr_console.specs.declared.line_cutter.LineStep.{LineStep}
 use Rattle.dmr_console.specs.declared.line_cutter.LineStep.TheVariants.{Need}
 use Rattle.dmr_console.specs.Lines.{line_of, kept}
@@ -19,10 +20,8 @@ line_brought line = line ∷ []
 
 -- the lines that octets bring
 abbrev pub lines_from : List ℕ → List ℕ → List LineStep
-lines_from begun [] = []
-lines_from begun (octet ∷ octets) = line_brought (step_at begun octet) ++ lines_from (left_by begun octet) octets
+lines_from begun octets = flat_map line_brought (scan left_by step_at begun octets)
 
 -- what octets leave
 abbrev pub rest_from : List ℕ → List ℕ → List ℕ
-rest_from begun [] = begun
-rest_from begun (octet ∷ octets) = rest_from (left_by begun octet) octets
+rest_from begun octets = fold left_by begun octets

@@ -1,8 +1,7 @@
-pub mod LastOctet
-pub mod Shapes
-pub mod Steps
-pub mod Streams
-pub mod Goes
-pub mod Spellings
-pub mod OneFrame
-pub mod Known
+pub mod LastOctetLemmas
+pub mod ShapeLemmas
+pub mod StepLemmas
+pub mod StreamLemmas
+pub mod ReadingLemmas
+pub mod SpellingLemmas
+pub mod OneFrameLemmas

@@ -1,5 +1,6 @@
 -- What each octet brings, from the rest that it meets.
 use Rattle.std.specs.Prelude.{ℕ, ◌+◌, ◌*◌, List, [], ◌∷◌, ◌++◌, length, nat_lt, ◌==◌, ◌||◌, not, if◌then◌else◌}
+use Rattle.std.specs.List.{flat_map, fold, scan}
 use Rattle.dmr_bits.specs.Bits.{field_of}
 use Rattle.dmr_bits.specs.Words.{word_of}
 use Rattle.dmr_frames.specs.declared.frame.FrameIn.{FrameIn}
@@ -72,10 +73,8 @@ frame_of _ = []
 
 -- the frames that octets bring
 abbrev pub frames_from : Rest → List ℕ → List FrameIn
-frames_from rest [] = []
-frames_from rest (x ∷ xs) = frame_of (fed rest x) ++ frames_from (left_by rest x) xs
+frames_from rest octets = flat_map frame_of (scan left_by fed rest octets)
 
 -- the rest after octets
 abbrev pub rest_from : Rest → List ℕ → Rest
-rest_from rest [] = rest
-rest_from rest (x ∷ xs) = rest_from (left_by rest x) xs
+rest_from rest octets = fold left_by rest octets

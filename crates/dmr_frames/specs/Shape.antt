@@ -1,4 +1,4 @@
--- The octets from which a frame can follow, by cases.
+-- The octets from which a frame can follow, by cases: words for the cutter and its private functions. Nothing above rests on them.
 use Rattle.std.specs.Prelude.{◌≡◌, ℕ, ◌<◌, List, [], ◌∷◌, length, slice_index, ◌⊎◌}
 
 -- every number is an octet's

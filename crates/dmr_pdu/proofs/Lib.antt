@@ -1,3 +1,4 @@
+pub mod CuttingLemmas
 pub mod EqualityLemmas
 pub mod FunctionLemmas
 pub mod LayoutLemmas

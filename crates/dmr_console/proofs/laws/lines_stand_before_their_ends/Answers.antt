@@ -1,4 +1,4 @@
-use Rattle.dmr_console.proofs.LineLaws.{line_before_lf, open_without_lf}
+use Rattle.dmr_console.proofs.LineLemmas.{line_before_lf, open_without_lf}
 use Rattle.dmr_console.proofs.laws.lines_stand_before_their_ends.Goals as goal
 
 pub returns-clause-line : goal.returns-clause-line

@@ -3,7 +3,7 @@ use Rattle.dmr_bits.specs.Bits.{field_of}
 use Rattle.dmr_bits.specs.Words.{SpellsWord}
 use Rattle.dmr_frames.specs.declared.frame.FrameIn.TheVariants.{Rx}
 use Rattle.dmr_frames.specs.declared.cutter.Step.TheVariants.{Frame}
-use Rattle.dmr_frames.proofs.LastOctet.{word_found, word_missed, last_set}
+use Rattle.dmr_frames.proofs.LastOctetLemmas.{word_found, word_missed, last_set}
 use Rattle.dmr_frames.proofs.cutter.read_last.Goals as goal
 
 pub returns-in-Ok : goal.returns-in-Ok

@@ -1,5 +1,5 @@
-use Rattle.dmr_frames.proofs.Streams.{spelled_once}
-use Rattle.dmr_frames.proofs.Spellings.{spelled_out_once, length-spelling, length-spelling_out}
+use Rattle.dmr_frames.proofs.StreamLemmas.{spelled_once}
+use Rattle.dmr_frames.proofs.SpellingLemmas.{spelled_out_once, length-spelling, length-spelling_out}
 use Rattle.dmr_frames.proofs.law.spellings_part.Goals as goal
 
 pub returns-clause-from_carrier : goal.returns-clause-from_carrier

@@ -5,8 +5,8 @@ use Rattle.dmr_frames.specs.declared.cutter.Step.TheVariants.{Need, Frame}
 use Rattle.dmr_frames.specs.Rest.{Rest, Open}
 use Rattle.dmr_frames.specs.Stream.{IsOpen}
 use Rattle.dmr_frames.specs.Reading.{step_at, fed, left_by, rest_after}
-use Rattle.dmr_frames.proofs.Goes.{open_nothing}
-use Rattle.dmr_frames.proofs.OneFrame.{front_of, last_of, front-last, small-front_of, step-in_front, step-after_front, open-after_need, spelled-at_frame}
+use Rattle.dmr_frames.proofs.ReadingLemmas.{open_nothing}
+use Rattle.dmr_frames.proofs.OneFrameLemmas.{front_of, last_of, front-last, small-front_of, step-in_front, step-after_front, open-after_need, spelled-at_frame}
 use Rattle.dmr_frames.proofs.whole.whole_frame.Goals as goal
 
 pub loop-octet-init : goal.loop-octet-init

@@ -3,7 +3,7 @@ use Rattle.dmr_frames.specs.declared.cutter.Step.{Step}
 use Rattle.dmr_frames.specs.Rest.{Rest}
 use Rattle.dmr_frames.specs.Stream.{Reads}
 use Rattle.dmr_frames.specs.Reading.{fed, frame_of}
-use Rattle.dmr_frames.proofs.Goes.{reads_on}
+use Rattle.dmr_frames.proofs.ReadingLemmas.{reads_on}
 use Rattle.dmr_frames.proofs.cutter.Cutter.feed_byte.Goals as goal
 
 pub returns-clause-stream : goal.returns-clause-stream

@@ -1,8 +1,8 @@
 use Rattle.std.proofs.Common.{◌≡◌, ℕ, ◌+◌, List, ◌∷◌, [], ◌++◌, length, take, set, arith, sym, ◌∙◌, subst, length-append, length-take-le}
 use Rattle.std.proofs.lemmas.List.{take_more_set}
 use Rattle.dmr_frames.specs.Shape.{IsShape}
-use Rattle.dmr_frames.proofs.Shapes.{shape-short}
-use Rattle.dmr_frames.proofs.Steps.{need_shape}
+use Rattle.dmr_frames.proofs.ShapeLemmas.{shape-short}
+use Rattle.dmr_frames.proofs.StepLemmas.{need_shape}
 use Rattle.dmr_frames.proofs.cutter.Cutter.take.Goals as goal
 
 pub invariant_of-self : goal.invariant_of-self

@@ -62,9 +62,6 @@ spelled_once Bye Poll x y hf hg e = cc
 spelled_once Bye (Active slot) x y hf hg e = cc
 spelled_once Bye Bye x y hf hg e = (refl, cc)
 
-not_nil : {A : Type 0} (x : A) (xs : List A) → [] ≡ x ∷ xs → ⊥
-not_nil x xs e = cc
-
 -- an open rest begins with no whole spelling
 pub open_no_spelling : (q : List ℕ) (g : FrameIn) (y : List ℕ) → IsFrame g → q ≡ spelling g ++ y → IsOpen q → ⊥
 open_no_spelling q g y hg e (f, x, more, hf, h) =

@@ -8,8 +8,8 @@ use Rattle.dmr_frames.specs.declared.cutter.Step.TheVariants.{Need, Frame, Fault
 use Rattle.dmr_frames.specs.Frames.{IsFrame, spelling}
 use Rattle.dmr_frames.specs.Stream.{IsOpen, IsStep}
 use Rattle.dmr_frames.specs.Reading.{step_at}
-use Rattle.dmr_frames.proofs.Steps.{step_sound}
-use Rattle.dmr_frames.proofs.Streams.{spelled_once, open_no_spelling}
+use Rattle.dmr_frames.proofs.StepLemmas.{step_sound}
+use Rattle.dmr_frames.proofs.StreamLemmas.{spelled_once, open_no_spelling}
 
 inside : (q : List ℕ) (x : ℕ) (more : List ℕ) (f : FrameIn) (s : Step) → IsFrame f → q ++ x ∷ more ≡ spelling f → 0 < length more → IsStep q x s → s ≡ Need
 inside q x more f Need hf e l is = refl

@@ -8,7 +8,7 @@ use Rattle.dmr_frames.specs.declared.frame.FrameOut.{FrameOut}
 use Rattle.dmr_frames.specs.declared.frame.FrameOut.TheVariants.{Welcome, Tx, Done, Refused}
 use Rattle.dmr_frames.specs.declared.frame.Refusal.TheVariants.{BadVersion, WrongCarrier}
 use Rattle.dmr_frames.specs.Frames.{IsFrameOut, spelling, spelling_out}
-use Rattle.dmr_frames.proofs.Streams.{same_words}
+use Rattle.dmr_frames.proofs.StreamLemmas.{same_words}
 
 -- the type of a frame
 abbrev first : List ℕ → ℕ

@@ -1,25 +1,26 @@
--- How a reading goes on.
-use Rattle.std.proofs.Common.{◌≡◌, ℕ, ◌<◌, List, [], ◌∷◌, ◌++◌, refl, sym, ap, ◌∙◌, append_assoc, subst, All}
+-- How a reading goes on, and what the octets of a frame, and those of a frame that has begun, bring to a connection's first rest.
+use Rattle.std.proofs.Common.{◌≡◌, ℕ, ◌/◌, ◌%◌, ◌<◌, List, [], ◌∷◌, ◌++◌, refl, sym, ap, ◌∙◌, arith, append_assoc, subst, All}
 use Rattle.std.specs.List.{flat_map}
 use Rattle.std.proofs.lemmas.List.{append-nil, flat_map_more}
-use Rattle.std.proofs.lemmas.List.Elements.{All-nil, All-cons, All-head, All-tail}
+use Rattle.std.proofs.lemmas.List.Elements.{All-nil, All-cons, All-head, All-tail, All-push, All-from_get_or}
+use Rattle.dmr_bits.specs.Words.{word_octets}
+use Rattle.dmr_bits.proofs.WordLemmas.{word_octets-octets}
 use Rattle.dmr_frames.specs.declared.frame.FrameIn.{FrameIn}
-use Rattle.dmr_frames.specs.declared.frame.FrameIn.TheVariants.{Poll}
+use Rattle.dmr_frames.specs.declared.frame.FrameIn.TheVariants.{Hello, Rx, Poll, Active, Bye}
 use Rattle.dmr_frames.specs.declared.frame.Cause.{Cause}
 use Rattle.dmr_frames.specs.declared.cutter.Step.{Step}
 use Rattle.dmr_frames.specs.declared.cutter.Step.TheVariants.{Need, Frame, Fault}
 use Rattle.dmr_frames.specs.Frames.{IsFrame, spelling}
 use Rattle.dmr_frames.specs.Rest.{Rest, Open, Faulty}
 use Rattle.dmr_frames.specs.Stream.{IsOpen, Reads, IsStep}
+use Rattle.dmr_frames.specs.Shape.{AreSmall}
 use Rattle.dmr_frames.specs.Reading.{step_at, fed, left_by, rest_after, frame_of, frames_from, rest_from}
-use Rattle.dmr_frames.proofs.Steps.{step_sound}
+use Rattle.dmr_frames.proofs.ShapeLemmas.{small-cons, small-front}
+use Rattle.dmr_frames.proofs.StreamLemmas.{readings-same}
+use Rattle.dmr_frames.proofs.StepLemmas.{step_sound}
 
 pub open_nothing : IsOpen []
 open_nothing = (Poll, 3, 0 ∷ [], tt, refl)
-
-all_push : (fs : List FrameIn) (f : FrameIn) → All IsFrame fs → IsFrame f → All IsFrame (fs ++ f ∷ [])
-all_push [] f h hf = All-cons IsFrame f [] hf (All-nil IsFrame)
-all_push (g ∷ fs) f h hf = All-cons IsFrame g (fs ++ f ∷ []) (All-head IsFrame g fs h) (all_push fs f (All-tail IsFrame g fs h) hf)
 
 no_more : (octets : List ℕ) (fs : List FrameIn) (r : Rest) → Reads octets fs r → Reads octets (fs ++ []) r
 no_more octets fs r h = let P : List FrameIn → Type 0 = λ gs. Reads octets gs r in subst P (sym (append-nil fs)) h
@@ -35,7 +36,7 @@ open_on octets fs q x (Frame f) h is = record {
   tail = [];
   whole = ap (λ (o : List ℕ). o ++ x ∷ []) (h.whole ∙ ap (λ (t : List ℕ). flat_map spelling fs ++ t) h.rest_is.0) ∙ append_assoc (flat_map spelling fs) q (x ∷ [])
       ∙ ap (λ (t : List ℕ). flat_map spelling fs ++ t) is.1 ∙ flat_map_more spelling [] fs f ∙ sym (append-nil (flat_map spelling (fs ++ f ∷ [])));
-  each = all_push fs f h.each is.0;
+  each = All-push IsFrame fs f h.each is.0;
   rest_is = (refl, open_nothing);
 }
 open_on octets fs q x (Fault cause) h is = no_more (octets ++ x ∷ []) fs (Faulty cause) (record {
@@ -82,10 +83,44 @@ reads_nothing = record { tail = []; whole = refl; each = All-nil IsFrame; rest_i
 pub reads_all : (octets : List ℕ) → All (λ x. x < 256) octets → Reads octets (frames_from (Open []) octets) (rest_from (Open []) octets)
 reads_all octets small = reads_more [] [] (Open []) octets small reads_nothing
 
-pub frames_from-append : (r : Rest) (a b : List ℕ) → frames_from r (a ++ b) ≡ frames_from r a ++ frames_from (rest_from r a) b
-frames_from-append r [] b = refl
-frames_from-append r (x ∷ a) b = ap (λ (fs : List FrameIn). frame_of (fed r x) ++ fs) (frames_from-append (left_by r x) a b) ∙ sym (append_assoc (frame_of (fed r x)) (frames_from (left_by r x) a) (frames_from (rest_from (left_by r x) a) b))
+-- ---- frames whose octets are known
 
-pub rest_from-append : (r : Rest) (a b : List ℕ) → rest_from r (a ++ b) ≡ rest_from (rest_from r a) b
-rest_from-append r [] b = refl
-rest_from-append r (x ∷ a) b = rest_from-append (left_by r x) a b
+none_small : AreSmall []
+none_small = λ k. omega arith
+
+-- the octets of a frame are octets
+pub spelling-small : (f : FrameIn) → IsFrame f → AreSmall (spelling f)
+spelling-small (Hello v c l) is =
+    small-cons 1 (4 ∷ v ∷ c ∷ (l / 256) ∷ (l % 256) ∷ []) (omega arith) (small-cons 4 (v ∷ c ∷ (l / 256) ∷ (l % 256) ∷ []) (omega arith)
+    (small-cons v (c ∷ (l / 256) ∷ (l % 256) ∷ []) is.0 (small-cons c ((l / 256) ∷ (l % 256) ∷ []) is.1
+    (small-cons (l / 256) ((l % 256) ∷ []) (omega (arith, is.2)) (small-cons (l % 256) [] (omega arith) none_small)))))
+spelling-small (Rx slot word) is =
+    small-cons 2 (26 ∷ slot ∷ word_octets word) (omega arith) (small-cons 26 (slot ∷ word_octets word) (omega arith) (small-cons slot (word_octets word) (omega (arith, is.0)) (word_octets-octets word).small))
+spelling-small Poll is = small-cons 3 (0 ∷ []) (omega arith) (small-cons 0 [] (omega arith) none_small)
+spelling-small (Active slot) is = small-cons 4 (1 ∷ slot ∷ []) (omega arith) (small-cons 1 (slot ∷ []) (omega arith) (small-cons slot [] (omega (arith, is)) none_small))
+spelling-small Bye is = small-cons 5 (0 ∷ []) (omega arith) (small-cons 0 [] (omega arith) none_small)
+
+pub open-small : (q : List ℕ) → IsOpen q → AreSmall q
+open-small q (f, x, more, is, e) = let P : List ℕ → Type 0 = λ xs. AreSmall xs in small-front q (x ∷ more) (subst P (sym e) (spelling-small f is))
+
+all_small : (xs : List ℕ) → AreSmall xs → All (λ x. x < 256) xs
+all_small xs h = All-from_get_or (λ x. x < 256) xs 0 (λ i lt. h i)
+
+reads_open : (q : List ℕ) → IsOpen q → Reads q [] (Open q)
+reads_open q h = record { tail = q; whole = refl; each = All-nil IsFrame; rest_is = (refl, h) }
+
+reads_frame : (f : FrameIn) → IsFrame f → Reads (spelling f) (f ∷ []) (Open [])
+reads_frame f h = record {
+  tail = [];
+  whole = sym (append-nil (spelling f)) ∙ sym (append-nil (spelling f ++ []));
+  each = All-cons IsFrame f [] h (All-nil IsFrame);
+  rest_is = (refl, open_nothing);
+}
+
+-- what is no whole frame yet brings none, and stays
+pub open-brings : (q : List ℕ) → IsOpen q → (frames_from (Open []) q ≡ []) × (rest_from (Open []) q ≡ Open q)
+open-brings q h = readings-same q (frames_from (Open []) q) [] (rest_from (Open []) q) (Open q) (reads_all q (all_small q (open-small q h))) (reads_open q h)
+
+-- the octets of a frame bring it, and nothing is left
+pub spelling-brings : (f : FrameIn) → IsFrame f → (frames_from (Open []) (spelling f) ≡ f ∷ []) × (rest_from (Open []) (spelling f) ≡ Open [])
+spelling-brings f h = readings-same (spelling f) (frames_from (Open []) (spelling f)) (f ∷ []) (rest_from (Open []) (spelling f)) (Open []) (reads_all (spelling f) (all_small (spelling f) (spelling-small f h))) (reads_frame f h)

@@ -14,7 +14,7 @@ use Rattle.dmr_frames.specs.Stream.{Begins, IsOpen, IsStep, fault_at}
 use Rattle.dmr_frames.specs.Reading.{type_step, length_step, hello_step, rx_step, active_step, body_step, step_at}
 use Rattle.dmr_frames.specs.Shape.{AreSmall, IsRxBody, IsHelloBody, IsShape}
 use Rattle.dmr_bits.proofs.WordLemmas.{word_octets-octets, word_octets-spells, word_octets-word_of}
-use Rattle.dmr_frames.proofs.Shapes.{small-cons, small-append, word_length, open_type, open_hello, open_rx, open-from_shape, shape-from_open}
+use Rattle.dmr_frames.proofs.ShapeLemmas.{small-cons, small-append, word_length, open_type, open_hello, open_rx, open-from_shape, shape-from_open}
 
 -- ---- at a type octet
 

@@ -1,3 +1,4 @@
 pub mod Bptc
+pub mod Mending
 pub mod Lines
 pub mod Functions

@@ -2,7 +2,8 @@
 
 ghost use Rattle.std.specs.Prelude.{◌≡◌, ◌<◌, ◌↔◌, IsTrue};
 ghost use Rattle.dmr_bptc.specs.Bptc.{IsRow, IsColumn};
-ghost use Rattle.dmr_bptc.specs.Lines.{IsLine, line_bit, equations_of, syndrome};
+ghost use Rattle.dmr_bptc.specs.Lines.{IsLine, line_bit, equations_of};
+ghost use Rattle.dmr_bptc.specs.Mending.{syndrome};
 
 use crate::layout::Line;
 use crate::sums::sums_of;

@@ -2,7 +2,8 @@
 
 ghost use Rattle.std.specs.Prelude.{◌≡◌, ◌==◌, ℕ, ◌<◌};
 ghost use Rattle.dmr_bptc.specs.Bptc.{place_of};
-ghost use Rattle.dmr_bptc.specs.Lines.{IsLine, line_len, line_place, equations_of, mark};
+ghost use Rattle.dmr_bptc.specs.Lines.{IsLine, line_len, line_place, equations_of};
+ghost use Rattle.dmr_bptc.specs.Mending.{mark};
 
 /// A row (0 to 12) of 15 cells, or a column (0 to 14) of 13 cells.
 #[derive(Clone, Copy)]

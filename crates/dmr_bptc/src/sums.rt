@@ -5,7 +5,7 @@ ghost use Rattle.std.specs.Prelude.{◌≡◌, ℕ, ◌+◌, ◌*◌, ◌/◌, �
 ghost use Rattle.dmr_bits.specs.Bits.{octet_bit, IsOctets};
 ghost use Rattle.dmr_bits.specs.Packed.{packed_bit};
 ghost use Rattle.dmr_bptc.specs.Bptc.{cell, row_equations, column_equations};
-ghost use Rattle.dmr_bptc.specs.Lines.{syndrome};
+ghost use Rattle.dmr_bptc.specs.Mending.{syndrome};
 
 use dmr_bits::{Octets12, Word196};
 

@@ -11,7 +11,7 @@ use Rattle.dmr_csbk.proofs.Sealed.{with_check-octets}
 use Rattle.dmr_bptc.specs.Bptc.{IsCodeword, Means, distance}
 use Rattle.dmr_bptc.specs.Functions.{decoded, encoded}
 use Rattle.dmr_bptc.proofs.FunctionLemmas.{decoded-found, decoded-meant, encoded-encoding}
-use Rattle.dmr_bptc.proofs.Meanings.{encodings-same, meaning_of_codeword, distance-self}
+use Rattle.dmr_bptc.proofs.MeaningLemmas.{encodings-same, meaning_of_codeword, distance-self}
 use Rattle.dmr_pdu.specs.declared.pdu.Pdu.{Pdu}
 use Rattle.dmr_pdu.specs.Functions.{octets_of, pdu_of}
 use Rattle.dmr_pdu.proofs.RowLemmas.{pointwise-self, pointwise-same}

@@ -1,2 +1,2 @@
-pub mod Sending
+pub mod SendingLemmas
 pub mod FunctionLemmas

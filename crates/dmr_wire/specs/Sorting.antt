@@ -1,4 +1,4 @@
--- Steps while they are being sorted.
+-- Steps while they are being sorted: words for private functions. Nothing above rests on them.
 use Rattle.std.specs.Prelude.{◌≡◌, ℕ, ◌+◌, ◌≤◌, List, [], ◌++◌}
 use Rattle.std.specs.List.{filter_map}
 use Rattle.std.specs.VecDeque.{deque_len, deque_capacity}

@@ -1,5 +1,5 @@
 use Rattle.dmr_burst.proofs.FunctionLemmas.{meaning_of-found, meaning_of-meant, meaning_of-clean}
-use Rattle.dmr_burst.proofs.Sending.{sent_means}
+use Rattle.dmr_burst.proofs.SendingLemmas.{sent_means}
 use Rattle.dmr_burst.proofs.meanings_are_single.Goals as goal
 
 pub returns-clause-found : goal.returns-clause-found

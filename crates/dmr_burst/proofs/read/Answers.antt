@@ -1,4 +1,4 @@
-use Rattle.dmr_burst.proofs.Sending.{sent_means}
+use Rattle.dmr_burst.proofs.SendingLemmas.{sent_means}
 use Rattle.dmr_burst.proofs.FunctionLemmas.{answer-meaning}
 use Rattle.dmr_burst.proofs.read.Goals as goal
 

@@ -1,6 +1,6 @@
 use Rattle.std.proofs.Common.{◌∙◌}
 use Rattle.dmr_bptc.specs.Bptc.{cell}
-use Rattle.dmr_bptc.proofs.Codewords.{passes_mend}
+use Rattle.dmr_bptc.proofs.CodewordLemmas.{passes_mend}
 use Rattle.dmr_bptc.proofs.decoding.with_lines_mended.Goals as goal
 
 pub returns : goal.returns

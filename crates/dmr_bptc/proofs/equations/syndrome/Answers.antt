@@ -1,6 +1,7 @@
 use Rattle.std.proofs.Common.{◌*◌, ◌/◌, ◌^◌, ◌<◌, sym, ap, ◌∙◌}
 use Rattle.std.proofs.lemmas.Nat.{and_mask}
-use Rattle.dmr_bptc.specs.Lines.{line_bit, equations_of, syndrome}
+use Rattle.dmr_bptc.specs.Lines.{line_bit, equations_of}
+use Rattle.dmr_bptc.specs.Mending.{syndrome}
 use Rattle.dmr_bptc.proofs.equations.syndrome.Goals as goal
 
 pub returns-in-Row : goal.returns-in-Row

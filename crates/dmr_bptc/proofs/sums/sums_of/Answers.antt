@@ -4,8 +4,8 @@ use Rattle.dmr_bits.specs.Bits.{spelled}
 use Rattle.dmr_bits.specs.Words.{word_bit}
 use Rattle.dmr_bits.specs.Packed.{packed_bit}
 use Rattle.dmr_bits.proofs.BitLemmas.{spelled-lt, spelled-field}
-use Rattle.dmr_bptc.proofs.OddSums.{added, added_by, added-four}
-use Rattle.dmr_bptc.proofs.SumTable.{sum_number, sum_entry, sum_entry-is, columns-are, rows-are, columns-lt, rows-lt, information-is}
+use Rattle.dmr_bptc.proofs.OddSumLemmas.{added, added_by, added-four}
+use Rattle.dmr_bptc.proofs.SumTableLemmas.{sum_number, sum_entry, sum_entry-is, columns-are, rows-are, columns-lt, rows-lt, information-is}
 use Rattle.dmr_bptc.proofs.sums.sums_of.Goals as goal
 
 pub loop-k-init : goal.loop-k-init

@@ -1,7 +1,7 @@
 use Rattle.std.proofs.Common.{◌≡◌, ◌+◌, ◌*◌}
 use Rattle.dmr_bits.specs.Words.{word_bit}
-use Rattle.dmr_bptc.proofs.OddSums.{added}
-use Rattle.dmr_bptc.proofs.SumTable.{sum_number}
+use Rattle.dmr_bptc.proofs.OddSumLemmas.{added}
+use Rattle.dmr_bptc.proofs.SumTableLemmas.{sum_number}
 use Rattle.dmr_bptc.proofs.sums.sums_of.Given as goal
 
 abbrev pub invariant-loop-k : goal.invariant-loop-k

@@ -2,7 +2,8 @@ use Rattle.std.proofs.Common.{◌≡◌, ◌==◌, ◌<◌, ℕ, Bool, true, get
 use Rattle.std.proofs.lemmas.Bool.{agree_below, agree_below_at}
 use Rattle.dmr_bptc.specs.declared.layout.TheConstants.{WRONG_IN_ROW, WRONG_IN_COLUMN}
 use Rattle.dmr_bptc.specs.Bptc.{row_equations, column_equations}
-use Rattle.dmr_bptc.specs.Lines.{mark, equations_of}
+use Rattle.dmr_bptc.specs.Lines.{equations_of}
+use Rattle.dmr_bptc.specs.Mending.{mark}
 use Rattle.dmr_bptc.proofs.layout.Line.wrong_bit.Goals as goal
 
 -- each entry of the tables is the one bit that has the mark, where there is one

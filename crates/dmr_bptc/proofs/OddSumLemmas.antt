@@ -8,7 +8,7 @@ use Rattle.std.proofs.lemmas.Nat.Bits.{bit_at_xor, bit_at-zero}
 use Rattle.dmr_bits.specs.Bits.{spelled}
 use Rattle.dmr_bits.proofs.BitLemmas.{spelled-bit}
 use Rattle.dmr_bptc.specs.Bptc.{add_bits, parity, Satisfies}
-use Rattle.dmr_bptc.proofs.Bits.{add_bits-false, add_bits_middle}
+use Rattle.dmr_bptc.proofs.BitSumLemmas.{add_bits-false, add_bits_middle}
 
 -- whether an odd number of the first n places pass
 unfoldable pub odd_below : (ℕ → Bool) → ℕ → Bool

@@ -9,9 +9,10 @@ use Rattle.dmr_bptc.specs.declared.layout.Line.{Line}
 use Rattle.dmr_bptc.specs.declared.layout.Line.TheVariants.{Row, Column}
 use Rattle.dmr_bptc.specs.declared.sums.TheConstants.{SUMS}
 use Rattle.dmr_bptc.specs.Bptc.{parity, row_equations, column_equations, cell, place_of}
-use Rattle.dmr_bptc.specs.Lines.{line_place, line_bit, equations_of, fails, syndrome}
-use Rattle.dmr_bptc.proofs.Parities.{equation_at}
-use Rattle.dmr_bptc.proofs.OddSums.{odd_below-same, odd_below-one, odd_below-parity, added, added-bit, added-lt, added_by}
+use Rattle.dmr_bptc.specs.Lines.{line_place, line_bit, equations_of}
+use Rattle.dmr_bptc.specs.Mending.{fails, syndrome}
+use Rattle.dmr_bptc.proofs.ParityLemmas.{equation_at}
+use Rattle.dmr_bptc.proofs.OddSumLemmas.{odd_below-same, odd_below-one, odd_below-parity, added, added-bit, added-lt, added_by}
 
 -- ---- the entries
 

@@ -3,9 +3,10 @@ use Rattle.std.proofs.Common.{◌≡◌, ℕ, zero, suc, ◌+◌, ◌*◌, ◌/�
 use Rattle.std.proofs.Math.Nat.{zero-div}
 use Rattle.std.proofs.lemmas.Nat.{shr-shr}
 use Rattle.dmr_bptc.specs.Bptc.{cell, row_equations, column_equations, IsCodeword}
-use Rattle.dmr_bptc.specs.Lines.{syndrome, HasSameCells}
-use Rattle.dmr_bptc.proofs.Lines.{syndrome-zero, satisfies-from_syndrome, row_indices, column_indices}
-use Rattle.dmr_bptc.proofs.Parities.{satisfies-same}
+use Rattle.dmr_bptc.specs.Lines.{HasSameCells}
+use Rattle.dmr_bptc.specs.Mending.{syndrome}
+use Rattle.dmr_bptc.proofs.LineLemmas.{syndrome-zero, satisfies-from_syndrome, row_indices, column_indices}
+use Rattle.dmr_bptc.proofs.ParityLemmas.{satisfies-same}
 
 pow-four : (m : ℕ) → 2 ^ (4 + m) ≡ 16 * 2 ^ m
 pow-four m =

@@ -9,10 +9,10 @@ use Rattle.dmr_bits.specs.Words.{word_bit}
 use Rattle.dmr_bits.specs.Packed.{packed_bit}
 use Rattle.dmr_bptc.specs.declared.encoding.TheConstants.{ENCODED}
 use Rattle.dmr_bptc.specs.Bptc.{row_equations, column_equations, cell, place_of, IsEncoding}
-use Rattle.dmr_bptc.specs.Lines.{syndrome}
-use Rattle.dmr_bptc.proofs.Lines.{satisfies-from_syndrome, row_indices, column_indices}
-use Rattle.dmr_bptc.proofs.Parities.{satisfies-same}
-use Rattle.dmr_bptc.proofs.OddSums.{odd_below, odd_below-same, odd_below-none, odd_below-one, and_false, satisfies-odd_below, added, added-bit, added_by}
+use Rattle.dmr_bptc.specs.Mending.{syndrome}
+use Rattle.dmr_bptc.proofs.LineLemmas.{satisfies-from_syndrome, row_indices, column_indices}
+use Rattle.dmr_bptc.proofs.ParityLemmas.{satisfies-same}
+use Rattle.dmr_bptc.proofs.OddSumLemmas.{odd_below, odd_below-same, odd_below-none, odd_below-one, and_false, satisfies-odd_below, added, added-bit, added_by}
 
 -- ---- the entries
 

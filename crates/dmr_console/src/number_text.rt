@@ -1,29 +1,18 @@
 //! Writes decimal numbers.
 
-ghost use Rattle.std.specs.Prelude.{◌≡◌, ◌+◌, ◌<◌, ◌≤◌, ◌++◌, ◌∷◌, [], decimal, length};
+ghost use Rattle.std.specs.Prelude.{◌≡◌, ◌+◌, ◌<◌, ◌≤◌, ◌++◌, decimal, length};
 ghost use Rattle.arrayvec.specs.ArrayString.{array_string_len};
 
 use arrayvec::ArrayString;
 use dmr_pdu::Address;
+use itoa::Buffer;
 
 /// Appends a number in decimal digits, at most 20. There must be room for them.
 pub fn push_number(text: &mut ArrayString<1024>, number: u64)
     requires { array_string_len text.old + length (decimal number) ≤ 1024 }
     ensures { text.new.bytes ≡ text.old.bytes ++ decimal number }
 {
-    if number >= 10 {
-        push_number(text, number / 10);
-    }
-    push_digit(text, (number % 10) as u8);
-}
-
-/// Appends a digit.
-fn push_digit(text: &mut ArrayString<1024>, digit: u8)
-    requires room { array_string_len text.old + 1 ≤ 1024 }
-    requires digit { digit < 10 }
-    ensures { text.new.bytes ≡ text.old.bytes ++ (48 + digit) ∷ [] }
-{
-    text.push(char::from(b'0' + digit));
+    text.push_str(Buffer::new().format(number));
 }
 
 /// Appends a count.

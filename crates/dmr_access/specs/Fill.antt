@@ -13,7 +13,7 @@ pub record Window : Type 0 where
 
 -- C_ALOHA to all radios (mask 0) for all services (function 0), which must register, with the backoff of the noise
 abbrev pub aloha_of : Settings → List ℕ → Pdu
-aloha_of plan noise = Aloha (plan.aloha_sync == 1) plan.aloha_version (plan.aloha_offset == 1) (plan.aloha_active == 1) 0 0 plan.nrand_wait true (backoff_of plan noise) plan.system 0
+aloha_of plan noise = Aloha plan.aloha_sync plan.aloha_version plan.aloha_offset plan.aloha_active 0 0 plan.nrand_wait true (backoff_of plan noise) plan.system 0
 
 -- C_MOVE to a channel, where radios must register, with the same backoff
 abbrev pub move_to : Settings → List ℕ → ℕ → Pdu

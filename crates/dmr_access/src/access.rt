@@ -215,18 +215,17 @@ impl Access {
     fn aloha(&self) -> Pdu
         ensures { result ≡ aloha_of self.now.plan self.now.noise }
     {
-        self.plan.keeps();
         Pdu::Aloha {
-            sync: self.plan.aloha_sync() == 1,
-            version: Number::new(u32::from(self.plan.aloha_version())),
-            offset: self.plan.aloha_offset() == 1,
-            active: self.plan.aloha_active() == 1,
+            sync: self.plan.aloha_sync(),
+            version: self.plan.aloha_version(),
+            offset: self.plan.aloha_offset(),
+            active: self.plan.aloha_active(),
             mask: Number::new(0),
             function: Number::new(0),
-            nrand_wait: Number::new(u32::from(self.plan.nrand_wait())),
+            nrand_wait: self.plan.nrand_wait(),
             register: MUST_REGISTER,
             backoff: Number::new(u32::from(self.backoff())),
-            system: Number::new(u32::from(self.plan.system())),
+            system: self.plan.system(),
             address: Address::new(0),
         }
     }

@@ -2,11 +2,11 @@
 use Rattle.std.specs.Prelude.{ℕ, suc, List, ◌∷◌, [], ◌++◌, Option, Some, None, Result, Ok, Err, ◌&&◌, Bool, true, false, is_some, if◌then◌else◌, nat_le}
 use Rattle.toml.specs.Data.{Data, array, Items, no_items, item, Members, get_member, as_integer, as_table}
 use Rattle.dmr_plan.specs.declared.key.Key.{Key}
-use Rattle.dmr_plan.specs.declared.key.Kind.{Kind}
-use Rattle.dmr_plan.specs.declared.key.Kind.TheVariants.{OneNumber, Numbers, Pairs, Tables}
+use Rattle.dmr_plan.specs.declared.key.Content.{Content}
+use Rattle.dmr_plan.specs.declared.key.Content.TheVariants.{OneNumber, Numbers, Pairs, Tables}
 use Rattle.dmr_plan.specs.declared.fault.PlanFault.{PlanFault}
 use Rattle.dmr_plan.specs.declared.fault.PlanFault.TheVariants.{Missing, WrongType}
-use Rattle.dmr_plan.specs.Keys.{name_of, entry_of}
+use Rattle.dmr_plan.specs.Keys.{name_of, limits_of}
 use Rattle.dmr_plan.specs.Steps.{◌>>=◌}
 
 -- how many items there are
@@ -33,8 +33,8 @@ abbrev pub is_pair : Data → Bool
 is_pair (array ds) = are_numbers (two_of ds)
 is_pair _ = false
 
--- what may be an item of a kind
-abbrev pub is_item : Kind → Data → Bool
+-- what may be an item of such an array
+abbrev pub is_item : Content → Data → Bool
 is_item OneNumber d = is_number d
 is_item Numbers d = is_number d
 is_item Pairs d = is_pair d
@@ -45,9 +45,9 @@ abbrev pub all_items : (Data → Bool) → Items → Bool
 all_items p no_items = true
 all_items p (item d ds) = p d && all_items p ds
 
--- the array that a value is, where each of its items is of the key's kind
+-- the array that a value is, where each of its items is what the key's array has
 abbrev pub array_of : Key → Data → Result Items PlanFault
-array_of key (array ds) = if all_items (is_item (entry_of key).kind) ds then Ok ds else Err (WrongType key)
+array_of key (array ds) = if all_items (is_item (limits_of key).content) ds then Ok ds else Err (WrongType key)
 array_of key _ = Err (WrongType key)
 
 -- an array, which must be there
@@ -61,7 +61,7 @@ array_in ms key = array_or_missing key (get_member (name_of key) ms)
 
 -- as many items as the key may have
 abbrev pub is_count : Key → Items → Bool
-is_count key ds = nat_le (entry_of key).count.least (count_of ds) && nat_le (count_of ds) (entry_of key).count.most
+is_count key ds = nat_le (limits_of key).count.fewest (count_of ds) && nat_le (count_of ds) (limits_of key).count.most
 
 -- item after item, each beside what the earlier ones gave
 abbrev pub in_turn : {A : Type 0} → (List A → Data → Result A PlanFault) → List A → Items → Result (List A) PlanFault

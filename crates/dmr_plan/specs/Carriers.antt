@@ -1,8 +1,8 @@
--- What the keys carrier and control give.
+-- What the key carrier gives.
 use Rattle.std.specs.Prelude.{ℕ, List, [], Option, Result, Ok, Err, ◌||◌, Bool, if◌then◌else◌, ◌==◌}
 use Rattle.std.specs.List.{list_any, find}
 use Rattle.toml.specs.Data.{Data, table, Items, Members}
-use Rattle.dmr_plan.specs.declared.key.Key.TheVariants.{Carrier, Control, Number, Lpcn, Port}
+use Rattle.dmr_plan.specs.declared.key.Key.TheVariants.{ConsolePort, Carrier, Number, Lpcn, Port}
 use Rattle.dmr_plan.specs.declared.fault.PlanFault.{PlanFault}
 use Rattle.dmr_plan.specs.declared.fault.PlanFault.TheVariants.{WrongType, OutOfRange, Repeated}
 use Rattle.dmr_plan.specs.declared.carriers.CarrierRow.{CarrierRow}
@@ -31,8 +31,8 @@ abbrev pub has_port_in : List CarrierRow → ℕ → Bool
 has_port_in rows n = list_any (λ (row : CarrierRow). row.port == n) rows
 
 -- the carrier of a table, beside the console's port and the carriers before it
-unfoldable pub row_of : ℕ → List CarrierRow → Members → Result CarrierRow PlanFault
-row_of console_port earlier ms = do
+unfoldable pub carrier_of_table : ℕ → List CarrierRow → Members → Result CarrierRow PlanFault
+carrier_of_table console_port earlier ms = do
   number ← number_in ms Number
   lpcn ← (if has_number_in earlier number then Err (Repeated Number) else number_in ms Lpcn)
   port ← (if has_lpcn_in earlier lpcn then Err (Repeated Lpcn) else number_in ms Port)
@@ -40,17 +40,16 @@ row_of console_port earlier ms = do
 
 -- the carrier that an item spells
 abbrev pub carrier_of : ℕ → List CarrierRow → Data → Result CarrierRow PlanFault
-carrier_of console_port earlier (table ms) = row_of console_port earlier ms
+carrier_of console_port earlier (table ms) = carrier_of_table console_port earlier ms
 carrier_of console_port earlier _ = Err (WrongType Carrier)
 
 -- as many carriers as there may be
 abbrev pub carriers_of_items : ℕ → Items → Result (List CarrierRow) PlanFault
 carriers_of_items console_port ds = if is_count Carrier ds then in_turn (carrier_of console_port) [] ds else Err (OutOfRange Carrier)
 
--- the carriers, table by table
-unfoldable pub carriers_of : Members → ℕ → Result (List CarrierRow) PlanFault
-carriers_of ms console_port = array_in ms Carrier >>= carriers_of_items console_port
-
--- the control carrier, which is one of the carriers
-unfoldable pub control_of : Members → List CarrierRow → Result ℕ PlanFault
-control_of ms rows = number_in ms Control >>= λ c. if has_number_in rows c then Ok c else Err (OutOfRange Control)
+-- the carriers, table by table, beside the console's port
+unfoldable pub carriers_of : Members → Result (List CarrierRow) PlanFault
+carriers_of ms = do
+  console_port ← number_in ms ConsolePort
+  ds ← array_in ms Carrier
+  carriers_of_items console_port ds

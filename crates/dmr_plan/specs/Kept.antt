@@ -1,54 +1,13 @@
 -- What the numbers and lists of every accepted plan keep.
-use Rattle.std.specs.Prelude.{◌≡◌, ◌≢◌, ◌≤◌, ℕ, IfSome, List, length, map, false}
+use Rattle.std.specs.Prelude.{◌≡◌, ◌≤◌, ℕ, List, length, map, false}
 use Rattle.std.specs.List.{All}
-use Rattle.dmr_plan.specs.declared.key.Key.{Key}
-use Rattle.dmr_plan.specs.declared.key.Key.TheVariants.{System, Regi, Tsi, LeaveBit, AlohaSync, AlohaVersion, AlohaOffset, AlohaActive, NrandWait, Hang, Maximum, AhoyWait, AhoyTries, GrantCopies, ClearCopies, BackoffLow, TickMs, Silence, TermEntries, Radios, Groups, Number, Lpcn, Port}
-use Rattle.dmr_plan.specs.declared.sections.Identity.{Identity}
-use Rattle.dmr_plan.specs.declared.sections.Aloha.{Aloha}
-use Rattle.dmr_plan.specs.declared.sections.Times.{Times}
-use Rattle.dmr_plan.specs.declared.sections.Pace.{Pace}
+use Rattle.dmr_plan.specs.declared.key.Key.TheVariants.{Radios, Groups, Number, Lpcn, Port}
 use Rattle.dmr_plan.specs.declared.lists.RadioRange.{RadioRange}
 use Rattle.dmr_plan.specs.declared.carriers.CarrierRow.{CarrierRow}
-use Rattle.dmr_plan.specs.Keys.{entry_of}
+use Rattle.dmr_plan.specs.declared.key.TheConstants.{MOST_RANGES, MOST_GROUPS, MOST_CARRIERS}
+use Rattle.dmr_plan.specs.Keys.{IsNumberOf}
 use Rattle.dmr_plan.specs.Lists.{has_repeat}
 use Rattle.dmr_plan.specs.Carriers.{has_port_in}
-
--- within the range of its key
-abbrev pub IsNumberOf : Key → ℕ → Type 0
-IsNumberOf key n = ((entry_of key).range.least ≤ n) × (n ≤ (entry_of key).range.most)
-
--- each number is in its range, and the two addresses differ
-pub record IsIdentity (x : Identity) : Type 0 where
-  pub system : IsNumberOf System x.system
-  pub regi : IsNumberOf Regi x.regi
-  pub tsi : IsNumberOf Tsi x.tsi
-  pub apart : x.tsi ≢ x.regi
-  pub leave_bit : IfSome x.leave_bit (IsNumberOf LeaveBit)
-
--- each number is in its range
-pub record IsAloha (x : Aloha) : Type 0 where
-  pub sync : IsNumberOf AlohaSync x.sync
-  pub version : IsNumberOf AlohaVersion x.version
-  pub offset : IsNumberOf AlohaOffset x.offset
-  pub active : IsNumberOf AlohaActive x.active
-  pub nrand_wait : IsNumberOf NrandWait x.nrand_wait
-
--- each number is in its range
-pub record IsTimes (x : Times) : Type 0 where
-  pub hang : IsNumberOf Hang x.hang
-  pub maximum : IsNumberOf Maximum x.maximum
-  pub ahoy_wait : IsNumberOf AhoyWait x.ahoy_wait
-  pub ahoy_tries : IsNumberOf AhoyTries x.ahoy_tries
-  pub grant_copies : IsNumberOf GrantCopies x.grant_copies
-  pub clear_copies : IsNumberOf ClearCopies x.clear_copies
-
--- each number is in its range, and the backoffs are in order
-pub record IsPace (x : Pace) : Type 0 where
-  pub backoff_low : IsNumberOf BackoffLow x.backoff_low
-  pub backoff_high : (x.backoff_low ≤ x.backoff_high) × (x.backoff_high ≤ 15)
-  pub tick_ms : IsNumberOf TickMs x.tick_ms
-  pub silence : IsNumberOf Silence x.silence
-  pub term_entries : IsNumberOf TermEntries x.term_entries
 
 -- both ends are addresses of radios, in order
 pub record IsRange (r : RadioRange) : Type 0 where
@@ -59,12 +18,12 @@ pub record IsRange (r : RadioRange) : Type 0 where
 -- 1 to 16 ranges
 pub record AreRadios (rs : List RadioRange) : Type 0 where
   pub some : 1 ≤ length rs
-  pub few : length rs ≤ 16
+  pub few : length rs ≤ MOST_RANGES
   pub each : All IsRange rs
 
 -- 0 to 64 addresses, none twice
 pub record AreGroups (gs : List ℕ) : Type 0 where
-  pub few : length gs ≤ 64
+  pub few : length gs ≤ MOST_GROUPS
   pub each : All (IsNumberOf Groups) gs
   pub once : has_repeat gs ≡ false
 
@@ -84,6 +43,6 @@ pub record AreApart (console_port : ℕ) (rows : List CarrierRow) : Type 0 where
 -- 1 to 16 carriers that differ from one another
 pub record AreCarriers (console_port : ℕ) (rows : List CarrierRow) : Type 0 where
   pub some : 1 ≤ length rows
-  pub few : length rows ≤ 16
+  pub few : length rows ≤ MOST_CARRIERS
   pub each : All IsRow rows
   pub apart : AreApart console_port rows

@@ -1,11 +1,11 @@
 pub mod Keys
 pub mod Steps
 pub mod Numbers
-pub mod Sections
 pub mod Arrays
 pub mod Lists
 pub mod Carriers
 pub mod Kept
 pub mod IsPlan
 pub mod Plan
+pub mod EqualityLemmas
 pub mod Same

@@ -9,7 +9,7 @@ use Rattle.dmr_plan.specs.declared.key.Fallback.TheVariants.{Loopback}
 use Rattle.dmr_plan.specs.declared.fault.PlanFault.{PlanFault}
 use Rattle.dmr_plan.specs.declared.fault.PlanFault.TheVariants.{Missing, WrongType, OutOfRange, Repeated}
 use Rattle.dmr_plan.specs.declared.lists.RadioRange.{RadioRange}
-use Rattle.dmr_plan.specs.Keys.{name_of, entry_of}
+use Rattle.dmr_plan.specs.Keys.{name_of, limits_of}
 use Rattle.dmr_plan.specs.Steps.{◌>>=◌}
 use Rattle.dmr_plan.specs.Numbers.{number}
 use Rattle.dmr_plan.specs.Arrays.{two_of, array_of, array_in, is_count, in_turn}
@@ -25,7 +25,7 @@ address_of_fallback _ = Err (Missing Address)
 
 -- the address that holds where the key is missing
 abbrev pub address_if_missing : Result (List ℕ) PlanFault
-address_if_missing = address_of_fallback (entry_of Address).fallback
+address_if_missing = address_of_fallback (limits_of Address).fallback
 
 -- an address, or the one that holds where there is no value
 abbrev pub address_or : Option Data → Result (List ℕ) PlanFault

@@ -4,26 +4,26 @@ ghost use Rattle.std.specs.Prelude.{◌≡◌, ◌≤◌, option_map, length, If
 ghost use Rattle.std.specs.Bool.{OnTrue};
 ghost use Rattle.toml.specs.Data.{get_member};
 ghost use Rattle.toml.specs.View.{view, items_view, array_view, table_view};
-ghost use Rattle.dmr_plan.specs.Keys.{entry_of};
+ghost use Rattle.dmr_plan.specs.Keys.{limits_of};
 ghost use Rattle.dmr_plan.specs.Steps.{IsOfKey, Gives};
 ghost use Rattle.dmr_plan.specs.Arrays.{is_item, is_pair, two_of, all_items, array_of, array_in, count_of, is_count};
 
 use crate::fault::PlanFault;
-use crate::key::{Key, Kind};
+use crate::key::{Content, Key};
 use crate::numbers::member;
 use toml::value::Array;
 use toml::{Table, Value};
 
-impl Kind {
+impl Content {
     /// Whether a value may be an item.
     fn admits(self, value: &Value) -> bool
         ensures { result ≡ is_item self (view value.now) }
     {
         match self {
-            Kind::OneNumber => value.is_integer(),
-            Kind::Numbers => value.is_integer(),
-            Kind::Pairs => admits_pair(value),
-            Kind::Tables => value.is_table(),
+            Content::OneNumber => value.is_integer(),
+            Content::Numbers => value.is_integer(),
+            Content::Pairs => admits_pair(value),
+            Content::Tables => value.is_table(),
         }
     }
 }
@@ -52,25 +52,25 @@ pub fn two_in(values: &[Value]) -> Option<(&Value, &Value)>
 }
 
 /// Whether each value may be an item.
-fn admits_all(values: &[Value], kind: Kind) -> bool
-    ensures { result ≡ all_items (is_item kind) (items_view values.now) }
+fn admits_all(values: &[Value], content: Content) -> bool
+    ensures { result ≡ all_items (is_item content) (items_view values.now) }
 {
     for value in values {
-        if !kind.admits(value) {
+        if !content.admits(value) {
             return false;
         }
     }
     true
 }
 
-/// The array that a value is, where each of its items is of the key's kind.
+/// The array that a value is, where each of its items is what the key's array has.
 pub fn array_from(value: &Value, key: Key) -> Result<&Array, PlanFault>
     ensures gives { Gives (λ a. array_view a.now) result (array_of key (view value.now)) }
     ensures of_key { IfErr result IsOfKey }
 {
     match value.as_array() {
         Some(array) => {
-            if admits_all(array.as_slice(), key.entry().kind) {
+            if admits_all(array.as_slice(), key.limits().content) {
                 Ok(array)
             } else {
                 Err(PlanFault::WrongType(key))
@@ -103,10 +103,10 @@ fn count(values: &[Value]) -> usize
 /// Whether there are as many values as the key may have.
 pub fn has_count(values: &[Value], key: Key) -> bool
     ensures gives { result ≡ is_count key (items_view values.now) }
-    ensures few { OnTrue result ((entry_of key).count.least ≤ length values.now) }
-    ensures many { OnTrue result (length values.now ≤ (entry_of key).count.most) }
+    ensures few { OnTrue result ((limits_of key).count.fewest ≤ length values.now) }
+    ensures many { OnTrue result (length values.now ≤ (limits_of key).count.most) }
 {
-    let bounds = key.entry().count;
-    let count = count(values);
-    bounds.least as usize <= count && count <= bounds.most as usize
+    let bounds = key.limits().count;
+    let items = count(values);
+    bounds.fewest <= items && items <= bounds.most
 }

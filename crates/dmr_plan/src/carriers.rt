@@ -1,16 +1,17 @@
-//! The keys `carrier` and `control`.
+//! The key `carrier`.
 
-ghost use Rattle.std.specs.Prelude.{◌≡◌, ◌≤◌, ◌==◌, length, [], true, false, IfOk, IfErr, IfSome};
+ghost use Rattle.std.specs.Prelude.{◌≡◌, ◌≤◌, ◌==◌, ℕ, length, [], false, IfOk, IfErr, IfSome};
 ghost use Rattle.std.specs.List.{All, Contains};
 ghost use Rattle.toml.specs.View.{view, items_view, table_view};
 ghost use Rattle.dmr_plan.specs.Steps.{IsOfKey};
+ghost use Rattle.dmr_plan.specs.Numbers.{number_in};
 ghost use Rattle.dmr_plan.specs.Arrays.{in_turn};
-ghost use Rattle.dmr_plan.specs.Carriers.{row_with, has_number_in, has_lpcn_in, has_port_in, row_of, carrier_of, carriers_of, carriers_of_items, control_of};
+ghost use Rattle.dmr_plan.specs.Carriers.{row_with, has_number_in, has_lpcn_in, has_port_in, carrier_of_table, carrier_of, carriers_of, carriers_of_items};
 ghost use Rattle.dmr_plan.specs.Kept.{IsRow, AreApart, AreCarriers};
 
 use crate::arrays::{array_at, has_count};
 use crate::fault::PlanFault;
-use crate::key::Key;
+use crate::key::{Key, MOST_CARRIERS};
 use crate::numbers::number as number_at;
 use dmr_pdu::{Blank, BoundedList, CarrierNo, Lpcn};
 use toml::{Table, Value};
@@ -41,7 +42,7 @@ impl Blank for CarrierRow {
 }
 
 /// Whether a row has this number.
-fn has_number(rows: &[CarrierRow], number: CarrierNo) -> bool
+pub fn has_number(rows: &[CarrierRow], number: CarrierNo) -> bool
     ensures { result ≡ has_number_in rows.now number }
 {
     rows.iter().any(|row| row.number == number)
@@ -70,10 +71,10 @@ pub fn row_numbered(rows: &[CarrierRow], number: CarrierNo) -> Option<CarrierRow
 }
 
 /// The carrier of a table, beside those before it.
-#[tactic(auto, unfolding(crate::specs::Carriers::row_of))]
+#[tactic(auto, unfolding(crate::specs::Carriers::carrier_of_table))]
 fn row_in(console_port: u16, earlier: &[CarrierRow], table: &Table) -> Result<CarrierRow, PlanFault>
-    ensures gives { result ≡ row_of console_port earlier.now (table_view table.now) }
-    ensures kept { IfOk result IsRow }
+    ensures gives { result ≡ carrier_of_table console_port earlier.now (table_view table.now) }
+    ensures limits { IfOk result IsRow }
     ensures number { IfOk result (λ row. has_number_in earlier.now row.number ≡ false) }
     ensures lpcn { IfOk result (λ row. has_lpcn_in earlier.now row.lpcn ≡ false) }
     ensures port { IfOk result (λ row. has_port_in earlier.now row.port ≡ false) }
@@ -105,7 +106,7 @@ fn row_from(
     value: &Value,
 ) -> Result<CarrierRow, PlanFault>
     ensures gives { result ≡ carrier_of console_port earlier.now (view value.now) }
-    ensures kept { IfOk result IsRow }
+    ensures limits { IfOk result IsRow }
     ensures number { IfOk result (λ row. has_number_in earlier.now row.number ≡ false) }
     ensures lpcn { IfOk result (λ row. has_lpcn_in earlier.now row.lpcn ≡ false) }
     ensures port { IfOk result (λ row. has_port_in earlier.now row.port ≡ false) }
@@ -119,8 +120,11 @@ fn row_from(
 }
 
 /// The carriers, one by one.
-fn row_list(console_port: u16, values: &[Value]) -> Result<BoundedList<CarrierRow, 16>, PlanFault>
-    requires { length values.now ≤ 16 }
+fn row_list(
+    console_port: u16,
+    values: &[Value],
+) -> Result<BoundedList<CarrierRow, MOST_CARRIERS>, PlanFault>
+    requires { length values.now ≤ MOST_CARRIERS }
     ensures gives { result ≡ in_turn (carrier_of console_port) [] (items_view values.now) }
     ensures count { IfOk result (λ rows. length rows ≡ length values.now) }
     ensures each { IfOk result (All IsRow) }
@@ -139,9 +143,9 @@ fn row_list(console_port: u16, values: &[Value]) -> Result<BoundedList<CarrierRo
 fn carriers_from(
     console_port: u16,
     values: &[Value],
-) -> Result<BoundedList<CarrierRow, 16>, PlanFault>
+) -> Result<BoundedList<CarrierRow, MOST_CARRIERS>, PlanFault>
     ensures gives { result ≡ carriers_of_items console_port (items_view values.now) }
-    ensures kept { IfOk result (AreCarriers console_port) }
+    ensures limits { IfOk result (AreCarriers console_port) }
     ensures of_key { IfErr result IsOfKey }
 {
     if !has_count(values, Key::Carrier) {
@@ -150,31 +154,14 @@ fn carriers_from(
     row_list(console_port, values)
 }
 
-/// The carriers in the file's order.
+/// The carriers in the file's order, none at the console's port.
 #[tactic(auto, unfolding(crate::specs::Carriers::carriers_of))]
-pub fn carriers_in(
-    table: &Table,
-    console_port: u16,
-) -> Result<BoundedList<CarrierRow, 16>, PlanFault>
-    ensures gives { result ≡ carriers_of (table_view table.now) console_port }
-    ensures kept { IfOk result (AreCarriers console_port) }
+pub fn carriers_in(table: &Table) -> Result<BoundedList<CarrierRow, MOST_CARRIERS>, PlanFault>
+    ensures gives { result ≡ carriers_of (table_view table.now) }
+    ensures limits { (port : ℕ) → Ok port ≡ number_in (table_view table.now) Key.ConsolePort → IfOk result (AreCarriers port) }
     ensures of_key { IfErr result IsOfKey }
 {
+    let console_port = number_at(table, Key::ConsolePort)? as u16;
     let array = array_at(table, Key::Carrier)?;
     carriers_from(console_port, array.as_slice())
-}
-
-/// The number of the control carrier, which is one of the carriers.
-#[tactic(auto, unfolding(crate::specs::Carriers::control_of))]
-pub fn control_in(table: &Table, rows: &[CarrierRow]) -> Result<CarrierNo, PlanFault>
-    ensures gives { result ≡ control_of (table_view table.now) rows.now }
-    ensures kept { IfOk result (λ c. has_number_in rows.now c ≡ true) }
-    ensures of_key { IfErr result IsOfKey }
-{
-    let control = CarrierNo::new(number_at(table, Key::Control)?);
-    if has_number(rows, control) {
-        Ok(control)
-    } else {
-        Err(PlanFault::OutOfRange(Key::Control))
-    }
 }

@@ -2,7 +2,7 @@
 //! profile; the fields that they fill are those of TS 102 361-4.
 
 ghost use Rattle.std.specs.Prelude.{◌≡◌};
-ghost use Rattle.dmr_plan.specs.Keys.{name_of, entry_of, number_entry, array_entry, FallbackIsWithin};
+ghost use Rattle.dmr_plan.specs.Keys.{name_of, limits_of, number_limits, array_limits, FallbackIsWithin};
 
 use std::fmt;
 
@@ -75,9 +75,18 @@ pub enum Key {
     Port,
 }
 
+/// The most ranges of radios that a site file lists (this project's profile).
+pub const MOST_RANGES: usize = 16;
+
+/// The most talkgroups of a site (this project's profile).
+pub const MOST_GROUPS: usize = 64;
+
+/// The most carriers of a site (this project's profile).
+pub const MOST_CARRIERS: usize = 16;
+
 /// What stands at a key.
 #[derive(Clone, Copy)]
-pub enum Kind {
+pub enum Content {
     /// One whole number, which counts as its own one item.
     OneNumber,
     /// An array of whole numbers.
@@ -101,134 +110,171 @@ pub enum Fallback {
     Loopback,
 }
 
-/// The least and the most of something.
+/// The least and the greatest number.
 #[derive(Clone, Copy)]
 pub struct Bounds {
     pub least: u32,
     pub most: u32,
 }
 
-/// A row of the key table.
+/// The fewest and the most items.
 #[derive(Clone, Copy)]
-pub struct Entry {
+pub struct Count {
+    pub fewest: usize,
+    pub most: usize,
+}
+
+/// What the file may say at a key.
+#[derive(Clone, Copy)]
+pub struct Limits {
     /// What stands at the key.
-    pub kind: Kind,
+    pub content: Content,
     /// How many items there are.
-    pub count: Bounds,
+    pub count: Count,
     /// Which whole numbers may stand there, alone or in the array.
     pub range: Bounds,
     /// What holds where the key is missing.
     pub fallback: Fallback,
 }
 
-impl Entry {
-    const fn number(least: u32, most: u32, fallback: Fallback) -> Entry
-        ensures { result ≡ number_entry least most fallback }
-    {
-        Entry {
-            kind: Kind::OneNumber,
-            count: Bounds { least: 1, most: 1 },
-            range: Bounds { least, most },
-            fallback,
-        }
-    }
+/// A row of the key table.
+#[derive(Clone, Copy)]
+pub struct KeyRow {
+    /// How the site file spells the key.
+    pub name: &'static str,
+    /// What it may say there.
+    pub limits: Limits,
+}
 
-    const fn array(
-        kind: Kind,
-        fewest: u32,
-        many: u32,
-        least: u32,
-        most: u32,
-        fallback: Fallback,
-    ) -> Entry
-        ensures { result ≡ array_entry kind fewest many least most fallback }
-    {
-        Entry {
-            kind,
-            count: Bounds {
-                least: fewest,
-                most: many,
-            },
-            range: Bounds { least, most },
-            fallback,
-        }
-    }
+/// The row of a key with one number.
+fn number(name: &'static str, least: u32, most: u32, fallback: Fallback) -> KeyRow
+    ensures name { result.name.now ≡ name.now }
+    ensures limits { result.limits ≡ number_limits least most fallback }
+{
+    let limits = Limits {
+        content: Content::OneNumber,
+        count: Count { fewest: 1, most: 1 },
+        range: Bounds { least, most },
+        fallback,
+    };
+    KeyRow { name, limits }
+}
+
+/// The row of a key with an array.
+fn array(
+    name: &'static str,
+    content: Content,
+    count: Count,
+    range: Bounds,
+    fallback: Fallback,
+) -> KeyRow
+    ensures name { result.name.now ≡ name.now }
+    ensures limits { result.limits ≡ array_limits content count range fallback }
+{
+    let limits = Limits {
+        content,
+        count,
+        range,
+        fallback,
+    };
+    KeyRow { name, limits }
 }
 
 impl Key {
+    /// The key's row of the key table: its name, its range, and what holds where it is missing.
+    fn row(self) -> KeyRow
+        ensures name { result.name.now ≡ name_of self }
+        ensures limits { result.limits ≡ limits_of self }
+        ensures fits { FallbackIsWithin (limits_of self).range (limits_of self).fallback }
+    {
+        match self {
+            Key::System => number("system", 0, 65535, Fallback::Fault),
+            Key::Regi => number("regi", 16_776_416, 16_777_215, Fallback::Fault),
+            Key::Tsi => number("tsi", 16_776_416, 16_777_215, Fallback::Fault),
+            Key::LeaveBit => number("leave_bit", 0, 6, Fallback::Nothing),
+            Key::AlohaSync => number("aloha_sync", 0, 1, Fallback::Value(0)),
+            Key::AlohaVersion => number("aloha_version", 0, 7, Fallback::Value(0)),
+            Key::AlohaOffset => number("aloha_offset", 0, 1, Fallback::Value(0)),
+            Key::AlohaActive => number("aloha_active", 0, 1, Fallback::Value(0)),
+            Key::NrandWait => number("nrand_wait", 0, 15, Fallback::Value(0)),
+            Key::Hang => number("hang", 1, 65535, Fallback::Fault),
+            Key::Maximum => number("maximum", 1, 65535, Fallback::Fault),
+            Key::AhoyWait => number("ahoy_wait", 1, 65535, Fallback::Fault),
+            Key::AhoyTries => number("ahoy_tries", 1, 8, Fallback::Fault),
+            Key::GrantCopies => number("grant_copies", 1, 4, Fallback::Fault),
+            Key::ClearCopies => number("clear_copies", 1, 4, Fallback::Fault),
+            Key::BackoffLow => number("backoff_low", 1, 15, Fallback::Fault),
+            Key::BackoffHigh => number("backoff_high", 1, 15, Fallback::Fault),
+            Key::TickMs => number("tick_ms", 10, 1000, Fallback::Fault),
+            Key::Silence => number("silence", 1, 65535, Fallback::Fault),
+            Key::TermEntries => number("term_entries", 1, 100_000, Fallback::Value(10000)),
+            Key::Address => array(
+                "address",
+                Content::Numbers,
+                Count { fewest: 4, most: 4 },
+                Bounds {
+                    least: 0,
+                    most: 255,
+                },
+                Fallback::Loopback,
+            ),
+            Key::ConsolePort => number("console_port", 1, 65535, Fallback::Fault),
+            Key::Radios => array(
+                "radios",
+                Content::Pairs,
+                Count {
+                    fewest: 1,
+                    most: MOST_RANGES,
+                },
+                Bounds {
+                    least: 1,
+                    most: 16_776_415,
+                },
+                Fallback::Fault,
+            ),
+            Key::Groups => array(
+                "groups",
+                Content::Numbers,
+                Count {
+                    fewest: 0,
+                    most: MOST_GROUPS,
+                },
+                Bounds {
+                    least: 1,
+                    most: 16_776_415,
+                },
+                Fallback::Fault,
+            ),
+            Key::Carrier => array(
+                "carrier",
+                Content::Tables,
+                Count {
+                    fewest: 1,
+                    most: MOST_CARRIERS,
+                },
+                Bounds { least: 0, most: 0 },
+                Fallback::Fault,
+            ),
+            Key::Control => number("control", 0, 15, Fallback::Fault),
+            Key::Number => number("number", 0, 15, Fallback::Fault),
+            Key::Lpcn => number("lpcn", 1, 4094, Fallback::Fault),
+            Key::Port => number("port", 1, 65535, Fallback::Fault),
+        }
+    }
+
     /// How the site file spells the key.
     pub fn name(self) -> &'static str
         ensures { result.now ≡ name_of self }
     {
-        match self {
-            Key::System => "system",
-            Key::Regi => "regi",
-            Key::Tsi => "tsi",
-            Key::LeaveBit => "leave_bit",
-            Key::AlohaSync => "aloha_sync",
-            Key::AlohaVersion => "aloha_version",
-            Key::AlohaOffset => "aloha_offset",
-            Key::AlohaActive => "aloha_active",
-            Key::NrandWait => "nrand_wait",
-            Key::Hang => "hang",
-            Key::Maximum => "maximum",
-            Key::AhoyWait => "ahoy_wait",
-            Key::AhoyTries => "ahoy_tries",
-            Key::GrantCopies => "grant_copies",
-            Key::ClearCopies => "clear_copies",
-            Key::BackoffLow => "backoff_low",
-            Key::BackoffHigh => "backoff_high",
-            Key::TickMs => "tick_ms",
-            Key::Silence => "silence",
-            Key::TermEntries => "term_entries",
-            Key::Address => "address",
-            Key::ConsolePort => "console_port",
-            Key::Radios => "radios",
-            Key::Groups => "groups",
-            Key::Carrier => "carrier",
-            Key::Control => "control",
-            Key::Number => "number",
-            Key::Lpcn => "lpcn",
-            Key::Port => "port",
-        }
+        self.row().name
     }
 
-    /// The key's row of the table.
-    pub(crate) fn entry(self) -> Entry
-        ensures gives { result ≡ entry_of self }
-        ensures fits { FallbackIsWithin (entry_of self).range.least (entry_of self).range.most (entry_of self).fallback }
+    /// What the site file may say at the key.
+    pub(crate) fn limits(self) -> Limits
+        ensures gives { result ≡ limits_of self }
+        ensures fits { FallbackIsWithin (limits_of self).range (limits_of self).fallback }
     {
-        match self {
-            Key::System => Entry::number(0, 65535, Fallback::Fault),
-            Key::Regi => Entry::number(16_776_416, 16_777_215, Fallback::Fault),
-            Key::Tsi => Entry::number(16_776_416, 16_777_215, Fallback::Fault),
-            Key::LeaveBit => Entry::number(0, 6, Fallback::Nothing),
-            Key::AlohaSync => Entry::number(0, 1, Fallback::Value(0)),
-            Key::AlohaVersion => Entry::number(0, 7, Fallback::Value(0)),
-            Key::AlohaOffset => Entry::number(0, 1, Fallback::Value(0)),
-            Key::AlohaActive => Entry::number(0, 1, Fallback::Value(0)),
-            Key::NrandWait => Entry::number(0, 15, Fallback::Value(0)),
-            Key::Hang => Entry::number(1, 65535, Fallback::Fault),
-            Key::Maximum => Entry::number(1, 65535, Fallback::Fault),
-            Key::AhoyWait => Entry::number(1, 65535, Fallback::Fault),
-            Key::AhoyTries => Entry::number(1, 8, Fallback::Fault),
-            Key::GrantCopies => Entry::number(1, 4, Fallback::Fault),
-            Key::ClearCopies => Entry::number(1, 4, Fallback::Fault),
-            Key::BackoffLow => Entry::number(1, 15, Fallback::Fault),
-            Key::BackoffHigh => Entry::number(1, 15, Fallback::Fault),
-            Key::TickMs => Entry::number(10, 1000, Fallback::Fault),
-            Key::Silence => Entry::number(1, 65535, Fallback::Fault),
-            Key::TermEntries => Entry::number(1, 100_000, Fallback::Value(10000)),
-            Key::Address => Entry::array(Kind::Numbers, 4, 4, 0, 255, Fallback::Loopback),
-            Key::ConsolePort => Entry::number(1, 65535, Fallback::Fault),
-            Key::Radios => Entry::array(Kind::Pairs, 1, 16, 1, 16_776_415, Fallback::Fault),
-            Key::Groups => Entry::array(Kind::Numbers, 0, 64, 1, 16_776_415, Fallback::Fault),
-            Key::Carrier => Entry::array(Kind::Tables, 1, 16, 0, 0, Fallback::Fault),
-            Key::Control => Entry::number(0, 15, Fallback::Fault),
-            Key::Number => Entry::number(0, 15, Fallback::Fault),
-            Key::Lpcn => Entry::number(1, 4094, Fallback::Fault),
-            Key::Port => Entry::number(1, 65535, Fallback::Fault),
-        }
+        self.row().limits
     }
 }
 

@@ -12,11 +12,10 @@ mod key;
 mod lists;
 mod numbers;
 mod plan;
-mod sections;
 mod settings;
 
 pub use carriers::CarrierRow;
 pub use fault::PlanFault;
-pub use key::Key;
+pub use key::{Key, MOST_CARRIERS, MOST_GROUPS, MOST_RANGES};
 pub use lists::RadioRange;
 pub use plan::Plan;

@@ -7,11 +7,12 @@ ghost use Rattle.dmr_plan.specs.Steps.{IsOfKey};
 ghost use Rattle.dmr_plan.specs.Numbers.{number as number_of};
 ghost use Rattle.dmr_plan.specs.Arrays.{in_turn};
 ghost use Rattle.dmr_plan.specs.Lists.{has_repeat as repeats, address_of, address_of_items, address_if_missing, range_of, is_within, radios_of, radios_of_items, distinct, groups_of, groups_of_items};
-ghost use Rattle.dmr_plan.specs.Kept.{IsNumberOf, IsRange, AreRadios, AreGroups};
+ghost use Rattle.dmr_plan.specs.Kept.{IsRange, AreRadios, AreGroups};
+ghost use Rattle.dmr_plan.specs.Keys.{IsNumberOf};
 
 use crate::arrays::{array_at, array_from, has_count, two_in};
 use crate::fault::PlanFault;
-use crate::key::{Fallback, Key};
+use crate::key::{Fallback, Key, MOST_GROUPS, MOST_RANGES};
 use crate::numbers::{member, number_between};
 use dmr_pdu::{Address, Blank, BoundedList};
 use toml::{Table, Value};
@@ -53,7 +54,7 @@ fn octet(value: &Value) -> Result<u8, PlanFault>
     ensures gives { result ≡ number_of Key.Address (view value.now) }
     ensures of_key { IfErr result IsOfKey }
 {
-    let range = Key::Address.entry().range;
+    let range = Key::Address.limits().range;
     Ok(number_between(value, Key::Address, range.least, range.most)? as u8)
 }
 
@@ -86,7 +87,7 @@ fn address_for_missing() -> Result<[u8; 4], PlanFault>
     ensures gives { result ≡ address_if_missing }
     ensures of_key { IfErr result IsOfKey }
 {
-    match Key::Address.entry().fallback {
+    match Key::Address.limits().fallback {
         Fallback::Loopback => Ok([127, 0, 0, 1]),
         _ => Err(PlanFault::Missing(Key::Address)),
     }
@@ -110,10 +111,10 @@ pub fn address_in(table: &Table) -> Result<[u8; 4], PlanFault>
 /// The range that a pair of numbers spells.
 fn range_from(value: &Value) -> Result<RadioRange, PlanFault>
     ensures gives { result ≡ range_of (view value.now) }
-    ensures kept { IfOk result IsRange }
+    ensures limits { IfOk result IsRange }
     ensures of_key { IfErr result IsOfKey }
 {
-    let range = Key::Radios.entry().range;
+    let range = Key::Radios.limits().range;
     let Some(pair) = value.as_array() else {
         return Err(PlanFault::WrongType(Key::Radios));
     };
@@ -132,8 +133,8 @@ fn range_from(value: &Value) -> Result<RadioRange, PlanFault>
 }
 
 /// The ranges, one by one.
-fn radio_list(values: &[Value]) -> Result<BoundedList<RadioRange, 16>, PlanFault>
-    requires { length values.now ≤ 16 }
+fn radio_list(values: &[Value]) -> Result<BoundedList<RadioRange, MOST_RANGES>, PlanFault>
+    requires { length values.now ≤ MOST_RANGES }
     ensures gives { result ≡ in_turn (λ _ d. range_of d) [] (items_view values.now) }
     ensures count { IfOk result (λ rs. length rs ≡ length values.now) }
     ensures each { IfOk result (All IsRange) }
@@ -148,9 +149,9 @@ fn radio_list(values: &[Value]) -> Result<BoundedList<RadioRange, 16>, PlanFault
 }
 
 /// The ranges that an array spells.
-fn radios_from(values: &[Value]) -> Result<BoundedList<RadioRange, 16>, PlanFault>
+fn radios_from(values: &[Value]) -> Result<BoundedList<RadioRange, MOST_RANGES>, PlanFault>
     ensures gives { result ≡ radios_of_items (items_view values.now) }
-    ensures kept { IfOk result AreRadios }
+    ensures limits { IfOk result AreRadios }
     ensures of_key { IfErr result IsOfKey }
 {
     if !has_count(values, Key::Radios) {
@@ -161,9 +162,9 @@ fn radios_from(values: &[Value]) -> Result<BoundedList<RadioRange, 16>, PlanFaul
 
 /// The ranges of the radios that may register.
 #[tactic(auto, unfolding(crate::specs::Lists::radios_of))]
-pub fn radios_in(table: &Table) -> Result<BoundedList<RadioRange, 16>, PlanFault>
+pub fn radios_in(table: &Table) -> Result<BoundedList<RadioRange, MOST_RANGES>, PlanFault>
     ensures gives { result ≡ radios_of (table_view table.now) }
-    ensures kept { IfOk result AreRadios }
+    ensures limits { IfOk result AreRadios }
     ensures of_key { IfErr result IsOfKey }
 {
     let array = array_at(table, Key::Radios)?;
@@ -181,14 +182,14 @@ fn has_repeat(addresses: &[Address]) -> bool
 }
 
 /// The talkgroups, one by one.
-fn group_list(values: &[Value]) -> Result<BoundedList<Address, 64>, PlanFault>
-    requires { length values.now ≤ 64 }
+fn group_list(values: &[Value]) -> Result<BoundedList<Address, MOST_GROUPS>, PlanFault>
+    requires { length values.now ≤ MOST_GROUPS }
     ensures gives { result ≡ in_turn (λ _ d. number_of Key.Groups d) [] (items_view values.now) }
     ensures count { IfOk result (λ gs. length gs ≡ length values.now) }
     ensures each { IfOk result (All (IsNumberOf Key.Groups)) }
     ensures of_key { IfErr result IsOfKey }
 {
-    let range = Key::Groups.entry().range;
+    let range = Key::Groups.limits().range;
     let mut groups = BoundedList::new();
     for value in values {
         let number = number_between(value, Key::Groups, range.least, range.most)?;
@@ -198,7 +199,9 @@ fn group_list(values: &[Value]) -> Result<BoundedList<Address, 64>, PlanFault>
 }
 
 /// The talkgroups, where none stands twice.
-fn distinct_groups(groups: BoundedList<Address, 64>) -> Result<BoundedList<Address, 64>, PlanFault>
+fn distinct_groups(
+    groups: BoundedList<Address, MOST_GROUPS>,
+) -> Result<BoundedList<Address, MOST_GROUPS>, PlanFault>
     ensures gives { result ≡ distinct Key.Groups groups }
     ensures same { IfOk result (λ gs. gs ≡ groups) }
     ensures once { IfOk result (λ gs. repeats gs ≡ false) }
@@ -211,9 +214,9 @@ fn distinct_groups(groups: BoundedList<Address, 64>) -> Result<BoundedList<Addre
 }
 
 /// The talkgroups that an array spells.
-fn groups_from(values: &[Value]) -> Result<BoundedList<Address, 64>, PlanFault>
+fn groups_from(values: &[Value]) -> Result<BoundedList<Address, MOST_GROUPS>, PlanFault>
     ensures gives { result ≡ groups_of_items (items_view values.now) }
-    ensures kept { IfOk result AreGroups }
+    ensures limits { IfOk result AreGroups }
     ensures of_key { IfErr result IsOfKey }
 {
     if !has_count(values, Key::Groups) {
@@ -225,9 +228,9 @@ fn groups_from(values: &[Value]) -> Result<BoundedList<Address, 64>, PlanFault>
 
 /// The talkgroups.
 #[tactic(auto, unfolding(crate::specs::Lists::groups_of))]
-pub fn groups_in(table: &Table) -> Result<BoundedList<Address, 64>, PlanFault>
+pub fn groups_in(table: &Table) -> Result<BoundedList<Address, MOST_GROUPS>, PlanFault>
     ensures gives { result ≡ groups_of (table_view table.now) }
-    ensures kept { IfOk result AreGroups }
+    ensures limits { IfOk result AreGroups }
     ensures of_key { IfErr result IsOfKey }
 {
     let array = array_at(table, Key::Groups)?;

@@ -1,26 +1,20 @@
 //! The plan that a site file makes.
 
-ghost use Rattle.std.specs.Prelude.{◌≡◌, ◌⊎◌, ◌↔◌, ◌≤◌, IsTrue, Err, IfErr, None, IfSome, IsSome, is_some};
+ghost use Rattle.std.specs.Prelude.{◌≡◌, ◌⊎◌, ◌↔◌, ◌≤◌, IsTrue, Err, None, IfSome, IsSome, is_some};
 ghost use Rattle.std.specs.List.{Any, Contains};
 ghost use Rattle.toml.specs.Errors.{IsBlank};
 ghost use Rattle.toml.specs.Parse.{parse_document};
-ghost use Rattle.toml.specs.View.{table_view};
-ghost use Rattle.dmr_plan.specs.Steps.{IsOfKey};
-ghost use Rattle.dmr_plan.specs.Plan.{plan_of, plan_of_text, lists_radio, lists_group};
+ghost use Rattle.dmr_plan.specs.Plan.{plan_of_text, lists_radio, lists_group};
 ghost use Rattle.dmr_plan.specs.Carriers.{row_with, has_number_in};
 ghost use Rattle.dmr_plan.specs.IsPlan.{IsPlan};
 
-use crate::carriers::{CarrierRow, carriers_in, control_in, row_numbered};
+use crate::carriers::{CarrierRow, row_numbered};
 use crate::fault::PlanFault;
-use crate::key::Key;
-use crate::lists::{RadioRange, address_in, groups_in, radios_in};
-use crate::numbers::number;
-use crate::sections::{aloha_in, identity_in, pace_in, times_in};
-use crate::settings::{Settings, same_settings};
-use dmr_pdu::{Address, CarrierNo};
+use crate::lists::RadioRange;
+use crate::settings::{Settings, settings_in};
+use dmr_pdu::{Address, CarrierNo, Number};
 use std::alloc::Global;
 use std::marker::Model;
-use toml::Table;
 
 /// What an accepted site file says. `Copy`, and without memory of its own. Contracts see it as the settings, a field for
 /// each key; what they all keep is `IsPlan`, which [`Plan::keeps`] tells.
@@ -56,7 +50,7 @@ impl PartialEq for Plan {
         ensures gives { result ≡ are_same self.now other.now }
         ensures same { IsTrue result ↔ (self.now ≡ other.now) }
     {
-        same_settings(&self.settings, &other.settings)
+        self.settings == other.settings
     }
 }
 
@@ -64,54 +58,6 @@ impl Eq for Plan {
     ghost use Rattle.dmr_plan.specs.Same.{are_same-equivalence};
 
     ghost laws = { are_same-equivalence };
-}
-
-/// The plan that a table spells, or its first fault in the order of the keys.
-#[tactic(auto, unfolding(crate::specs::Plan::plan_of))]
-fn plan_in(table: &Table) -> Result<Plan, PlanFault>
-    ensures gives { result ≡ plan_of (table_view table.now) }
-    ensures of_key { IfErr result IsOfKey }
-{
-    let identity = identity_in(table)?;
-    let aloha = aloha_in(table)?;
-    let times = times_in(table)?;
-    let pace = pace_in(table)?;
-    let address = address_in(table)?;
-    let console_port = number(table, Key::ConsolePort)? as u16;
-    let radios = radios_in(table)?;
-    let groups = groups_in(table)?;
-    let carriers = carriers_in(table, console_port)?;
-    let control = control_in(table, carriers.as_slice())?;
-    Ok(Plan {
-        settings: Settings {
-            system: identity.system,
-            regi: identity.regi,
-            tsi: identity.tsi,
-            leave_bit: identity.leave_bit,
-            aloha_sync: aloha.sync,
-            aloha_version: aloha.version,
-            aloha_offset: aloha.offset,
-            aloha_active: aloha.active,
-            nrand_wait: aloha.nrand_wait,
-            hang: times.hang,
-            maximum: times.maximum,
-            ahoy_wait: times.ahoy_wait,
-            ahoy_tries: times.ahoy_tries,
-            grant_copies: times.grant_copies,
-            clear_copies: times.clear_copies,
-            backoff_low: pace.backoff_low,
-            backoff_high: pace.backoff_high,
-            tick_ms: pace.tick_ms,
-            silence: pace.silence,
-            term_entries: pace.term_entries,
-            address,
-            console_port,
-            radios,
-            groups,
-            carriers,
-            control,
-        },
-    })
 }
 
 impl Plan {
@@ -128,7 +74,10 @@ impl Plan {
         ensures memory { result ≡ Err PlanFault.OutOfMemory → ¬ IsBlank text.now }
     {
         match toml::table_from_str(alloc, text) {
-            Ok(table) => plan_in(&table),
+            Ok(table) => {
+                let settings = settings_in(&table)?;
+                Ok(Plan { settings })
+            }
             Err(e) => {
                 if e.is_memory() {
                     Err(PlanFault::OutOfMemory)
@@ -140,7 +89,7 @@ impl Plan {
     }
 
     /// The system identity code that C_ALOHA announces: 0 to 65535.
-    pub fn system(&self) -> u16
+    pub fn system(&self) -> Number<16>
         ensures { result ≡ self.now.system }
     {
         self.settings.system
@@ -170,28 +119,28 @@ impl Plan {
     }
 
     /// The field sync of C_ALOHA: 0 to 1; 0 where the file doesn't say.
-    pub fn aloha_sync(&self) -> u8
+    pub fn aloha_sync(&self) -> bool
         ensures { result ≡ self.now.aloha_sync }
     {
         self.settings.aloha_sync
     }
 
     /// The field version of C_ALOHA: 0 to 7; 0 where the file doesn't say.
-    pub fn aloha_version(&self) -> u8
+    pub fn aloha_version(&self) -> Number<3>
         ensures { result ≡ self.now.aloha_version }
     {
         self.settings.aloha_version
     }
 
     /// The field offset of C_ALOHA: 0 to 1; 0 where the file doesn't say.
-    pub fn aloha_offset(&self) -> u8
+    pub fn aloha_offset(&self) -> bool
         ensures { result ≡ self.now.aloha_offset }
     {
         self.settings.aloha_offset
     }
 
     /// The field active of C_ALOHA: 0 to 1; 0 where the file doesn't say.
-    pub fn aloha_active(&self) -> u8
+    pub fn aloha_active(&self) -> bool
         ensures { result ≡ self.now.aloha_active }
     {
         self.settings.aloha_active
@@ -199,7 +148,7 @@ impl Plan {
 
     /// The field nrand_wait of C_ALOHA, which sets how long radios wait for an answer to their random access: 0 to 15; 0
     /// where the file doesn't say.
-    pub fn nrand_wait(&self) -> u8
+    pub fn nrand_wait(&self) -> Number<4>
         ensures { result ≡ self.now.nrand_wait }
     {
         self.settings.nrand_wait

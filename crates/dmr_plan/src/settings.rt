@@ -1,16 +1,26 @@
-//! Everything that a site file says, and whether two say the same.
+//! Everything that a site file says.
 
-ghost use Rattle.std.specs.Prelude.{◌≡◌, ◌↔◌, IsTrue};
+ghost use Rattle.std.specs.Prelude.{◌≡◌, IfOk, IfErr, IfSome};
+ghost use Rattle.toml.specs.View.{table_view};
+ghost use Rattle.dmr_plan.specs.Keys.{IsNumberOf};
+ghost use Rattle.dmr_plan.specs.Steps.{IsOfKey};
+ghost use Rattle.dmr_plan.specs.Numbers.{optional_in};
+ghost use Rattle.dmr_plan.specs.Plan.{plan_of};
+ghost use Rattle.dmr_plan.specs.IsPlan.{IsPlan};
 
-use crate::carriers::CarrierRow;
-use crate::lists::RadioRange;
-use dmr_pdu::{Address, BoundedList, CarrierNo};
+use crate::carriers::{CarrierRow, carriers_in, has_number};
+use crate::fault::PlanFault;
+use crate::key::{Key, MOST_CARRIERS, MOST_GROUPS, MOST_RANGES};
+use crate::lists::{RadioRange, address_in, groups_in, radios_in};
+use crate::numbers::{address, address_unlike, bit, field, number, number_from, optional_number};
+use dmr_pdu::{Address, BoundedList, CarrierNo, Number};
+use toml::Table;
 
 /// Everything that a site file says, a field for each key. It is what contracts see of a plan.
-#[derive(Clone, Copy, Debug)]
+#[derive(Clone, Copy, Debug, PartialEq, Eq)]
 pub struct Settings {
     /// The system identity code.
-    pub system: u16,
+    pub system: Number<16>,
     /// The address of the registration service.
     pub regi: Address,
     /// The address that the site speaks from.
@@ -18,15 +28,15 @@ pub struct Settings {
     /// The option bit of a registration request that leaves, if any.
     pub leave_bit: Option<u8>,
     /// The field sync of C_ALOHA.
-    pub aloha_sync: u8,
+    pub aloha_sync: bool,
     /// The field version of C_ALOHA.
-    pub aloha_version: u8,
+    pub aloha_version: Number<3>,
     /// The field offset of C_ALOHA.
-    pub aloha_offset: u8,
+    pub aloha_offset: bool,
     /// The field active of C_ALOHA.
-    pub aloha_active: u8,
+    pub aloha_active: bool,
     /// The field nrand_wait of C_ALOHA.
-    pub nrand_wait: u8,
+    pub nrand_wait: Number<4>,
     /// The ticks that a call lasts without activity.
     pub hang: u16,
     /// The ticks that a call lasts at most.
@@ -54,94 +64,64 @@ pub struct Settings {
     /// The TCP port of the console.
     pub console_port: u16,
     /// The ranges of the radios that may register.
-    pub radios: BoundedList<RadioRange, 16>,
+    pub radios: BoundedList<RadioRange, MOST_RANGES>,
     /// The talkgroups.
-    pub groups: BoundedList<Address, 64>,
+    pub groups: BoundedList<Address, MOST_GROUPS>,
     /// The carriers.
-    pub carriers: BoundedList<CarrierRow, 16>,
+    pub carriers: BoundedList<CarrierRow, MOST_CARRIERS>,
     /// The number of the control carrier.
     pub control: CarrierNo,
 }
 
-/// Whether the keys `system` to `leave_bit` are the same.
-fn same_identity(a: &Settings, b: &Settings) -> bool
-    ensures { IsTrue result ↔ ((a.now.system ≡ b.now.system) × (a.now.regi ≡ b.now.regi) × (a.now.tsi ≡ b.now.tsi) × (a.now.leave_bit ≡ b.now.leave_bit)) }
+/// The option bit of a registration request that leaves, if the table says one.
+fn leave_bit_in(table: &Table) -> Result<Option<u8>, PlanFault>
+    ensures gives { result ≡ optional_in (table_view table.now) Key.LeaveBit }
+    ensures within { IfOk result (λ bit. IfSome bit (IsNumberOf Key.LeaveBit)) }
+    ensures of_key { IfErr result IsOfKey }
 {
-    a.system == b.system && a.regi == b.regi && a.tsi == b.tsi && a.leave_bit == b.leave_bit
+    match optional_number(table, Key::LeaveBit)? {
+        Some(bit) => Ok(Some(bit as u8)),
+        None => Ok(None),
+    }
 }
 
-/// Whether the keys `aloha_sync` to `nrand_wait` are the same.
-fn same_aloha(a: &Settings, b: &Settings) -> bool
-    ensures { IsTrue result ↔ ((a.now.aloha_sync ≡ b.now.aloha_sync) × (a.now.aloha_version ≡ b.now.aloha_version) × (a.now.aloha_offset ≡ b.now.aloha_offset) × (a.now.aloha_active ≡ b.now.aloha_active) × (a.now.nrand_wait ≡ b.now.nrand_wait)) }
+/// What a table says at each key, or its first fault: the fields are read in the order of the keys.
+#[tactic(auto, unfolding(crate::specs::Plan::plan_of))]
+pub fn settings_in(table: &Table) -> Result<Settings, PlanFault>
+    ensures gives { result ≡ plan_of (table_view table.now) }
+    ensures limits { IfOk result IsPlan }
+    ensures of_key { IfErr result IsOfKey }
 {
-    a.aloha_sync == b.aloha_sync
-        && a.aloha_version == b.aloha_version
-        && a.aloha_offset == b.aloha_offset
-        && a.aloha_active == b.aloha_active
-        && a.nrand_wait == b.nrand_wait
-}
-
-/// Whether the keys `hang` to `clear_copies` are the same.
-fn same_times(a: &Settings, b: &Settings) -> bool
-    ensures { IsTrue result ↔ ((a.now.hang ≡ b.now.hang) × (a.now.maximum ≡ b.now.maximum) × (a.now.ahoy_wait ≡ b.now.ahoy_wait) × (a.now.ahoy_tries ≡ b.now.ahoy_tries) × (a.now.grant_copies ≡ b.now.grant_copies) × (a.now.clear_copies ≡ b.now.clear_copies)) }
-{
-    a.hang == b.hang
-        && a.maximum == b.maximum
-        && a.ahoy_wait == b.ahoy_wait
-        && a.ahoy_tries == b.ahoy_tries
-        && a.grant_copies == b.grant_copies
-        && a.clear_copies == b.clear_copies
-}
-
-/// Whether the keys `backoff_low` to `term_entries` are the same.
-fn same_pace(a: &Settings, b: &Settings) -> bool
-    ensures { IsTrue result ↔ ((a.now.backoff_low ≡ b.now.backoff_low) × (a.now.backoff_high ≡ b.now.backoff_high) × (a.now.tick_ms ≡ b.now.tick_ms) × (a.now.silence ≡ b.now.silence) × (a.now.term_entries ≡ b.now.term_entries)) }
-{
-    a.backoff_low == b.backoff_low
-        && a.backoff_high == b.backoff_high
-        && a.tick_ms == b.tick_ms
-        && a.silence == b.silence
-        && a.term_entries == b.term_entries
-}
-
-/// Whether the address, the console's port and the control carrier are the same.
-fn same_ports(a: &Settings, b: &Settings) -> bool
-    ensures { IsTrue result ↔ ((a.now.address ≡ b.now.address) × (a.now.console_port ≡ b.now.console_port) × (a.now.control ≡ b.now.control)) }
-{
-    a.address == b.address && a.console_port == b.console_port && a.control == b.control
-}
-
-/// Whether the ranges are the same, one by one.
-fn same_radios(a: &[RadioRange], b: &[RadioRange]) -> bool
-    ensures { IsTrue result ↔ (a.now ≡ b.now) }
-{
-    a == b
-}
-
-/// Whether the talkgroups are the same, one by one.
-fn same_groups(a: &[Address], b: &[Address]) -> bool
-    ensures { IsTrue result ↔ (a.now ≡ b.now) }
-{
-    a == b
-}
-
-/// Whether the carriers are the same, one by one.
-fn same_carriers(a: &[CarrierRow], b: &[CarrierRow]) -> bool
-    ensures { IsTrue result ↔ (a.now ≡ b.now) }
-{
-    a == b
-}
-
-/// Whether two say the same at each key.
-pub fn same_settings(a: &Settings, b: &Settings) -> bool
-    ensures { IsTrue result ↔ (a.now ≡ b.now) }
-{
-    same_identity(a, b)
-        && same_aloha(a, b)
-        && same_times(a, b)
-        && same_pace(a, b)
-        && same_ports(a, b)
-        && same_radios(a.radios.as_slice(), b.radios.as_slice())
-        && same_groups(a.groups.as_slice(), b.groups.as_slice())
-        && same_carriers(a.carriers.as_slice(), b.carriers.as_slice())
+    let settings = Settings {
+        system: field(table, Key::System)?,
+        regi: address(table, Key::Regi)?,
+        tsi: address_unlike(table, Key::Tsi, Key::Regi)?,
+        leave_bit: leave_bit_in(table)?,
+        aloha_sync: bit(table, Key::AlohaSync)?,
+        aloha_version: field(table, Key::AlohaVersion)?,
+        aloha_offset: bit(table, Key::AlohaOffset)?,
+        aloha_active: bit(table, Key::AlohaActive)?,
+        nrand_wait: field(table, Key::NrandWait)?,
+        hang: number(table, Key::Hang)? as u16,
+        maximum: number(table, Key::Maximum)? as u16,
+        ahoy_wait: number(table, Key::AhoyWait)? as u16,
+        ahoy_tries: number(table, Key::AhoyTries)? as u8,
+        grant_copies: number(table, Key::GrantCopies)? as u8,
+        clear_copies: number(table, Key::ClearCopies)? as u8,
+        backoff_low: number(table, Key::BackoffLow)? as u8,
+        backoff_high: number_from(table, Key::BackoffHigh, Key::BackoffLow)? as u8,
+        tick_ms: number(table, Key::TickMs)? as u16,
+        silence: number(table, Key::Silence)? as u16,
+        term_entries: number(table, Key::TermEntries)?,
+        address: address_in(table)?,
+        console_port: number(table, Key::ConsolePort)? as u16,
+        radios: radios_in(table)?,
+        groups: groups_in(table)?,
+        carriers: carriers_in(table)?,
+        control: CarrierNo::new(number(table, Key::Control)?),
+    };
+    if !has_number(settings.carriers.as_slice(), settings.control) {
+        return Err(PlanFault::OutOfRange(Key::Control));
+    }
+    Ok(settings)
 }

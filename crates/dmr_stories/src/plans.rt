@@ -188,14 +188,14 @@ static VALUES: [(&str, Numbers, Option<u8>, [u8; 4]); 2] = [
 /// A plan's numbers.
 fn numbers_of(plan: &Plan) -> Numbers {
     [
-        u32::from(plan.system()),
+        plan.system().get(),
         plan.regi().get(),
         plan.tsi().get(),
         u32::from(plan.aloha_sync()),
-        u32::from(plan.aloha_version()),
+        plan.aloha_version().get(),
         u32::from(plan.aloha_offset()),
         u32::from(plan.aloha_active()),
-        u32::from(plan.nrand_wait()),
+        plan.nrand_wait().get(),
         u32::from(plan.hang()),
         u32::from(plan.maximum()),
         u32::from(plan.ahoy_wait()),

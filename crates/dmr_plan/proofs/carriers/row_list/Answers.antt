@@ -14,7 +14,7 @@ loop-value-preserved c =
     let more = c.push.ensures in
     record {
       count = omega (arith, simp length-append at (ap length more), old.count);
-      each = rw more (All-push IsRow _ row old.each new.kept);
+      each = rw more (All-push IsRow _ row old.each new.limits);
       apart = AreApart-grown c.args.console_port _ _ _ row c.as_slice.ensures.value more old.apart new.number new.lpcn new.port new.console;
       same = in_turn-step (carrier_of c.args.console_port) _ _ _ row _ _ _ _ c.as_slice.ensures.value more c.loop-value-test.true c.value-item.is new.gives old.same;
     }

@@ -1,6 +1,6 @@
 use Rattle.std.proofs.Common.{◌≡◌, drop, length, []}
 use Rattle.std.specs.List.{All}
-use Rattle.dmr_plan.specs.Kept.{IsNumberOf}
+use Rattle.dmr_plan.specs.Keys.{IsNumberOf}
 use Rattle.toml.specs.View.{items_view}
 use Rattle.dmr_plan.specs.declared.key.Key.TheVariants.{Groups}
 use Rattle.dmr_plan.specs.Numbers.{number}

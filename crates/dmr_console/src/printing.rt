@@ -10,6 +10,9 @@ use arrayvec::ArrayString;
 use dmr_core::Reply;
 use dmr_pdu::Lpcn;
 
+/// The most octets of a reply's text, and more than those of what is wrong with a line (this project's profile).
+pub const LONGEST_TEXT: usize = 1024;
+
 /// The text of a line that is no command (this project's profile).
 pub fn unknown_command() -> &'static str
     ensures { result.now ≡ codes "error unknown command\n" }
@@ -26,7 +29,7 @@ pub fn line_too_long() -> &'static str
 
 /// The text of a reply: one or more lines, each with its LF (this project's profile). Rows are followed by the line
 /// `end`. Every text fits, with all its rows.
-pub fn print(reply: &Reply) -> ArrayString<1024>
+pub fn print(reply: &Reply) -> ArrayString<LONGEST_TEXT>
     ensures { result.bytes ≡ text_of reply.now }
 {
     let mut text = ArrayString::new();
@@ -79,8 +82,8 @@ pub fn print(reply: &Reply) -> ArrayString<1024>
 }
 
 /// Appends what fills the control slot.
-fn push_fill(text: &mut ArrayString<1024>, moving: Option<Lpcn>)
-    requires { array_string_len text.old + 25 ≤ 1024 }
+fn push_fill(text: &mut ArrayString<LONGEST_TEXT>, moving: Option<Lpcn>)
+    requires { array_string_len text.old + 25 ≤ LONGEST_TEXT }
     ensures bytes { text.new.bytes ≡ text.old.bytes ++ fill_text moving }
     ensures len { array_string_len text.new ≤ array_string_len text.old + 25 }
 {

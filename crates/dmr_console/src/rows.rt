@@ -6,14 +6,15 @@ ghost use Rattle.arrayvec.specs.ArrayString.{array_string_len};
 ghost use Rattle.dmr_console.specs.Texts.{call_row, line_row, parties_text, radio_row, slot_row, slot_text, state_text};
 
 use crate::number_text::{push_address, push_small};
+use crate::printing::LONGEST_TEXT;
 use arrayvec::ArrayString;
 use dmr_calls::{Call, Line};
 use dmr_core::{LineNo, SlotState, State};
 use dmr_pdu::{Address, Slot};
 
 /// Appends `radio R` for each radio, at most 16 of them.
-pub fn push_radios(text: &mut ArrayString<1024>, radios: &[Address])
-    requires room { array_string_len text.old + 15 * length radios.now ≤ 1024 }
+pub fn push_radios(text: &mut ArrayString<LONGEST_TEXT>, radios: &[Address])
+    requires room { array_string_len text.old + 15 * length radios.now ≤ LONGEST_TEXT }
     ensures bytes { text.new.bytes ≡ text.old.bytes ++ flat_map radio_row radios.now }
     ensures len { array_string_len text.new ≤ array_string_len text.old + 15 * length radios.now }
 {
@@ -23,8 +24,8 @@ pub fn push_radios(text: &mut ArrayString<1024>, radios: &[Address])
 }
 
 /// Appends `radio R`.
-fn push_radio(text: &mut ArrayString<1024>, radio: Address)
-    requires { array_string_len text.old + 15 ≤ 1024 }
+fn push_radio(text: &mut ArrayString<LONGEST_TEXT>, radio: Address)
+    requires { array_string_len text.old + 15 ≤ LONGEST_TEXT }
     ensures bytes { text.new.bytes ≡ text.old.bytes ++ radio_row radio }
     ensures len { array_string_len text.new ≤ array_string_len text.old + 15 }
 {
@@ -34,8 +35,8 @@ fn push_radio(text: &mut ArrayString<1024>, radio: Address)
 }
 
 /// Appends a row for each call, at most two of them.
-pub fn push_calls(text: &mut ArrayString<1024>, calls: &[Call])
-    requires { array_string_len text.old + 40 * length calls.now ≤ 1024 }
+pub fn push_calls(text: &mut ArrayString<LONGEST_TEXT>, calls: &[Call])
+    requires { array_string_len text.old + 40 * length calls.now ≤ LONGEST_TEXT }
     ensures bytes { text.new.bytes ≡ text.old.bytes ++ flat_map call_row calls.now }
     ensures len { array_string_len text.new ≤ array_string_len text.old + 40 * length calls.now }
 {
@@ -45,8 +46,8 @@ pub fn push_calls(text: &mut ArrayString<1024>, calls: &[Call])
 }
 
 /// Appends `call C S group G from R`, or `call C S radio T from R`.
-fn push_call(text: &mut ArrayString<1024>, call: &Call)
-    requires { array_string_len text.old + 40 ≤ 1024 }
+fn push_call(text: &mut ArrayString<LONGEST_TEXT>, call: &Call)
+    requires { array_string_len text.old + 40 ≤ LONGEST_TEXT }
     ensures bytes { text.new.bytes ≡ text.old.bytes ++ call_row call.now }
     ensures len { array_string_len text.new ≤ array_string_len text.old + 40 }
 {
@@ -58,8 +59,8 @@ fn push_call(text: &mut ArrayString<1024>, call: &Call)
 }
 
 /// Appends a row for each line, at most 16 of them, the first at the place `from`.
-pub fn push_lines(text: &mut ArrayString<1024>, from: LineNo, lines: &[Line])
-    requires room { array_string_len text.old + 37 * length lines.now ≤ 1024 }
+pub fn push_lines(text: &mut ArrayString<LONGEST_TEXT>, from: LineNo, lines: &[Line])
+    requires room { array_string_len text.old + 37 * length lines.now ≤ LONGEST_TEXT }
     ensures bytes { text.new.bytes ≡ text.old.bytes ++ flat_map line_row (enumerate_from from lines.now) }
     ensures len { array_string_len text.new ≤ array_string_len text.old + 37 * length lines.now }
 {
@@ -71,8 +72,8 @@ pub fn push_lines(text: &mut ArrayString<1024>, from: LineNo, lines: &[Line])
 }
 
 /// Appends `line K group G from R`, or `line K radio T from R`.
-fn push_line(text: &mut ArrayString<1024>, place: u32, line: &Line)
-    requires room { array_string_len text.old + 37 ≤ 1024 }
+fn push_line(text: &mut ArrayString<LONGEST_TEXT>, place: u32, line: &Line)
+    requires room { array_string_len text.old + 37 ≤ LONGEST_TEXT }
     requires small { place < 100 }
     ensures bytes { text.new.bytes ≡ text.old.bytes ++ line_row (place, line.now) }
     ensures len { array_string_len text.new ≤ array_string_len text.old + 37 }
@@ -85,8 +86,8 @@ fn push_line(text: &mut ArrayString<1024>, place: u32, line: &Line)
 }
 
 /// Appends a row for each slot, at most 32 of them.
-pub fn push_slots(text: &mut ArrayString<1024>, slots: &[SlotState])
-    requires { array_string_len text.old + 19 * length slots.now ≤ 1024 }
+pub fn push_slots(text: &mut ArrayString<LONGEST_TEXT>, slots: &[SlotState])
+    requires { array_string_len text.old + 19 * length slots.now ≤ LONGEST_TEXT }
     ensures bytes { text.new.bytes ≡ text.old.bytes ++ flat_map slot_row slots.now }
     ensures len { array_string_len text.new ≤ array_string_len text.old + 19 * length slots.now }
 {
@@ -96,8 +97,8 @@ pub fn push_slots(text: &mut ArrayString<1024>, slots: &[SlotState])
 }
 
 /// Appends `slot C S STATE`.
-fn push_slot_state(text: &mut ArrayString<1024>, slot: &SlotState)
-    requires { array_string_len text.old + 19 ≤ 1024 }
+fn push_slot_state(text: &mut ArrayString<LONGEST_TEXT>, slot: &SlotState)
+    requires { array_string_len text.old + 19 ≤ LONGEST_TEXT }
     ensures bytes { text.new.bytes ≡ text.old.bytes ++ slot_row slot.now }
     ensures len { array_string_len text.new ≤ array_string_len text.old + 19 }
 {
@@ -109,8 +110,8 @@ fn push_slot_state(text: &mut ArrayString<1024>, slot: &SlotState)
 }
 
 /// Appends a slot's state.
-fn push_state(text: &mut ArrayString<1024>, state: State)
-    requires { array_string_len text.old + 7 ≤ 1024 }
+fn push_state(text: &mut ArrayString<LONGEST_TEXT>, state: State)
+    requires { array_string_len text.old + 7 ≤ LONGEST_TEXT }
     ensures bytes { text.new.bytes ≡ text.old.bytes ++ state_text state }
     ensures len { array_string_len text.new ≤ array_string_len text.old + 7 }
 {
@@ -124,8 +125,8 @@ fn push_state(text: &mut ArrayString<1024>, state: State)
 }
 
 /// Appends `C S`.
-fn push_slot(text: &mut ArrayString<1024>, slot: Slot)
-    requires { array_string_len text.old + 5 ≤ 1024 }
+fn push_slot(text: &mut ArrayString<LONGEST_TEXT>, slot: Slot)
+    requires { array_string_len text.old + 5 ≤ LONGEST_TEXT }
     ensures bytes { text.new.bytes ≡ text.old.bytes ++ slot_text slot }
     ensures len { array_string_len text.new ≤ array_string_len text.old + 5 }
 {
@@ -135,8 +136,8 @@ fn push_slot(text: &mut ArrayString<1024>, slot: Slot)
 }
 
 /// Appends `group G from R`, or `radio T from R`.
-fn push_parties(text: &mut ArrayString<1024>, group: bool, target: Address, source: Address)
-    requires { array_string_len text.old + 28 ≤ 1024 }
+fn push_parties(text: &mut ArrayString<LONGEST_TEXT>, group: bool, target: Address, source: Address)
+    requires { array_string_len text.old + 28 ≤ LONGEST_TEXT }
     ensures bytes { text.new.bytes ≡ text.old.bytes ++ parties_text group target source }
     ensures len { array_string_len text.new ≤ array_string_len text.old + 28 }
 {

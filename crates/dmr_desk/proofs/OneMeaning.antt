@@ -1,10 +1,13 @@
 -- What the connections of a link mean, added up.
-use Rattle.std.proofs.Common.{◌≡◌, ℕ, List, [], ◌∷◌, ◌++◌, map, refl, sym, ap, ◌∙◌, subst, append_assoc}
+use Rattle.std.proofs.Common.{◌≡◌, ℕ, false, List, [], ◌∷◌, ◌++◌, map, refl, sym, ap, ◌∙◌, subst, append_assoc}
 use Rattle.std.specs.Prelude.{All}
 use Rattle.std.proofs.lemmas.List.{append-nil, map-append}
 use Rattle.std.proofs.lemmas.List.Elements.{All-head, All-tail}
+use Rattle.dmr_link.specs.declared.connection.CarrierIdentity.{CarrierIdentity}
+use Rattle.dmr_link.specs.declared.connection.Connection.{Connection}
 use Rattle.dmr_link.specs.declared.connection.Connection.TheVariants.{Closed, Waiting, Running}
-use Rattle.dmr_link.specs.declared.connection.Notice.{Notice}
+use Rattle.dmr_link.specs.CarrierSessions.{session_on, is_open}
+use Rattle.dmr_link.specs.Notices.{Notice}
 use Rattle.dmr_link.specs.declared.desk.Deposit.{Deposit}
 use Rattle.dmr_link.specs.declared.stream.Peer.{Peer}
 use Rattle.dmr_link.specs.declared.stream.Stream.{Stream}
@@ -14,18 +17,22 @@ use Rattle.dmr_link.specs.Owed.{Accounts, owed}
 use Rattle.dmr_link.specs.Peers.{all_brings}
 use Rattle.dmr_link.specs.Session.{events_in}
 use Rattle.dmr_link.specs.Sessions.{Session, IsClosed, IsOver, Stands, StandsFor, WasServed, kept_of, lost_of}
-use Rattle.dmr_link.proofs.Spoken.{events-append}
+use Rattle.dmr_link.proofs.TextsGrow.{events-append}
 use Rattle.dmr_desk.specs.Meaning.{AllMean, AreAccounted, IsAccounted, IsOneMeaning}
 use Rattle.dmr_desk.specs.Work.{calls_of}
 
 -- ---- a link that is over owes nothing
 
+frames_bring : (who : CarrierIdentity) (k : Connection) (xs : List ℕ) → is_open k ≡ false → all_brings (stream.Frames (session_on who k)) xs ≡ []
+frames_bring who k [] at = refl
+frames_bring who Closed (x ∷ xs) at = frames_bring who Closed xs refl
+frames_bring who (Waiting rest) (x ∷ xs) at = cc
+frames_bring who (Running rest) (x ∷ xs) at = cc
+
 closed_brings : (k : Stream) (xs : List ℕ) → IsClosed k → all_brings k xs ≡ []
 closed_brings k [] at = refl
 closed_brings stream.Closed (x ∷ xs) at = closed_brings stream.Closed xs refl
-closed_brings (stream.Frames who Closed) (x ∷ xs) at = closed_brings (stream.Frames who Closed) xs refl
-closed_brings (stream.Frames who (Waiting rest)) (x ∷ xs) at = cc
-closed_brings (stream.Frames who (Running rest)) (x ∷ xs) at = cc
+closed_brings (stream.Frames session) (x ∷ xs) at = frames_bring session.who session.connection (x ∷ xs) at
 closed_brings (stream.Lines begun) (x ∷ xs) at = cc
 
 over_owes : (l : Talk) → IsOver l → owed l ≡ []

@@ -14,8 +14,8 @@ use Rattle.dmr_link.specs.Peers.{is_going}
 use Rattle.dmr_link.specs.Recorded.{silenced}
 use Rattle.dmr_link.specs.Sessions.{How, Going, InputOver, ReadFaulty, WriteFaulty, CutAfter, how_then, Session, new_session, with_how, with_calls, Hearing, hearing, in_writing, took, heard, all_heard, IsQuiet, IsOver, StandsFor, served, is_kept, is_lost, how_cut, cut_past, EndsAs, Happens, Serves, Cuts}
 use Rattle.dmr_link.specs.Talks.{is_live}
-use Rattle.dmr_link.proofs.Linked.{dead_over, over_dead}
-use Rattle.dmr_link.proofs.Moved.{happens_more, happens_none}
+use Rattle.dmr_link.proofs.LinksStandForPasts.{dead_over, over_dead}
+use Rattle.dmr_link.proofs.StepsFollow.{happens_more, happens_none}
 use Rattle.dmr_desk.specs.declared.ending.Ending.TheVariants as ending
 use Rattle.dmr_desk.specs.Work.{Stand, Moment, moment, sides_at, Answers, Turns, Doing, Asked, Served, Waited, happened_in, happened_of, handing, past_then, past_after, calls_of, IsAsk, StopsAt, IsCall, IsOrderly, Went, Works, Waiting as IsWaiting, Going as IsGoing}
 

@@ -1,7 +1,7 @@
 -- What all connections of a link mean, as one record of its port and as one list of what a desk took.
 use Rattle.std.specs.Prelude.{◌≡◌, List, [], ◌∷◌, ◌++◌, map}
 use Rattle.dmr_wire.specs.Told.{Answer}
-use Rattle.dmr_link.specs.declared.connection.Notice.{Notice}
+use Rattle.dmr_link.specs.Notices.{Notice}
 use Rattle.dmr_link.specs.declared.stream.Peer.{Peer}
 use Rattle.dmr_link.specs.declared.talk.Talk.{Talk}
 use Rattle.dmr_link.specs.Happenings.{answers_in}

@@ -10,7 +10,7 @@ ghost use Rattle.dmr_frames.specs.Stream.{Reads};
 ghost use Rattle.dmr_frames.specs.Reading.{frame_of, fed, left_by};
 ghost use Rattle.dmr_frames.specs.Reading.{step_at, type_step, length_step, body_step, hello_step, rx_step, active_step};
 
-use crate::frame::{Cause, FrameIn};
+use crate::frame::{Cause, FrameIn, LONGEST_FRAME};
 use crate::frame_type::{ACTIVE, BYE, HELLO, POLL, RX, length_octet};
 use dmr_bits::Word196;
 use dmr_pdu::SlotNo;
@@ -31,7 +31,7 @@ pub enum Step {
 /// Contracts see it as that rest.
 #[derive(Debug, Drop)]
 pub struct Cutter {
-    octets: [u8; 28],
+    octets: [u8; LONGEST_FRAME],
     count: usize,
     fault: Option<Cause>,
 }
@@ -39,13 +39,14 @@ pub struct Cutter {
 impl Model for Cutter {
     ghost use Rattle.std.specs.Prelude.{◌<◌, take};
     ghost use Rattle.dmr_frames.specs.Rest.{Rest, rest_of};
+    ghost use Rattle.dmr_frames.specs.declared.frame.TheConstants.{LONGEST_FRAME};
     ghost use Rattle.dmr_frames.specs.Shape.{IsShape};
 
     ghost Value = { Rest };
 
     ghost view = { λ c. rest_of c.fault (take c.count c.octets) };
 
-    ghost invariant = { λ c. (c.count < 28) × IsShape (take c.count c.octets) };
+    ghost invariant = { λ c. (c.count < LONGEST_FRAME) × IsShape (take c.count c.octets) };
 }
 
 impl Cutter {
@@ -54,7 +55,7 @@ impl Cutter {
         ensures { result ≡ Open [] }
     {
         Cutter {
-            octets: [0; 28],
+            octets: [0; LONGEST_FRAME],
             count: 0,
             fault: None,
         }

@@ -3,6 +3,13 @@
 use dmr_bits::Word196;
 use dmr_pdu::SlotNo;
 
+/// The version of the link format that these frames are of (this project's profile): a HELLO that is accepted and each WELCOME
+/// have it.
+pub const LINK_VERSION: u8 = 1;
+
+/// The octets of the longest frames, RX and TX: type, length, slot, and the 25 of a word.
+pub const LONGEST_FRAME: usize = 28;
+
 /// A frame that comes from a carrier.
 #[derive(Clone, Copy, Debug, PartialEq, Eq)]
 pub enum FrameIn {

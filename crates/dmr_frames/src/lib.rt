@@ -14,7 +14,7 @@ mod whole;
 mod write;
 
 pub use cutter::{Cutter, Step};
-pub use frame::{Cause, FrameIn, FrameOut, Refusal};
+pub use frame::{Cause, FrameIn, FrameOut, LINK_VERSION, LONGEST_FRAME, Refusal};
 pub use law::{one_reading, spellings_part};
 pub use whole::whole_frame;
 pub use write::write_frame;

@@ -3,12 +3,12 @@
 ghost use Rattle.std.specs.Prelude.{◌≡◌, [], ◌∷◌};
 ghost use Rattle.dmr_frames.specs.Frames.{framed, spelling_out};
 
-use crate::frame::{FrameOut, Refusal};
+use crate::frame::{FrameOut, LONGEST_FRAME, Refusal};
 use crate::frame_type::{DONE, REFUSED, TX, WELCOME, length_octet};
 use arrayvec::ArrayVec;
 
 /// A frame's first two octets: its type and its length.
-fn head_of(kind: u8) -> ArrayVec<u8, 28>
+fn head_of(kind: u8) -> ArrayVec<u8, LONGEST_FRAME>
     ensures { result.items ≡ framed kind [] }
 {
     let mut octets = ArrayVec::new();
@@ -17,8 +17,8 @@ fn head_of(kind: u8) -> ArrayVec<u8, 28>
     octets
 }
 
-/// The octets of a frame, 2 to 28 of them: its type, its length and its body.
-pub fn write_frame(frame: &FrameOut) -> ArrayVec<u8, 28>
+/// The octets of a frame, 2 to `LONGEST_FRAME` of them: its type, its length and its body.
+pub fn write_frame(frame: &FrameOut) -> ArrayVec<u8, LONGEST_FRAME>
     ensures { result.items ≡ spelling_out frame.now }
 {
     match frame {

@@ -1,5 +1,6 @@
 -- How octets close a connection.
 use Rattle.std.specs.Prelude.{ℕ, List, [], ◌∷◌, Option, Some, None, ◌==◌, if◌then◌else◌}
+use Rattle.dmr_frames.specs.declared.frame.TheConstants.{LINK_VERSION}
 use Rattle.dmr_frames.specs.declared.frame.FrameIn.{FrameIn}
 use Rattle.dmr_frames.specs.declared.frame.FrameIn.TheVariants as frame
 use Rattle.dmr_frames.specs.declared.frame.Cause.{Cause}
@@ -12,7 +13,7 @@ use Rattle.dmr_link.specs.declared.ended.Ended.{Ended}
 use Rattle.dmr_link.specs.declared.ended.Ended.TheVariants as ended
 use Rattle.dmr_link.specs.declared.ended.Closing.{Closing}
 use Rattle.dmr_link.specs.declared.ended.Closing.TheVariants as closing
-use Rattle.dmr_link.specs.declared.connection.Identity.{Identity}
+use Rattle.dmr_link.specs.declared.connection.CarrierIdentity.{CarrierIdentity}
 use Rattle.dmr_link.specs.declared.connection.Connection.{Connection}
 use Rattle.dmr_link.specs.declared.connection.Connection.TheVariants.{Closed, Waiting, Running}
 use Rattle.dmr_link.specs.Meaning.{is_accepted}
@@ -34,11 +35,11 @@ fault_of (Faulty why) = Some (closing.Bad why)
 
 -- what is wrong with a first frame that isn't accepted
 abbrev pub wrong_first : FrameIn → Cause
-wrong_first (frame.Hello version carrier lpcn) = if version == 1 then cause.WrongCarrier else cause.BadVersion
+wrong_first (frame.Hello version carrier lpcn) = if version == LINK_VERSION then cause.WrongCarrier else cause.BadVersion
 wrong_first other = cause.NoHello
 
 -- how a first frame closes a connection, if it does
-abbrev pub first_closes : Identity → FrameIn → Option Closing
+abbrev pub first_closes : CarrierIdentity → FrameIn → Option Closing
 first_closes who f = if is_accepted who f then None else Some (closing.Bad (wrong_first f))
 
 -- how a frame closes a connection whose carrier is up, if it does
@@ -58,17 +59,17 @@ up_closed [] rest = fault_of rest
 up_closed (f ∷ fs) rest = or_else (frame_closes f) (up_closed fs rest)
 
 -- frames of a connection
-abbrev pub frames_closed : Identity → List FrameIn → Rest → Option Closing
+abbrev pub frames_closed : CarrierIdentity → List FrameIn → Rest → Option Closing
 frames_closed who [] rest = fault_of rest
 frames_closed who (f ∷ fs) rest = if is_accepted who f then up_closed fs rest else Some (closing.Bad (wrong_first f))
 
 -- HOW OCTETS CLOSE a connection, if they do: by a BYE of a carrier that is up, or for a cause
-unfoldable pub closing_of_octets : Identity → List ℕ → Option Closing
+unfoldable pub closing_of_octets : CarrierIdentity → List ℕ → Option Closing
 closing_of_octets who octets = frames_closed who (frames_from (Open []) octets) (rest_from (Open []) octets)
 
 -- ---- octet by octet
 
-abbrev pub waiting_closes : Identity → Step → Option Closing
+abbrev pub waiting_closes : CarrierIdentity → Step → Option Closing
 waiting_closes who Need = None
 waiting_closes who (Frame f) = first_closes who f
 waiting_closes who (Fault why) = Some (closing.Bad why)
@@ -79,12 +80,12 @@ running_closes (Frame f) = frame_closes f
 running_closes (Fault why) = Some (closing.Bad why)
 
 -- how an octet closes a connection, if it does
-abbrev pub closes : Identity → Connection → ℕ → Option Closing
+abbrev pub closes : CarrierIdentity → Connection → ℕ → Option Closing
 closes who Closed x = None
 closes who (Waiting rest) x = waiting_closes who (fed rest x)
 closes who (Running rest) x = running_closes (fed rest x)
 
 -- the same of octets
-abbrev pub all_closes : Identity → Connection → List ℕ → Option Closing
+abbrev pub all_closes : CarrierIdentity → Connection → List ℕ → Option Closing
 all_closes who k [] = None
 all_closes who k (x ∷ xs) = or_else (closes who k x) (all_closes who (taken who k x) xs)

@@ -11,16 +11,16 @@ use Rattle.dmr_core.specs.declared.act.Acts.{Acts}
 use Rattle.dmr_core.specs.declared.entry.Entry.{Entry}
 use Rattle.dmr_core.specs.declared.event.Event.{Event}
 use Rattle.dmr_core.specs.declared.event.Event.TheVariants.{Say}
-use Rattle.dmr_link.specs.declared.connection.Connection.TheVariants.{Closed, Waiting, Running}
-use Rattle.dmr_link.specs.declared.connection.LineFault.TheVariants.{TooLong}
-use Rattle.dmr_link.specs.declared.connection.Notice.{Notice}
-use Rattle.dmr_link.specs.declared.connection.Notice.TheVariants.{Happened, Refused, Unheeded}
+use Rattle.dmr_link.specs.declared.notices.LineFault.TheVariants.{TooLong}
+use Rattle.dmr_link.specs.Notices.{Notice}
+use Rattle.dmr_link.specs.Notices.{Happened, Refused, Unheeded}
 use Rattle.dmr_link.specs.declared.desk.Deposit.{Deposit}
 use Rattle.dmr_link.specs.declared.ended.Closing.{Closing}
 use Rattle.dmr_link.specs.declared.stream.Peer.{Peer}
 use Rattle.dmr_link.specs.declared.stream.Peer.TheVariants.{Carrier, Operator}
 use Rattle.dmr_link.specs.declared.stream.Stream.{Stream}
 use Rattle.dmr_link.specs.declared.stream.Stream.TheVariants as stream
+use Rattle.dmr_link.specs.CarrierSessions.{session_on, is_open, up_by}
 use Rattle.dmr_link.specs.Closing.{closing_of_octets, closes}
 use Rattle.dmr_link.specs.Console.{asked, said_in, console_text, fault_text, reply_text}
 use Rattle.dmr_link.specs.Meaning.{meaning_of_octets, left_by_octets, told}
@@ -37,7 +37,7 @@ meaning_from Operator octets has_ended = said_in octets
 
 -- a connection on which these octets came; of an operator's open line the first 81 octets are kept
 abbrev pub left_from : Peer → List ℕ → Stream
-left_from (Carrier who) octets = stream.Frames who (left_by_octets who octets)
+left_from (Carrier who) octets = stream.Frames (session_on who (left_by_octets who octets))
 left_from Operator octets = stream.Lines (kept (open_in octets))
 
 -- HOW OCTETS CLOSE a connection, if they do. An operator's never do
@@ -71,20 +71,18 @@ aside_text (Unheeded fault) = fault_text fault
 
 -- a connection that has just begun
 abbrev pub opened_for : Peer → Stream
-opened_for (Carrier who) = stream.Frames who opened
+opened_for (Carrier who) = stream.Frames (session_on who opened)
 opened_for Operator = stream.Lines []
 
 -- whether a connection is open
 abbrev pub is_going : Stream → Bool
 is_going stream.Closed = false
-is_going (stream.Frames who Closed) = false
-is_going (stream.Frames who (Waiting rest)) = true
-is_going (stream.Frames who (Running rest)) = true
+is_going (stream.Frames session) = is_open session.connection
 is_going (stream.Lines begun) = true
 
 -- the carrier that is up, if one is
 abbrev pub up_of : Stream → Option ℕ
-up_of (stream.Frames who (Running rest)) = Some who.carrier
+up_of (stream.Frames session) = up_by session.who session.connection
 up_of other = None
 
 -- what a step of the line cutter brings
@@ -96,19 +94,19 @@ line_brings (step.Line line) = Some (asked (command_of line.items))
 -- what an octet brings
 abbrev pub brings : Stream → ℕ → Option Notice
 brings stream.Closed x = None
-brings (stream.Frames who k) x = brought who k x
+brings (stream.Frames session) x = brought session.who session.connection x
 brings (stream.Lines begun) x = line_brings (step_at begun x)
 
 -- the connection after it
 abbrev pub left_after : Stream → ℕ → Stream
 left_after stream.Closed x = stream.Closed
-left_after (stream.Frames who k) x = stream.Frames who (taken who k x)
+left_after (stream.Frames session) x = stream.Frames (session_on session.who (taken session.who session.connection x))
 left_after (stream.Lines begun) x = stream.Lines (left_by begun x)
 
 -- how it closes the connection, if it does
 abbrev pub closes_by : Stream → ℕ → Option Closing
 closes_by stream.Closed x = None
-closes_by (stream.Frames who k) x = closes who k x
+closes_by (stream.Frames session) x = closes session.who session.connection x
 closes_by (stream.Lines begun) x = None
 
 -- what octets bring

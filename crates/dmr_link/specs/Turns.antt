@@ -1,8 +1,8 @@
--- What an octet completes on a connection.
+-- What an octet completes on a connection. Contracts of functions within name these alone: nothing above rests on them.
 use Rattle.std.specs.Prelude.{ℕ, Option, None}
 use Rattle.dmr_frames.specs.Reading.{fed}
-use Rattle.dmr_link.specs.declared.connection.Identity.{Identity}
-use Rattle.dmr_link.specs.declared.connection.Notice.{Notice}
+use Rattle.dmr_link.specs.declared.connection.CarrierIdentity.{CarrierIdentity}
+use Rattle.dmr_link.specs.Notices.{Notice}
 use Rattle.dmr_link.specs.declared.connection.Connection.{Connection}
 use Rattle.dmr_link.specs.declared.connection.Connection.TheVariants.{Closed, Waiting, Running}
 use Rattle.dmr_link.specs.declared.connection.Turn.{Turn}
@@ -18,13 +18,13 @@ turn_at (Waiting rest) x = turn.Waiting (fed rest x)
 turn_at (Running rest) x = turn.Running (fed rest x)
 
 -- what it brings
-abbrev pub brings_on : Identity → Turn → Option Notice
+abbrev pub brings_on : CarrierIdentity → Turn → Option Notice
 brings_on who turn.Closed = None
 brings_on who (turn.Waiting step) = waiting_brings who step
 brings_on who (turn.Running step) = running_brings who.carrier step
 
 -- how it closes the connection, if it does
-abbrev pub closes_on : Identity → Turn → Option Closing
+abbrev pub closes_on : CarrierIdentity → Turn → Option Closing
 closes_on who turn.Closed = None
 closes_on who (turn.Waiting step) = waiting_closes who step
 closes_on who (turn.Running step) = running_closes step

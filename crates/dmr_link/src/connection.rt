@@ -1,47 +1,29 @@
 //! A carrier's connection, and what its octets bring.
 
-ghost use Rattle.std.specs.Prelude.{◌≡◌};
+ghost use Rattle.std.specs.Prelude.{◌≡◌, option_map};
 ghost use Rattle.dmr_burst.specs.Functions.{meaning_of};
-ghost use Rattle.dmr_link.specs.Meaning.{heard as event_heard, is_accepted, refused as notice_refused, first_brings, is_last, event_of as event_of_frame, lost, told};
+ghost use Rattle.dmr_link.specs.Meaning.{heard as event_heard, is_accepted, refused as notice_refused, first_brings, is_last, event_of as event_of_frame};
 ghost use Rattle.dmr_link.specs.Closing.{closes, wrong_first as the_wrong_first, first_closes, frame_closes};
+ghost use Rattle.dmr_link.specs.Notices.{carrier_notice};
 ghost use Rattle.dmr_link.specs.Sound.{IsSound};
 ghost use Rattle.dmr_link.specs.Steps.{opened, brought, taken};
 ghost use Rattle.dmr_link.specs.Turns.{turn_at, brings_on, closes_on};
 
 use crate::ended::Closing;
+use crate::notices::CarrierNotice;
 use dmr_bits::Word196;
 use dmr_burst::read;
 use dmr_core::Event;
-use dmr_frames::{Cause, Cutter, FrameIn, Refusal, Step};
+use dmr_frames::{Cause, Cutter, FrameIn, LINK_VERSION, Refusal, Step};
 use dmr_pdu::{CarrierNo, Lpcn, Slot, SlotNo};
 
-/// The carrier that a connection is for.
+/// Which carrier a session is for: it has to say HELLO with just these.
 #[derive(Clone, Copy, Debug, PartialEq, Eq)]
-pub struct Identity {
+pub struct CarrierIdentity {
     /// The carrier's number within the site.
     pub carrier: CarrierNo,
     /// The logical physical channel number of its slots.
     pub lpcn: Lpcn,
-}
-
-/// What is wrong with an operator's line (this project's profile).
-#[derive(Clone, Copy, Debug, PartialEq, Eq)]
-pub enum LineFault {
-    /// It is no command.
-    UnknownCommand,
-    /// It has more than 80 octets before its LF.
-    TooLong,
-}
-
-/// What comes of a connection's octets, of its end, or of an operator's octets.
-#[derive(Clone, Copy, Debug, PartialEq, Eq)]
-pub enum Notice {
-    /// Something happens to the site.
-    Happened(Event),
-    /// This carrier is refused, and is told why. The site doesn't learn of it.
-    Refused(CarrierNo, Refusal),
-    /// A line of an operator is no command, and the operator is told why. The site doesn't learn of it.
-    Unheeded(LineFault),
 }
 
 /// A carrier's connection, with the octets of the frame that has begun on it.
@@ -76,9 +58,9 @@ fn heard(slot: Slot, word: &Word196) -> Event
     }
 }
 
-/// Whether the first frame of a connection is the HELLO that it should be: of version 1, with the carrier's own number and
+/// Whether the first frame of a connection is the HELLO that it should be: of the version that is spoken, with the carrier's own number and
 /// channel.
-fn accepts(who: &Identity, frame: &FrameIn) -> bool
+fn accepts(who: &CarrierIdentity, frame: &FrameIn) -> bool
     ensures { result ≡ is_accepted who.now frame.now }
 {
     match frame {
@@ -87,7 +69,7 @@ fn accepts(who: &Identity, frame: &FrameIn) -> bool
             carrier,
             lpcn,
         } => {
-            *version == 1
+            *version == LINK_VERSION
                 && u32::from(*carrier) == who.carrier.get()
                 && u32::from(*lpcn) == who.lpcn.get()
         }
@@ -97,28 +79,28 @@ fn accepts(who: &Identity, frame: &FrameIn) -> bool
 
 /// The refusal of a first frame that isn't accepted: a HELLO is refused for its version first. Nothing is told to a carrier
 /// that didn't say HELLO.
-fn refused(who: &Identity, frame: &FrameIn) -> Option<Notice>
-    ensures { result ≡ notice_refused who.now frame.now }
+fn refused(who: &CarrierIdentity, frame: &FrameIn) -> Option<CarrierNotice>
+    ensures { option_map carrier_notice result ≡ notice_refused who.now frame.now }
 {
     match frame {
         FrameIn::Hello { version, .. } => {
-            let refusal = if *version == 1 {
+            let refusal = if *version == LINK_VERSION {
                 Refusal::WrongCarrier
             } else {
                 Refusal::BadVersion
             };
-            Some(Notice::Refused(who.carrier, refusal))
+            Some(CarrierNotice::Refused(who.carrier, refusal))
         }
         _ => None,
     }
 }
 
 /// What the first frame brings.
-fn first(who: &Identity, frame: &FrameIn) -> Option<Notice>
-    ensures { result ≡ first_brings who.now frame.now }
+fn first(who: &CarrierIdentity, frame: &FrameIn) -> Option<CarrierNotice>
+    ensures { option_map carrier_notice result ≡ first_brings who.now frame.now }
 {
     if accepts(who, frame) {
-        Some(Notice::Happened(Event::Up(who.carrier)))
+        Some(CarrierNotice::Happened(Event::Up(who.carrier)))
     } else {
         refused(who, frame)
     }
@@ -161,23 +143,20 @@ fn event_of(carrier: CarrierNo, frame: &FrameIn) -> Event
 #[derive(Clone, Copy, Debug)]
 pub struct Received {
     /// What it brings, if it brings something.
-    pub notice: Option<Notice>,
+    pub notice: Option<CarrierNotice>,
     /// How it closes the connection, if it does.
     pub closing: Option<Closing>,
 }
-
-/// Nothing: the connection goes on, or was closed before.
-pub const NOTHING: Received = Received {
-    notice: None,
-    closing: None,
-};
 
 /// What is wrong with a first frame that isn't accepted.
 fn wrong_first(frame: &FrameIn) -> Cause
     ensures { result ≡ the_wrong_first frame.now }
 {
     match frame {
-        FrameIn::Hello { version: 1, .. } => Cause::WrongCarrier,
+        FrameIn::Hello {
+            version: LINK_VERSION,
+            ..
+        } => Cause::WrongCarrier,
         FrameIn::Hello { .. } => Cause::BadVersion,
         _ => Cause::NoHello,
     }
@@ -195,7 +174,7 @@ fn closing_of(frame: &FrameIn) -> Option<Closing>
 }
 
 /// How a connection's first frame closes it, if it does.
-fn first_closing(who: &Identity, frame: &FrameIn) -> Option<Closing>
+fn first_closing(who: &CarrierIdentity, frame: &FrameIn) -> Option<Closing>
     ensures { result ≡ first_closes who.now frame.now }
 {
     if accepts(who, frame) {
@@ -207,22 +186,25 @@ fn first_closing(who: &Identity, frame: &FrameIn) -> Option<Closing>
 
 impl Turn {
     /// What it brings.
-    fn notice(&self, who: &Identity) -> Option<Notice>
-        ensures { result ≡ brings_on who.now self.now }
+    fn notice(&self, who: &CarrierIdentity) -> Option<CarrierNotice>
+        ensures { option_map carrier_notice result ≡ brings_on who.now self.now }
     {
         match self {
             Turn::Closed => None,
             Turn::Waiting(Step::Frame(frame)) => first(who, frame),
             Turn::Waiting(_) | Turn::Running(Step::Need) => None,
             Turn::Running(Step::Frame(frame)) => {
-                Some(Notice::Happened(event_of(who.carrier, frame)))
+                Some(CarrierNotice::Happened(event_of(who.carrier, frame)))
             }
-            Turn::Running(Step::Fault(_)) => Some(Notice::Happened(Event::Lost(who.carrier))),
+            Turn::Running(Step::Fault(_)) => {
+                let lost = Event::Lost(who.carrier);
+                Some(CarrierNotice::Happened(lost))
+            }
         }
     }
 
     /// How it closes the connection, if it does.
-    fn closing(&self, who: &Identity) -> Option<Closing>
+    fn closing(&self, who: &CarrierIdentity) -> Option<Closing>
         ensures { result ≡ closes_on who.now self.now }
     {
         match self {
@@ -257,7 +239,7 @@ impl Connection {
 
     /// Goes one octet further, and tells what the octet completes. A fault, and a frame that ends the connection, close it,
     /// and from then on octets complete nothing.
-    pub fn advance(&mut self, who: &Identity, octet: u8) -> Turn
+    pub fn advance(&mut self, who: &CarrierIdentity, octet: u8) -> Turn
         ensures turn { result ≡ turn_at self.old octet }
         ensures connection { self.new ≡ taken who.now self.old octet }
         ensures sound { IsSound self.old → IsSound self.new }
@@ -295,36 +277,17 @@ impl Connection {
         }
     }
 
-    /// Takes the next octet. A frame is taken at its last octet; a fault, and a frame that ends the connection, close it,
-    /// and from then on octets bring nothing.
-    pub fn take(&mut self, who: &Identity, octet: u8) -> Option<Notice>
-        ensures notice { result ≡ brought who.now self.old octet }
-        ensures connection { self.new ≡ taken who.now self.old octet }
-        ensures sound { IsSound self.old → IsSound self.new }
-    {
-        self.advance(who, octet).notice(who)
-    }
-
-    /// Takes the next octet as `take` does, and says too how it closes the connection, if it does.
-    pub fn receive(&mut self, who: &Identity, octet: u8) -> Received
-        ensures notice { result.notice ≡ brought who.now self.old octet }
+    /// Takes the next octet, and says what it brings, and how it closes the connection, if it does.
+    pub fn receive(&mut self, who: &CarrierIdentity, octet: u8) -> Received
+        ensures notice { option_map carrier_notice result.notice ≡ brought who.now self.old octet }
         ensures closing { result.closing ≡ closes who.now self.old octet }
         ensures connection { self.new ≡ taken who.now self.old octet }
+        ensures sound { IsSound self.old → IsSound self.new }
     {
         let turn = self.advance(who, octet);
         Received {
             notice: turn.notice(who),
             closing: turn.closing(who),
-        }
-    }
-
-    /// What the end of the connection brings: its carrier is lost, if it was up.
-    pub fn end(&self, carrier: CarrierNo) -> Option<Notice>
-        ensures { told result ≡ lost carrier self.now }
-    {
-        match self {
-            Connection::Running(_) => Some(Notice::Happened(Event::Lost(carrier))),
-            _ => None,
         }
     }
 }

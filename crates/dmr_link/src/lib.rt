@@ -14,6 +14,8 @@
 //! Octets mean the same to both, by the same definitions.
 #![tactic(auto)]
 
+mod answers;
+mod carrier_session;
 mod connection;
 mod console;
 mod console_link;
@@ -23,6 +25,7 @@ mod engine;
 mod input;
 mod laws;
 mod link;
+mod notices;
 mod outputs;
 mod owing;
 mod room;

@@ -6,17 +6,17 @@ ghost use Rattle.dmr_link.specs.Room.{most_in};
 ghost use Rattle.dmr_link.specs.Steps.{all_brought};
 ghost use Rattle.dmr_link.specs.Turns.{brings_on};
 
-use crate::connection::{Connection, Identity, Turn};
-use dmr_frames::{FrameIn, Step};
+use crate::connection::{CarrierIdentity, Connection, Turn};
+use dmr_frames::{FrameIn, LONGEST_FRAME, Step};
 
-/// The octets of WELCOME, and of REFUSED.
-const ANSWER_TO_HELLO: usize = 3;
+/// The octets of WELCOME, and of REFUSED, which answer a HELLO: type, length, and a version or a refusal.
+pub const ANSWER_TO_HELLO: usize = 3;
 
-/// The most octets that answer a POLL: a TX of 28 in each of two slots, and DONE of two.
-const ANSWER_TO_POLL: usize = 58;
+/// The most octets that answer a POLL: a TX in each of two slots, and DONE, which has its type and its length.
+pub const ANSWER_TO_POLL: usize = 2 * LONGEST_FRAME + 2;
 
 /// The most octets that are put out for what an octet completes.
-fn most(turn: &Turn, who: &Identity) -> usize
+fn most(turn: &Turn, who: &CarrierIdentity) -> usize
     ensures { result ≡ most_in (told (brings_on who.now turn.now)) }
 {
     match turn {
@@ -28,7 +28,7 @@ fn most(turn: &Turn, who: &Identity) -> usize
 
 /// The most octets that are put out for octets of a connection: what each frame that they complete can put out, and nothing
 /// where no connection is open. A number of octets that is too large for a `usize` is its greatest value.
-pub fn room_for(who: &Identity, connection: &Connection, octets: &[u8]) -> usize
+pub fn room_for(who: &CarrierIdentity, connection: &Connection, octets: &[u8]) -> usize
     ensures { result ≡ min (most_in (all_brought who.now connection.now octets.now)) (2 ^ 64 - 1) }
 {
     let mut trial = connection.fork();

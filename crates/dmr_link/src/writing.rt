@@ -5,12 +5,12 @@ ghost use Rattle.dmr_frames.specs.declared.frame.FrameOut.TheVariants.{Done};
 ghost use Rattle.dmr_frames.specs.Frames.{spelling_out};
 ghost use Rattle.dmr_link.specs.Console.{reply_text};
 ghost use Rattle.dmr_link.specs.Moves.{Puts};
+ghost use Rattle.dmr_link.specs.Notices.{aside_notice};
 ghost use Rattle.dmr_link.specs.Peers.{answer_text, aside_text};
 ghost use Rattle.dmr_link.specs.Session.{transmission};
 
-use crate::connection::{LineFault, Notice};
-use crate::session::VERSION;
-use dmr_burst::write;
+use crate::answers::{WELCOME, tx_of};
+use crate::notices::{Aside, LineFault};
 use dmr_console::{line_too_long, print, unknown_command};
 use dmr_core::{Act, Acts, Event, Reply};
 use dmr_frames::{FrameOut, write_frame};
@@ -60,15 +60,9 @@ fn put<W: Wire>(port: &mut W, frame: &FrameOut) -> bool
 fn transmit<W: Wire>(port: &mut W, act: &Act) -> bool
     ensures { Puts (W.told port.old) (transmission act.now) result (W.told port.new) }
 {
-    match act {
-        Act::Send(slot, pdu) | Act::Fill(slot, pdu) => put(
-            port,
-            &FrameOut::Tx {
-                slot: slot.slot,
-                word: write(pdu),
-            },
-        ),
-        _ => true,
+    match tx_of(act) {
+        Some(frame) => put(port, &frame),
+        None => true,
     }
 }
 
@@ -103,22 +97,20 @@ pub fn say<W: Wire>(port: &mut W, event: &Event, acts: &Acts) -> bool
     ensures { Puts (W.told port.old) (answer_text event.now acts.now) result (W.told port.new) }
 {
     match event {
-        Event::Up(_) => put(port, &FrameOut::Welcome { version: VERSION }),
+        Event::Up(_) => put(port, &WELCOME),
         Event::Poll(_) => transmit_all(port, acts.list.as_slice()),
         Event::Say(_) => print_reply(port, &acts.said),
         _ => true,
     }
 }
 
-/// Writes what is told of a notice that the site doesn't learn of: REFUSED to a carrier, or what is wrong with a line to an
-/// operator.
-pub fn tell_aside<W: Wire>(port: &mut W, notice: &Notice) -> bool
-    ensures { Puts (W.told port.old) (aside_text notice.now) result (W.told port.new) }
+/// Writes what a peer alone is told of: REFUSED to a carrier, or what is wrong with a line to an operator.
+pub fn tell_aside<W: Wire>(port: &mut W, aside: &Aside) -> bool
+    ensures { Puts (W.told port.old) (aside_text (aside_notice aside.now)) result (W.told port.new) }
 {
-    match notice {
-        Notice::Happened(_) => true,
-        Notice::Refused(_, refusal) => put(port, &FrameOut::Refused(*refusal)),
-        Notice::Unheeded(LineFault::UnknownCommand) => send(port, unknown_command().as_bytes()),
-        Notice::Unheeded(LineFault::TooLong) => send(port, line_too_long().as_bytes()),
+    match aside {
+        Aside::Refused(_, refusal) => put(port, &FrameOut::Refused(*refusal)),
+        Aside::Unheeded(LineFault::UnknownCommand) => send(port, unknown_command().as_bytes()),
+        Aside::Unheeded(LineFault::TooLong) => send(port, line_too_long().as_bytes()),
     }
 }

@@ -4,7 +4,7 @@ use Rattle.dmr_plan.specs.declared.settings.Settings.{Settings}
 use Rattle.dmr_core.specs.declared.entry.Entry.{Entry}
 use Rattle.dmr_core.specs.Facts.{nothing}
 use Rattle.dmr_core.specs.Journal.{journal_of}
-use Rattle.dmr_link.specs.declared.connection.Notice.{Notice}
+use Rattle.dmr_link.specs.Notices.{Notice}
 use Rattle.dmr_link.specs.Input.{Input}
 use Rattle.dmr_link.specs.Console.{console_text}
 use Rattle.dmr_link.specs.Records.{all_mean, no_past}

@@ -1,5 +1,5 @@
-use Rattle.dmr_link.proofs.Answered.{tells_none, tells_more}
-use Rattle.dmr_link.proofs.Moved.{happens_none, happens_more}
+use Rattle.dmr_link.proofs.WritesFollow.{tells_none, tells_more}
+use Rattle.dmr_link.proofs.StepsFollow.{happens_none, happens_more}
 use Rattle.dmr_link.proofs.owing.happenings_follow.Goals as goal
 
 pub returns-clause-none : goal.returns-clause-none

@@ -1,4 +1,4 @@
-use Rattle.dmr_link.proofs.Linked.{dead_over, over_dead}
+use Rattle.dmr_link.proofs.LinksStandForPasts.{dead_over, over_dead}
 use Rattle.dmr_link.proofs.owing.links_rest.Goals as goal
 
 pub returns-clause-over : goal.returns-clause-over

@@ -1,5 +1,5 @@
 use Rattle.std.proofs.Common.{rules, ap, sym, ◌∙◌}
-use Rattle.dmr_link.proofs.Rooms.{room_whole}
+use Rattle.dmr_link.proofs.RoomLemmas.{room_whole}
 use Rattle.dmr_link.proofs.room.room_for.Goals as goal
 
 pub returns : goal.returns

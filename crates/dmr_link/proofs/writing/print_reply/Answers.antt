@@ -1,6 +1,6 @@
 use Rattle.std.proofs.Common.{ap}
 use Rattle.dmr_link.specs.Console.{reply_text}
-use Rattle.dmr_link.proofs.Answered.{puts_empty}
+use Rattle.dmr_link.proofs.WritesFollow.{puts_empty}
 use Rattle.dmr_link.proofs.writing.print_reply.Goals as goal
 
 pub returns-in-None : goal.returns-in-None

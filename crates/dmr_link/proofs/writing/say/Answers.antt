@@ -1,4 +1,4 @@
-use Rattle.dmr_link.proofs.Answered.{puts_empty, nothing_said}
+use Rattle.dmr_link.proofs.WritesFollow.{puts_empty, nothing_said}
 use Rattle.dmr_link.proofs.writing.say.Goals as goal
 
 pub returns-in_default : goal.returns-in_default

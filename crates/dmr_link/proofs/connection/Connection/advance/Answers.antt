@@ -1,4 +1,4 @@
-use Rattle.dmr_link.proofs.Sounds.{need_begun, frame_begun, waiting_begun, running_begun, waiting_sound, ended_sound, closed_sound, up_sound}
+use Rattle.dmr_link.proofs.ConnectionsStaySound.{need_begun, frame_begun, waiting_begun, running_begun, waiting_sound, ended_sound, closed_sound, up_sound}
 use Rattle.dmr_link.proofs.connection.Connection.advance.Goals as goal
 use Rattle.dmr_link.proofs.connection.Connection.advance.Goals.{in-Need, in-Frame+then-accepts, in-Frame+else-accepts, in-Fault, in-Need-step, in-Frame-step+then-ends, in-Frame-step+else-ends, in-Fault-step}
 

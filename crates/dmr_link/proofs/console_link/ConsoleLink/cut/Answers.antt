@@ -6,7 +6,7 @@ use Rattle.dmr_link.specs.Moves.{Moves}
 use Rattle.dmr_link.specs.Passages.{Passage}
 use Rattle.dmr_link.specs.Sessions.{sides, Cuts}
 use Rattle.dmr_link.specs.Talks.{is_live}
-use Rattle.dmr_link.proofs.Linked.{cuts}
+use Rattle.dmr_link.proofs.LinksStandForPasts.{cuts}
 use Rattle.dmr_link.proofs.console_link.ConsoleLink.cut.Given.{Over}
 use Rattle.dmr_link.proofs.console_link.ConsoleLink.cut.Goals as goal
 

@@ -2,7 +2,7 @@ use Rattle.std.proofs.Common.{◌∷◌, ◌≡◌, ◌∙◌, sym, subst}
 use Rattle.dmr_link.specs.declared.stream.Peer.TheVariants.{Operator}
 use Rattle.dmr_link.specs.declared.talk.Talk.{Talk}
 use Rattle.dmr_link.specs.Sessions.{IsOver, StandsFor, new_session}
-use Rattle.dmr_link.proofs.Linked.{dead_over, opens}
+use Rattle.dmr_link.proofs.LinksStandForPasts.{dead_over, opens}
 use Rattle.dmr_link.proofs.console_link.ConsoleLink.open.Goals as goal
 
 pub invariant_of-self : goal.invariant_of-self

@@ -3,7 +3,7 @@ use Rattle.dmr_link.specs.declared.ended.Ended.{Ended}
 use Rattle.dmr_link.specs.declared.talk.Talk.{Talk}
 use Rattle.dmr_link.specs.Sessions.{sides, Serves}
 use Rattle.dmr_link.specs.Talks.{is_live}
-use Rattle.dmr_link.proofs.Linked.{dead_over, still_serves, works_serves, bad_ends, no_cause}
+use Rattle.dmr_link.proofs.LinksStandForPasts.{dead_over, still_serves, works_serves, bad_ends, no_cause}
 use Rattle.dmr_link.proofs.console_link.ConsoleLink.serve.Given.{Over}
 use Rattle.dmr_link.proofs.console_link.ConsoleLink.serve.Goals as goal
 

@@ -1,13 +1,13 @@
 -- Room for what octets put out.
 use Rattle.std.proofs.Common.{◌≡◌, ℕ, ◌+◌, ◌-◌, ◌^◌, ◌≤◌, min, List, length, drop, ap, arith}
 use Rattle.std.proofs.lemmas.List.{drop_all}
-use Rattle.dmr_link.specs.declared.connection.Identity.{Identity}
+use Rattle.dmr_link.specs.declared.connection.CarrierIdentity.{CarrierIdentity}
 use Rattle.dmr_link.specs.declared.connection.Connection.{Connection}
 use Rattle.dmr_link.specs.Room.{most_in}
 use Rattle.dmr_link.specs.Steps.{all_brought}
 
 -- all octets were counted
-pub room_whole : (room : ℕ) (who : Identity) (trial : Connection) (octets : List ℕ) (i whole : ℕ) → length octets ≤ i → room ≤ 2 ^ 64 - 1 →
+pub room_whole : (room : ℕ) (who : CarrierIdentity) (trial : Connection) (octets : List ℕ) (i whole : ℕ) → length octets ≤ i → room ≤ 2 ^ 64 - 1 →
     min (room + most_in (all_brought who trial (drop i octets))) (2 ^ 64 - 1) ≡ whole → room ≡ whole
 room_whole room who trial octets i whole past fits e =
     let none : most_in (all_brought who trial (drop i octets)) ≡ 0 = ap (λ (xs : List ℕ). most_in (all_brought who trial xs)) (drop_all i octets past) in

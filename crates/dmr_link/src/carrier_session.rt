@@ -1,0 +1,75 @@
+//! A carrier's session, which is for one carrier, whichever of its connections stands.
+
+ghost use Rattle.std.specs.Prelude.{◌≡◌, option_map};
+ghost use Rattle.dmr_link.specs.CarrierSessions.{session_on, is_open, up_by};
+ghost use Rattle.dmr_link.specs.Closing.{closes};
+ghost use Rattle.dmr_link.specs.Notices.{carrier_notice};
+ghost use Rattle.dmr_link.specs.Sound.{IsSound};
+ghost use Rattle.dmr_link.specs.Steps.{opened, brought, taken};
+ghost use Rattle.dmr_link.specs.declared.connection.Connection.TheVariants.{Closed as closed};
+
+use crate::connection::{CarrierIdentity, Connection, Received};
+use dmr_pdu::CarrierNo;
+
+/// A carrier's session: the carrier, and its connection as far as its octets have led.
+#[derive(Debug, Drop)]
+pub struct CarrierSession {
+    /// The carrier that it is for.
+    pub who: CarrierIdentity,
+    /// Its connection.
+    pub connection: Connection,
+}
+
+impl CarrierSession {
+    /// A session with no connection.
+    pub fn new(who: CarrierIdentity) -> CarrierSession
+        ensures { result ≡ session_on who closed }
+    {
+        CarrierSession {
+            who,
+            connection: Connection::Closed,
+        }
+    }
+
+    /// A session whose connection has just begun.
+    pub fn open(who: CarrierIdentity) -> CarrierSession
+        ensures { result ≡ session_on who opened }
+    {
+        CarrierSession {
+            who,
+            connection: Connection::open(),
+        }
+    }
+
+    /// Whether its connection is open.
+    pub fn is_open(&self) -> bool
+        ensures { result ≡ is_open self.now.connection }
+    {
+        match self.connection {
+            Connection::Closed => false,
+            Connection::Waiting(_) | Connection::Running(_) => true,
+        }
+    }
+
+    /// Its carrier, if that is up.
+    pub fn carrier_up(&self) -> Option<CarrierNo>
+        ensures { result ≡ up_by self.now.who self.now.connection }
+    {
+        match self.connection {
+            Connection::Running(_) => Some(self.who.carrier),
+            Connection::Closed | Connection::Waiting(_) => None,
+        }
+    }
+
+    /// Takes the next octet, and says what it brings, and how it closes the connection, if it does. A frame is taken at its last
+    /// octet; a fault, and a frame that ends the connection, close it, and from then on octets bring nothing.
+    pub fn receive(&mut self, octet: u8) -> Received
+        ensures notice { option_map carrier_notice result.notice ≡ brought self.old.who self.old.connection octet }
+        ensures closing { result.closing ≡ closes self.old.who self.old.connection octet }
+        ensures session { self.new ≡ session_on self.old.who (taken self.old.who self.old.connection octet) }
+        ensures sound { IsSound self.old.connection → IsSound self.new.connection }
+    {
+        let who = self.who;
+        self.connection.receive(&who, octet)
+    }
+}

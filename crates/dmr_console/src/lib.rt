@@ -17,3 +17,4 @@ pub use laws::{lines_in_any_cutting, lines_stand_before_their_ends};
 pub use line_cutter::{LineCutter, LineStep};
 pub use parsing::parse;
 pub use printing::{LONGEST_TEXT, line_too_long, print, unknown_command};
+pub use words::number_in;

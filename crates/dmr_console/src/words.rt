@@ -16,7 +16,8 @@ pub fn first_word(line: &[u8]) -> Option<(&[u8], &[u8])>
     Some(rest.split_at(end.unwrap_or(rest.len())))
 }
 
-/// The number that a word is: 1 to 8 decimal digits, from `least` to `most`.
+/// The number that a word is: 1 to 8 decimal digits, from `least` to `most`. None where it is no such number; zeros may
+/// stand in front.
 pub fn number_in(least: u32, most: u32, word: &[u8]) -> Option<u32>
     ensures value { result ≡ number_of_word least most word.now }
     ensures least { IfSome result (λ number. least ≤ number) }

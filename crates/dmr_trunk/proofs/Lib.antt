@@ -5,5 +5,4 @@ pub mod WordsLemmas
 pub mod WordsCases
 pub mod ReplayLemmas
 pub mod RunLemmas
-pub mod NumberLemmas
 pub mod UnsentLemmas

@@ -1,9 +1,10 @@
 -- What a script is, and what it gives.
-use Rattle.std.specs.Prelude.{ℕ, ◌+◌, ◌-◌, ◌*◌, ◌==◌, ◌&&◌, not, nat_le, Bool, true, false, List, [], ◌∷◌, ◌++◌, take, drop, Option, Some, None, is_none, option_map, Result, Ok, Err, if◌then◌else◌, codes, find, flat_map, fold, position, replicate}
-use Rattle.std.specs.List.{slice_split, enumerate_from, filter_map, list_all}
+use Rattle.std.specs.Prelude.{ℕ, ◌==◌, ◌&&◌, not, nat_lt, Bool, true, List, [], ◌∷◌, ◌++◌, length, take, drop, slice_index, Option, Some, None, is_none, option_map, Result, Ok, Err, if◌then◌else◌, codes, find, flat_map, replicate}
+use Rattle.std.specs.List.{slice_split, enumerate_from, filter_map}
 use Rattle.std.specs.Result.{result_ok}
 use Rattle.std.specs.Str.{bytes_eq}
 use Rattle.hex.specs.Hex.{decode_of}
+use Rattle.dmr_console.specs.Words.{number_in}
 use Rattle.dmr_link.specs.Input.{Input, At, Opening, Octets, Cutting, Saying, Ticking}
 use Rattle.dmr_trunk.specs.declared.script.ScriptInput.{ScriptInput}
 use Rattle.dmr_trunk.specs.declared.script.ScriptInput.TheVariants as input
@@ -25,15 +26,17 @@ is_skipped (octet ∷ octets) = octet == 35
 
 -- ---- what words give
 
--- the words of the sixteen carriers, by their numbers
-abbrev pub carrier_words : List (List ℕ)
-carrier_words =
-    codes "0" ∷ codes "1" ∷ codes "2" ∷ codes "3" ∷ codes "4" ∷ codes "5" ∷ codes "6" ∷ codes "7" ∷
-    codes "8" ∷ codes "9" ∷ codes "10" ∷ codes "11" ∷ codes "12" ∷ codes "13" ∷ codes "14" ∷ codes "15" ∷ []
+-- a number from `least` to `most` in decimal digits, with no leading zero
+abbrev pub number_of : ℕ → ℕ → List ℕ → Option ℕ
+number_of least most word = if nat_lt 1 (length word) && (slice_index word 0 == 48) then None else number_in least most word
 
 -- the carrier of a word
 abbrev pub carrier_of : List ℕ → Option ℕ
-carrier_of word = position (bytes_eq word) carrier_words
+carrier_of word = number_of 0 15 word
+
+-- a number of ticks
+abbrev pub times_of : List ℕ → Option ℕ
+times_of word = number_of 1 100000 word
 
 -- octets, if there are any
 abbrev pub at_least_one : Option (List ℕ) → Option (List ℕ)
@@ -43,23 +46,6 @@ at_least_one octets = None
 -- the octets that a word spells in hexadecimal digits of either case, at least one
 abbrev pub octets_of : List ℕ → Option (List ℕ)
 octets_of word = at_least_one (result_ok (decode_of word))
-
--- a decimal digit
-abbrev pub is_digit : ℕ → Bool
-is_digit octet = nat_le 48 octet && nat_le octet 57
-
--- the number that decimal digits spell
-abbrev pub spelled : List ℕ → ℕ
-spelled digits = fold (λ n digit. 10 * n + (digit - 48)) 0 digits
-
--- decimal digits, the first of them not 0
-abbrev pub is_number : List ℕ → Bool
-is_number [] = false
-is_number (digit ∷ digits) = not (digit == 48) && list_all is_digit (digit ∷ digits)
-
--- a number of ticks: 1 to 100000
-abbrev pub times_of : List ℕ → Option ℕ
-times_of word = if is_number word && nat_le (spelled word) 100000 then Some (spelled word) else None
 
 -- an input, and how often it comes
 pub record Given : Type 0 where

@@ -4,11 +4,11 @@
 //! lines and lines that begin with `#` are skipped. The words of a line are separated by one space, but a line that begins
 //! with `say ` has all that stands behind that space as its text.
 
-ghost use Rattle.std.specs.Prelude.{◌≡◌, ◌++◌, ◌∷◌, [], ℕ, Ok, Err, IfOk, map, option_map};
-ghost use Rattle.std.specs.List.{list_all};
+ghost use Rattle.std.specs.Prelude.{◌≡◌, ◌≤◌, ◌++◌, ◌∷◌, [], ℕ, Ok, Err, IfOk, IfSome, map, option_map};
 ghost use Rattle.dmr_link.specs.Input.{input_of};
-ghost use Rattle.dmr_trunk.specs.Script.{arrival, carrier_of as carrier_of_word, cutting, given_as, given_by, given_by_line, is_digit, is_number, is_skipped, octets_of as octets_of_word, opening, script_of, telling, ticking, times_of as times_of_word, words_of};
+ghost use Rattle.dmr_trunk.specs.Script.{arrival, carrier_of as carrier_of_word, cutting, given_as, given_by, given_by_line, is_skipped, number_of, octets_of as octets_of_word, opening, script_of, telling, ticking, times_of as times_of_word, words_of};
 
+use dmr_console::number_in;
 use dmr_link::Input;
 use dmr_pdu::{CarrierNo, OutOfMemory};
 use std::alloc::Global;
@@ -207,15 +207,30 @@ fn telling(alloc: Global, words: &[&[u8]]) -> Result<Option<ScriptInput>, OutOfM
     Ok(octets.map(|octets| ScriptInput::Text(octets)))
 }
 
-/// A carrier's number: 0 to 15 in decimal digits, with no leading zero.
+/// A number from `least` to `most` in decimal digits, with no leading zero.
+fn number_of(least: u32, most: u32, word: &[u8]) -> Option<u32>
+    ensures value { result ≡ number_of least most word.now }
+    ensures most { IfSome result (λ number. number ≤ most) }
+{
+    match word {
+        [b'0', _, ..] => None,
+        _ => number_in(least, most, word),
+    }
+}
+
+/// A carrier's number: 0 to 15.
 fn carrier_of(word: &[u8]) -> Option<CarrierNo>
     ensures { result ≡ carrier_of_word word.now }
 {
-    match word {
-        [digit @ b'0'..=b'9'] => Some(CarrierNo::new(u32::from(*digit - b'0'))),
-        [b'1', digit @ b'0'..=b'5'] => Some(CarrierNo::new(10 + u32::from(*digit - b'0'))),
-        _ => None,
-    }
+    let number = number_of(0, 15, word)?;
+    Some(CarrierNo::new(number))
+}
+
+/// A number of ticks: 1 to 100,000.
+fn times_of(word: &[u8]) -> Option<u32>
+    ensures { result ≡ times_of_word word.now }
+{
+    number_of(1, MOST_TICKS, word)
 }
 
 /// Octets in hexadecimal digits of either case, at least one octet.
@@ -227,46 +242,4 @@ fn octets_of(alloc: Global, word: &[u8]) -> Result<Option<Vec<u8>>, OutOfMemory>
         Err(hex::FromHexError::OutOfMemory) => Err(OutOfMemory),
         _ => Ok(None),
     }
-}
-
-/// Whether an octet is a decimal digit.
-fn is_digit(octet: u8) -> bool
-    ensures { result ≡ is_digit octet }
-{
-    b'0' <= octet && octet <= b'9'
-}
-
-/// Whether all octets of a word are decimal digits.
-fn are_digits(word: &[u8]) -> bool
-    ensures { result ≡ list_all is_digit word.now }
-{
-    word.iter().all(|digit| is_digit(*digit))
-}
-
-/// Whether a word is decimal digits, the first of them not 0.
-fn is_number(word: &[u8]) -> bool
-    ensures { result ≡ is_number word.now }
-{
-    match word {
-        [] => false,
-        [first, ..] => *first != b'0' && are_digits(word),
-    }
-}
-
-/// A number of ticks: 1 to 100,000 in decimal digits, with no leading zero.
-#[tactic(auto, using(crate::proofs::NumberLemmas::too_many))]
-fn times_of(word: &[u8]) -> Option<u32>
-    ensures { result ≡ times_of_word word.now }
-{
-    if !is_number(word) {
-        return None;
-    }
-    let mut times = 0;
-    for digit in word {
-        times = 10 * times + u32::from(digit.saturating_sub(b'0'));
-        if times > MOST_TICKS {
-            return None;
-        }
-    }
-    Some(times)
 }

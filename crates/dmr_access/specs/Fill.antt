@@ -12,16 +12,16 @@ pub record Window : Type 0 where
   pub fills : ℕ
 
 -- C_ALOHA to all radios (mask 0) for all services (function 0), which must register, with the backoff of the noise
-abbrev pub aloha_of : Settings → List ℕ → Pdu
-aloha_of plan noise = Aloha plan.aloha_sync plan.aloha_version plan.aloha_offset plan.aloha_active 0 0 plan.nrand_wait true (backoff_of plan noise) plan.system 0
+abbrev pub aloha_pdu : Settings → List ℕ → Pdu
+aloha_pdu plan noise = Aloha plan.aloha_sync plan.aloha_version plan.aloha_offset plan.aloha_active 0 0 plan.nrand_wait true (backoff_of plan noise) plan.system 0
 
 -- C_MOVE to a channel, where radios must register, with the same backoff
 abbrev pub move_to : Settings → List ℕ → ℕ → Pdu
 move_to plan noise lpcn = Move true (backoff_of plan noise) lpcn
 
 -- one Fill more, modulo 4
-abbrev pub one_filled : ℕ → ℕ
-one_filled fills = (fills + 1) % 4
+abbrev pub next_fill_count : ℕ → ℕ
+next_fill_count fills = (fills + 1) % 4
 
 -- the next Fill is the fourth, the eighth and so on
 abbrev pub is_late_due : ℕ → Bool
@@ -30,4 +30,4 @@ is_late_due fills = fills == 3
 -- what fills the control slot: C_MOVE while radios are to seek the control channel on another one; else, where it is due and there is one, the late entry; else C_ALOHA
 abbrev pub fill_of : Settings → Option ℕ → List ℕ → ℕ → Option Pdu → Pdu
 fill_of plan (Some lpcn) noise fills late = move_to plan noise lpcn
-fill_of plan None noise fills late = if is_late_due fills then unwrap_or late (aloha_of plan noise) else aloha_of plan noise
+fill_of plan None noise fills late = if is_late_due fills then unwrap_or late (aloha_pdu plan noise) else aloha_pdu plan noise

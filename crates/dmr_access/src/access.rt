@@ -3,7 +3,7 @@
 ghost use Rattle.std.specs.Prelude.{◌≡◌, ◌+◌, ◌^◌, ◌<◌, ◌≤◌, ◌↔◌, ◌&&◌, [], drop, length, sum, slice_get, nat_eq, IsTrue, IfOk};
 ghost use Rattle.std.specs.Cmp.Lexicographic.{pointwise};
 ghost use Rattle.dmr_access.specs.Noise.{AreNoiseNumbers, noise_at_up, with_noise, with_poll, backoff_of};
-ghost use Rattle.dmr_access.specs.Fill.{aloha_of, fill_of, is_late_due, move_to, one_filled};
+ghost use Rattle.dmr_access.specs.Fill.{aloha_pdu, fill_of, is_late_due, move_to, next_fill_count};
 
 use circular_buffer::HeapCircularBuffer;
 use dmr_pdu::{Address, Lpcn, Number, OutOfMemory, Pdu};
@@ -195,7 +195,7 @@ impl Access {
 
     /// The control slot was filled: one Fill more since the control carrier came up.
     pub fn filled(&mut self)
-        ensures { self.new ≡ record self.old { fills = one_filled self.old.fills } }
+        ensures { self.new ≡ record self.old { fills = next_fill_count self.old.fills } }
     {
         self.fills = (self.fills + 1) % TURN;
     }
@@ -203,7 +203,7 @@ impl Access {
     /// Fills the control slot: gives what fills it next, and counts the Fill.
     pub fn fill(&mut self, moving: Option<Lpcn>, late: Option<Pdu>) -> Pdu
         ensures pdu { result ≡ fill_of self.old.plan moving self.old.noise self.old.fills late }
-        ensures counted { self.new ≡ record self.old { fills = one_filled self.old.fills } }
+        ensures counted { self.new ≡ record self.old { fills = next_fill_count self.old.fills } }
     {
         let pdu = self.next_fill(moving, late);
         self.filled();
@@ -213,7 +213,7 @@ impl Access {
     /// C_ALOHA with the plan's fields and the backoff. All radios are invited (mask and address 0), for all services
     /// (function 0), and must register.
     fn aloha(&self) -> Pdu
-        ensures { result ≡ aloha_of self.now.plan self.now.noise }
+        ensures { result ≡ aloha_pdu self.now.plan self.now.noise }
     {
         Pdu::Aloha {
             sync: self.plan.aloha_sync(),

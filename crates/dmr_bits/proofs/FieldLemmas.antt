@@ -3,8 +3,8 @@ use Rattle.std.proofs.Common.{◌≡◌, ◌==◌, ℕ, ◌+◌, ◌-◌, ◌*�
 use Rattle.std.proofs.Math.Nat.{mod-eq_of_lt}
 use Rattle.std.proofs.lemmas.Bool.{lt-ltb, le-ltb, cases_lt}
 use Rattle.std.proofs.lemmas.Nat.{and_mask, one_shl, shr_high, mod_low, shl_whole}
-use Rattle.dmr_bits.specs.Bits.{octet_bit, spelled}
-use Rattle.dmr_bits.proofs.BitLemmas.{spelled-of_number, spelled-lt, spelled-add, spelled-same, spelled-bit, spelled-field}
+use Rattle.dmr_bits.specs.Bits.{octet_bit, bits_value}
+use Rattle.dmr_bits.proofs.BitLemmas.{bits_value-of_number, bits_value-lt, bits_value-add, bits_value-same, bits_value-bit, bits_value-field}
 
 -- bits, those of a number standing in a field of them
 unfoldable pub field_bit : (ℕ → Bool) → ℕ → ℕ → ℕ → ℕ → Bool
@@ -30,59 +30,59 @@ field_bit-in bit first width value k lt =
     rw (not_before, within, at) refl
 
 -- the number that octets spell, a field of it written anew: `a` bits before the field, `s` behind it
-module _ (bit : ℕ → Bool) (begin a w s value old : ℕ) (is : old ≡ spelled bit begin (a + (w + s))) (fits : value < 2 ^ w) where
+module _ (bit : ℕ → Bool) (begin a w s value old : ℕ) (is : old ≡ bits_value bit begin (a + (w + s))) (fits : value < 2 ^ w) where
   new : ℕ → Bool
   new = field_bit bit (begin + a) w value
 
-  new_spelled : spelled (field_bit bit (begin + a) w value) begin (a + (w + s)) ≡ spelled bit begin a * 2 ^ (w + s) + (value * 2 ^ s + spelled bit (begin + a + w) s)
+  new_spelled : bits_value (field_bit bit (begin + a) w value) begin (a + (w + s)) ≡ bits_value bit begin a * 2 ^ (w + s) + (value * 2 ^ s + bits_value bit (begin + a + w) s)
   new_spelled =
-      let front : spelled (field_bit bit (begin + a) w value) begin a ≡ spelled bit begin a =
-      spelled-same (field_bit bit (begin + a) w value) bit begin a (λ k lt. field_bit-before bit (begin + a) w value (begin + k) (omega arith)) in
-      let middle : spelled (field_bit bit (begin + a) w value) (begin + a) w ≡ value =
-      spelled-of_number (field_bit bit (begin + a) w value) (begin + a) value w (λ k lt. field_bit-in bit (begin + a) w value k lt) ∙ mod-eq_of_lt fits in
-      let back : spelled (field_bit bit (begin + a) w value) (begin + a + w) s ≡ spelled bit (begin + a + w) s =
-      spelled-same (field_bit bit (begin + a) w value) bit (begin + a + w) s (λ k lt. field_bit-behind bit (begin + a) w value (begin + a + w + k) (omega arith)) in
-      spelled-add (field_bit bit (begin + a) w value) begin a (w + s)
-      ∙ ap (λ n. spelled (field_bit bit (begin + a) w value) begin a * 2 ^ (w + s) + n) (spelled-add (field_bit bit (begin + a) w value) (begin + a) w s)
+      let front : bits_value (field_bit bit (begin + a) w value) begin a ≡ bits_value bit begin a =
+      bits_value-same (field_bit bit (begin + a) w value) bit begin a (λ k lt. field_bit-before bit (begin + a) w value (begin + k) (omega arith)) in
+      let middle : bits_value (field_bit bit (begin + a) w value) (begin + a) w ≡ value =
+      bits_value-of_number (field_bit bit (begin + a) w value) (begin + a) value w (λ k lt. field_bit-in bit (begin + a) w value k lt) ∙ mod-eq_of_lt fits in
+      let back : bits_value (field_bit bit (begin + a) w value) (begin + a + w) s ≡ bits_value bit (begin + a + w) s =
+      bits_value-same (field_bit bit (begin + a) w value) bit (begin + a + w) s (λ k lt. field_bit-behind bit (begin + a) w value (begin + a + w + k) (omega arith)) in
+      bits_value-add (field_bit bit (begin + a) w value) begin a (w + s)
+      ∙ ap (λ n. bits_value (field_bit bit (begin + a) w value) begin a * 2 ^ (w + s) + n) (bits_value-add (field_bit bit (begin + a) w value) (begin + a) w s)
       ∙ (λ i. front i * 2 ^ (w + s) + (middle i * 2 ^ s + back i))
 
-  old_high : old / 2 ^ (w + s) ≡ spelled bit begin a
+  old_high : old / 2 ^ (w + s) ≡ bits_value bit begin a
   old_high =
-      ap (λ n. n / 2 ^ (w + s)) (is ∙ spelled-add bit begin a (w + s))
-      ∙ shr_high (spelled bit begin a) (w + s) (spelled bit (begin + a) (w + s)) (spelled-lt bit (begin + a) (w + s))
+      ap (λ n. n / 2 ^ (w + s)) (is ∙ bits_value-add bit begin a (w + s))
+      ∙ shr_high (bits_value bit begin a) (w + s) (bits_value bit (begin + a) (w + s)) (bits_value-lt bit (begin + a) (w + s))
 
-  old_low : old % 2 ^ s ≡ spelled bit (begin + a + w) s
+  old_low : old % 2 ^ s ≡ bits_value bit (begin + a + w) s
   old_low =
       let whole : a + (w + s) ≡ a + w + s = omega arith in
       let at : begin + (a + w) ≡ begin + a + w = omega arith in
-      ap (λ n. n % 2 ^ s) (is ∙ ap (spelled bit begin) whole ∙ spelled-add bit begin (a + w) s)
-      ∙ mod_low (spelled bit begin (a + w)) s (spelled bit (begin + (a + w)) s) (spelled-lt bit (begin + (a + w)) s)
-      ∙ ap (λ n. spelled bit n s) at
+      ap (λ n. n % 2 ^ s) (is ∙ ap (bits_value bit begin) whole ∙ bits_value-add bit begin (a + w) s)
+      ∙ mod_low (bits_value bit begin (a + w)) s (bits_value bit (begin + (a + w)) s) (bits_value-lt bit (begin + (a + w)) s)
+      ∙ ap (λ n. bits_value bit n s) at
 
   pub written_number : a + (w + s) ≤ 64 → s < 8
       → old / 2 ^ (w + s) * 2 ^ (w + s) % 2 ^ 64 + value * 2 ^ s % 2 ^ 64 + bit_and old (1 * 2 ^ s % 2 ^ 64 - 1)
-      ≡ spelled (field_bit bit (begin + a) w value) begin (a + (w + s))
+      ≡ bits_value (field_bit bit (begin + a) w value) begin (a + (w + s))
   written_number small few =
-      let high : old / 2 ^ (w + s) * 2 ^ (w + s) % 2 ^ 64 ≡ spelled bit begin a * 2 ^ (w + s) =
-      ap (λ n. n * 2 ^ (w + s) % 2 ^ 64) old_high ∙ shl_whole (spelled bit begin a) a (w + s) 64 (spelled-lt bit begin a) small in
+      let high : old / 2 ^ (w + s) * 2 ^ (w + s) % 2 ^ 64 ≡ bits_value bit begin a * 2 ^ (w + s) =
+      ap (λ n. n * 2 ^ (w + s) % 2 ^ 64) old_high ∙ shl_whole (bits_value bit begin a) a (w + s) 64 (bits_value-lt bit begin a) small in
       let middle : value * 2 ^ s % 2 ^ 64 ≡ value * 2 ^ s = shl_whole value w s 64 fits (omega arith) in
-      let low : bit_and old (1 * 2 ^ s % 2 ^ 64 - 1) ≡ spelled bit (begin + a + w) s =
+      let low : bit_and old (1 * 2 ^ s % 2 ^ 64 - 1) ≡ bits_value bit (begin + a + w) s =
       ap (λ n. bit_and old (n - 1)) (one_shl s 64 (omega arith)) ∙ and_mask old s ∙ old_low in
       omega (arith, high, middle, low, new_spelled)
 
 -- octets that spell bits, from one of them to another, have them
-pub octets_from_spelled : (octets : List ℕ) (bit : ℕ → Bool) (k : ℕ) → get_or octets (k / 8) 0 ≡ spelled bit (8 * (k / 8)) 8 → octet_bit octets k ≡ bit k
+pub octets_from_spelled : (octets : List ℕ) (bit : ℕ → Bool) (k : ℕ) → get_or octets (k / 8) 0 ≡ bits_value bit (8 * (k / 8)) 8 → octet_bit octets k ≡ bit k
 octets_from_spelled octets bit k is =
     let at : 8 * (k / 8) + k % 8 ≡ k = omega arith in
-    ap (λ n. n / 2 ^ (7 - k % 8) % 2 == 1) is ∙ spelled-bit bit (8 * (k / 8)) 8 (k % 8) (omega arith) ∙ ap bit at
+    ap (λ n. n / 2 ^ (7 - k % 8) % 2 == 1) is ∙ bits_value-bit bit (8 * (k / 8)) 8 (k % 8) (omega arith) ∙ ap bit at
 
 -- an octet of a number that octets spell
-pub octet_of_number : (bit : ℕ → Bool) (begin past k number : ℕ) → begin ≤ k → k < past → number ≡ spelled bit (8 * begin) (8 * (past - begin))
-    → bit_and (number / 2 ^ (8 * (past - 1 - k))) 255 ≡ spelled bit (8 * k) 8
+pub octet_of_number : (bit : ℕ → Bool) (begin past k number : ℕ) → begin ≤ k → k < past → number ≡ bits_value bit (8 * begin) (8 * (past - begin))
+    → bit_and (number / 2 ^ (8 * (past - 1 - k))) 255 ≡ bits_value bit (8 * k) 8
 octet_of_number bit begin past k number le lt is =
     and_mask (number / 2 ^ (8 * (past - 1 - k))) 8
     ∙ ap (λ n. n / 2 ^ (8 * (past - 1 - k)) % 2 ^ 8) is
-    ∙ spelled-field bit (8 * begin) (8 * (past - begin)) (8 * k) 8 (8 * (past - 1 - k)) (omega arith) (omega arith)
+    ∙ bits_value-field bit (8 * begin) (8 * (past - begin)) (8 * k) 8 (8 * (past - 1 - k)) (omega arith) (omega arith)
 
 -- the octet behind the last one that a field touches, and the bits behind the field in that one
 abbrev pub past_of : ℕ → ℕ → ℕ
@@ -93,18 +93,18 @@ bits_behind first width = 8 * ((first + width + 7) / 8) - (first + width)
 
 -- the number that is written into the octets that a field touches
 pub field_number : (octets : List ℕ) (first width value given old : ℕ) → width ≤ 32 → value < 2 ^ width → given ≡ value
-    → old ≡ spelled (octet_bit octets) (8 * (first / 8)) (8 * (past_of first width - first / 8))
+    → old ≡ bits_value (octet_bit octets) (8 * (first / 8)) (8 * (past_of first width - first / 8))
     → old / 2 ^ (width + bits_behind first width) * 2 ^ (width + bits_behind first width) % 2 ^ 64 + given * 2 ^ bits_behind first width % 2 ^ 64 + bit_and old (1 * 2 ^ bits_behind first width % 2 ^ 64 - 1)
-    ≡ spelled (field_bit (octet_bit octets) first width value) (8 * (first / 8)) (8 * (past_of first width - first / 8))
+    ≡ bits_value (field_bit (octet_bit octets) first width value) (8 * (first / 8)) (8 * (past_of first width - first / 8))
 field_number octets first width value given old narrow fits same is =
     let parts : 8 * (past_of first width - first / 8) ≡ first - 8 * (first / 8) + (width + bits_behind first width) = omega arith in
     let at : 8 * (first / 8) + (first - 8 * (first / 8)) ≡ first = omega arith in
     ap (λ n. old / 2 ^ (width + bits_behind first width) * 2 ^ (width + bits_behind first width) % 2 ^ 64 + n * 2 ^ bits_behind first width % 2 ^ 64 + bit_and old (1 * 2 ^ bits_behind first width % 2 ^ 64 - 1)) same
     ∙ written_number (octet_bit octets) (8 * (first / 8)) (first - 8 * (first / 8)) width (bits_behind first width) value old
-    (is ∙ ap (spelled (octet_bit octets) (8 * (first / 8))) parts) fits (omega arith) (omega arith)
-    ∙ (λ i. spelled (field_bit (octet_bit octets) (at i) width value) (8 * (first / 8)) (sym parts i))
+    (is ∙ ap (bits_value (octet_bit octets) (8 * (first / 8))) parts) fits (omega arith) (omega arith)
+    ∙ (λ i. bits_value (field_bit (octet_bit octets) (at i) width value) (8 * (first / 8)) (sym parts i))
 
-written_bits : (octets new : List ℕ) (bit : ℕ → Bool) (begin past number : ℕ) → number ≡ spelled bit (8 * begin) (8 * (past - begin))
+written_bits : (octets new : List ℕ) (bit : ℕ → Bool) (begin past number : ℕ) → number ≡ bits_value bit (8 * begin) (8 * (past - begin))
     → ((j : ℕ) → begin ≤ j → j < past → get_or new j 0 ≡ bit_and (number / 2 ^ (8 * (past - 1 - j))) 255)
     → ((j : ℕ) → j < begin → get_or new j 0 ≡ get_or octets j 0) → ((j : ℕ) → past ≤ j → get_or new j 0 ≡ get_or octets j 0)
     → ((q : ℕ) → q < 8 * begin → bit q ≡ octet_bit octets q) → ((q : ℕ) → 8 * past ≤ q → bit q ≡ octet_bit octets q)
@@ -121,7 +121,7 @@ written_bits octets new bit begin past number is written before behind bit_befor
 
 -- octets into which that number is written have the field's bits, and all others stay
 pub field_written : (octets new : List ℕ) (first width value number k : ℕ)
-    → number ≡ spelled (field_bit (octet_bit octets) first width value) (8 * (first / 8)) (8 * (past_of first width - first / 8))
+    → number ≡ bits_value (field_bit (octet_bit octets) first width value) (8 * (first / 8)) (8 * (past_of first width - first / 8))
     → k ≡ past_of first width
     → ((j : ℕ) → first / 8 ≤ j → j < k → get_or new j 0 ≡ bit_and (number / 2 ^ (8 * (past_of first width - 1 - j))) 255)
     → ((j : ℕ) → j < first / 8 → get_or new j 0 ≡ get_or octets j 0) → ((j : ℕ) → k ≤ j → get_or new j 0 ≡ get_or octets j 0)

@@ -5,8 +5,8 @@ use Rattle.std.specs.Int.Bits.{xor_assoc, xor_zero_r}
 use Rattle.std.proofs.lemmas.Bool.{cases_eq, eq-eqb, ne_eqb}
 use Rattle.std.proofs.lemmas.Nat.{xor_lt, pow_pos}
 use Rattle.std.proofs.lemmas.Nat.Bits.{bit_at_xor, bit_at-zero}
-use Rattle.dmr_bits.specs.Bits.{spelled}
-use Rattle.dmr_bits.proofs.BitLemmas.{spelled-bit}
+use Rattle.dmr_bits.specs.Bits.{bits_value}
+use Rattle.dmr_bits.proofs.BitLemmas.{bits_value-bit}
 use Rattle.dmr_bptc.specs.Bptc.{add_bits, parity, Satisfies}
 use Rattle.dmr_bptc.proofs.BitSumLemmas.{add_bits-false, add_bits_middle}
 
@@ -141,12 +141,12 @@ unfoldable pub added_by : (ℕ → ℕ) → ℕ → ℕ → ℕ
 added_by number k value = added (λ j. value / 2 ^ (3 - j) % 2 == 1) (λ j. number (4 * k + j)) 4
 
 -- four bits are added at once
-pub added-four : (bit : ℕ → Bool) (number : ℕ → ℕ) (k entry : ℕ) → entry ≡ added_by number k (spelled bit (4 * k) 4) → bit_xor (added bit number (4 * k)) entry ≡ added bit number (4 * (k + 1))
+pub added-four : (bit : ℕ → Bool) (number : ℕ → ℕ) (k entry : ℕ) → entry ≡ added_by number k (bits_value bit (4 * k) 4) → bit_xor (added bit number (4 * k)) entry ≡ added bit number (4 * (k + 1))
 unfolding added_by
 added-four bit number k entry is =
     let e : 4 * k + 4 ≡ 4 * (k + 1) = omega arith in
     ap (bit_xor (added bit number (4 * k))) (is
-    ∙ added-same (λ j. spelled bit (4 * k) 4 / 2 ^ (3 - j) % 2 == 1) (λ j. bit (4 * k + j)) (λ j. number (4 * k + j)) 4
-    (λ j lt. spelled-bit bit (4 * k) 4 j lt))
+    ∙ added-same (λ j. bits_value bit (4 * k) 4 / 2 ^ (3 - j) % 2 == 1) (λ j. bit (4 * k + j)) (λ j. number (4 * k + j)) 4
+    (λ j lt. bits_value-bit bit (4 * k) 4 j lt))
     ∙ sym (added-split bit number (4 * k) 4)
     ∙ ap (added bit number) e

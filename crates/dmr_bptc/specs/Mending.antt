@@ -16,5 +16,5 @@ abbrev pub mark : List (ℕ × List ℕ) → ℕ → ℕ
 mark es k = syndrome es (λ j. j == k)
 
 -- a line, the bit turned over whose mark is the syndrome
-abbrev pub mended : List (ℕ × List ℕ) → (ℕ → Bool) → ℕ → Bool
-mended es line k = add_bits (line k) (syndrome es line == mark es k)
+abbrev pub corrected_line : List (ℕ × List ℕ) → (ℕ → Bool) → ℕ → Bool
+corrected_line es line k = add_bits (line k) (syndrome es line == mark es k)

@@ -1,7 +1,7 @@
 //! Codewords made from their information bits.
 
 ghost use Rattle.std.specs.Prelude.{◌≡◌, ℕ, ◌*◌, ◌<◌, Bool, List, length};
-ghost use Rattle.dmr_bits.specs.Bits.{octet_bit, spelled};
+ghost use Rattle.dmr_bits.specs.Bits.{octet_bit, bits_value};
 ghost use Rattle.dmr_bptc.specs.Bptc.{IsEncoding};
 
 use dmr_bits::{Octets12, Word196};
@@ -9,7 +9,7 @@ use dmr_bits::{Octets12, Word196};
 /// The number that four information bits spell, those from bit `4 * k` on, for a `k` of 0 to 23.
 fn four_bits(octets: &Octets12, k: usize) -> usize
     requires { k < 24 }
-    ensures is { result ≡ spelled (octet_bit octets.now) (4 * k) 4 }
+    ensures is { result ≡ bits_value (octet_bit octets.now) (4 * k) 4 }
     ensures small { result < 16 }
 {
     usize::from((octets[k / 2] >> (4 - 4 * (k % 2))) & 0xF)

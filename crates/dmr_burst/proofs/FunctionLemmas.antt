@@ -7,26 +7,26 @@ use Rattle.std.proofs.lemmas.Bool.{cases_Bool, cases_lt}
 use Rattle.std.proofs.lemmas.List.{take_at, get_or-take, get_or_past}
 use Rattle.dmr_bits.specs.Bits.{IsOctets}
 use Rattle.dmr_csbk.specs.Check.{check, with_check}
-use Rattle.dmr_csbk.proofs.Sealed.{with_check-octets}
+use Rattle.dmr_csbk.proofs.SealLemmas.{with_check-octets}
 use Rattle.dmr_bptc.specs.Bptc.{IsCodeword, Means, distance}
-use Rattle.dmr_bptc.specs.Functions.{decoded, encoded}
-use Rattle.dmr_bptc.proofs.FunctionLemmas.{decoded-found, decoded-meant, encoded-encoding}
+use Rattle.dmr_bptc.specs.Functions.{decoding_of, encoding_of}
+use Rattle.dmr_bptc.proofs.FunctionLemmas.{decoding_of-found, decoding_of-meant, encoding_of-encoding}
 use Rattle.dmr_bptc.proofs.MeaningLemmas.{encodings-same, meaning_of_codeword, distance-self}
 use Rattle.dmr_pdu.specs.declared.pdu.Pdu.{Pdu}
 use Rattle.dmr_pdu.specs.Functions.{octets_of, pdu_of}
 use Rattle.dmr_pdu.proofs.RowLemmas.{pointwise-self, pointwise-same}
 use Rattle.dmr_pdu.proofs.FunctionLemmas.{octets_of-spells, pdu_of-agrees, pdu_of-only}
 use Rattle.dmr_burst.specs.Burst.{MeansPdu, IsBurst}
-use Rattle.dmr_burst.specs.Functions.{opened, meaning_of, burst_of}
+use Rattle.dmr_burst.specs.Functions.{without_check, meaning_of, burst_of}
 
 -- ---- the check
 
 front : (octets : List ℕ) → IsOctets 10 octets → take 10 (with_check octets) ≡ octets
 front octets is = take_at octets (to_be_bytes w16 (check octets)) 10 is.len
 
-opened-with_check : (octets : List ℕ) → IsOctets 10 octets → opened (with_check octets) ≡ Some octets
-unfolding opened
-opened-with_check octets is =
+without_check-with_check : (octets : List ℕ) → IsOctets 10 octets → without_check (with_check octets) ≡ Some octets
+unfolding without_check
+without_check-with_check octets is =
     let same : pointwise eqb (with_check (take 10 (with_check octets))) (with_check octets) ≡ true =
     ap (λ (o : List ℕ). pointwise eqb (with_check o) (with_check octets)) (front octets is) ∙ pointwise-self (with_check octets) in
     rw same (ap Some (front octets is))
@@ -40,9 +40,9 @@ take-octets sealed is = record {
       (cases_lt k 10);
 }
 
-opened-found : (sealed : List ℕ) → IfSome (opened sealed) (λ octets. (octets ≡ take 10 sealed) × (sealed ≡ with_check octets))
-unfolding opened
-opened-found sealed =
+without_check-found : (sealed : List ℕ) → IfSome (without_check sealed) (λ octets. (octets ≡ take 10 sealed) × (sealed ≡ with_check octets))
+unfolding without_check
+without_check-found sealed =
     ⊎_elim
     (λ (yes : pointwise eqb (with_check (take 10 sealed)) sealed ≡ true). rw yes (refl, sym (pointwise-same (with_check (take 10 sealed)) sealed yes)))
     (λ (no : pointwise eqb (with_check (take 10 sealed)) sealed ≡ false). rw no tt)
@@ -54,9 +54,9 @@ opened-found sealed =
 pub meaning_of-meant : (word : List Bool) (pdu : Pdu) → MeansPdu word pdu → meaning_of word ≡ Some pdu
 unfolding meaning_of
 meaning_of-meant word pdu means =
-    let found : decoded word ≡ Some (with_check means.0) = decoded-meant word (with_check means.0) (with_check-octets means.0 means.1.are_octets) means.1.means in
-    ap (λ (o : Option (List ℕ)). option_map pdu_of (option_and_then opened o)) found
-    ∙ ap (option_map pdu_of) (opened-with_check means.0 means.1.are_octets)
+    let found : decoding_of word ≡ Some (with_check means.0) = decoding_of-meant word (with_check means.0) (with_check-octets means.0 means.1.are_octets) means.1.means in
+    ap (λ (o : Option (List ℕ)). option_map pdu_of (option_and_then without_check o)) found
+    ∙ ap (option_map pdu_of) (without_check-with_check means.0 means.1.are_octets)
     ∙ ap Some (pdu_of-only pdu means.0 means.1.agrees)
 
 from_opened : (word : List Bool) (sealed : List ℕ) (o : Option (List ℕ)) → IsOctets 12 sealed → Means 3 word sealed
@@ -71,14 +71,14 @@ from_opened word sealed (Some octets) is means told = (
   },
 )
 
-from_decoded : (word : List Bool) (o : Option (List ℕ)) → IfSome o (λ sealed. IsOctets 12 sealed × Means 3 word sealed) → IfSome (option_map pdu_of (option_and_then opened o)) (MeansPdu word)
+from_decoded : (word : List Bool) (o : Option (List ℕ)) → IfSome o (λ sealed. IsOctets 12 sealed × Means 3 word sealed) → IfSome (option_map pdu_of (option_and_then without_check o)) (MeansPdu word)
 from_decoded word None told = tt
-from_decoded word (Some sealed) told = from_opened word sealed (opened sealed) told.0 told.1 (opened-found sealed)
+from_decoded word (Some sealed) told = from_opened word sealed (without_check sealed) told.0 told.1 (without_check-found sealed)
 
 -- the meaning is meant
 pub meaning_of-found : (word : List Bool) → IfSome (meaning_of word) (MeansPdu word)
 unfolding meaning_of
-meaning_of-found word = from_decoded word (decoded word) (decoded-found word)
+meaning_of-found word = from_decoded word (decoding_of word) (decoding_of-found word)
 
 -- ---- bursts
 
@@ -86,7 +86,7 @@ pub burst_of-is : (pdu : Pdu) (word : List Bool) → IsBurst pdu word → burst_
 unfolding burst_of
 burst_of-is pdu word burst =
     let octets : octets_of pdu ≡ burst.0 = octets_of-spells pdu burst.0 burst.1.are_octets burst.1.spells in
-    ap (λ (o : List ℕ). encoded (with_check o)) octets ∙ encodings-same (with_check burst.0) (encoded (with_check burst.0)) word (encoded-encoding (with_check burst.0)) burst.1.is_encoding
+    ap (λ (o : List ℕ). encoding_of (with_check o)) octets ∙ encodings-same (with_check burst.0) (encoding_of (with_check burst.0)) word (encoding_of-encoding (with_check burst.0)) burst.1.is_encoding
 
 -- an answer that is meant, where what is meant is answered, is the meaning
 pub answer-meaning : (word : List Bool) (answer : Option Pdu) → ((pdu : Pdu) → MeansPdu word pdu → answer ≡ Some pdu) → IfSome answer (MeansPdu word) → answer ≡ meaning_of word

@@ -4,7 +4,7 @@ use Rattle.dmr_bits.specs.Bits.{IsOctets}
 use Rattle.dmr_csbk.specs.Check.{with_check}
 use Rattle.dmr_bptc.specs.Bptc.{Means, IsEncoding}
 use Rattle.dmr_pdu.specs.declared.pdu.Pdu.{Pdu}
-use Rattle.dmr_pdu.specs.Layout.{Spells, Agrees}
+use Rattle.dmr_pdu.specs.Layout.{SpellsPdu, Agrees}
 
 -- a codeword that differs from the word in at most three places carries the octets and their check, and the PDU agrees with
 -- the octets
@@ -20,7 +20,7 @@ MeansPdu word pdu = (octets : List ℕ) × IsMeaning word pdu octets
 -- the word is the codeword, with place 0 and the reserved cells 0, of the octets that the PDU is written as and their check
 pub record IsSending (pdu : Pdu) (word : List Bool) (octets : List ℕ) : Type 0 where
   pub are_octets : IsOctets 10 octets
-  pub spells : Spells pdu octets
+  pub spells : SpellsPdu pdu octets
   pub is_encoding : IsEncoding (with_check octets) word
 
 -- the word is the burst of the PDU

@@ -4,18 +4,18 @@
 use Rattle.std.specs.Prelude.{ℕ, List, Bool, Option, Some, None, if◌then◌else◌, take, nat_eq, option_map, option_and_then}
 use Rattle.std.specs.Cmp.Lexicographic.{pointwise}
 use Rattle.dmr_csbk.specs.Check.{with_check}
-use Rattle.dmr_bptc.specs.Functions.{decoded, encoded}
+use Rattle.dmr_bptc.specs.Functions.{decoding_of, encoding_of}
 use Rattle.dmr_pdu.specs.declared.pdu.Pdu.{Pdu}
 use Rattle.dmr_pdu.specs.Functions.{octets_of, pdu_of}
 
 -- ten octets that their check follows
-unfoldable pub opened : List ℕ → Option (List ℕ)
-opened sealed = if pointwise nat_eq (with_check (take 10 sealed)) sealed then Some (take 10 sealed) else None
+unfoldable pub without_check : List ℕ → Option (List ℕ)
+without_check sealed = if pointwise nat_eq (with_check (take 10 sealed)) sealed then Some (take 10 sealed) else None
 
 -- the PDU that a word means, if it means one
 unfoldable pub meaning_of : List Bool → Option Pdu
-meaning_of word = option_map pdu_of (option_and_then opened (decoded word))
+meaning_of word = option_map pdu_of (option_and_then without_check (decoding_of word))
 
 -- the burst of a PDU
 unfoldable pub burst_of : Pdu → List Bool
-burst_of pdu = encoded (with_check (octets_of pdu))
+burst_of pdu = encoding_of (with_check (octets_of pdu))

@@ -7,7 +7,7 @@ use Rattle.dmr_calls.specs.declared.ask.Asking.{Asking}
 use Rattle.dmr_calls.specs.declared.call.Standing.{Standing}
 use Rattle.dmr_calls.specs.declared.answer.Engagement.TheVariants.{CallOf, AskOf, LineOf}
 use Rattle.dmr_calls.specs.Standings.{Standings}
-use Rattle.dmr_calls.specs.Engaged.{in_call, in_ask, in_line, call_of, ask_with, line_with, engagement_of, is_engaged}
+use Rattle.dmr_calls.specs.Engaged.{is_party_to_call, is_party_to_ask, is_party_to_line, call_of, ask_with, line_with, engagement_of, is_engaged}
 
 -- something passes a test where something that passes it is found
 some_found : {X : Type 0} (test : X → Bool) (xs : List X) → is_some (find test xs) ≡ list_any test xs
@@ -32,9 +32,9 @@ some_of_three None None c = refl
 -- something engages a radio where it is a party to something
 pub some_engaged : (now : Standings) (radio : ℕ) → is_some (engagement_of now radio) ≡ is_engaged now radio
 some_engaged now radio =
-    let calls = find (in_call radio) now.calls in
-    let asks = find (in_ask radio) now.asks in
-    let call : is_some (option_map CallOf (call_of now.calls radio)) ≡ list_any (in_call radio) now.calls = some_mapped CallOf (call_of now.calls radio) ∙ some_mapped (λ (s : Standing). s.call) calls ∙ some_found (in_call radio) now.calls in
-    let ask : is_some (option_map AskOf (ask_with now.asks radio)) ≡ list_any (in_ask radio) now.asks = some_mapped AskOf (ask_with now.asks radio) ∙ some_mapped (λ (a : Asking). a.ask) asks ∙ some_found (in_ask radio) now.asks in
-    let line : is_some (option_map LineOf (line_with now.lines radio)) ≡ list_any (in_line radio) now.lines = some_mapped LineOf (line_with now.lines radio) ∙ some_found (in_line radio) now.lines in
+    let calls = find (is_party_to_call radio) now.calls in
+    let asks = find (is_party_to_ask radio) now.asks in
+    let call : is_some (option_map CallOf (call_of now.calls radio)) ≡ list_any (is_party_to_call radio) now.calls = some_mapped CallOf (call_of now.calls radio) ∙ some_mapped (λ (s : Standing). s.call) calls ∙ some_found (is_party_to_call radio) now.calls in
+    let ask : is_some (option_map AskOf (ask_with now.asks radio)) ≡ list_any (is_party_to_ask radio) now.asks = some_mapped AskOf (ask_with now.asks radio) ∙ some_mapped (λ (a : Asking). a.ask) asks ∙ some_found (is_party_to_ask radio) now.asks in
+    let line : is_some (option_map LineOf (line_with now.lines radio)) ≡ list_any (is_party_to_line radio) now.lines = some_mapped LineOf (line_with now.lines radio) ∙ some_found (is_party_to_line radio) now.lines in
     some_of_three (option_map CallOf (call_of now.calls radio)) (option_map AskOf (ask_with now.asks radio)) (option_map LineOf (line_with now.lines radio)) ∙ cc (call, ask, line)

@@ -9,16 +9,16 @@ use Rattle.std.proofs.lemmas.List.Quantifiers.{all_pairs_push}
 use Rattle.dmr_calls.specs.declared.ask.Ask.{Ask}
 use Rattle.dmr_calls.specs.declared.ask.Asking.{Asking}
 use Rattle.dmr_calls.proofs.AnyLemmas.{none_passes_both}
-use Rattle.dmr_calls.specs.Asks.{HaveOwnSources, just_asked, waited_more, others_than, has_own_ask}
+use Rattle.dmr_calls.specs.Asks.{HaveOwnSources, new_asking, waited_more, others_than, has_own_ask}
 
 -- a number that is not another's
 other_source : (a b : ℕ) → not (a == b) ≡ true → a ≢ b
 other_source a b h same = grind (arith, nat_tests)
 
 -- an ask behind those of other sources
-pub own_with : (ask : Ask) (asks : List Asking) → HaveOwnSources (others_than ask.source asks) → HaveOwnSources (others_than ask.source asks ++ just_asked ask ∷ [])
+pub own_with : (ask : Ask) (asks : List Asking) → HaveOwnSources (others_than ask.source asks) → HaveOwnSources (others_than ask.source asks ++ new_asking ask ∷ [])
 own_with ask asks own =
-    all_pairs_push (λ (a b : Asking). a.ask.source ≢ b.ask.source) (others_than ask.source asks) (just_asked ask) own
+    all_pairs_push (λ (a b : Asking). a.ask.source ≢ b.ask.source) (others_than ask.source asks) (new_asking ask) own
     (λ k d within. other_source _ _ (filter_passes (λ (a : Asking). not (a.ask.source == ask.source)) asks k d within))
 
 -- a tick changes no source

@@ -8,7 +8,7 @@ use Rattle.dmr_pdu.specs.declared.slots.Slot.{Slot}
 use Rattle.dmr_calls.specs.declared.call.Standing.{Standing}
 use Rattle.dmr_pdu.specs.Slots.{place}
 use Rattle.dmr_calls.specs.Slots.{AreOnSlots}
-use Rattle.dmr_calls.specs.Calls.{is_slot, counted, marked, on_other_slots, on_other_carriers}
+use Rattle.dmr_calls.specs.Calls.{is_slot, one_tick_older, with_activity, on_other_slots, on_other_carriers}
 
 -- slots are the same where their numbers are
 pub same_number : (a b : Slot) → a.slot < 2 → b.slot < 2 → (place a == place b) ≡ is_slot a b
@@ -52,13 +52,13 @@ left_on_carriers calls carrier on =
     ∙ filter_agree (λ s. not (place s.call.slot == 2 * carrier) && not (place s.call.slot == 2 * carrier + 1)) (λ s. not (s.call.slot.carrier == carrier)) calls (λ k d within. of_carrier _ carrier (on k d within))
 
 -- a tick moves no call
-pub on_slots_after : (calls : List Standing) → AreOnSlots calls → AreOnSlots (map counted calls)
-on_slots_after calls on = All-map (λ (s : Standing). s.call.slot.slot < 2) counted calls on
+pub on_slots_after : (calls : List Standing) → AreOnSlots calls → AreOnSlots (map one_tick_older calls)
+on_slots_after calls on = All-map (λ (s : Standing). s.call.slot.slot < 2) one_tick_older calls on
 
 -- nor does activity
-pub on_slots_marked : (slot : Slot) (calls : List Standing) → AreOnSlots calls → AreOnSlots (map (marked slot) calls)
+pub on_slots_marked : (slot : Slot) (calls : List Standing) → AreOnSlots calls → AreOnSlots (map (with_activity slot) calls)
 on_slots_marked slot calls on =
-    All-map (λ (s : Standing). s.call.slot.slot < 2) (marked slot) calls (λ k d within. stays (get_or calls k d) (is_slot (get_or calls k d).call.slot slot) (on k d within))
+    All-map (λ (s : Standing). s.call.slot.slot < 2) (with_activity slot) calls (λ k d within. stays (get_or calls k d) (is_slot (get_or calls k d).call.slot slot) (on k d within))
   where
     stays : (s : Standing) (b : Bool) → s.call.slot.slot < 2 → (if b then record { call = s.call; age = s.age; quiet = 0 } else s).call.slot.slot < 2
     stays s true two = two

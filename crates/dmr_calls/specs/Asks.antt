@@ -12,8 +12,8 @@ abbrev pub HaveOwnSources : List Asking → Type 0
 HaveOwnSources asks = AllPairs (λ a b. a.ask.source ≢ b.ask.source) asks
 
 -- an ask whose C_AHOY was sent just now
-abbrev pub just_asked : Ask → Asking
-just_asked ask = record { ask = ask; waited = 0 }
+abbrev pub new_asking : Ask → Asking
+new_asking ask = record { ask = ask; waited = 0 }
 
 -- an ask after one tick more
 abbrev pub waited_more : Asking → Asking
@@ -29,7 +29,7 @@ has_no_place asks source = nat_le MOST_ASKS (length (others_than source asks))
 
 -- the asks with one more, where it has a place: it goes to the end, and takes the place of the one of its source
 abbrev pub with_ask : List Asking → Ask → List Asking
-with_ask asks ask = if has_no_place asks ask.source then asks else others_than ask.source asks ++ just_asked ask ∷ []
+with_ask asks ask = if has_no_place asks ask.source then asks else others_than ask.source asks ++ new_asking ask ∷ []
 
 -- the ask of a radio, of which there is one at most
 abbrev pub ask_of : List Asking → ℕ → Option Ask

@@ -15,12 +15,12 @@ abbrev pub just_begun : Call → Standing
 just_begun call = record { call = call; age = 0; quiet = 0 }
 
 -- a call after one tick more
-abbrev pub counted : Standing → Standing
-counted s = record { call = s.call; age = one_more s.age; quiet = one_more s.quiet }
+abbrev pub one_tick_older : Standing → Standing
+one_tick_older s = record { call = s.call; age = one_more s.age; quiet = one_more s.quiet }
 
 -- a call after the slot was marked as active
-abbrev pub marked : Slot → Standing → Standing
-marked slot s = if is_slot s.call.slot slot then record { call = s.call; age = s.age; quiet = 0 } else s
+abbrev pub with_activity : Slot → Standing → Standing
+with_activity slot s = if is_slot s.call.slot slot then record { call = s.call; age = s.age; quiet = 0 } else s
 
 -- the calls with one more at the end, where fewer than 31 stand
 abbrev pub with_call : List Standing → Call → List Standing

@@ -8,11 +8,11 @@ use Rattle.dmr_calls.specs.declared.answer.Due.{Due}
 use Rattle.dmr_calls.specs.Standings.{Standings}
 use Rattle.dmr_calls.specs.Asks.{waited_more}
 use Rattle.dmr_calls.specs.Lines.{first_line}
-use Rattle.dmr_calls.specs.Calls.{counted}
+use Rattle.dmr_calls.specs.Calls.{one_tick_older}
 
 -- what stands after one tick more
 abbrev pub after_tick : Standings → Standings
-after_tick now = record { asks = map waited_more now.asks; lines = now.lines; calls = map counted now.calls }
+after_tick now = record { asks = map waited_more now.asks; lines = now.lines; calls = map one_tick_older now.calls }
 
 -- whether a call was quiet for the hang time, or has lasted as long as one may
 abbrev pub is_over : ℕ → ℕ → Standing → Bool

@@ -16,28 +16,28 @@ abbrev pub is_party : ℕ → Bool → ℕ → ℕ → Bool
 is_party radio group source target = (source == radio) || (not group && (target == radio))
 
 -- whether it is one to the call
-abbrev pub in_call : ℕ → Standing → Bool
-in_call radio s = is_party radio s.call.group s.call.source s.call.target
+abbrev pub is_party_to_call : ℕ → Standing → Bool
+is_party_to_call radio s = is_party radio s.call.group s.call.source s.call.target
 
 -- whether it is one to the ask, which is always individual
-abbrev pub in_ask : ℕ → Asking → Bool
-in_ask radio a = is_party radio false a.ask.source a.ask.target
+abbrev pub is_party_to_ask : ℕ → Asking → Bool
+is_party_to_ask radio a = is_party radio false a.ask.source a.ask.target
 
 -- whether it is one to the line
-abbrev pub in_line : ℕ → Line → Bool
-in_line radio l = is_party radio l.group l.source l.target
+abbrev pub is_party_to_line : ℕ → Line → Bool
+is_party_to_line radio l = is_party radio l.group l.source l.target
 
 -- the first call that a radio is a party to
 abbrev pub call_of : List Standing → ℕ → Option Call
-call_of calls radio = option_map (λ (s : Standing). s.call) (find (in_call radio) calls)
+call_of calls radio = option_map (λ (s : Standing). s.call) (find (is_party_to_call radio) calls)
 
 -- the first ask that it is a party to
 abbrev pub ask_with : List Asking → ℕ → Option Ask
-ask_with asks radio = option_map (λ (a : Asking). a.ask) (find (in_ask radio) asks)
+ask_with asks radio = option_map (λ (a : Asking). a.ask) (find (is_party_to_ask radio) asks)
 
 -- the first line that it is a party to
 abbrev pub line_with : List Line → ℕ → Option Line
-line_with lines radio = find (in_line radio) lines
+line_with lines radio = find (is_party_to_line radio) lines
 
 -- what engages a radio: a call, or else an ask, or else a line that it is a party to
 abbrev pub engagement_of : Standings → ℕ → Option Engagement
@@ -46,4 +46,4 @@ engagement_of now radio =
 
 -- whether it is a party to anything
 abbrev pub is_engaged : Standings → ℕ → Bool
-is_engaged now radio = list_any (in_call radio) now.calls || list_any (in_ask radio) now.asks || list_any (in_line radio) now.lines
+is_engaged now radio = list_any (is_party_to_call radio) now.calls || list_any (is_party_to_ask radio) now.asks || list_any (is_party_to_line radio) now.lines

@@ -17,8 +17,8 @@ abbrev pub first_line : List Line → Option Line
 first_line lines = slice_get lines 0
 
 -- the lines from a place on, counted from 0, 16 at most
-abbrev pub lines_from : List Line → ℕ → List Line
-lines_from lines place = take 16 (drop place lines)
+abbrev pub page_of_lines : List Line → ℕ → List Line
+page_of_lines lines place = take 16 (drop place lines)
 
 -- whether any line stands
 abbrev pub has_lines : List Line → Bool

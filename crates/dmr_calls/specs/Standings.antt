@@ -12,11 +12,11 @@ pub record Standings : Type 0 where
   pub calls : List Standing  -- in the order of beginning
 
 -- nothing stands
-abbrev pub nothing : Standings
-nothing = record { asks = []; lines = []; calls = [] }
+abbrev pub no_standings : Standings
+no_standings = record { asks = []; lines = []; calls = [] }
 
 -- at most 32 asks, 32 lines and 31 calls stand
-pub record AreFew (now : Standings) : Type 0 where
+pub record AreWithinLimits (now : Standings) : Type 0 where
   pub asks : length now.asks ≤ MOST_ASKS
   pub lines : length now.lines ≤ MOST_LINES
   pub calls : length now.calls ≤ MOST_CALLS

@@ -1,7 +1,7 @@
 //! What stands: asks, lines and calls.
 
 ghost use Rattle.std.specs.Prelude.{◌≡◌, ◌↔◌, [], length, IsTrue, IfOk, is_some};
-ghost use Rattle.dmr_calls.specs.Standings.{nothing, AreFew};
+ghost use Rattle.dmr_calls.specs.Standings.{no_standings, AreWithinLimits};
 ghost use Rattle.dmr_calls.specs.Asks.{HaveOwnSources};
 ghost use Rattle.dmr_calls.specs.Engaged.{engagement_of, is_engaged};
 ghost use Rattle.dmr_calls.specs.Due.{after_tick, due_of};
@@ -56,7 +56,7 @@ impl Model for Calls {
 impl Calls {
     /// Nothing stands. It takes the room for 32 asks, 32 lines and 31 calls; `Err` where there is no memory for that.
     pub fn new(alloc: Global) -> Result<Calls, OutOfMemory>
-        ensures { IfOk result (λ calls. calls ≡ nothing) }
+        ensures { IfOk result (λ calls. calls ≡ no_standings) }
     {
         let asks = KeyedTable::new(alloc)?;
         let lines = KeyedTable::new(alloc)?;
@@ -76,7 +76,7 @@ impl Calls {
 
     /// Does nothing. A proof learns from it how many can stand, and that no radio has two asks.
     pub fn keeps(&self)
-        ensures few { AreFew self.now }
+        ensures few { AreWithinLimits self.now }
         ensures own { HaveOwnSources self.now.asks }
     {
         let _ = (self.asks.len(), self.lines.len(), self.calls.len());

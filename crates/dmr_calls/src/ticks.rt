@@ -2,7 +2,7 @@
 
 ghost use Rattle.std.specs.Prelude.{◌≡◌, map};
 ghost use Rattle.dmr_calls.specs.Asks.{waited_more as waited_more_of};
-ghost use Rattle.dmr_calls.specs.Calls.{counted as counted_of, marked as marked_of};
+ghost use Rattle.dmr_calls.specs.Calls.{one_tick_older as counted_of, with_activity as marked_of};
 
 use crate::ask::Asking;
 use crate::call::Standing;

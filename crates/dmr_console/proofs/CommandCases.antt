@@ -1,17 +1,17 @@
 -- Worked values of lines that are commands, and of lines that are none.
 use Rattle.std.proofs.Common.{◌≡◌, [], ◌∷◌, Some, None, codes, refl}
 use Rattle.dmr_core.specs.declared.command.Command.TheVariants.{Status, Radios, Calls, Lines, Slots, Drop, End, Move, Stay}
-use Rattle.dmr_console.specs.Words.{words_of}
+use Rattle.dmr_console.specs.Words.{words_of_line}
 use Rattle.dmr_console.specs.Commands.{command_of}
 
-words_apart : words_of (codes "  end 3   1 ") ≡ codes "end" ∷ codes "3" ∷ codes "1" ∷ []
+words_apart : words_of_line (codes "  end 3   1 ") ≡ codes "end" ∷ codes "3" ∷ codes "1" ∷ []
 words_apart = refl
 
-no_words : words_of (codes "   ") ≡ []
+no_words : words_of_line (codes "   ") ≡ []
 no_words = refl
 
 -- a tab belongs to a word
-tab_inside : words_of (codes "a\tb") ≡ codes "a\tb" ∷ []
+tab_inside : words_of_line (codes "a\tb") ≡ codes "a\tb" ∷ []
 tab_inside = refl
 
 status : command_of (codes "status") ≡ Some Status

@@ -4,7 +4,7 @@ use Rattle.std.proofs.lemmas.Bool.{ltb-true, ltb-false}
 use Rattle.std.proofs.lemmas.List.{take_all}
 use Rattle.std.specs.List.{slice_split, onto_first, position_or_len}
 use Rattle.std.proofs.lemmas.List.Recursion.{is_position_or_len}
-use Rattle.dmr_console.specs.Words.{is_word, words_of}
+use Rattle.dmr_console.specs.Words.{is_word, words_of_line}
 
 abbrev space : ℕ → Bool
 space octet = eqb octet 32
@@ -49,19 +49,19 @@ split_at_end : (xs : List ℕ) → slice_split space xs ≡ take (end_of xs) xs 
 split_at_end [] = refl
 split_at_end (x ∷ xs) = split_cons x xs (eqb x 32) refl (split_at_end xs)
 
-after_cons : (x : ℕ) (xs : List ℕ) (b : Bool) → eqb x 32 ≡ b → filter is_word (after (drop (end_of xs) xs)) ≡ words_of (drop (end_of xs) xs) →
-    filter is_word (after (drop (end_of (x ∷ xs)) (x ∷ xs))) ≡ words_of (drop (end_of (x ∷ xs)) (x ∷ xs))
+after_cons : (x : ℕ) (xs : List ℕ) (b : Bool) → eqb x 32 ≡ b → filter is_word (after (drop (end_of xs) xs)) ≡ words_of_line (drop (end_of xs) xs) →
+    filter is_word (after (drop (end_of (x ∷ xs)) (x ∷ xs))) ≡ words_of_line (drop (end_of (x ∷ xs)) (x ∷ xs))
 after_cons x xs true e h =
     let at : end_of (x ∷ xs) ≡ zero = ap (λ (b : Bool). cond b zero (suc (end_of xs))) e in
-    let P : ℕ → Type 0 = λ n. filter is_word (after (drop n (x ∷ xs))) ≡ words_of (drop n (x ∷ xs)) in
-    let same : filter is_word (slice_split space xs) ≡ words_of (x ∷ xs) = rw e refl in
+    let P : ℕ → Type 0 = λ n. filter is_word (after (drop n (x ∷ xs))) ≡ words_of_line (drop n (x ∷ xs)) in
+    let same : filter is_word (slice_split space xs) ≡ words_of_line (x ∷ xs) = rw e refl in
     subst P (sym at) same
 after_cons x xs false e h =
     let at : end_of (x ∷ xs) ≡ suc (end_of xs) = ap (λ (b : Bool). cond b zero (suc (end_of xs))) e in
-    let P : ℕ → Type 0 = λ n. filter is_word (after (drop n (x ∷ xs))) ≡ words_of (drop n (x ∷ xs)) in
+    let P : ℕ → Type 0 = λ n. filter is_word (after (drop n (x ∷ xs))) ≡ words_of_line (drop n (x ∷ xs)) in
     subst P (sym at) h
 
-words_after : (xs : List ℕ) → filter is_word (after (drop (end_of xs) xs)) ≡ words_of (drop (end_of xs) xs)
+words_after : (xs : List ℕ) → filter is_word (after (drop (end_of xs) xs)) ≡ words_of_line (drop (end_of xs) xs)
 words_after [] = refl
 words_after (x ∷ xs) = after_cons x xs (eqb x 32) refl (words_after xs)
 
@@ -70,12 +70,12 @@ first_and_more x xs parts = refl
 
 -- the words of a line, by the first word of it
 abbrev Parted : List ℕ → List ℕ → Type 0
-Parted line rest = words_of line ≡ take (end_of rest) rest ∷ words_of (drop (end_of rest) rest)
+Parted line rest = words_of_line line ≡ take (end_of rest) rest ∷ words_of_line (drop (end_of rest) rest)
 
 word_first : (x : ℕ) (xs : List ℕ) → eqb x 32 ≡ false → Parted (x ∷ xs) (x ∷ xs)
 word_first x xs e =
     let at : end_of (x ∷ xs) ≡ suc (end_of xs) = ap (λ (b : Bool). cond b zero (suc (end_of xs))) e in
-    let P : ℕ → Type 0 = λ n. filter is_word (slice_split space (x ∷ xs)) ≡ take n (x ∷ xs) ∷ words_of (drop n (x ∷ xs)) in
+    let P : ℕ → Type 0 = λ n. filter is_word (slice_split space (x ∷ xs)) ≡ take n (x ∷ xs) ∷ words_of_line (drop n (x ∷ xs)) in
     let parts : slice_split space (x ∷ xs) ≡ (x ∷ take (end_of xs) xs) ∷ after (drop (end_of xs) xs) = rw e (ap (onto_first x) (split_at_end xs)) in
     subst P (sym at)
     (ap (filter is_word) parts ∙ first_and_more x (take (end_of xs) xs) (after (drop (end_of xs) xs))
@@ -86,7 +86,7 @@ parted_cons : (x : ℕ) (xs : List ℕ) (b : Bool) → eqb x 32 ≡ b → begin_
 parted_cons x xs true e h more =
     let at : begin_of (x ∷ xs) ≡ suc (begin_of xs) = ap (λ (b : Bool). cond b (suc (begin_of xs)) zero) e in
     let P : ℕ → Type 0 = λ n. Parted (x ∷ xs) (drop n (x ∷ xs)) in
-    let same : words_of (x ∷ xs) ≡ words_of xs = rw e refl in
+    let same : words_of_line (x ∷ xs) ≡ words_of_line xs = rw e refl in
     subst P (sym at) (same ∙ more (omega (arith, h, at)))
 parted_cons x xs false e h more =
     let at : begin_of (x ∷ xs) ≡ zero = ap (λ (b : Bool). cond b (suc (begin_of xs)) zero) e in
@@ -97,16 +97,16 @@ parted : (line : List ℕ) → begin_of line < length line → Parted line (drop
 parted [] h = absurd (omega (arith, h))
 parted (x ∷ xs) h = parted_cons x xs (eqb x 32) refl h (parted xs)
 
-none_cons : (x : ℕ) (xs : List ℕ) (b : Bool) → eqb x 32 ≡ b → length (x ∷ xs) ≤ begin_of (x ∷ xs) → (length xs ≤ begin_of xs → words_of xs ≡ []) → words_of (x ∷ xs) ≡ []
+none_cons : (x : ℕ) (xs : List ℕ) (b : Bool) → eqb x 32 ≡ b → length (x ∷ xs) ≤ begin_of (x ∷ xs) → (length xs ≤ begin_of xs → words_of_line xs ≡ []) → words_of_line (x ∷ xs) ≡ []
 none_cons x xs true e h more =
     let at : begin_of (x ∷ xs) ≡ suc (begin_of xs) = ap (λ (b : Bool). cond b (suc (begin_of xs)) zero) e in
-    let same : words_of (x ∷ xs) ≡ words_of xs = rw e refl in
+    let same : words_of_line (x ∷ xs) ≡ words_of_line xs = rw e refl in
     same ∙ more (omega (arith, h, at))
 none_cons x xs false e h more =
     let at : begin_of (x ∷ xs) ≡ zero = ap (λ (b : Bool). cond b (suc (begin_of xs)) zero) e in
     absurd (omega (arith, h, at))
 
-none : (line : List ℕ) → length line ≤ begin_of line → words_of line ≡ []
+none : (line : List ℕ) → length line ≤ begin_of line → words_of_line line ≡ []
 none [] h = refl
 none (x ∷ xs) h = none_cons x xs (eqb x 32) refl h (none xs)
 
@@ -136,7 +136,7 @@ or_len : (m n : ℕ) (b : Bool) → ltb m n ≡ b → m ≤ n → unwrap_or (con
 or_len m n true l h = refl
 or_len m n false l h = omega (arith, h, ltb-false m n l)
 
-pub no_word : (line : List ℕ) (r : Option ℕ) → r ≡ found (λ o. not (eqb o 32)) line → r ≡ None → words_of line ≡ []
+pub no_word : (line : List ℕ) (r : Option ℕ) → r ≡ found (λ o. not (eqb o 32)) line → r ≡ None → words_of_line line ≡ []
 no_word line r f e =
     let past : length line ≤ position_or_len (λ o. not (eqb o 32)) line =
     none_at (position_or_len (λ o. not (eqb o 32)) line) (length line) (ltb (position_or_len (λ o. not (eqb o 32)) line) (length line)) refl (sym e ∙ f) in
@@ -145,7 +145,7 @@ no_word line r f e =
 -- the first word is what stands from the first other octet to the next space
 pub word_and_rest : (line rest front back : List ℕ) (b e : ℕ) (r q : Option ℕ) → r ≡ found (λ o. not (eqb o 32)) line → r ≡ Some b →
     rest ≡ take (length line - b) (drop b line) → q ≡ found (λ o. eqb o 32) rest → e ≡ unwrap_or q (length rest) →
-    front ≡ take e rest → back ≡ drop e rest → words_of line ≡ front ∷ words_of back
+    front ≡ take e rest → back ≡ drop e rest → words_of_line line ≡ front ∷ words_of_line back
 word_and_rest line rest front back b e r q f is cut g at p n =
     let begin : (b ≡ position_or_len (λ o. not (eqb o 32)) line) × (position_or_len (λ o. not (eqb o 32)) line < length line) =
     some_at (position_or_len (λ o. not (eqb o 32)) line) (length line) b (ltb (position_or_len (λ o. not (eqb o 32)) line) (length line)) refl (sym is ∙ f) in
@@ -158,4 +158,4 @@ word_and_rest line rest front back b e r q f is cut g at p n =
     ∙ sym (end_is rest) in
     let P : List ℕ → Type 0 = λ xs. Parted line xs in
     let both : Parted line rest = subst P (sym whole) (parted line (omega (arith, begin.0, begin.1, here))) in
-    both ∙ (λ i. (take (sym end i) rest) ∷ words_of (drop (sym end i) rest)) ∙ (λ i. (sym p i) ∷ words_of (sym n i))
+    both ∙ (λ i. (take (sym end i) rest) ∷ words_of_line (drop (sym end i) rest)) ∙ (λ i. (sym p i) ∷ words_of_line (sym n i))

@@ -21,22 +21,22 @@ abbrev pub without_cr : List ℕ → List ℕ
 without_cr octets = if slice_index octets (length octets - 1) == 13 then take (length octets - 1) octets else octets
 
 -- the line that these octets are before an LF: too long, if they are more than 80
-abbrev pub line_of : List ℕ → LineStep
-line_of octets = if nat_lt 80 (length octets) then TooLong else Line (record { items = without_cr octets })
+abbrev pub line_step_of : List ℕ → LineStep
+line_step_of octets = if nat_lt 80 (length octets) then TooLong else Line (record { items = without_cr octets })
 
 -- the lines of a stream: what stands before each LF
 abbrev pub lines_in : List ℕ → List LineStep
-lines_in octets = map line_of (all_but_last (parts_of octets))
+lines_in octets = map line_step_of (all_but_last (parts_of octets))
 
 -- what stands behind the last LF
 abbrev pub open_in : List ℕ → List ℕ
 open_in octets = last_of (parts_of octets)
 
 -- what a cutter keeps of it: one octet more than a line can have
-abbrev pub kept : List ℕ → List ℕ
-kept octets = take 81 octets
+abbrev pub first_octets_of_line : List ℕ → List ℕ
+first_octets_of_line octets = take 81 octets
 
 -- what a cutter holds: no LF, and no octet more than it keeps
-pub record IsKept (begun : List ℕ) : Type 0 where
+pub record IsOpenLine (begun : List ℕ) : Type 0 where
   pub no_end : All (λ octet. octet ≢ 10) begun
   pub few : length begun ≤ 81

@@ -57,16 +57,16 @@ abbrev pub rows_text : {A : Type 0} → (A → List ℕ) → List A → List ℕ
 rows_text row rows = flat_map row rows ++ codes "end\n"
 
 -- the text of a reply
-abbrev pub text_of : Reply → List ℕ
-text_of (Status carriers radios asks lines calls moving) =
+abbrev pub text_of_reply : Reply → List ℕ
+text_of_reply (Status carriers radios asks lines calls moving) =
     codes "status carriers " ++ decimal carriers ++ codes " radios " ++ decimal radios ++ codes " asks " ++ decimal asks
     ++ codes " lines " ++ decimal lines ++ codes " calls " ++ decimal calls ++ codes " fill " ++ fill_text moving ++ codes "\n"
-text_of (Radios radios) = rows_text radio_row radios
-text_of (Calls calls) = rows_text call_row calls
-text_of (Lines from rows) = rows_text line_row (enumerate_from from rows)
-text_of (Slots rows) = rows_text slot_row rows
-text_of Done = codes "ok\n"
-text_of NotRegistered = codes "error not registered\n"
-text_of Busy = codes "error busy\n"
-text_of NoCall = codes "error no call\n"
-text_of NoCarrier = codes "error no carrier\n"
+text_of_reply (Radios radios) = rows_text radio_row radios
+text_of_reply (Calls calls) = rows_text call_row calls
+text_of_reply (Lines from rows) = rows_text line_row (enumerate_from from rows)
+text_of_reply (Slots rows) = rows_text slot_row rows
+text_of_reply Done = codes "ok\n"
+text_of_reply NotRegistered = codes "error not registered\n"
+text_of_reply Busy = codes "error busy\n"
+text_of_reply NoCall = codes "error no call\n"
+text_of_reply NoCarrier = codes "error no carrier\n"

@@ -10,15 +10,15 @@ is_word [] = false
 is_word (octet ∷ octets) = true
 
 -- a line's words are what stands between its spaces, the empty ones left out
-abbrev pub words_of : List ℕ → List (List ℕ)
-words_of line = filter is_word (slice_split (λ octet. octet == 32) line)
+abbrev pub words_of_line : List ℕ → List (List ℕ)
+words_of_line line = filter is_word (slice_split (λ octet. octet == 32) line)
 
 -- 1 to 8 decimal digits
-abbrev pub is_number : List ℕ → Bool
-is_number word = nat_lt 0 (length word) && nat_le (length word) 8 && all_ascii_digits word
+abbrev pub is_short_number : List ℕ → Bool
+is_short_number word = nat_lt 0 (length word) && nat_le (length word) 8 && all_ascii_digits word
 
 -- the number that a word is, from `least` to `most`
-abbrev pub number_in : ℕ → ℕ → List ℕ → Option ℕ
-number_in least most word =
-    if is_number word && nat_le least (digits_value 10 word) && nat_le (digits_value 10 word) most
+abbrev pub short_number_within : ℕ → ℕ → List ℕ → Option ℕ
+short_number_within least most word =
+    if is_short_number word && nat_le least (digits_value 10 word) && nat_le (digits_value 10 word) most
     then Some (digits_value 10 word) else None

@@ -1,13 +1,13 @@
 //! Laws of lines. These functions do nothing: their contracts are the laws.
 
 ghost use Rattle.std.specs.Prelude.{◌≡◌, ◌≢◌, ℕ, List, [], ◌∷◌, ◌++◌, All};
-ghost use Rattle.dmr_console.specs.Lines.{kept, line_of, lines_in, open_in};
-ghost use Rattle.dmr_console.specs.Steps.{lines_from, rest_from};
+ghost use Rattle.dmr_console.specs.Lines.{first_octets_of_line, line_step_of, lines_in, open_in};
+ghost use Rattle.dmr_console.specs.Steps.{line_steps_from, open_line_after};
 
 /// A line is what stands before an LF and holds none itself, and what no LF follows is still open.
 pub fn lines_stand_before_their_ends()
     ensures line { (octets more : List ℕ) → All (λ octet. octet ≢ 10) octets →
-        (lines_in (octets ++ 10 ∷ more) ≡ line_of octets ∷ lines_in more) × (open_in (octets ++ 10 ∷ more) ≡ open_in more) }
+        (lines_in (octets ++ 10 ∷ more) ≡ line_step_of octets ∷ lines_in more) × (open_in (octets ++ 10 ∷ more) ≡ open_in more) }
     ensures rest { (octets : List ℕ) → All (λ octet. octet ≢ 10) octets →
         (lines_in octets ≡ []) × (open_in octets ≡ octets) }
 {}
@@ -15,10 +15,10 @@ pub fn lines_stand_before_their_ends()
 /// The octets of a stream, one by one, bring just its lines, in whatever pieces they come: those of two pieces are the
 /// lines of the first, and those of the second behind what the first leaves open.
 pub fn lines_in_any_cutting()
-    ensures whole { (octets : List ℕ) → (lines_from [] octets ≡ lines_in octets) × (rest_from [] octets ≡ kept (open_in octets)) }
+    ensures whole { (octets : List ℕ) → (line_steps_from [] octets ≡ lines_in octets) × (open_line_after [] octets ≡ first_octets_of_line (open_in octets)) }
     ensures cut { (begun a b : List ℕ) →
-        (lines_from begun (a ++ b) ≡ lines_from begun a ++ lines_from (rest_from begun a) b)
-        × (rest_from begun (a ++ b) ≡ rest_from (rest_from begun a) b) }
+        (line_steps_from begun (a ++ b) ≡ line_steps_from begun a ++ line_steps_from (open_line_after begun a) b)
+        × (open_line_after begun (a ++ b) ≡ open_line_after (open_line_after begun a) b) }
     ensures pieces { (a b : List ℕ) →
         (lines_in (a ++ b) ≡ lines_in a ++ lines_in (open_in a ++ b))
         × (open_in (a ++ b) ≡ open_in (open_in a ++ b)) }

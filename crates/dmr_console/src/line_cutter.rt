@@ -1,8 +1,8 @@
 //! Cuts an operator's octets into lines.
 
 ghost use Rattle.std.specs.Prelude.{◌≡◌, ℕ, List, [], ◌∷◌, ◌++◌};
-ghost use Rattle.dmr_console.specs.Lines.{IsKept, kept, line_of as line_of_octets, lines_in, open_in, without_cr as without_cr_of};
-ghost use Rattle.dmr_console.specs.Steps.{left_by, line_brought, step_at};
+ghost use Rattle.dmr_console.specs.Lines.{IsOpenLine, first_octets_of_line, line_step_of as line_of_octets, lines_in, open_in, without_cr as without_cr_of};
+ghost use Rattle.dmr_console.specs.Steps.{open_line_after_octet, line_brought, line_step_at};
 
 use arrayvec::ArrayVec;
 use std::marker::Model;
@@ -38,13 +38,13 @@ pub struct LineCutter {
 
 impl Model for LineCutter {
     ghost use Rattle.std.specs.Prelude.{ℕ, List};
-    ghost use Rattle.dmr_console.specs.Lines.{IsKept};
+    ghost use Rattle.dmr_console.specs.Lines.{IsOpenLine};
 
     ghost Value = { List ℕ };
 
     ghost view = { λ c. c.begun.items };
 
-    ghost invariant = { λ c. IsKept c.begun.items };
+    ghost invariant = { λ c. IsOpenLine c.begun.items };
 }
 
 impl LineCutter {
@@ -62,26 +62,26 @@ impl LineCutter {
     pub fn feed_byte(&mut self, octet: u8) -> LineStep
         // Where the cutter holds what the octets so far leave open, it does so with this octet too, which adds to
         // their lines the one that it brings, if it brings one.
-        ensures stream { (octets : List ℕ) → self.old ≡ kept (open_in octets) →
+        ensures stream { (octets : List ℕ) → self.old ≡ first_octets_of_line (open_in octets) →
             (lines_in (octets ++ octet ∷ []) ≡ lines_in octets ++ line_brought result)
-            × (self.new ≡ kept (open_in (octets ++ octet ∷ []))) }
-        ensures step { result ≡ step_at self.old octet }
-        ensures rest { self.new ≡ left_by self.old octet }
+            × (self.new ≡ first_octets_of_line (open_in (octets ++ octet ∷ []))) }
+        ensures step { result ≡ line_step_at self.old octet }
+        ensures rest { self.new ≡ open_line_after_octet self.old octet }
     {
         self.take(octet)
     }
 
     /// Does nothing. A proof learns from it what every cutter holds: no LF, and at most 81 octets.
     pub fn keeps(&self)
-        ensures { IsKept self.now }
+        ensures { IsOpenLine self.now }
     {
         let _ = &self.begun;
     }
 
     /// Takes the next octet.
     fn take(&mut self, octet: u8) -> LineStep
-        ensures step { result ≡ step_at self.old octet }
-        ensures rest { self.new ≡ left_by self.old octet }
+        ensures step { result ≡ line_step_at self.old octet }
+        ensures rest { self.new ≡ open_line_after_octet self.old octet }
     {
         if octet == LF {
             let line = line_of(self.begun.as_slice());

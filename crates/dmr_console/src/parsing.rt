@@ -1,8 +1,8 @@
 //! Reads a line as a command.
 
 ghost use Rattle.std.specs.Prelude.{◌≡◌, ◌≤◌, IfSome};
-ghost use Rattle.dmr_console.specs.Words.{words_of};
-ghost use Rattle.dmr_console.specs.Commands.{alone, command_by, command_of, ending, one_number};
+ghost use Rattle.dmr_console.specs.Words.{words_of_line};
+ghost use Rattle.dmr_console.specs.Commands.{command_without_words, command_by, command_of, end_command, one_number};
 
 use crate::words::{first_word, number_in};
 use dmr_core::{Command, LineNo};
@@ -24,7 +24,7 @@ pub fn parse(line: &[u8]) -> Option<Command>
 
 /// The command of a first word, and of the words of what stands behind it.
 fn command_by(name: &[u8], arguments: &[u8]) -> Option<Command>
-    ensures { result ≡ command_by name.now (words_of arguments.now) }
+    ensures { result ≡ command_by name.now (words_of_line arguments.now) }
 {
     if name == b"status".as_slice() {
         alone(Command::Status, arguments)
@@ -56,7 +56,7 @@ fn command_by(name: &[u8], arguments: &[u8]) -> Option<Command>
 
 /// A command that no word follows.
 fn alone(command: Command, arguments: &[u8]) -> Option<Command>
-    ensures { result ≡ alone command (words_of arguments.now) }
+    ensures { result ≡ command_without_words command (words_of_line arguments.now) }
 {
     match first_word(arguments) {
         None => Some(command),
@@ -66,7 +66,7 @@ fn alone(command: Command, arguments: &[u8]) -> Option<Command>
 
 /// The number of the one word that follows, from `least` to `most`.
 fn one_number(least: u32, most: u32, arguments: &[u8]) -> Option<u32>
-    ensures value { result ≡ one_number least most (words_of arguments.now) }
+    ensures value { result ≡ one_number least most (words_of_line arguments.now) }
     ensures least { IfSome result (λ number. least ≤ number) }
     ensures most { IfSome result (λ number. number ≤ most) }
 {
@@ -79,7 +79,7 @@ fn one_number(least: u32, most: u32, arguments: &[u8]) -> Option<u32>
 
 /// The command `end` of the two numbers that follow it.
 fn ending(arguments: &[u8]) -> Option<Command>
-    ensures { result ≡ ending (words_of arguments.now) }
+    ensures { result ≡ end_command (words_of_line arguments.now) }
 {
     let (carrier, rest) = first_word(arguments)?;
     let (slot, rest) = first_word(rest)?;

@@ -2,7 +2,7 @@
 
 ghost use Rattle.std.specs.Prelude.{◌≡◌, ◌+◌, ◌≤◌, ◌++◌, codes};
 ghost use Rattle.arrayvec.specs.ArrayString.{array_string_len};
-ghost use Rattle.dmr_console.specs.Texts.{fill_text, text_of};
+ghost use Rattle.dmr_console.specs.Texts.{fill_text, text_of_reply};
 
 use crate::number_text::push_count;
 use crate::rows::{push_calls, push_lines, push_radios, push_slots};
@@ -30,7 +30,7 @@ pub fn line_too_long() -> &'static str
 /// The text of a reply: one or more lines, each with its LF (this project's profile). Rows are followed by the line
 /// `end`. Every text fits, with all its rows.
 pub fn print(reply: &Reply) -> ArrayString<LONGEST_TEXT>
-    ensures { result.bytes ≡ text_of reply.now }
+    ensures { result.bytes ≡ text_of_reply reply.now }
 {
     let mut text = ArrayString::new();
     match reply {

@@ -1,14 +1,14 @@
 //! The words of a line, and the numbers that they are.
 
 ghost use Rattle.std.specs.Prelude.{◌≡◌, ◌≤◌, ◌∷◌, [], MatchOption, IfSome};
-ghost use Rattle.dmr_console.specs.Words.{number_in as number_of_word, words_of};
+ghost use Rattle.dmr_console.specs.Words.{short_number_within as number_of_word, words_of_line};
 
 /// The most digits that a number has.
 const MOST_DIGITS: usize = 8;
 
 /// The first word of a line, and what stands behind it; None where the line has no word.
 pub fn first_word(line: &[u8]) -> Option<(&[u8], &[u8])>
-    ensures { MatchOption result (words_of line.now ≡ []) (λ parts. words_of line.now ≡ parts.0.now ∷ words_of parts.1.now) }
+    ensures { MatchOption result (words_of_line line.now ≡ []) (λ parts. words_of_line line.now ≡ parts.0.now ∷ words_of_line parts.1.now) }
 {
     let begin = line.iter().position(|octet| *octet != b' ')?;
     let rest = &line[begin..];

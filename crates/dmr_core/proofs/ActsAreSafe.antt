@@ -9,7 +9,7 @@ use Rattle.dmr_plan.specs.declared.settings.Settings.{Settings}
 use Rattle.dmr_plan.specs.Plan.{lists_group}
 use Rattle.dmr_calls.specs.declared.call.Call.{Call}
 use Rattle.dmr_calls.specs.declared.call.Standing.{Standing}
-use Rattle.dmr_calls.specs.Calls.{call_on, counted, is_slot, just_begun, marked}
+use Rattle.dmr_calls.specs.Calls.{call_on, one_tick_older, is_slot, just_begun, with_activity}
 use Rattle.dmr_pool.specs.Free.{control_slot, names}
 use Rattle.dmr_core.specs.declared.event.Event.{Event}
 use Rattle.dmr_core.specs.declared.event.Event.TheVariants.{Active, Lost, Tick, Up}
@@ -18,11 +18,11 @@ use Rattle.dmr_core.specs.declared.act.Act.TheVariants.{Began, Ended, Fill, Queu
 use Rattle.dmr_core.specs.declared.act.Acts.{Acts}
 use Rattle.dmr_core.specs.declared.reply.Reply.{Reply}
 use Rattle.dmr_core.specs.declared.entry.Entry.{Entry}
-use Rattle.dmr_core.specs.Facts.{Facts, done, facts_after, has_carrier, noted}
+use Rattle.dmr_core.specs.Facts.{Facts, facts_after_act, facts_after, has_carrier, facts_after_event}
 use Rattle.dmr_core.specs.Words.{is_registered, lpcn_of, outbox}
 use Rattle.dmr_core.specs.Rules.{acts_of, grant_pdu}
 use Rattle.dmr_core.specs.Journal.{IsLegal}
-use Rattle.dmr_core.specs.Sound.{IsSound, in_call, is_grant, is_own, party, total}
+use Rattle.dmr_core.specs.Sound.{IsSound, engagements_in_call, is_grant, is_own, party, total}
 use Rattle.dmr_core.specs.May.{AllMayDo, MayDo, MayName}
 use Rattle.dmr_core.specs.Laws.{BeginsOnFree, EachAct, GrantsKnown, NamesKnown, QuietActs, QuietAfterReset, SendsOwn, Throughout, grants_on, has_call, is_reset, names_carrier, reset_by_act, reset_by_event}
 use Rattle.dmr_core.proofs.PlanLemmas.{KnowsPlan}
@@ -46,21 +46,21 @@ sound_after plan facts (entry ∷ earlier) p h legal =
     let now : Facts = facts_after plan facts earlier in
     let before : IsSound plan now = sound_after plan facts earlier p h legal.1 in
     subst (IsSound plan) (sym (facts_after-step plan facts entry earlier))
-    (subst (λ (acts : Acts). IsSound plan (fold done (noted plan now entry.event) acts.list)) (sym legal.0)
-    (sound-acts plan (noted plan now entry.event) (acts_of plan now entry.event) p (sound-noted plan now entry.event p before) (acts_may plan now entry.event p before)))
+    (subst (λ (acts : Acts). IsSound plan (fold facts_after_act (facts_after_event plan now entry.event) acts.list)) (sym legal.0)
+    (sound-acts plan (facts_after_event plan now entry.event) (acts_of plan now entry.event) p (sound-noted plan now entry.event p before) (acts_may plan now entry.event p before)))
 
 -- what holds of each act that may be done, at sound facts, holds throughout a legal journal
 each_act : (plan : Settings) (P : Facts → Act → Type 0) → ((now : Facts) (act : Act) → IsSound plan now → MayDo plan now act → P now act) → KnowsPlan plan → (now : Facts) (acts : List Act) → IsSound plan now → AllMayDo plan now acts → EachAct P now acts
 each_act plan P each p now [] h may = tt
-each_act plan P each p now (act ∷ acts) h may = (each now act h may.0, each_act plan P each p (done now act) acts (sound-done plan now act p h may.0) may.1)
+each_act plan P each p now (act ∷ acts) h may = (each now act h may.0, each_act plan P each p (facts_after_act now act) acts (sound-done plan now act p h may.0) may.1)
 
 pub throughout : (plan : Settings) (facts : Facts) (P : Facts → Act → Type 0) → ((now : Facts) (act : Act) → IsSound plan now → MayDo plan now act → P now act) → (journal : List Entry) → KnowsPlan plan → IsSound plan facts → IsLegal plan facts journal → Throughout plan facts P journal
 throughout plan facts P each [] p h legal = tt
 throughout plan facts P each (entry ∷ earlier) p h legal =
     let now : Facts = facts_after plan facts earlier in
     let before : IsSound plan now = sound_after plan facts earlier p h legal.1 in (
-      subst (λ (acts : Acts). EachAct P (noted plan now entry.event) acts.list) (sym legal.0)
-          (each_act plan P each p (noted plan now entry.event) (acts_of plan now entry.event) (sound-noted plan now entry.event p before) (acts_may plan now entry.event p before)),
+      subst (λ (acts : Acts). EachAct P (facts_after_event plan now entry.event) acts.list) (sym legal.0)
+          (each_act plan P each p (facts_after_event plan now entry.event) (acts_of plan now entry.event) (sound-noted plan now entry.event p before) (acts_may plan now entry.event p before)),
       throughout plan facts P each earlier p h legal.1,
     )
 
@@ -70,10 +70,10 @@ begins_on_free plan now (Began call) h may = let free : IsFree plan now call.slo
 begins_on_free plan now act h may = tt
 
 -- a grant's call stands, so its parties are engaged
-standing_counts : (cs : List Standing) (slot : Slot) (call : Call) (r : ℕ) → call_on cs slot ≡ Some call → party r call.group call.source call.target ≤ total (in_call r) cs
+standing_counts : (cs : List Standing) (slot : Slot) (call : Call) (r : ℕ) → call_on cs slot ≡ Some call → party r call.group call.source call.target ≤ total (engagements_in_call r) cs
 standing_counts cs slot call r h =
     let s = found_call (λ x. is_slot x.call.slot slot) (find (λ x. is_slot x.call.slot slot) cs) call h in
-    subst (λ (k : Call). party r k.group k.source k.target ≤ total (in_call r) cs) s.2 (total_some (in_call r) (λ x. is_slot x.call.slot slot) cs s.0 s.1)
+    subst (λ (k : Call). party r k.group k.source k.target ≤ total (engagements_in_call r) cs) s.2 (total_some (engagements_in_call r) (λ x. is_slot x.call.slot slot) cs s.0 s.1)
 
 pub find_any : {X : Type 0} (p q : X → Bool) (xs : List X) (x : X) → find p xs ≡ Some x → q x ≡ true → list_any q xs ≡ true
 find_any p q [] x h k = cc
@@ -162,7 +162,7 @@ sends_own plan p now act h may = tt
 call_begins : (calls : List Standing) (call : Call) (c : ℕ) → has_call calls c ≡ false → (call.slot.carrier == c) ≡ false → has_call (calls ++ just_begun call ∷ []) c ≡ false
 call_begins calls call c h k = rw (any-push (λ s. s.call.slot.carrier == c) calls (just_begun call), h, k) refl
 
-pub quiet_act : (c : ℕ) (b : Bool) (now : Facts) (act : Act) → (b ≡ true → has_call now.calls c ≡ false) → reset_by_act c b act ≡ true → has_call (done now act).calls c ≡ false
+pub quiet_act : (c : ℕ) (b : Bool) (now : Facts) (act : Act) → (b ≡ true → has_call now.calls c ≡ false) → reset_by_act c b act ≡ true → has_call (facts_after_act now act).calls c ≡ false
 quiet_act c b now (Began call) h k = let both = and_true b (not (call.slot.carrier == c)) k in call_begins now.calls call c (h both.0) (not_true _ both.1)
 quiet_act c b now (Ended slot) h k = any-filter (λ s. s.call.slot.carrier == c) (λ s. not (is_slot s.call.slot slot)) now.calls (h k)
 quiet_act c b now act h k = h k
@@ -175,11 +175,11 @@ quiet_reset : (c d : ℕ) (b : Bool) (cs : List Standing) → (b ≡ true → ha
 quiet_reset c d true cs h k = any-filter (λ s. s.call.slot.carrier == c) (λ s. not (s.call.slot.carrier == d)) cs (h refl)
 quiet_reset c d false cs h k = subst (λ (n : ℕ). has_call (filter (λ s. not (s.call.slot.carrier == n)) cs) c ≡ false) (sym (equal_numbers d c k)) (none_there c cs)
 
-quiet_event : (plan : Settings) (c : ℕ) (b : Bool) (now : Facts) (event : Event) → (b ≡ true → has_call now.calls c ≡ false) → reset_by_event c b event ≡ true → has_call (noted plan now event).calls c ≡ false
+quiet_event : (plan : Settings) (c : ℕ) (b : Bool) (now : Facts) (event : Event) → (b ≡ true → has_call now.calls c ≡ false) → reset_by_event c b event ≡ true → has_call (facts_after_event plan now event).calls c ≡ false
 quiet_event plan c b now (Up d) h k = quiet_reset c d b now.calls h k
 quiet_event plan c b now (Lost d) h k = quiet_reset c d b now.calls h k
-quiet_event plan c b now (Active slot) h k = any-map (λ s. s.call.slot.carrier == c) (marked slot) (λ s. ap (λ (x : Call). x.slot.carrier == c) (marked_call slot s)) now.calls ∙ h k
-quiet_event plan c b now Tick h k = any-map (λ s. s.call.slot.carrier == c) counted (λ s. refl) now.calls ∙ h k
+quiet_event plan c b now (Active slot) h k = any-map (λ s. s.call.slot.carrier == c) (with_activity slot) (λ s. ap (λ (x : Call). x.slot.carrier == c) (marked_call slot s)) now.calls ∙ h k
+quiet_event plan c b now Tick h k = any-map (λ s. s.call.slot.carrier == c) one_tick_older (λ s. refl) now.calls ∙ h k
 quiet_event plan c b now event h k = h k
 
 stands_on_carrier : (cs : List Standing) (slot : Slot) (call : Call) → call_on cs slot ≡ Some call → has_call cs call.slot.carrier ≡ true
@@ -223,19 +223,19 @@ quiet_acts : (plan : Settings) (c : ℕ) (b : Bool) (now : Facts) (acts : List A
 quiet_acts plan c b now [] p there h may none = none
 quiet_acts plan c b now (act ∷ acts) p there h may none = (
   λ e. (none e, no_grant_on plan c now act p there h may.0 (none e)),
-  quiet_acts plan c (reset_by_act c b act) (done now act) acts p there (sound-done plan now act p h may.0) may.1 (quiet_act c b now act none),
+  quiet_acts plan c (reset_by_act c b act) (facts_after_act now act) acts p there (sound-done plan now act p h may.0) may.1 (quiet_act c b now act none),
 )
 
-quiet_end : (c : ℕ) (b : Bool) (now : Facts) (acts : List Act) → (b ≡ true → has_call now.calls c ≡ false) → fold (reset_by_act c) b acts ≡ true → has_call (fold done now acts).calls c ≡ false
+quiet_end : (c : ℕ) (b : Bool) (now : Facts) (acts : List Act) → (b ≡ true → has_call now.calls c ≡ false) → fold (reset_by_act c) b acts ≡ true → has_call (fold facts_after_act now acts).calls c ≡ false
 quiet_end c b now [] none e = none e
-quiet_end c b now (act ∷ acts) none e = quiet_end c (reset_by_act c b act) (done now act) acts (quiet_act c b now act none) e
+quiet_end c b now (act ∷ acts) none e = quiet_end c (reset_by_act c b act) (facts_after_act now act) acts (quiet_act c b now act none) e
 
 pub none_since : (plan : Settings) (facts : Facts) (c : ℕ) (journal : List Entry) → is_reset c journal ≡ true → has_call (facts_after plan facts journal).calls c ≡ false
 none_since plan facts c [] e = cc
 none_since plan facts c (entry ∷ earlier) e =
     let now : Facts = facts_after plan facts earlier in
     subst (λ (f : Facts). has_call f.calls c ≡ false) (sym (facts_after-step plan facts entry earlier))
-    (quiet_end c (reset_by_event c (is_reset c earlier) entry.event) (noted plan now entry.event) entry.acts.list
+    (quiet_end c (reset_by_event c (is_reset c earlier) entry.event) (facts_after_event plan now entry.event) entry.acts.list
     (quiet_event plan c (is_reset c earlier) now entry.event (none_since plan facts c earlier)) e)
 
 pub quiet_after_reset : (plan : Settings) (facts : Facts) (c : ℕ) (journal : List Entry) → KnowsPlan plan → has_carrier plan c ≡ true → IsSound plan facts → IsLegal plan facts journal → QuietAfterReset plan facts c journal
@@ -243,8 +243,8 @@ quiet_after_reset plan facts c [] p there h legal = tt
 quiet_after_reset plan facts c (entry ∷ earlier) p there h legal =
     let now : Facts = facts_after plan facts earlier in
     let before : IsSound plan now = sound_after plan facts earlier p h legal.1 in (
-      subst (λ (acts : Acts). QuietActs plan c (reset_by_event c (is_reset c earlier) entry.event) (noted plan now entry.event) acts.list) (sym legal.0)
-          (quiet_acts plan c (reset_by_event c (is_reset c earlier) entry.event) (noted plan now entry.event) (acts_of plan now entry.event) p there (sound-noted plan now entry.event p before) (acts_may plan now entry.event p before)
+      subst (λ (acts : Acts). QuietActs plan c (reset_by_event c (is_reset c earlier) entry.event) (facts_after_event plan now entry.event) acts.list) (sym legal.0)
+          (quiet_acts plan c (reset_by_event c (is_reset c earlier) entry.event) (facts_after_event plan now entry.event) (acts_of plan now entry.event) p there (sound-noted plan now entry.event p before) (acts_may plan now entry.event p before)
           (quiet_event plan c (is_reset c earlier) now entry.event (none_since plan facts c earlier))),
       quiet_after_reset plan facts c earlier p there h legal.1,
     )

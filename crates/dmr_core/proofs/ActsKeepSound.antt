@@ -3,7 +3,7 @@ use Rattle.std.proofs.Common.{List, [], ◌∷◌, ◌++◌}
 use Rattle.std.specs.Prelude.{fold}
 use Rattle.dmr_plan.specs.declared.settings.Settings.{Settings}
 use Rattle.dmr_core.specs.declared.act.Act.{Act}
-use Rattle.dmr_core.specs.Facts.{Facts, done}
+use Rattle.dmr_core.specs.Facts.{Facts, facts_after_act}
 use Rattle.dmr_core.specs.Sound.{IsSound}
 use Rattle.dmr_core.specs.May.{AllMayDo, MayDo}
 use Rattle.dmr_core.proofs.PlanLemmas.{KnowsPlan}
@@ -13,7 +13,7 @@ use Rattle.dmr_core.proofs.RadiosEngagedOnce.{once-done, parties-done}
 use Rattle.dmr_core.proofs.FillsAreLateEntries.{counted-done, unfilled-done, unnamed-done}
 use Rattle.dmr_core.proofs.LimitsAreKept.{called-done, lined-done, asks-done, few_asks-done, lines-done, few_calls-done, few_lines-done, few_radios-done, distinct-done}
 
-pub sound-done : (plan : Settings) (now : Facts) (act : Act) → KnowsPlan plan → IsSound plan now → MayDo plan now act → IsSound plan (done now act)
+pub sound-done : (plan : Settings) (now : Facts) (act : Act) → KnowsPlan plan → IsSound plan now → MayDo plan now act → IsSound plan (facts_after_act now act)
 sound-done plan now act p h may = record {
   carriers = h.carriers;
   slots = slots-done plan now act h;
@@ -43,11 +43,11 @@ sound-done plan now act p h may = record {
   unnamed = unnamed-done plan now act h may;
 }
 
-pub sound-acts : (plan : Settings) (now : Facts) (acts : List Act) → KnowsPlan plan → IsSound plan now → AllMayDo plan now acts → IsSound plan (fold done now acts)
+pub sound-acts : (plan : Settings) (now : Facts) (acts : List Act) → KnowsPlan plan → IsSound plan now → AllMayDo plan now acts → IsSound plan (fold facts_after_act now acts)
 sound-acts plan now [] p h may = h
-sound-acts plan now (act ∷ acts) p h may = sound-acts plan (done now act) acts p (sound-done plan now act p h may.0) may.1
+sound-acts plan now (act ∷ acts) p h may = sound-acts plan (facts_after_act now act) acts p (sound-done plan now act p h may.0) may.1
 
 -- one rule's acts and then another's
-pub may-append : (plan : Settings) (xs ys : List Act) (now : Facts) → AllMayDo plan now xs → AllMayDo plan (fold done now xs) ys → AllMayDo plan now (xs ++ ys)
+pub may-append : (plan : Settings) (xs ys : List Act) (now : Facts) → AllMayDo plan now xs → AllMayDo plan (fold facts_after_act now xs) ys → AllMayDo plan now (xs ++ ys)
 may-append plan [] ys now h k = k
-may-append plan (act ∷ xs) ys now h k = (h.0, may-append plan xs ys (done now act) h.1 k)
+may-append plan (act ∷ xs) ys now h k = (h.0, may-append plan xs ys (facts_after_act now act) h.1 k)

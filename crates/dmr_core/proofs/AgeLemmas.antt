@@ -11,14 +11,14 @@ use Rattle.dmr_calls.specs.declared.ask.Asking.{Asking}
 use Rattle.dmr_calls.specs.declared.call.Call.{Call}
 use Rattle.dmr_calls.specs.declared.call.Standing.{Standing}
 use Rattle.dmr_calls.specs.Ticks.{one_more}
-use Rattle.dmr_calls.specs.Asks.{ask_of, just_asked, others_than, waited_more}
-use Rattle.dmr_calls.specs.Calls.{call_on, counted, is_slot, just_begun, marked, on_other_carriers}
+use Rattle.dmr_calls.specs.Asks.{ask_of, new_asking, others_than, waited_more}
+use Rattle.dmr_calls.specs.Calls.{call_on, one_tick_older, is_slot, just_begun, with_activity, on_other_carriers}
 use Rattle.dmr_core.specs.declared.event.Event.{Event}
 use Rattle.dmr_core.specs.declared.event.Event.TheVariants.{Active, Lost, Tick, Up}
 use Rattle.dmr_core.specs.declared.act.Act.{Act}
 use Rattle.dmr_core.specs.declared.act.Act.TheVariants.{AskOver, Asked, Began, Ended}
 use Rattle.dmr_core.specs.declared.entry.Entry.{Entry}
-use Rattle.dmr_core.specs.Facts.{Facts, done, facts_after, noted}
+use Rattle.dmr_core.specs.Facts.{Facts, facts_after_act, facts_after, facts_after_event}
 use Rattle.dmr_core.specs.Words.{stands_on}
 use Rattle.dmr_core.specs.Journal.{IsLegal}
 use Rattle.dmr_core.specs.Sound.{IsSound}
@@ -73,22 +73,22 @@ none_passes p (x ∷ xs) h = let both = or_false (p x) (list_any p xs) h in rw b
 
 -- after an act that opens it is 0, and after any other what it was
 abbrev Counts : (Facts → Option ℕ) → (Act → Bool) → Facts → Act → Type 0
-Counts at opens now act = (n : ℕ) → Says (at now) n → Says (at (done now act)) (if opens act then 0 else n)
+Counts at opens now act = (n : ℕ) → Says (at now) n → Says (at (facts_after_act now act)) (if opens act then 0 else n)
 
 two_turns : (a b : Bool) (n : ℕ) → (if b then 0 else if a then 0 else n) ≡ (if a || b then 0 else n)
 two_turns true true n = refl
 two_turns true false n = refl
 two_turns false b n = refl
 
-acts_count : (at : Facts → Option ℕ) (opens : Act → Bool) (now : Facts) (acts : List Act) (n : ℕ) → EachAct (Counts at opens) now acts → Says (at now) n → Says (at (fold done now acts)) (if list_any opens acts then 0 else n)
+acts_count : (at : Facts → Option ℕ) (opens : Act → Bool) (now : Facts) (acts : List Act) (n : ℕ) → EachAct (Counts at opens) now acts → Says (at now) n → Says (at (fold facts_after_act now acts)) (if list_any opens acts then 0 else n)
 acts_count at opens now [] n each h = h
 acts_count at opens now (act ∷ acts) n each h =
-    says (at (fold done (done now act) acts)) _ _ (two_turns (opens act) (list_any opens acts) n)
-    (acts_count at opens (done now act) acts (if opens act then 0 else n) each.1 (each.0 n h))
+    says (at (fold facts_after_act (facts_after_act now act) acts)) _ _ (two_turns (opens act) (list_any opens acts) n)
+    (acts_count at opens (facts_after_act now act) acts (if opens act then 0 else n) each.1 (each.0 n h))
 
 -- an event that opens makes it 0, and a Tick one more
 abbrev Notes : Settings → (Facts → Option ℕ) → (Event → Bool) → Type 0
-Notes plan at opens = (now : Facts) (event : Event) (t : ℕ) → Says (at now) (min 65535 t) → Says (at (noted plan now event)) (min 65535 (if opens event then 0 else ticks_in event + t))
+Notes plan at opens = (now : Facts) (event : Event) (t : ℕ) → Says (at now) (min 65535 t) → Says (at (facts_after_event plan now event)) (min 65535 (if opens event then 0 else ticks_in event + t))
 
 both_turns : (a b : Bool) (m : ℕ) → (if b then 0 else min 65535 (if a then 0 else m)) ≡ min 65535 (if a || b then 0 else m)
 both_turns true true m = refl
@@ -101,12 +101,12 @@ counts : (plan : Settings) (facts : Facts) (at : Facts → Option ℕ) (by_event
 counts plan facts at by_event by_act before notes h [] each = h
 counts plan facts at by_event by_act before notes h (entry ∷ earlier) each =
     let now : Facts = facts_after plan facts earlier in
-    let after : Facts = noted plan now entry.event in
+    let after : Facts = facts_after_event plan now entry.event in
     let t : ℕ = ticks_since (λ (e : Entry). by_event e.event || list_any by_act e.acts.list) before earlier in
     let m : ℕ = if by_event entry.event then 0 else ticks_in entry.event + t in
     let earlier_on : Says (at now) (min 65535 t) = counts plan facts at by_event by_act before notes h earlier each.1 in
     subst (λ (f : Facts). Says (at f) (min 65535 (if by_event entry.event || list_any by_act entry.acts.list then 0 else ticks_in entry.event + t))) (sym (facts_after-step plan facts entry earlier))
-    (says (at (fold done after entry.acts.list)) _ _ (both_turns (by_event entry.event) (list_any by_act entry.acts.list) (ticks_in entry.event + t))
+    (says (at (fold facts_after_act after entry.acts.list)) _ _ (both_turns (by_event entry.event) (list_any by_act entry.acts.list) (ticks_in entry.event + t))
     (acts_count at by_act after entry.acts.list (min 65535 m) each.0 (notes now entry.event t earlier_on)))
 
 -- what stood before, and what stands after
@@ -145,14 +145,14 @@ off_carrier v slot calls c t h =
     no_tick (on v slot (on_other_carriers c calls)) t (says_without v (λ (s : Standing). is_slot s.call.slot slot) (λ (s : Standing). s.call.slot.carrier == c) (slot.carrier == c)
     (λ s e. ap (λ (x : Slot). x.carrier == c) (same_slot s.call.slot slot e)) calls (min 65535 t) h)
 
-all_marked : (v : Standing → ℕ) (g : ℕ → ℕ) (there slot : Slot) → ((s : Standing) → is_slot s.call.slot slot ≡ true → v (marked there s) ≡ g (v s)) → (calls : List Standing) (n : ℕ) → Says (on v slot calls) n → Says (on v slot (map (marked there) calls)) (g n)
-all_marked v g there slot kept calls n h = says_map v (λ (s : Standing). is_slot s.call.slot slot) (marked there) g (λ s. ap (λ (k : Call). is_slot k.slot slot) (marked_call there s)) kept calls n h
+all_marked : (v : Standing → ℕ) (g : ℕ → ℕ) (there slot : Slot) → ((s : Standing) → is_slot s.call.slot slot ≡ true → v (with_activity there s) ≡ g (v s)) → (calls : List Standing) (n : ℕ) → Says (on v slot calls) n → Says (on v slot (map (with_activity there) calls)) (g n)
+all_marked v g there slot kept calls n h = says_map v (λ (s : Standing). is_slot s.call.slot slot) (with_activity there) g (λ s. ap (λ (k : Call). is_slot k.slot slot) (marked_call there s)) kept calls n h
 
-all_counted : (v : Standing → ℕ) (slot : Slot) → ((s : Standing) → v (counted s) ≡ one_more (v s)) → (calls : List Standing) (t : ℕ) → Says (on v slot calls) (min 65535 t) → Says (on v slot (map counted calls)) (min 65535 (1 + t))
-all_counted v slot more calls t h = one_tick (on v slot (map counted calls)) t (says_map v (λ (s : Standing). is_slot s.call.slot slot) counted one_more (λ s. refl) (λ s e. more s) calls (min 65535 t) h)
+all_counted : (v : Standing → ℕ) (slot : Slot) → ((s : Standing) → v (one_tick_older s) ≡ one_more (v s)) → (calls : List Standing) (t : ℕ) → Says (on v slot calls) (min 65535 t) → Says (on v slot (map one_tick_older calls)) (min 65535 (1 + t))
+all_counted v slot more calls t h = one_tick (on v slot (map one_tick_older calls)) t (says_map v (λ (s : Standing). is_slot s.call.slot slot) one_tick_older one_more (λ s. refl) (λ s e. more s) calls (min 65535 t) h)
 
 -- ages
-marked_age : (there : Slot) (s : Standing) → (marked there s).age ≡ s.age
+marked_age : (there : Slot) (s : Standing) → (with_activity there s).age ≡ s.age
 marked_age there s = either (is_slot s.call.slot there)
   where
     either : (b : Bool) → (if b then record { call = s.call; age = s.age; quiet = 0 } else s).age ≡ s.age
@@ -163,7 +163,7 @@ age_notes : (plan : Settings) (slot : Slot) → Notes plan (λ (f : Facts). on (
 age_notes plan slot now (Up c) t h = off_carrier (λ (s : Standing). s.age) slot now.calls c t h
 age_notes plan slot now (Lost c) t h = off_carrier (λ (s : Standing). s.age) slot now.calls c t h
 age_notes plan slot now (Active there) t h =
-    no_tick (on (λ (s : Standing). s.age) slot (map (marked there) now.calls)) t (all_marked (λ (s : Standing). s.age) (λ n. n) there slot (λ s e. marked_age there s) now.calls (min 65535 t) h)
+    no_tick (on (λ (s : Standing). s.age) slot (map (with_activity there) now.calls)) t (all_marked (λ (s : Standing). s.age) (λ n. n) there slot (λ s e. marked_age there s) now.calls (min 65535 t) h)
 age_notes plan slot now Tick t h = all_counted (λ (s : Standing). s.age) slot (λ s. refl) now.calls t h
 age_notes plan slot now _ t h = no_tick (on (λ (s : Standing). s.age) slot now.calls) t h
 
@@ -176,7 +176,7 @@ ages_count plan facts journal slot call p sound legal small stands =
     (throughout plan facts (Counts at (is_begin slot)) (call_counts plan (λ (s : Standing). s.age) (λ k. refl) slot) journal p sound legal))
 
 -- quiet times
-marked_quiet : (there slot : Slot) (s : Standing) (b : Bool) → is_slot there slot ≡ b → is_slot s.call.slot slot ≡ true → (marked there s).quiet ≡ (if b then 0 else s.quiet)
+marked_quiet : (there slot : Slot) (s : Standing) (b : Bool) → is_slot there slot ≡ b → is_slot s.call.slot slot ≡ true → (with_activity there s).quiet ≡ (if b then 0 else s.quiet)
 marked_quiet there slot s b e d = by_test (is_slot s.call.slot there) (ap (λ (x : Slot). is_slot x there) (same_slot s.call.slot slot d) ∙ same_slots slot there ∙ e)
   where
     out : (b : Bool) → (if b then record { call = s.call; age = s.age; quiet = 0 } else s).quiet ≡ (if b then 0 else s.quiet)
@@ -186,10 +186,10 @@ marked_quiet there slot s b e d = by_test (is_slot s.call.slot there) (ap (λ (x
     by_test : (a : Bool) → a ≡ b → (if a then record { call = s.call; age = s.age; quiet = 0 } else s).quiet ≡ (if b then 0 else s.quiet)
     by_test a k = ap (λ (x : Bool). (if x then record { call = s.call; age = s.age; quiet = 0 } else s).quiet) k ∙ out b
 
-quiet_marked : (there slot : Slot) (calls : List Standing) (t : ℕ) (b : Bool) → is_slot there slot ≡ b → Says (on (λ (s : Standing). s.quiet) slot calls) (min 65535 t) → Says (on (λ (s : Standing). s.quiet) slot (map (marked there) calls)) (min 65535 (if b then 0 else 0 + t))
+quiet_marked : (there slot : Slot) (calls : List Standing) (t : ℕ) (b : Bool) → is_slot there slot ≡ b → Says (on (λ (s : Standing). s.quiet) slot calls) (min 65535 t) → Says (on (λ (s : Standing). s.quiet) slot (map (with_activity there) calls)) (min 65535 (if b then 0 else 0 + t))
 quiet_marked there slot calls t true e h = all_marked (λ (s : Standing). s.quiet) (λ n. 0) there slot (λ s d. marked_quiet there slot s true e d) calls (min 65535 t) h
 quiet_marked there slot calls t false e h =
-    no_tick (on (λ (s : Standing). s.quiet) slot (map (marked there) calls)) t (all_marked (λ (s : Standing). s.quiet) (λ n. n) there slot (λ s d. marked_quiet there slot s false e d) calls (min 65535 t) h)
+    no_tick (on (λ (s : Standing). s.quiet) slot (map (with_activity there) calls)) t (all_marked (λ (s : Standing). s.quiet) (λ n. n) there slot (λ s d. marked_quiet there slot s false e d) calls (min 65535 t) h)
 
 quiet_notes : (plan : Settings) (slot : Slot) → Notes plan (λ (f : Facts). on (λ (s : Standing). s.quiet) slot f.calls) (is_active slot)
 quiet_notes plan slot now (Up c) t h = off_carrier (λ (s : Standing). s.quiet) slot now.calls c t h
@@ -220,7 +220,7 @@ same_source a q r h k = grind (arith, nat_tests)
 
 ask_counts : (r : ℕ) (now : Facts) (act : Act) → Counts (λ (f : Facts). of r f.asks) (is_asked r) now act
 ask_counts r now (Asked ask) = λ n h.
-    says_push (λ (a : Asking). a.waited) (λ (a : Asking). a.ask.source == r) (others_than ask.source now.asks) (just_asked ask) n (ask.source == r) refl
+    says_push (λ (a : Asking). a.waited) (λ (a : Asking). a.ask.source == r) (others_than ask.source now.asks) (new_asking ask) n (ask.source == r) refl
     (λ e. find_gone (λ (a : Asking). a.ask.source == r) (λ (a : Asking). a.ask.source == ask.source) (λ a k. same_source a.ask.source ask.source r e k) now.asks) refl
     (others_say now.asks ask.source r n h)
 ask_counts r now (AskOver q) = λ n h. others_say now.asks q r n h

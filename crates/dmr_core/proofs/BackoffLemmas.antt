@@ -11,11 +11,11 @@ use Rattle.dmr_core.specs.declared.event.Event.{Event}
 use Rattle.dmr_core.specs.declared.event.Event.TheVariants.{Up, Lost, Noise, Poll}
 use Rattle.dmr_core.specs.declared.act.Act.{Act}
 use Rattle.dmr_core.specs.declared.entry.Entry.{Entry}
-use Rattle.dmr_core.specs.Facts.{Facts, facts_after, unchanged, up_by_event, noise_by_event, has_carrier}
+use Rattle.dmr_core.specs.Facts.{Facts, facts_after, same_as_before, up_by_event, noise_by_event, has_carrier}
 use Rattle.dmr_core.specs.Words.{is_up}
 use Rattle.dmr_core.specs.Journal.{IsLegal}
 use Rattle.dmr_core.specs.Sound.{IsSound}
-use Rattle.dmr_core.specs.Backoff.{counted, noises_within, recent_noises}
+use Rattle.dmr_core.specs.Backoff.{noises_with_event, noises_within, recent_noises}
 use Rattle.dmr_core.proofs.NumberLemmas.{equal_numbers, flipped, other_number}
 use Rattle.dmr_core.proofs.EventsKeepSound.{cleared}
 use Rattle.dmr_core.proofs.PlansAreKnown.{plan_known}
@@ -68,7 +68,7 @@ still_up : (plan : Settings) (up : List Bool) (d : ℕ) (there : Bool) → (d ==
 still_up plan up d true e k = sym (get_or-set_other up d plan.control true false (other_number plan.control d (flipped d plan.control e))) ∙ k
 still_up plan up d false e k = k
 
-one_event : (plan : Settings) (now : Facts) (event : Event) (c : ℕ → ℕ) → (is_up now plan.control ≡ true → length now.noise ≡ 32) → (is_up now plan.control ≡ true → (j : ℕ) → j ≤ 31 → min 15 (sum (take (j + 1) now.noise)) ≡ min 15 (c j)) → (k : ℕ) → k ≤ 31 → slice_index_or (up_by_event plan now.up event) plan.control false ≡ true → min 15 (sum (take (k + 1) (noise_by_event plan now.noise event))) ≡ min 15 (counted plan k event c)
+one_event : (plan : Settings) (now : Facts) (event : Event) (c : ℕ → ℕ) → (is_up now plan.control ≡ true → length now.noise ≡ 32) → (is_up now plan.control ≡ true → (j : ℕ) → j ≤ 31 → min 15 (sum (take (j + 1) now.noise)) ≡ min 15 (c j)) → (k : ℕ) → k ≤ 31 → slice_index_or (up_by_event plan now.up event) plan.control false ≡ true → min 15 (sum (take (k + 1) (noise_by_event plan now.noise event))) ≡ min 15 (noises_with_event plan k event c)
 one_event plan now (Up d) c window before k small up = either (d == plan.control) refl
   where
     either : (b : Bool) → (d == plan.control) ≡ b → min 15 (sum (take (k + 1) (if b then noise_at_up else now.noise))) ≡ min 15 (if b then 0 else 0 + c k)
@@ -95,7 +95,7 @@ one_event plan now (Poll d) c window before k small up = either (d == plan.contr
     either false = omega (arith, before up k small)
 one_event plan now event c window before k small up = omega (arith, before up k small)
 
-same_after : {X : Type 0} (acts : List Act) (x : X) → fold unchanged x acts ≡ x
+same_after : {X : Type 0} (acts : List Act) (x : X) → fold same_as_before x acts ≡ x
 same_after [] x = refl
 same_after (act ∷ acts) x = same_after acts x
 

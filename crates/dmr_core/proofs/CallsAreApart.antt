@@ -4,19 +4,19 @@ use Rattle.std.specs.Prelude.{cond}
 use Rattle.std.proofs.lemmas.Bool.Decides.{nat_tests}
 use Rattle.dmr_pdu.specs.declared.slots.Slot.{Slot}
 use Rattle.dmr_calls.specs.declared.call.Standing.{Standing}
-use Rattle.dmr_calls.specs.Calls.{is_slot, marked}
+use Rattle.dmr_calls.specs.Calls.{is_slot, with_activity}
 use Rattle.dmr_core.specs.Words.{stands_on}
-use Rattle.dmr_core.specs.Sound.{AreApart}
+use Rattle.dmr_core.specs.Sound.{AreOnDistinctSlots}
 use Rattle.dmr_core.proofs.ChoiceLemmas.{any-filter, or_false}
 
 pub same_slots : (a b : Slot) → is_slot a b ≡ is_slot b a
 same_slots a b = grind (arith, nat_tests)
 
-apart-kept : (b : Bool) (s : Standing) (cs : List Standing) → stands_on cs s.call.slot ≡ false → AreApart cs → AreApart (cond b (s ∷ cs) cs)
+apart-kept : (b : Bool) (s : Standing) (cs : List Standing) → stands_on cs s.call.slot ≡ false → AreOnDistinctSlots cs → AreOnDistinctSlots (cond b (s ∷ cs) cs)
 apart-kept true s cs h k = (h, k)
 apart-kept false s cs h k = k
 
-pub apart-filter : (q : Standing → Bool) (cs : List Standing) → AreApart cs → AreApart (filter q cs)
+pub apart-filter : (q : Standing → Bool) (cs : List Standing) → AreOnDistinctSlots cs → AreOnDistinctSlots (filter q cs)
 apart-filter q [] h = tt
 apart-filter q (s ∷ cs) h = apart-kept (q s) s (filter q cs) (any-filter _ q cs h.0) (apart-filter q cs h.1)
 
@@ -24,7 +24,7 @@ pub stands_on-map : (f : Standing → Standing) → ((s : Standing) → (f s).ca
 stands_on-map f same [] slot = refl
 stands_on-map f same (s ∷ cs) slot = rw (same s, stands_on-map f same cs slot)
 
-pub apart-map : (f : Standing → Standing) → ((s : Standing) → (f s).call ≡ s.call) → (cs : List Standing) → AreApart cs → AreApart (map f cs)
+pub apart-map : (f : Standing → Standing) → ((s : Standing) → (f s).call ≡ s.call) → (cs : List Standing) → AreOnDistinctSlots cs → AreOnDistinctSlots (map f cs)
 apart-map f same [] h = tt
 apart-map f same (s ∷ cs) h = (rw (same s) (stands_on-map f same cs s.call.slot ∙ h.0), apart-map f same cs h.1)
 
@@ -33,11 +33,11 @@ stands_on-append [] new slot h k = rw k
 stands_on-append (s ∷ cs) new slot h k =
     let both = or_false (is_slot s.call.slot slot) (stands_on cs slot) h in rw both.0 (stands_on-append cs new slot both.1 k)
 
-pub apart-append : (cs : List Standing) (new : Standing) → AreApart cs → stands_on cs new.call.slot ≡ false → AreApart (cs ++ new ∷ [])
+pub apart-append : (cs : List Standing) (new : Standing) → AreOnDistinctSlots cs → stands_on cs new.call.slot ≡ false → AreOnDistinctSlots (cs ++ new ∷ [])
 apart-append [] new h k = (refl, tt)
 apart-append (s ∷ cs) new h k =
     let both = or_false (is_slot s.call.slot new.call.slot) (stands_on cs new.call.slot) k in
     (stands_on-append cs new s.call.slot h.0 (same_slots new.call.slot s.call.slot ∙ both.0), apart-append cs new h.1 both.1)
 
-pub marked_call : (slot : Slot) (s : Standing) → (marked slot s).call ≡ s.call
+pub marked_call : (slot : Slot) (s : Standing) → (with_activity slot s).call ≡ s.call
 marked_call slot s = grind arith

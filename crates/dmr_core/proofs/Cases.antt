@@ -11,8 +11,8 @@ use Rattle.dmr_core.specs.declared.event.Event.TheVariants.{Up, Lost, Heard, Noi
 use Rattle.dmr_core.specs.declared.act.Act.{Act}
 use Rattle.dmr_core.specs.declared.act.Act.TheVariants.{Queue, Send, Fill, Joined, Left, Began}
 use Rattle.dmr_core.specs.declared.entry.Entry.{Entry}
-use Rattle.dmr_core.specs.Facts.{facts_after, nothing}
-use Rattle.dmr_core.specs.Rules.{is_leaving, close, leaving, registration, grant, clear, new_call, talkgroup, individual, answered, cancel, request, heard, ended, repeat, serve, tick, poll}
+use Rattle.dmr_core.specs.Facts.{facts_after, no_facts}
+use Rattle.dmr_core.specs.Rules.{is_leaving, close, acts_for_leaving, acts_for_registration, grant, clear, acts_for_new_call, acts_for_talkgroup_request, acts_for_individual_request, acts_for_called_radio, acts_for_cancel, acts_for_request, acts_for_pdu, acts_for_due_call, acts_for_due_ask, acts_for_first_line, acts_for_tick, acts_for_slot}
 use Rattle.dmr_calls.specs.declared.call.Call.{Call}
 use Rattle.dmr_core.specs.Journal.{journal_of}
 
@@ -53,12 +53,12 @@ slot c s = record { carrier = c; slot = s }
 
 -- opens the rules
 unfoldable pub all_rules : Unit {0}
-unfolding noise_at_up is_leaving close leaving registration grant clear new_call talkgroup individual answered cancel lowest_free_by request heard ended repeat serve tick poll
+unfolding noise_at_up is_leaving close acts_for_leaving acts_for_registration grant clear acts_for_new_call acts_for_talkgroup_request acts_for_individual_request acts_for_called_radio acts_for_cancel lowest_free_by acts_for_request acts_for_pdu acts_for_due_call acts_for_due_ask acts_for_first_line acts_for_tick acts_for_slot
 all_rules = tt
 
 -- the journal of these events, the first of them first
 abbrev pub after : List Event → List Entry
-after events = journal_of site nothing (reverse events)
+after events = journal_of site no_facts (reverse events)
 
 -- the acts of the last event
 abbrev pub last_acts : List Entry → List Act
@@ -131,7 +131,7 @@ unfolding all_rules
 idle_payload = refl
 
 -- what waited is gone when the carrier is lost; the registration stays
-pub lost : facts_after site nothing (after (Up 0 ∷ registers 1001 ∷ Lost 0 ∷ [])) ≡ record nothing { registered = 1001 ∷ [] }
+pub lost : facts_after site no_facts (after (Up 0 ∷ registers 1001 ∷ Lost 0 ∷ [])) ≡ record no_facts { registered = 1001 ∷ [] }
 unfolding all_rules
 lost = refl
 

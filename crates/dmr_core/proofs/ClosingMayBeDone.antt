@@ -20,10 +20,10 @@ use Rattle.dmr_pool.specs.Slots.{box, place}
 use Rattle.dmr_pool.specs.Free.{control_slot}
 use Rattle.dmr_core.specs.declared.act.Act.{Act}
 use Rattle.dmr_core.specs.declared.act.Act.TheVariants.{AskOver, Ended, Queue, Unlined}
-use Rattle.dmr_core.specs.Facts.{Facts, done}
+use Rattle.dmr_core.specs.Facts.{Facts, facts_after_act}
 use Rattle.dmr_core.specs.Words.{is_up, lpcn_of, outbox, stands_on}
 use Rattle.dmr_core.specs.Rules.{ack, clear, close}
-use Rattle.dmr_core.specs.Sound.{IsSound, engagements, in_ask, in_call, in_line, party, total}
+use Rattle.dmr_core.specs.Sound.{IsSound, engagements, engagements_in_ask, engagements_in_call, engagements_in_line, party, total}
 use Rattle.dmr_core.specs.May.{AllMayDo}
 use Rattle.dmr_core.proofs.PlanLemmas.{KnowsPlan}
 use Rattle.dmr_core.proofs.NumberLemmas.{not_itself}
@@ -37,32 +37,32 @@ use Rattle.dmr_core.proofs.PartsMayBeDone.{ack_may, clear_may, not_engaged, read
 
 -- what copies of a PDU leave as it was
 abbrev put : Facts → ℕ → Slot → Pdu → Facts
-put now n slot pdu = fold done now (replicate n (Queue slot pdu))
+put now n slot pdu = fold facts_after_act now (replicate n (Queue slot pdu))
 
 copies_up : (n : ℕ) (now : Facts) (slot : Slot) (pdu : Pdu) → (put now n slot pdu).up ≡ now.up
 copies_up zero now slot pdu = refl
-copies_up (suc n) now slot pdu = copies_up n (done now (Queue slot pdu)) slot pdu
+copies_up (suc n) now slot pdu = copies_up n (facts_after_act now (Queue slot pdu)) slot pdu
 
 copies_calls : (n : ℕ) (now : Facts) (slot : Slot) (pdu : Pdu) → (put now n slot pdu).calls ≡ now.calls
 copies_calls zero now slot pdu = refl
-copies_calls (suc n) now slot pdu = copies_calls n (done now (Queue slot pdu)) slot pdu
+copies_calls (suc n) now slot pdu = copies_calls n (facts_after_act now (Queue slot pdu)) slot pdu
 
 copies_asks : (n : ℕ) (now : Facts) (slot : Slot) (pdu : Pdu) → (put now n slot pdu).asks ≡ now.asks
 copies_asks zero now slot pdu = refl
-copies_asks (suc n) now slot pdu = copies_asks n (done now (Queue slot pdu)) slot pdu
+copies_asks (suc n) now slot pdu = copies_asks n (facts_after_act now (Queue slot pdu)) slot pdu
 
 copies_lines : (n : ℕ) (now : Facts) (slot : Slot) (pdu : Pdu) → (put now n slot pdu).lines ≡ now.lines
 copies_lines zero now slot pdu = refl
-copies_lines (suc n) now slot pdu = copies_lines n (done now (Queue slot pdu)) slot pdu
+copies_lines (suc n) now slot pdu = copies_lines n (facts_after_act now (Queue slot pdu)) slot pdu
 
 copies_registered : (n : ℕ) (now : Facts) (slot : Slot) (pdu : Pdu) → (put now n slot pdu).registered ≡ now.registered
 copies_registered zero now slot pdu = refl
-copies_registered (suc n) now slot pdu = copies_registered n (done now (Queue slot pdu)) slot pdu
+copies_registered (suc n) now slot pdu = copies_registered n (facts_after_act now (Queue slot pdu)) slot pdu
 
 copies_elsewhere : (n : ℕ) (now : Facts) (slot other : Slot) (pdu : Pdu) → slot.slot < 2 → other.slot < 2 → is_slot other slot ≡ false → outbox (put now n slot pdu) other ≡ outbox now other
 copies_elsewhere zero now slot other pdu small also apart = refl
 copies_elsewhere (suc n) now slot other pdu small also apart =
-    copies_elsewhere n (done now (Queue slot pdu)) slot other pdu small also apart ∙ get_or-set_other now.outboxes (place slot) (place other) (box now.outboxes slot ++ pdu ∷ []) [] (other_place other slot also small apart)
+    copies_elsewhere n (facts_after_act now (Queue slot pdu)) slot other pdu small also apart ∙ get_or-set_other now.outboxes (place slot) (place other) (box now.outboxes slot ++ pdu ∷ []) [] (other_place other slot also small apart)
 
 -- what clearing a call leaves
 pub record IsCleared (plan : Settings) (now later : Facts) (call : Call) : Type 0 where
@@ -73,10 +73,10 @@ pub record IsCleared (plan : Settings) (now later : Facts) (call : Call) : Type 
   pub calls : later.calls ≡ filter (λ s. not (is_slot s.call.slot call.slot)) now.calls
   pub others : (slot : Slot) → slot.slot < 2 → is_slot slot call.slot ≡ false → outbox later slot ≡ outbox now slot
 
-pub cleared_is : (plan : Settings) (now : Facts) (call : Call) → call.slot.slot < 2 → IsCleared plan now (fold done now (clear plan call)) call
+pub cleared_is : (plan : Settings) (now : Facts) (call : Call) → call.slot.slot < 2 → IsCleared plan now (fold facts_after_act now (clear plan call)) call
 unfolding clear
 cleared_is plan now call small =
-    let ended : Facts = done now (Ended call.slot) in
+    let ended : Facts = facts_after_act now (Ended call.slot) in
     let pdu : Pdu = Clear (lpcn_of plan plan.control) call.group call.target plan.tsi in
     record {
       up = copies_up plan.clear_copies ended call.slot pdu;
@@ -136,7 +136,7 @@ pub record IsClosed (plan : Settings) (now later : Facts) (r : ℕ) : Type 0 whe
 
 pub record Closes (plan : Settings) (now : Facts) (r : ℕ) (acts : List Act) : Type 0 where
   pub may : AllMayDo plan now acts
-  pub closed : IsClosed plan now (fold done now acts) r
+  pub closed : IsClosed plan now (fold facts_after_act now acts) r
 
 control_apart : (plan : Settings) (now : Facts) (call : Call) → IsSound plan now → stands_on now.calls call.slot ≡ true → is_slot (control_slot plan) call.slot ≡ false
 control_apart plan now call h on = same_slots (control_slot plan) call.slot ∙ (h.payload call.slot on).apart
@@ -147,11 +147,11 @@ call_closes plan now r call p h found =
     let stands : call_on now.calls call.slot ≡ Some call = found_stands test now.calls call h.apart found in
     let on = call_stands now.calls call.slot call stands in
     let small : call.slot.slot < 2 = (h.payload call.slot on.0).small in
-    let c : IsCleared plan now (fold done now (clear plan call)) call = cleared_is plan now call small in
+    let c : IsCleared plan now (fold facts_after_act now (clear plan call)) call = cleared_is plan now call small in
     let s = found_call test (find test now.calls) call found in
-    let one : 1 ≤ in_call r s.0 = counts r s.0.call.group s.0.call.source s.0.call.target (find_passes test now.calls s.0 s.1) in
-    let less : total (in_call r) (filter (λ x. not (is_slot x.call.slot call.slot)) now.calls) + in_call r s.0 ≤ total (in_call r) now.calls =
-    total_found (in_call r) test (λ x. not (is_slot x.call.slot call.slot)) now.calls s.0 s.1 (subst (λ (k : Call). not (is_slot k.slot call.slot) ≡ false) (sym s.2) (rw (itself call.slot) refl)) in
+    let one : 1 ≤ engagements_in_call r s.0 = counts r s.0.call.group s.0.call.source s.0.call.target (find_passes test now.calls s.0 s.1) in
+    let less : total (engagements_in_call r) (filter (λ x. not (is_slot x.call.slot call.slot)) now.calls) + engagements_in_call r s.0 ≤ total (engagements_in_call r) now.calls =
+    total_found (engagements_in_call r) test (λ x. not (is_slot x.call.slot call.slot)) now.calls s.0 s.1 (subst (λ (k : Call). not (is_slot k.slot call.slot) ≡ false) (sym s.2) (rw (itself call.slot) refl)) in
     record {
       may = clear_may plan now call p h stands;
       closed = record {
@@ -162,17 +162,17 @@ call_closes plan now r call p h found =
       };
     }
 
-line_counts : (r : ℕ) (l : Line) → (l.source == r) ≡ true → 1 ≤ in_line r l
+line_counts : (r : ℕ) (l : Line) → (l.source == r) ≡ true → 1 ≤ engagements_in_line r l
 line_counts r l h = rw h (omega arith)
 
-line_to_counts : (r : ℕ) (l : Line) → (not l.group && (l.target == r)) ≡ true → 1 ≤ in_line r l
+line_to_counts : (r : ℕ) (l : Line) → (not l.group && (l.target == r)) ≡ true → 1 ≤ engagements_in_line r l
 line_to_counts r l h = rw h (omega arith)
 
 line_closes : (plan : Settings) (now : Facts) (r : ℕ) (l : Line) → IsSound plan now → line_of now.lines r ≡ Some l → Closes plan now r (Unlined l.source ∷ [])
 line_closes plan now r l h found =
-    let less : total (in_line r) (filter (λ x. not (x.source == l.source)) now.lines) + in_line r l ≤ total (in_line r) now.lines =
-    total_found (in_line r) (λ x. x.source == r) (λ x. not (x.source == l.source)) now.lines l found (not_itself l.source) in
-    let one : 1 ≤ in_line r l = line_counts r l (find_passes (λ x. x.source == r) now.lines l found) in
+    let less : total (engagements_in_line r) (filter (λ x. not (x.source == l.source)) now.lines) + engagements_in_line r l ≤ total (engagements_in_line r) now.lines =
+    total_found (engagements_in_line r) (λ x. x.source == r) (λ x. not (x.source == l.source)) now.lines l found (not_itself l.source) in
+    let one : 1 ≤ engagements_in_line r l = line_counts r l (find_passes (λ x. x.source == r) now.lines l found) in
     record { may = (tt, tt); closed = record { up = refl; registered = refl; gone = omega (arith, h.once r); room = omega arith } }
 
 -- where an ask or a line stands, the control carrier is up
@@ -190,12 +190,12 @@ line_to_closes : (plan : Settings) (now : Facts) (r : ℕ) (l : Line) → KnowsP
 line_to_closes plan now r l p h room found =
     let up : is_up now plan.control ≡ true = found_up plan now (λ (x : Line). not x.group && (x.target == r)) now.lines l h.lines found in
     let test : Line → Bool = λ x. not x.group && (x.target == r) in
-    let less : total (in_line r) (filter (λ x. not (x.source == l.source)) now.lines) + in_line r l ≤ total (in_line r) now.lines =
-    total_found (in_line r) test (λ x. not (x.source == l.source)) now.lines l found (not_itself l.source) in
-    let one : 1 ≤ in_line r l = line_to_counts r l (find_passes test now.lines l found) in
+    let less : total (engagements_in_line r) (filter (λ x. not (x.source == l.source)) now.lines) + engagements_in_line r l ≤ total (engagements_in_line r) now.lines =
+    total_found (engagements_in_line r) test (λ x. not (x.source == l.source)) now.lines l found (not_itself l.source) in
+    let one : 1 ≤ engagements_in_line r l = line_to_counts r l (find_passes test now.lines l found) in
     let pdu : Pdu = Ackd 0 0x24 false l.source l.target in
     record {
-      may = (tt, ack_may plan (done now (Unlined l.source)) l.source l.target 0x24 (sound-done plan now (Unlined l.source) p h tt) up (omega arith));
+      may = (tt, ack_may plan (facts_after_act now (Unlined l.source)) l.source l.target 0x24 (sound-done plan now (Unlined l.source) p h tt) up (omega arith));
       closed = record {
         up = refl;
         registered = refl;
@@ -204,28 +204,28 @@ line_to_closes plan now r l p h room found =
       };
     }
 
-ask_counts : (r : ℕ) (a : Asking) → (a.ask.source == r) ≡ true → 1 ≤ in_ask r a
+ask_counts : (r : ℕ) (a : Asking) → (a.ask.source == r) ≡ true → 1 ≤ engagements_in_ask r a
 ask_counts r a h = rw h (omega arith)
 
-ask_to_counts : (r : ℕ) (a : Asking) → (a.ask.target == r) ≡ true → 1 ≤ in_ask r a
+ask_to_counts : (r : ℕ) (a : Asking) → (a.ask.target == r) ≡ true → 1 ≤ engagements_in_ask r a
 ask_to_counts r a h = rw h (omega arith)
 
 asking_closes : (plan : Settings) (now : Facts) (r : ℕ) (a : Asking) → IsSound plan now → find (λ x. x.ask.source == r) now.asks ≡ Some a → Closes plan now r (AskOver a.ask.source ∷ [])
 asking_closes plan now r a h found =
-    let less : total (in_ask r) (others_than a.ask.source now.asks) + in_ask r a ≤ total (in_ask r) now.asks =
-    total_found (in_ask r) (λ x. x.ask.source == r) (λ x. not (x.ask.source == a.ask.source)) now.asks a found (not_itself a.ask.source) in
-    let one : 1 ≤ in_ask r a = ask_counts r a (find_passes (λ x. x.ask.source == r) now.asks a found) in
+    let less : total (engagements_in_ask r) (others_than a.ask.source now.asks) + engagements_in_ask r a ≤ total (engagements_in_ask r) now.asks =
+    total_found (engagements_in_ask r) (λ x. x.ask.source == r) (λ x. not (x.ask.source == a.ask.source)) now.asks a found (not_itself a.ask.source) in
+    let one : 1 ≤ engagements_in_ask r a = ask_counts r a (find_passes (λ x. x.ask.source == r) now.asks a found) in
     record { may = (tt, tt); closed = record { up = refl; registered = refl; gone = omega (arith, h.once r); room = omega arith } }
 
 asking_to_closes : (plan : Settings) (now : Facts) (r : ℕ) (a : Asking) → KnowsPlan plan → IsSound plan now → length (outbox now (control_slot plan)) ≤ 56 → find (λ x. x.ask.target == r) now.asks ≡ Some a → Closes plan now r (AskOver a.ask.source ∷ ack plan a.ask.source a.ask.target 0x24)
 asking_to_closes plan now r a p h room found =
     let up : is_up now plan.control ≡ true = found_up plan now (λ (x : Asking). x.ask.target == r) now.asks a h.asks found in
-    let less : total (in_ask r) (others_than a.ask.source now.asks) + in_ask r a ≤ total (in_ask r) now.asks =
-    total_found (in_ask r) (λ x. x.ask.target == r) (λ x. not (x.ask.source == a.ask.source)) now.asks a found (not_itself a.ask.source) in
-    let one : 1 ≤ in_ask r a = ask_to_counts r a (find_passes (λ x. x.ask.target == r) now.asks a found) in
+    let less : total (engagements_in_ask r) (others_than a.ask.source now.asks) + engagements_in_ask r a ≤ total (engagements_in_ask r) now.asks =
+    total_found (engagements_in_ask r) (λ x. x.ask.target == r) (λ x. not (x.ask.source == a.ask.source)) now.asks a found (not_itself a.ask.source) in
+    let one : 1 ≤ engagements_in_ask r a = ask_to_counts r a (find_passes (λ x. x.ask.target == r) now.asks a found) in
     let pdu : Pdu = Ackd 0 0x24 false a.ask.source a.ask.target in
     record {
-      may = (tt, ack_may plan (done now (AskOver a.ask.source)) a.ask.source a.ask.target 0x24 (sound-done plan now (AskOver a.ask.source) p h tt) up (omega arith));
+      may = (tt, ack_may plan (facts_after_act now (AskOver a.ask.source)) a.ask.source a.ask.target 0x24 (sound-done plan now (AskOver a.ask.source) p h tt) up (omega arith));
       closed = record {
         up = refl;
         registered = refl;

@@ -13,7 +13,7 @@ use Rattle.dmr_pool.specs.Slots.{slot_at}
 use Rattle.dmr_core.specs.declared.reply.SlotState.{SlotState}
 use Rattle.dmr_core.specs.Facts.{Facts}
 use Rattle.dmr_core.specs.Words.{stands_on}
-use Rattle.dmr_core.specs.Shown.{all_shown, shown}
+use Rattle.dmr_core.specs.Shown.{all_slot_states, slot_states}
 
 -- a call is found on a slot exactly where one stands there
 pub called : (calls : List Standing) (slot : Slot) → is_some (call_on calls slot) ≡ stands_on calls slot
@@ -27,14 +27,14 @@ called (s ∷ calls) slot = either (is_slot s.call.slot slot) (called calls slot
 
 -- the slots up to a place
 abbrev pub shown_to : Settings → Facts → ℕ → List SlotState
-shown_to plan now places = flat_map (shown plan now) (map slot_at (range_with_len 0 places))
+shown_to plan now places = flat_map (slot_states plan now) (map slot_at (range_with_len 0 places))
 
-pub shown_more : (plan : Settings) (now : Facts) (place : ℕ) → shown_to plan now (place + 1) ≡ shown_to plan now place ++ shown plan now (slot_at place)
+pub shown_more : (plan : Settings) (now : Facts) (place : ℕ) → shown_to plan now (place + 1) ≡ shown_to plan now place ++ slot_states plan now (slot_at place)
 shown_more plan now place =
-    ap (flat_map (shown plan now)) (map-range_with_len_more slot_at 0 place place (omega arith))
-    ∙ flat_map-append (shown plan now) (map slot_at (range_with_len 0 place)) (slot_at place ∷ [])
-    ∙ ap (λ (rest : List SlotState). shown_to plan now place ++ rest) (append-nil (shown plan now (slot_at place)))
+    ap (flat_map (slot_states plan now)) (map-range_with_len_more slot_at 0 place place (omega arith))
+    ∙ flat_map-append (slot_states plan now) (map slot_at (range_with_len 0 place)) (slot_at place ∷ [])
+    ∙ ap (λ (rest : List SlotState). shown_to plan now place ++ rest) (append-nil (slot_states plan now (slot_at place)))
 
-pub all_are_shown : (plan : Settings) (now : Facts) (places : ℕ) → places ≡ 32 → shown_to plan now places ≡ all_shown plan now
-unfolding all_shown
+pub all_are_shown : (plan : Settings) (now : Facts) (places : ℕ) → places ≡ 32 → shown_to plan now places ≡ all_slot_states plan now
+unfolding all_slot_states
 all_are_shown plan now places all = ap (λ (n : ℕ). shown_to plan now n) all

@@ -7,13 +7,13 @@ use Rattle.dmr_plan.specs.declared.settings.Settings.{Settings}
 use Rattle.dmr_plan.specs.IsPlan.{IsPlan}
 use Rattle.dmr_access.specs.Noise.{with_noise, with_poll}
 use Rattle.dmr_calls.specs.declared.call.Standing.{Standing}
-use Rattle.dmr_calls.specs.Calls.{is_slot, marked}
-use Rattle.dmr_pool.specs.Slots.{box, emptied}
+use Rattle.dmr_calls.specs.Calls.{is_slot, with_activity}
+use Rattle.dmr_pool.specs.Slots.{box, outboxes_without_carrier}
 use Rattle.dmr_pool.specs.Free.{is_control}
 use Rattle.dmr_core.specs.declared.event.Event.{Event}
 use Rattle.dmr_core.specs.declared.event.Event.TheVariants.{Up, Lost, Heard, Noise, Active, Poll, Tick, Say}
 use Rattle.dmr_core.specs.declared.named.NamedSlot.{NamedSlot}
-use Rattle.dmr_core.specs.Facts.{Facts, noted, has_carrier}
+use Rattle.dmr_core.specs.Facts.{Facts, facts_after_event, has_carrier}
 use Rattle.dmr_core.specs.Words.{is_up, stands_on}
 use Rattle.dmr_core.specs.Rules.{acts_of}
 use Rattle.dmr_core.specs.Sound.{IsSound}
@@ -35,11 +35,11 @@ same_box [] i h = refl
 same_box (b ∷ boxes) zero h = ap (λ (x : List Pdu). x ∷ boxes) (sym h)
 same_box (b ∷ boxes) (suc i) h = ap (λ (xs : List (List Pdu)). b ∷ xs) (same_box boxes i h)
 
-same_boxes : (boxes : List (List Pdu)) (c : ℕ) → slice_index_or boxes (2 * c) [] ≡ [] → slice_index_or boxes (2 * c + 1) [] ≡ [] → emptied boxes c ≡ boxes
+same_boxes : (boxes : List (List Pdu)) (c : ℕ) → slice_index_or boxes (2 * c) [] ≡ [] → slice_index_or boxes (2 * c + 1) [] ≡ [] → outboxes_without_carrier boxes c ≡ boxes
 same_boxes boxes c h k =
     ap (λ (xs : List (List Pdu)). slice_set xs (2 * c + 1) []) (same_box boxes (2 * c) h) ∙ same_box boxes (2 * c + 1) k
 
-both_boxes : (boxes : List (List Pdu)) (c : ℕ) → ((n : ℕ) → n < 2 → box boxes (record { carrier = c; slot = n }) ≡ []) → emptied boxes c ≡ boxes
+both_boxes : (boxes : List (List Pdu)) (c : ℕ) → ((n : ℕ) → n < 2 → box boxes (record { carrier = c; slot = n }) ≡ []) → outboxes_without_carrier boxes c ≡ boxes
 both_boxes boxes c none =
     let first : 2 * c + 0 ≡ 2 * c = omega arith in
     same_boxes boxes c (subst (λ (i : ℕ). slice_index_or boxes i [] ≡ []) first (none 0 (omega arith))) (none 1 (omega arith))
@@ -56,7 +56,7 @@ same_calls (s ∷ cs) c others =
     rw here (ap (λ (xs : List Standing). s ∷ xs) (same_calls cs c (λ slot k. others slot (or_right (is_slot s.call.slot slot) (stands_on cs slot) k))))
 
 -- no call on the slot is marked
-same_marked : (cs : List Standing) (slot : Slot) → stands_on cs slot ≡ false → map (marked slot) cs ≡ cs
+same_marked : (cs : List Standing) (slot : Slot) → stands_on cs slot ≡ false → map (with_activity slot) cs ≡ cs
 same_marked [] slot h = refl
 same_marked (s ∷ cs) slot h =
     let both = or_false (is_slot s.call.slot slot) (stands_on cs slot) h in
@@ -120,15 +120,15 @@ down_too plan now c h e = let same : c ≡ plan.control = equal_numbers c plan.c
 slot_down : (plan : Settings) (now : Facts) (slot : Slot) → is_up now slot.carrier ≡ false → is_control plan slot ≡ true → is_up now plan.control ≡ false
 slot_down plan now slot h e = down_too plan now slot.carrier h (and_true (slot.carrier == plan.control) (slot.slot == 0) e).0
 
-pub same_noted : (plan : Settings) (now : Facts) (event : Event) → IsPlan plan → IsSound plan now → IsOfNoCarrier plan now event → noted plan now event ≡ now
+pub same_noted : (plan : Settings) (now : Facts) (event : Event) → IsPlan plan → IsSound plan now → IsOfNoCarrier plan now event → facts_after_event plan now event ≡ now
 same_noted plan now (Up c) p h none =
     let other : (c == plan.control) ≡ false = not_control plan c (plan_known plan p) none in
     let down : is_up now c ≡ false = unknown_down plan now c h none in
-    same_facts (noted plan now (Up c)) now (rw none refl) refl (rw other refl) (rw other refl)
+    same_facts (facts_after_event plan now (Up c)) now (rw none refl) refl (rw other refl) (rw other refl)
     (same_calls now.calls c (λ slot k. not_there plan now c slot h down k))
     (both_boxes now.outboxes c (λ n small. h.down (record { carrier = c; slot = n }) small down)) (rw other refl) refl (rw other refl) (rw other refl)
 same_noted plan now (Lost c) p h none =
-    same_facts (noted plan now (Lost c)) now (same_up now.up c none) refl
+    same_facts (facts_after_event plan now (Lost c)) now (same_up now.up c none) refl
     (none_or (c == plan.control) now.asks (λ e. h.asks (down_too plan now c none e)))
     (none_or (c == plan.control) now.lines (λ e. h.lines (down_too plan now c none e)))
     (same_calls now.calls c (λ slot k. not_there plan now c slot h none k))
@@ -137,11 +137,11 @@ same_noted plan now (Lost c) p h none =
     (zero_or (c == plan.control) now.fills (λ e. h.unfilled (down_too plan now c none e)))
     (unnamed_or (c == plan.control) now.late (λ e. h.unnamed (down_too plan now c none e)))
 same_noted plan now (Noise slot) p h none =
-    same_facts (noted plan now (Noise slot)) now refl refl refl refl refl refl (noise_or (is_control plan slot) now.noise (λ e. h.noiseless (slot_down plan now slot none e))) refl refl refl
+    same_facts (facts_after_event plan now (Noise slot)) now refl refl refl refl refl refl (noise_or (is_control plan slot) now.noise (λ e. h.noiseless (slot_down plan now slot none e))) refl refl refl
 same_noted plan now (Active slot) p h none =
-    same_facts (noted plan now (Active slot)) now refl refl refl refl (same_marked now.calls slot (none_there plan now slot h none)) refl refl refl refl refl
+    same_facts (facts_after_event plan now (Active slot)) now refl refl refl refl (same_marked now.calls slot (none_there plan now slot h none)) refl refl refl refl refl
 same_noted plan now (Poll c) p h none =
-    same_facts (noted plan now (Poll c)) now refl refl refl refl refl refl (poll_or (c == plan.control) now.noise (λ e. h.noiseless (down_too plan now c none e))) refl refl refl
+    same_facts (facts_after_event plan now (Poll c)) now refl refl refl refl refl refl (poll_or (c == plan.control) now.noise (λ e. h.noiseless (down_too plan now c none e))) refl refl refl
 same_noted plan now (Heard slot pdu) p h none = refl
 same_noted plan now Tick p h none = elim none [ ]
 same_noted plan now (Say command) p h none = elim none [ ]

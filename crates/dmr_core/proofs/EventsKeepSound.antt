@@ -12,16 +12,16 @@ use Rattle.dmr_calls.specs.declared.line.Line.{Line}
 use Rattle.dmr_calls.specs.declared.call.Call.{Call}
 use Rattle.dmr_calls.specs.declared.call.Standing.{Standing}
 use Rattle.dmr_calls.specs.Asks.{waited_more}
-use Rattle.dmr_calls.specs.Calls.{call_on, counted, is_slot, marked}
+use Rattle.dmr_calls.specs.Calls.{call_on, one_tick_older, is_slot, with_activity}
 use Rattle.dmr_access.specs.Noise.{noise_at_up, with_noise, with_poll}
-use Rattle.dmr_pool.specs.Slots.{box, emptied, place}
+use Rattle.dmr_pool.specs.Slots.{box, outboxes_without_carrier, place}
 use Rattle.dmr_pool.specs.Free.{control_slot, is_control}
 use Rattle.dmr_core.specs.declared.event.Event.{Event}
 use Rattle.dmr_core.specs.declared.event.Event.TheVariants.{Active, Lost, Noise, Poll, Say, Tick, Up}
 use Rattle.dmr_core.specs.declared.named.NamedSlot.{NamedSlot}
-use Rattle.dmr_core.specs.Facts.{Facts, has_carrier, noted, moving_by_event}
+use Rattle.dmr_core.specs.Facts.{Facts, has_carrier, facts_after_event, moving_by_event}
 use Rattle.dmr_core.specs.Words.{is_up, stands_on}
-use Rattle.dmr_core.specs.Sound.{IsPayload, IsSound, engagements, in_ask, in_call, in_line, is_grant, is_own, party, total}
+use Rattle.dmr_core.specs.Sound.{IsPayload, IsSound, engagements, engagements_in_ask, engagements_in_call, engagements_in_line, is_grant, is_own, party, total}
 use Rattle.dmr_core.proofs.PlanLemmas.{KnowsPlan}
 use Rattle.dmr_core.proofs.NumberLemmas.{equal_numbers, flipped, other_number}
 use Rattle.dmr_core.proofs.ListLemmas.{total-filter, total-map, any_before, any-map, length-filter_le}
@@ -42,7 +42,7 @@ call_on-map f same (s ∷ cs) slot =
     (call_or (f s) s (is_slot s.call.slot slot) (find (λ x. is_slot x.call.slot slot) (map f cs)) (find (λ x. is_slot x.call.slot slot) cs) (same s) (call_on-map f same cs slot))
 
 same_engaged : (f : Standing → Standing) → ((s : Standing) → (f s).call ≡ s.call) → (calls : List Standing) (asks : List Asking) (lines : List Line) (r : ℕ) → engagements (map f calls) asks lines r ≡ engagements calls asks lines r
-same_engaged f same calls asks lines r = ap (λ (n : ℕ). n + total (in_ask r) asks + total (in_line r) lines) (total-map (in_call r) f (λ s. ap (λ (c : Call). party r c.group c.source c.target) (same s)) calls)
+same_engaged f same calls asks lines r = ap (λ (n : ℕ). n + total (engagements_in_ask r) asks + total (engagements_in_line r) lines) (total-map (engagements_in_call r) f (λ s. ap (λ (c : Call). party r c.group c.source c.target) (same s)) calls)
 
 sound-mapped : (plan : Settings) (now : Facts) (f : Standing → Standing) → ((s : Standing) → (f s).call ≡ s.call) → IsSound plan now → IsSound plan (record now { calls = map f now.calls })
 sound-mapped plan now f same h = record {
@@ -86,10 +86,10 @@ sound-waited plan now h = record {
   asks = λ k. ap (λ (xs : List Asking). map waited_more xs) (h.asks k);
   lines = h.lines;
   distinct = h.distinct;
-  parties = λ r k. h.parties r (omega (arith, k, total-map (in_ask r) waited_more (λ a. refl) now.asks));
+  parties = λ r k. h.parties r (omega (arith, k, total-map (engagements_in_ask r) waited_more (λ a. refl) now.asks));
   called = h.called;
   lined = h.lined;
-  once = λ r. omega (arith, h.once r, total-map (in_ask r) waited_more (λ a. refl) now.asks);
+  once = λ r. omega (arith, h.once r, total-map (engagements_in_ask r) waited_more (λ a. refl) now.asks);
   down = h.down;
   elsewhere = h.elsewhere;
   own = h.own;
@@ -204,13 +204,13 @@ put_none [] i = refl
 put_none (x ∷ xs) zero = refl
 put_none (x ∷ xs) (suc i) = put_none xs i
 
-emptied_or : (P : List Pdu → Type 0) (boxes : List (List Pdu)) (c : ℕ) (slot : Slot) → P [] → P (box boxes slot) → P (box (emptied boxes c) slot)
+emptied_or : (P : List Pdu → Type 0) (boxes : List (List Pdu)) (c : ℕ) (slot : Slot) → P [] → P (box boxes slot) → P (box (outboxes_without_carrier boxes c) slot)
 emptied_or P boxes c slot h k = put_either P (slice_set boxes (2 * c) []) (2 * c + 1) (place slot) [] h (put_either P boxes (2 * c) (place slot) [] h k)
 
 small_slot : (n : ℕ) → n < 2 → (n ≡ 0) ⊎ (n ≡ 1)
 small_slot n h = elim (cases_lt n 1) [ inl k ↦ inl (omega arith) | inr k ↦ inr (omega arith) ]
 
-pub emptied_box : (boxes : List (List Pdu)) (c : ℕ) (slot : Slot) → slot.slot < 2 → slot.carrier ≡ c → box (emptied boxes c) slot ≡ []
+pub emptied_box : (boxes : List (List Pdu)) (c : ℕ) (slot : Slot) → slot.slot < 2 → slot.carrier ≡ c → box (outboxes_without_carrier boxes c) slot ≡ []
 emptied_box boxes c slot small same =
     elim (small_slot slot.slot small) [
       | inl e ↦ (let at : place slot ≡ 2 * c = omega arith in rw at (put_either (λ b. b ≡ []) (slice_set boxes (2 * c) []) (2 * c + 1) (2 * c) [] refl (put_none boxes (2 * c))))
@@ -267,7 +267,7 @@ reset plan now c up noise = record {
   asks = if c == plan.control then [] else now.asks;
   lines = if c == plan.control then [] else now.lines;
   calls = filter (λ s. not (s.call.slot.carrier == c)) now.calls;
-  outboxes = emptied now.outboxes c;
+  outboxes = outboxes_without_carrier now.outboxes c;
   noise = noise;
   moving = now.moving;
   fills = if c == plan.control then 0 else now.fills;
@@ -279,7 +279,7 @@ sound-reset plan now c up noise long known others noiseless window h =
     let gone : Standing → Bool = λ s. not (s.call.slot.carrier == c) in
     let before : (slot : Slot) → stands_on (filter gone now.calls) slot ≡ true → stands_on now.calls slot ≡ true = λ slot k. any_before (λ s. is_slot s.call.slot slot) gone now.calls k in
     let fewer : (r : ℕ) → engagements (filter gone now.calls) (if c == plan.control then [] else now.asks) (if c == plan.control then [] else now.lines) r ≤ engagements now.calls now.asks now.lines r =
-    λ r. omega (arith, total-filter (in_call r) gone now.calls, lines_or (in_ask r) (c == plan.control) now.asks, lines_or (in_line r) (c == plan.control) now.lines) in
+    λ r. omega (arith, total-filter (engagements_in_call r) gone now.calls, lines_or (engagements_in_ask r) (c == plan.control) now.asks, lines_or (engagements_in_line r) (c == plan.control) now.lines) in
     record {
       carriers = long;
       slots = length-set (slice_set now.outboxes (2 * c) []) (2 * c + 1) [] ∙ length-set now.outboxes (2 * c) [] ∙ h.slots;
@@ -310,7 +310,7 @@ sound-reset plan now c up noise long known others noiseless window h =
       unnamed = λ k. unnamed_or (c == plan.control) now.late (λ e. h.unnamed (sym (others plan.control (flipped c plan.control e)) ∙ k));
     }
   where
-    down_there : (slot : Slot) → slot.slot < 2 → slice_index_or up slot.carrier false ≡ false → (b : Bool) → (slot.carrier == c) ≡ b → box (emptied now.outboxes c) slot ≡ []
+    down_there : (slot : Slot) → slot.slot < 2 → slice_index_or up slot.carrier false ≡ false → (b : Bool) → (slot.carrier == c) ≡ b → box (outboxes_without_carrier now.outboxes c) slot ≡ []
     down_there slot small k true e = emptied_box now.outboxes c slot small (equal_numbers _ _ e)
     down_there slot small k false e = emptied_or (λ b. b ≡ []) now.outboxes c slot refl (h.down slot small (sym (others slot.carrier e) ∙ k))
 
@@ -394,7 +394,7 @@ ended_all plan now c true e h k =
     cc
 ended_all plan now c false e h k = h.window (sym (get_or-set_other now.up c plan.control false false (other_number plan.control c (flipped c plan.control e))) ∙ k)
 
-pub sound-noted : (plan : Settings) (now : Facts) (event : Event) → KnowsPlan plan → IsSound plan now → IsSound plan (noted plan now event)
+pub sound-noted : (plan : Settings) (now : Facts) (event : Event) → KnowsPlan plan → IsSound plan now → IsSound plan (facts_after_event plan now event)
 sound-noted plan now (Up c) p h = came_up plan now c (has_carrier plan c) refl p h
 sound-noted plan now (Lost c) p h =
     sound-reset plan now c (slice_set now.up c false) (if c == plan.control then [] else now.noise) (length-set now.up c false ∙ h.carriers)
@@ -403,8 +403,8 @@ sound-noted plan now (Lost c) p h =
     (λ k. ended_none plan now c (c == plan.control) refl h k)
     (λ k. ended_all plan now c (c == plan.control) refl h k)
     h
-sound-noted plan now (Active slot) p h = sound-mapped plan now (marked slot) (marked_call slot) h
-sound-noted plan now Tick p h = sound-waited plan (record now { calls = map counted now.calls }) (sound-mapped plan now counted (λ s. refl) h)
+sound-noted plan now (Active slot) p h = sound-mapped plan now (with_activity slot) (marked_call slot) h
+sound-noted plan now Tick p h = sound-waited plan (record now { calls = map one_tick_older now.calls }) (sound-mapped plan now one_tick_older (λ s. refl) h)
 sound-noted plan now (Noise slot) p h = sound-noise plan now (if is_control plan slot then with_noise now.noise else now.noise) h (with_noise_none (is_control plan slot) now.noise) (with_noise_all (is_control plan slot) now.noise)
 sound-noted plan now (Poll c) p h = sound-noise plan now (if c == plan.control then with_poll now.noise else now.noise) h (with_poll_none (c == plan.control) now.noise) (with_poll_all (c == plan.control) now.noise)
 sound-noted plan now (Say command) p h = sound-moving plan now (moving_by_event now.moving (Say command)) h

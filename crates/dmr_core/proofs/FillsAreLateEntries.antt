@@ -4,7 +4,7 @@ use Rattle.std.specs.Prelude.{Option, Some, None, MatchOption, IfSome, ◌&&◌,
 use Rattle.dmr_pdu.specs.declared.slots.Slot.{Slot}
 use Rattle.dmr_pdu.specs.declared.pdu.Pdu.{Pdu}
 use Rattle.dmr_plan.specs.declared.settings.Settings.{Settings}
-use Rattle.dmr_access.specs.Fill.{aloha_of, fill_of, is_late_due}
+use Rattle.dmr_access.specs.Fill.{aloha_pdu, fill_of, is_late_due}
 use Rattle.dmr_calls.specs.declared.call.Call.{Call}
 use Rattle.dmr_calls.specs.declared.call.Standing.{Standing}
 use Rattle.dmr_calls.specs.After.{is_group_at, place_after}
@@ -13,24 +13,24 @@ use Rattle.dmr_pool.specs.Free.{control_slot}
 use Rattle.dmr_core.specs.declared.event.Event.TheVariants.{Poll}
 use Rattle.dmr_core.specs.declared.act.Act.{Act}
 use Rattle.dmr_core.specs.declared.act.Act.TheVariants.{Fill}
-use Rattle.dmr_core.specs.Facts.{Facts, done, noted}
+use Rattle.dmr_core.specs.Facts.{Facts, facts_after_act, facts_after_event}
 use Rattle.dmr_core.specs.Late.{last_slot, next_call}
 use Rattle.dmr_core.specs.Words.{is_up}
 use Rattle.dmr_core.specs.Rules.{grant_pdu, late_entry}
 use Rattle.dmr_core.specs.Sound.{IsSound, is_grant}
-use Rattle.dmr_core.specs.May.{MayDo, MayName, entry_of}
+use Rattle.dmr_core.specs.May.{MayDo, MayName, late_entry_of_fill}
 use Rattle.dmr_core.specs.Turns.{IsLateOf}
 use Rattle.dmr_core.proofs.SlotsStaySound.{true_false}
 
-pub counted-done : (plan : Settings) (now : Facts) (act : Act) → IsSound plan now → (done now act).fills < 4
+pub counted-done : (plan : Settings) (now : Facts) (act : Act) → IsSound plan now → (facts_after_act now act).fills < 4
 counted-done plan now (Fill slot pdu) h = omega arith
 counted-done plan now act h = h.counted
 
-pub unfilled-done : (plan : Settings) (now : Facts) (act : Act) → IsSound plan now → MayDo plan now act → is_up now plan.control ≡ false → (done now act).fills ≡ 0
+pub unfilled-done : (plan : Settings) (now : Facts) (act : Act) → IsSound plan now → MayDo plan now act → is_up now plan.control ≡ false → (facts_after_act now act).fills ≡ 0
 unfilled-done plan now (Fill slot pdu) h may down = true_false _ may.up down
 unfilled-done plan now act h may down = h.unfilled down
 
-pub unnamed-done : (plan : Settings) (now : Facts) (act : Act) → IsSound plan now → MayDo plan now act → is_up now plan.control ≡ false → (done now act).late ≡ None
+pub unnamed-done : (plan : Settings) (now : Facts) (act : Act) → IsSound plan now → MayDo plan now act → is_up now plan.control ≡ false → (facts_after_act now act).late ≡ None
 unnamed-done plan now (Fill slot pdu) h may down = true_false _ may.up down
 unnamed-done plan now act h may down = h.unnamed down
 
@@ -65,13 +65,13 @@ fill_names : (plan : Settings) (calls : List Standing) (slot : Slot) (moving : O
 fill_names plan calls slot (Some lpcn) noise fills entry there late = tt
 fill_names plan calls slot None noise fills entry there late = either (is_late_due fills) entry late
   where
-    either : (b : Bool) (o : Option Pdu) → IfSome o (IsLateOf plan calls) → MayName plan calls slot (if b then unwrap_or o (aloha_of plan noise) else aloha_of plan noise) (is_grant (if b then unwrap_or o (aloha_of plan noise) else aloha_of plan noise))
+    either : (b : Bool) (o : Option Pdu) → IfSome o (IsLateOf plan calls) → MayName plan calls slot (if b then unwrap_or o (aloha_pdu plan noise) else aloha_pdu plan noise) (is_grant (if b then unwrap_or o (aloha_pdu plan noise) else aloha_pdu plan noise))
     either true None late = tt
     either true (Some pdu) late = late_names plan calls slot pdu there late
     either false o late = tt
 
 -- a fill is the late entry, if there is one, and else no grant
-fill_entry : (plan : Settings) (moving : Option ℕ) (noise : List ℕ) (fills : ℕ) (o : Option Call) → entry_of (fill_of plan moving noise fills (if is_late_due fills && not (is_some moving) then option_map (λ (call : Call). grant_pdu plan call true) o else None)) ≡ (if is_late_due fills && not (is_some moving) then option_map (λ (call : Call). grant_pdu plan call true) o else None)
+fill_entry : (plan : Settings) (moving : Option ℕ) (noise : List ℕ) (fills : ℕ) (o : Option Call) → late_entry_of_fill (fill_of plan moving noise fills (if is_late_due fills && not (is_some moving) then option_map (λ (call : Call). grant_pdu plan call true) o else None)) ≡ (if is_late_due fills && not (is_some moving) then option_map (λ (call : Call). grant_pdu plan call true) o else None)
 fill_entry plan (Some lpcn) noise fills o = either (is_late_due fills)
   where
     either : (b : Bool) → None ≡ (if b && false then option_map (λ (call : Call). grant_pdu plan call true) o else None)
@@ -79,13 +79,13 @@ fill_entry plan (Some lpcn) noise fills o = either (is_late_due fills)
     either false = refl
 fill_entry plan None noise fills o = either (is_late_due fills) o
   where
-    either : (b : Bool) (o : Option Call) → entry_of (if b then unwrap_or (if b && true then option_map (λ (call : Call). grant_pdu plan call true) o else None) (aloha_of plan noise) else aloha_of plan noise) ≡ (if b && true then option_map (λ (call : Call). grant_pdu plan call true) o else None)
+    either : (b : Bool) (o : Option Call) → late_entry_of_fill (if b then unwrap_or (if b && true then option_map (λ (call : Call). grant_pdu plan call true) o else None) (aloha_pdu plan noise) else aloha_pdu plan noise) ≡ (if b && true then option_map (λ (call : Call). grant_pdu plan call true) o else None)
     either true None = refl
     either true (Some call) = rw (late_grant plan call) refl
     either false o = refl
 
 -- the control slot may be filled at a Poll
-pub fill_may : (plan : Settings) (now : Facts) (c : ℕ) (slot : Slot) → slot ≡ control_slot plan → is_up now plan.control ≡ true → MayDo plan (noted plan now (Poll c)) (Fill slot (fill_of plan now.moving now.noise now.fills (late_entry plan now)))
+pub fill_may : (plan : Settings) (now : Facts) (c : ℕ) (slot : Slot) → slot ≡ control_slot plan → is_up now plan.control ≡ true → MayDo plan (facts_after_event plan now (Poll c)) (Fill slot (fill_of plan now.moving now.noise now.fills (late_entry plan now)))
 unfolding late_entry
 fill_may plan now c slot there up = record {
   up = up;

@@ -9,7 +9,7 @@ use Rattle.dmr_calls.specs.declared.call.Standing.{Standing}
 use Rattle.dmr_calls.specs.Calls.{is_slot}
 use Rattle.dmr_pool.specs.Slots.{place}
 use Rattle.dmr_core.specs.Words.{stands_on}
-use Rattle.dmr_core.specs.Sound.{AreApart}
+use Rattle.dmr_core.specs.Sound.{AreOnDistinctSlots}
 use Rattle.dmr_core.proofs.ChoiceLemmas.{or_false}
 
 abbrev places : List Standing → List ℕ
@@ -30,7 +30,7 @@ apart_places slot (s ∷ cs) h on free =
     let both = or_false (is_slot s.call.slot slot) (stands_on cs slot) free in
     (other_place slot s.call.slot h on.1 both.0, apart_places slot cs h on.2 both.1)
 
-distinct_places : (cs : List Standing) → AreOnSlots cs → AreApart cs → IsDistinct nat_eq (places cs)
+distinct_places : (cs : List Standing) → AreOnSlots cs → AreOnDistinctSlots cs → IsDistinct nat_eq (places cs)
 unfolding IsDistinct
 distinct_places [] on apart = tt
 distinct_places (s ∷ cs) on apart = (apart_places s.call.slot cs on.1 on.2 apart.0, distinct_places cs on.2 apart.1)
@@ -51,7 +51,7 @@ length-places : (cs : List Standing) → length (places cs) ≡ length cs
 length-places [] = refl
 length-places (s ∷ cs) = ap (λ n. suc n) (length-places cs)
 
-pub few_calls : (cs : List Standing) (control slot : Slot) → AreOnSlots cs → AreApart cs → control.carrier < 16 → control.slot < 2 → slot.carrier < 16 → slot.slot < 2 → stands_on cs control ≡ false → stands_on cs slot ≡ false → is_slot slot control ≡ false → length cs < 31
+pub few_calls : (cs : List Standing) (control slot : Slot) → AreOnSlots cs → AreOnDistinctSlots cs → control.carrier < 16 → control.slot < 2 → slot.carrier < 16 → slot.slot < 2 → stands_on cs control ≡ false → stands_on cs slot ≡ false → is_slot slot control ≡ false → length cs < 31
 unfolding IsDistinct
 few_calls cs control slot on apart h1 h2 k1 k2 free1 free2 differ =
     let all : List ℕ = place control ∷ place slot ∷ places cs in

@@ -12,10 +12,10 @@ use Rattle.dmr_calls.specs.Calls.{call_on, is_slot}
 use Rattle.dmr_pool.specs.Free.{control_slot, names}
 use Rattle.dmr_core.specs.declared.act.Act.{Act}
 use Rattle.dmr_core.specs.declared.act.Act.TheVariants.{Began, Ended, Queue, Send}
-use Rattle.dmr_core.specs.Facts.{Facts, done, has_carrier}
+use Rattle.dmr_core.specs.Facts.{Facts, facts_after_act, has_carrier}
 use Rattle.dmr_core.specs.Words.{lpcn_of, outbox, stands_on}
 use Rattle.dmr_core.specs.Rules.{grant_pdu}
-use Rattle.dmr_core.specs.Sound.{AreApart, IsSound, is_grant, is_own}
+use Rattle.dmr_core.specs.Sound.{AreOnDistinctSlots, IsSound, is_grant, is_own}
 use Rattle.dmr_core.specs.May.{MayDo, MayName}
 use Rattle.dmr_core.proofs.PlanLemmas.{KnowsPlan}
 use Rattle.dmr_core.proofs.NumberLemmas.{equal_itself, equal_numbers}
@@ -32,7 +32,7 @@ call_stands (s ∷ cs) slot call h = first (is_slot s.call.slot slot) refl h (ca
     first false e h more = rw e (more h)
 
 -- a call that is found by another test is the call on its slot
-pub found_stands : (p : Standing → Bool) (cs : List Standing) (call : Call) → AreApart cs → option_map (λ (x : Standing). x.call) (find p cs) ≡ Some call → call_on cs call.slot ≡ Some call
+pub found_stands : (p : Standing → Bool) (cs : List Standing) (call : Call) → AreOnDistinctSlots cs → option_map (λ (x : Standing). x.call) (find p cs) ≡ Some call → call_on cs call.slot ≡ Some call
 found_stands p [] call apart h = cc
 found_stands p (s ∷ cs) call apart h = first (p s) h (found_stands p cs call apart.1)
   where
@@ -148,7 +148,7 @@ named_own plan now slot there call pdu false p h k e may = not_grant_own plan ca
 pub control_small : (plan : Settings) → (control_slot plan).slot < 2
 control_small plan = omega arith
 
-pub own-done : (plan : Settings) (now : Facts) (act : Act) → KnowsPlan plan → IsSound plan now → MayDo plan now act → (slot : Slot) (call : Call) → call_on (done now act).calls slot ≡ Some call → list_all (is_own plan call) (outbox (done now act) (control_slot plan)) ≡ true
+pub own-done : (plan : Settings) (now : Facts) (act : Act) → KnowsPlan plan → IsSound plan now → MayDo plan now act → (slot : Slot) (call : Call) → call_on (facts_after_act now act).calls slot ≡ Some call → list_all (is_own plan call) (outbox (facts_after_act now act) (control_slot plan)) ≡ true
 own-done plan now (Queue there pdu) p h may slot call k =
     let before : list_all (is_own plan call) (outbox now (control_slot plan)) ≡ true = h.own slot call k in
     after_put (λ s b. s ≡ control_slot plan → list_all (is_own plan call) b ≡ true) now.outboxes there _ (control_slot plan) may.small (control_small plan)

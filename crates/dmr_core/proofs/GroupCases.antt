@@ -10,19 +10,19 @@ use Rattle.dmr_calls.specs.declared.ask.Asking.{Asking}
 use Rattle.dmr_calls.specs.declared.line.Line.{Line}
 use Rattle.dmr_calls.specs.declared.call.Call.{Call}
 use Rattle.dmr_calls.specs.declared.call.Standing.{Standing}
-use Rattle.dmr_pool.specs.Slots.{slot_at, queued}
+use Rattle.dmr_pool.specs.Slots.{slot_at, outboxes_with_pdu}
 use Rattle.dmr_core.specs.declared.event.Event.{Event}
 use Rattle.dmr_core.specs.declared.event.Event.TheVariants.{Up, Lost, Heard, Active, Poll, Tick}
 use Rattle.dmr_core.specs.declared.act.Act.{Act}
 use Rattle.dmr_core.specs.declared.act.Act.TheVariants.{Queue, Send, Fill, Left, Began, Ended, Lined, Unlined}
-use Rattle.dmr_core.specs.Facts.{Facts, facts_after, nothing}
-use Rattle.dmr_core.specs.Journal.{answer, entry_by_nobody}
+use Rattle.dmr_core.specs.Facts.{Facts, facts_after, no_facts}
+use Rattle.dmr_core.specs.Journal.{answer_after_entries, entry_by_nobody}
 use Rattle.dmr_core.specs.Rules.{acts_of}
 use Rattle.dmr_core.proofs.Cases.{site, slot, all_rules, registers, leaves, acked, idle, talks, call}
 
 -- what stands after the event and its answer
 abbrev pub next : Facts → Event → Facts
-next now event = facts_after site now (entry_by_nobody event (answer site now [] event) ∷ [])
+next now event = facts_after site now (entry_by_nobody event (answer_after_entries site now [] event) ∷ [])
 
 -- the same after these events, the first of them first
 abbrev pub next_all : Facts → List Event → Facts
@@ -77,7 +77,7 @@ three_callers =
     Up 0 ∷ Up 1 ∷ registers 1001 ∷ Poll 0 ∷ registers 1002 ∷ Poll 0 ∷ registers 1003 ∷ Poll 0 ∷ registers 1004 ∷ Poll 0 ∷ registers 1005 ∷ Poll 0
     ∷ registers 1006 ∷ Poll 0 ∷ talks 91 1001 ∷ Poll 0 ∷ talks 92 1002 ∷ Poll 0 ∷ talks 93 1003 ∷ Poll 0 ∷ []
 
-pub three_calls_stand : next_all nothing three_callers ≡ standing (three_calls 0) [] []
+pub three_calls_stand : next_all no_facts three_callers ≡ standing (three_calls 0) [] []
 unfolding all_rules
 three_calls_stand = refl
 
@@ -220,7 +220,7 @@ unfolding all_rules
 cleared_without_control_carrier = refl
 
 -- a slot whose grant still waits isn't free
-pub granted_slot_is_not_free : answers (record (standing [] [] []) { outboxes = queued (replicate 32 []) (slot 0 0) (TvGrant 1 1 false 91 1001) }) (talks 92 1002) ≡ Began (call (slot 1 0) 1002 92) ∷ Queue (slot 0 0) (TvGrant 2 0 false 92 1002) ∷ []
+pub granted_slot_is_not_free : answers (record (standing [] [] []) { outboxes = outboxes_with_pdu (replicate 32 []) (slot 0 0) (TvGrant 1 1 false 91 1001) }) (talks 92 1002) ≡ Began (call (slot 1 0) 1002 92) ∷ Queue (slot 0 0) (TvGrant 2 0 false 92 1002) ∷ []
 unfolding all_rules
 granted_slot_is_not_free = refl
 

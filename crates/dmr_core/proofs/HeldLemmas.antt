@@ -6,8 +6,8 @@ use Rattle.std.proofs.lemmas.List.{get_or-set_same, get_or-set_other}
 use Rattle.dmr_pdu.specs.declared.slots.Slot.{Slot}
 use Rattle.dmr_calls.specs.declared.call.Call.{Call}
 use Rattle.dmr_calls.specs.declared.call.Standing.{Standing}
-use Rattle.dmr_calls.specs.Calls.{is_slot, just_begun, counted, marked, on_other_slots, on_other_carriers}
-use Rattle.dmr_pool.specs.Slots.{IsSlot, place, is_held, released}
+use Rattle.dmr_calls.specs.Calls.{is_slot, just_begun, one_tick_older, with_activity, on_other_slots, on_other_carriers}
+use Rattle.dmr_pool.specs.Slots.{IsSlot, place, is_slot_held, held_without_carrier}
 use Rattle.dmr_core.specs.Words.{stands_on}
 use Rattle.dmr_core.specs.Held.{HoldsCalls}
 use Rattle.dmr_core.proofs.ListLemmas.{any-push}
@@ -23,10 +23,10 @@ or_none true = refl
 or_none false = refl
 
 -- a slot whose place is written, and another
-written : (held : List Bool) (a : Slot) (b : Bool) → place a < length held → is_held (slice_set held (place a) b) a ≡ b
+written : (held : List Bool) (a : Slot) (b : Bool) → place a < length held → is_slot_held (slice_set held (place a) b) a ≡ b
 written held a b within = get_or-set_same held (place a) b false within
 
-unwritten : (held : List Bool) (a s : Slot) (b : Bool) → place s ≢ place a → is_held (slice_set held (place a) b) s ≡ is_held held s
+unwritten : (held : List Bool) (a s : Slot) (b : Bool) → place s ≢ place a → is_slot_held (slice_set held (place a) b) s ≡ is_slot_held held s
 unwritten held a s b apart = get_or-set_other held (place a) (place s) b false apart
 
 -- a call begins
@@ -42,9 +42,9 @@ begun held calls call size at h s is = either (is_slot s call.slot) refl
         turned : (a b : Slot) → is_slot b a ≡ false → is_slot a b ≡ false
         turned a b e = sym (same_slots b a) ∙ e
 
-    either : (b : Bool) → is_slot s call.slot ≡ b → is_held (slice_set held (place call.slot) true) s ≡ stands_on (calls ++ just_begun call ∷ []) s
+    either : (b : Bool) → is_slot s call.slot ≡ b → is_slot_held (slice_set held (place call.slot) true) s ≡ stands_on (calls ++ just_begun call ∷ []) s
     either true e =
-        subst (λ (x : Slot). is_held (slice_set held (place call.slot) true) x ≡ true) (sym (same_slot s call.slot e)) (written held call.slot true (omega (arith, size, at.0, at.1)))
+        subst (λ (x : Slot). is_slot_held (slice_set held (place call.slot) true) x ≡ true) (sym (same_slot s call.slot e)) (written held call.slot true (omega (arith, size, at.0, at.1)))
         ∙ sym (any-push (λ t. is_slot t.call.slot s) calls (just_begun call) ∙ ap (λ b. stands_on calls s || b) (here e) ∙ or_true (stands_on calls s))
     either false e =
         unwritten held call.slot s true (other_place s call.slot is.1 at.1 e) ∙ h s is
@@ -75,19 +75,19 @@ kept slot s (t ∷ calls) apart = either (is_slot t.call.slot slot) refl (kept s
 pub ended : (held : List Bool) (calls : List Standing) (slot : Slot) → length held ≡ 32 → IsSlot slot → HoldsCalls held calls → HoldsCalls (slice_set held (place slot) false) (on_other_slots slot calls)
 ended held calls slot size at h s is = either (is_slot s slot) refl
   where
-    either : (b : Bool) → is_slot s slot ≡ b → is_held (slice_set held (place slot) false) s ≡ stands_on (on_other_slots slot calls) s
-    either true e = subst (λ (x : Slot). is_held (slice_set held (place slot) false) x ≡ stands_on (on_other_slots slot calls) x) (sym (same_slot s slot e)) (written held slot false (omega (arith, size, at.0, at.1)) ∙ sym (gone slot calls))
+    either : (b : Bool) → is_slot s slot ≡ b → is_slot_held (slice_set held (place slot) false) s ≡ stands_on (on_other_slots slot calls) s
+    either true e = subst (λ (x : Slot). is_slot_held (slice_set held (place slot) false) x ≡ stands_on (on_other_slots slot calls) x) (sym (same_slot s slot e)) (written held slot false (omega (arith, size, at.0, at.1)) ∙ sym (gone slot calls))
     either false e = unwritten held slot s false (other_place s slot is.1 at.1 e) ∙ h s is ∙ sym (kept slot s calls e)
 
 -- calls that are marked, and counted
 pub mapped : (held : List Bool) (calls : List Standing) (f : Standing → Standing) → ((t : Standing) → (f t).call ≡ t.call) → HoldsCalls held calls → HoldsCalls held (map f calls)
 mapped held calls f same h s is = h s is ∙ sym (stands_on-map f same calls s)
 
-pub marked_held : (held : List Bool) (calls : List Standing) (slot : Slot) → HoldsCalls held calls → HoldsCalls held (map (marked slot) calls)
-marked_held held calls slot h = mapped held calls (marked slot) (marked_call slot) h
+pub marked_held : (held : List Bool) (calls : List Standing) (slot : Slot) → HoldsCalls held calls → HoldsCalls held (map (with_activity slot) calls)
+marked_held held calls slot h = mapped held calls (with_activity slot) (marked_call slot) h
 
-pub counted_held : (held : List Bool) (calls : List Standing) → HoldsCalls held calls → HoldsCalls held (map counted calls)
-counted_held held calls h = mapped held calls counted (λ t. refl) h
+pub counted_held : (held : List Bool) (calls : List Standing) → HoldsCalls held calls → HoldsCalls held (map one_tick_older calls)
+counted_held held calls h = mapped held calls one_tick_older (λ t. refl) h
 
 -- the calls of a carrier end
 gone_with : (s : Slot) (calls : List Standing) → stands_on (on_other_carriers s.carrier calls) s ≡ false
@@ -111,7 +111,7 @@ kept_beside c s (t ∷ calls) apart = either (t.call.slot.carrier == c) refl (ke
     either false e more = ap (λ b. is_slot t.call.slot s || b) more
 
 -- a slot of the carrier is released, and each other stays
-released_there : (held : List Bool) (s : Slot) → length held ≡ 32 → IsSlot s → is_held (released held s.carrier) s ≡ false
+released_there : (held : List Bool) (s : Slot) → length held ≡ 32 → IsSlot s → is_slot_held (held_without_carrier held s.carrier) s ≡ false
 released_there held s size is = either (s.slot == 0) refl
   where
     first : (s.slot == 0) ≡ true → place s ≡ 2 * s.carrier
@@ -120,7 +120,7 @@ released_there held s size is = either (s.slot == 0) refl
     second : (s.slot == 0) ≡ false → place s ≡ 2 * s.carrier + 1
     second e = grind (arith, nat_tests, is.1)
 
-    either : (b : Bool) → (s.slot == 0) ≡ b → is_held (released held s.carrier) s ≡ false
+    either : (b : Bool) → (s.slot == 0) ≡ b → is_slot_held (held_without_carrier held s.carrier) s ≡ false
     either true e =
         let at = first e in
         get_or-set_other (slice_set held (2 * s.carrier) false) (2 * s.carrier + 1) (place s) false false (λ same. absurd (omega arith))
@@ -130,19 +130,19 @@ released_there held s size is = either (s.slot == 0) refl
         subst (λ n. slice_index_or (slice_set (slice_set held (2 * s.carrier) false) n false) (place s) false ≡ false) at
         (get_or-set_same (slice_set held (2 * s.carrier) false) (place s) false false (omega (arith, size, is.0, is.1, length-set held (2 * s.carrier) false)))
 
-released_beside : (held : List Bool) (c : ℕ) (s : Slot) → IsSlot s → (s.carrier == c) ≡ false → is_held (released held c) s ≡ is_held held s
+released_beside : (held : List Bool) (c : ℕ) (s : Slot) → IsSlot s → (s.carrier == c) ≡ false → is_slot_held (held_without_carrier held c) s ≡ is_slot_held held s
 released_beside held c s is apart =
     get_or-set_other (slice_set held (2 * c) false) (2 * c + 1) (place s) false false (λ same. absurd (grind (arith, nat_tests, is.1)))
     ∙ get_or-set_other held (2 * c) (place s) false false (λ same. absurd (grind (arith, nat_tests, is.1)))
 
-pub lost : (held : List Bool) (calls : List Standing) (c : ℕ) → length held ≡ 32 → HoldsCalls held calls → HoldsCalls (released held c) (on_other_carriers c calls)
+pub lost : (held : List Bool) (calls : List Standing) (c : ℕ) → length held ≡ 32 → HoldsCalls held calls → HoldsCalls (held_without_carrier held c) (on_other_carriers c calls)
 lost held calls c size h s is = either (s.carrier == c) refl
   where
     equal : (a b : ℕ) → (a == b) ≡ true → a ≡ b
     equal a b h = grind (arith, nat_tests)
 
-    either : (b : Bool) → (s.carrier == c) ≡ b → is_held (released held c) s ≡ stands_on (on_other_carriers c calls) s
-    either true e = subst (λ n. is_held (released held n) s ≡ stands_on (on_other_carriers n calls) s) (equal s.carrier c e) (released_there held s size is ∙ sym (gone_with s calls))
+    either : (b : Bool) → (s.carrier == c) ≡ b → is_slot_held (held_without_carrier held c) s ≡ stands_on (on_other_carriers c calls) s
+    either true e = subst (λ n. is_slot_held (held_without_carrier held n) s ≡ stands_on (on_other_carriers n calls) s) (equal s.carrier c e) (released_there held s size is ∙ sym (gone_with s calls))
     either false e = released_beside held c s is e ∙ h s is ∙ sym (kept_beside c s calls e)
 
 -- nothing is held at first

@@ -10,7 +10,7 @@ use Rattle.dmr_core.specs.declared.event.Event.TheVariants.{Up, Lost}
 use Rattle.dmr_core.specs.declared.act.Act.{Act}
 use Rattle.dmr_core.specs.declared.act.Act.TheVariants.{Joined, Left}
 use Rattle.dmr_core.specs.declared.entry.Entry.{Entry}
-use Rattle.dmr_core.specs.Facts.{Facts, facts_after, since, unchanged, registered_by_act, up_by_event, has_carrier}
+use Rattle.dmr_core.specs.Facts.{Facts, facts_after, since, same_as_before, registered_by_act, up_by_event, has_carrier}
 use Rattle.dmr_core.specs.Words.{is_registered, is_up}
 use Rattle.dmr_core.specs.Last.{or_earlier, last_word, stands, no_event, no_act, of_registration, of_carrier}
 use Rattle.dmr_core.proofs.NumberLemmas.{equal_numbers, flipped, other_number}
@@ -82,7 +82,7 @@ registered_by_last plan facts (entry ∷ earlier) r =
     ∙ sym (later_first (last_word (of_registration r) entry.acts.list) None (stands no_event (of_registration r) (is_registered facts r) earlier))
 
 -- carriers
-same_up : (acts : List Act) (up : List Bool) → fold unchanged up acts ≡ up
+same_up : (acts : List Act) (up : List Bool) → fold same_as_before up acts ≡ up
 same_up [] up = refl
 same_up (act ∷ acts) up = same_up acts up
 
@@ -123,17 +123,17 @@ length-event plan up (Up d) = length-cond (has_carrier plan d) up d
 length-event plan up (Lost d) = length-set up d false
 length-event plan up _ = refl
 
-length-since : (plan : Settings) (up : List Bool) (journal : List Entry) → length (since (up_by_event plan) unchanged up journal) ≡ length up
+length-since : (plan : Settings) (up : List Bool) (journal : List Entry) → length (since (up_by_event plan) same_as_before up journal) ≡ length up
 length-since plan up [] = refl
 length-since plan up (entry ∷ earlier) =
-    ap (λ (xs : List Bool). length xs) (same_up entry.acts.list (up_by_event plan (since (up_by_event plan) unchanged up earlier) entry.event))
-    ∙ length-event plan (since (up_by_event plan) unchanged up earlier) entry.event
+    ap (λ (xs : List Bool). length xs) (same_up entry.acts.list (up_by_event plan (since (up_by_event plan) same_as_before up earlier) entry.event))
+    ∙ length-event plan (since (up_by_event plan) same_as_before up earlier) entry.event
     ∙ length-since plan up earlier
 
 pub up_by_last : (plan : Settings) (facts : Facts) (journal : List Entry) (c : ℕ) → c < length facts.up → is_up (facts_after plan facts journal) c ≡ stands (of_carrier plan c) no_act (is_up facts c) journal
 up_by_last plan facts [] c h = refl
 up_by_last plan facts (entry ∷ earlier) c h =
-    let before : List Bool = since (up_by_event plan) unchanged facts.up earlier in
+    let before : List Bool = since (up_by_event plan) same_as_before facts.up earlier in
     let within : c < length before = omega (arith, length-since plan facts.up earlier) in
     ap (λ (xs : List Bool). slice_index_or xs c false) (same_up entry.acts.list (up_by_event plan before entry.event))
     ∙ one_event plan before entry.event c within

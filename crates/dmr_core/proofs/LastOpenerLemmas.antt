@@ -10,9 +10,9 @@ use Rattle.dmr_calls.specs.declared.ask.Asking.{Asking}
 use Rattle.dmr_calls.specs.declared.line.Line.{Line}
 use Rattle.dmr_calls.specs.declared.call.Call.{Call}
 use Rattle.dmr_calls.specs.declared.call.Standing.{Standing}
-use Rattle.dmr_calls.specs.Asks.{ask_of, just_asked, others_than, waited_more}
+use Rattle.dmr_calls.specs.Asks.{ask_of, new_asking, others_than, waited_more}
 use Rattle.dmr_calls.specs.Lines.{line_of, without_line}
-use Rattle.dmr_calls.specs.Calls.{call_on, counted, is_slot, just_begun, marked, on_other_carriers}
+use Rattle.dmr_calls.specs.Calls.{call_on, one_tick_older, is_slot, just_begun, with_activity, on_other_carriers}
 use Rattle.dmr_core.specs.declared.event.Event.{Event}
 use Rattle.dmr_core.specs.declared.event.Event.TheVariants.{Active, Lost, Say, Tick, Up}
 use Rattle.dmr_core.specs.declared.command.Command.TheVariants.{Move, Stay}
@@ -20,10 +20,10 @@ use Rattle.dmr_core.specs.declared.act.Act.{Act}
 use Rattle.dmr_core.specs.declared.act.Act.TheVariants.{AskOver, Asked, Began, Ended, Fill, Lined, Unlined}
 use Rattle.dmr_core.specs.declared.entry.Entry.{Entry}
 use Rattle.dmr_core.specs.declared.named.NamedSlot.{NamedSlot}
-use Rattle.dmr_core.specs.Facts.{Facts, asks_by_event, calls_by_event, done, facts_after, late_by_act, late_by_event, lines_by_event, moving_by_event, noted}
+use Rattle.dmr_core.specs.Facts.{Facts, asks_by_event, calls_by_event, facts_after_act, facts_after, late_by_act, late_by_event, lines_by_event, moving_by_event, facts_after_event}
 use Rattle.dmr_core.specs.Words.{stands_on}
 use Rattle.dmr_core.specs.Journal.{IsLegal}
-use Rattle.dmr_core.specs.Sound.{IsSound, in_line, total}
+use Rattle.dmr_core.specs.Sound.{IsSound, engagements_in_line, total}
 use Rattle.dmr_core.specs.May.{MayDo}
 use Rattle.dmr_core.specs.Laws.{EachAct, Throughout}
 use Rattle.dmr_core.specs.Last.{closed_with, last_word, no_act, of_ask, of_call, of_late, of_line, of_move, stands}
@@ -38,33 +38,33 @@ use Rattle.dmr_core.proofs.FactsFollowEntries.{facts_after-step}
 
 -- each act leaves what it says, or what stood before it
 abbrev Leaves : {X : Type 0} → (Facts → X) → (Act → Option X) → Facts → Act → Type 0
-Leaves at by_act now act = at (done now act) ≡ unwrap_or (by_act act) (at now)
+Leaves at by_act now act = at (facts_after_act now act) ≡ unwrap_or (by_act act) (at now)
 
-acts_leave : {X : Type 0} (at : Facts → X) (by_act : Act → Option X) (now : Facts) (acts : List Act) → EachAct (Leaves at by_act) now acts → at (fold done now acts) ≡ unwrap_or (last_word by_act acts) (at now)
+acts_leave : {X : Type 0} (at : Facts → X) (by_act : Act → Option X) (now : Facts) (acts : List Act) → EachAct (Leaves at by_act) now acts → at (fold facts_after_act now acts) ≡ unwrap_or (last_word by_act acts) (at now)
 acts_leave at by_act now [] each = refl
 acts_leave at by_act now (act ∷ acts) each =
-    acts_leave at by_act (done now act) acts each.1
+    acts_leave at by_act (facts_after_act now act) acts each.1
     ∙ ap (λ x. unwrap_or (last_word by_act acts) x) each.0
     ∙ sym (later_first (last_word by_act acts) (by_act act) (at now))
 
 -- so the last of all decides
-decided : {X : Type 0} (plan : Settings) (facts : Facts) (at : Facts → X) (by_event : Event → Option X) (by_act : Act → Option X) → ((now : Facts) (event : Event) → at (noted plan now event) ≡ unwrap_or (by_event event) (at now)) → (journal : List Entry) → Throughout plan facts (Leaves at by_act) journal → at (facts_after plan facts journal) ≡ stands by_event by_act (at facts) journal
+decided : {X : Type 0} (plan : Settings) (facts : Facts) (at : Facts → X) (by_event : Event → Option X) (by_act : Act → Option X) → ((now : Facts) (event : Event) → at (facts_after_event plan now event) ≡ unwrap_or (by_event event) (at now)) → (journal : List Entry) → Throughout plan facts (Leaves at by_act) journal → at (facts_after plan facts journal) ≡ stands by_event by_act (at facts) journal
 decided plan facts at by_event by_act notes [] each = refl
 decided plan facts at by_event by_act notes (entry ∷ earlier) each =
     let now : Facts = facts_after plan facts earlier in
     ap at (facts_after-step plan facts entry earlier)
-    ∙ acts_leave at by_act (noted plan now entry.event) entry.acts.list each.0
+    ∙ acts_leave at by_act (facts_after_event plan now entry.event) entry.acts.list each.0
     ∙ ap (λ x. unwrap_or (last_word by_act entry.acts.list) x) (notes now entry.event ∙ ap (λ x. unwrap_or (by_event entry.event) x) (decided plan facts at by_event by_act notes earlier each.1))
     ∙ sym (later_first (last_word by_act entry.acts.list) (by_event entry.event) (stands by_event by_act (at facts) earlier))
 
 -- what every act leaves, it leaves in every journal
 each_of : (P : Facts → Act → Type 0) → ((now : Facts) (act : Act) → P now act) → (now : Facts) (acts : List Act) → EachAct P now acts
 each_of P always now [] = tt
-each_of P always now (act ∷ acts) = (always now act, each_of P always (done now act) acts)
+each_of P always now (act ∷ acts) = (always now act, each_of P always (facts_after_act now act) acts)
 
 pub everywhere : (plan : Settings) (facts : Facts) (P : Facts → Act → Type 0) → ((now : Facts) (act : Act) → P now act) → (journal : List Entry) → Throughout plan facts P journal
 everywhere plan facts P always [] = tt
-everywhere plan facts P always (entry ∷ earlier) = (each_of P always (noted plan (facts_after plan facts earlier) entry.event) entry.acts.list, everywhere plan facts P always earlier)
+everywhere plan facts P always (entry ∷ earlier) = (each_of P always (facts_after_event plan (facts_after plan facts earlier) entry.event) entry.acts.list, everywhere plan facts P always earlier)
 
 -- the move
 move_noted : (moving : Option ℕ) (event : Event) → moving_by_event moving event ≡ unwrap_or (of_move event) moving
@@ -156,12 +156,12 @@ ask_over : (asks : List Asking) (q r : ℕ) (b : Bool) → (q == r) ≡ b → as
 ask_over asks q r true e = ask_gone asks q r e
 ask_over asks q r false e = ask_kept asks q r e
 
-asked : (asks : List Asking) (ask : Ask) (r : ℕ) (b : Bool) → (ask.source == r) ≡ b → ask_of (others_than ask.source asks ++ just_asked ask ∷ []) r ≡ unwrap_or (if b then Some (Some ask) else None) (ask_of asks r)
+asked : (asks : List Asking) (ask : Ask) (r : ℕ) (b : Bool) → (ask.source == r) ≡ b → ask_of (others_than ask.source asks ++ new_asking ask ∷ []) r ≡ unwrap_or (if b then Some (Some ask) else None) (ask_of asks r)
 asked asks ask r true e =
     let none : find (λ (a : Asking). a.ask.source == r) (others_than ask.source asks) ≡ None = find_gone (λ (a : Asking). a.ask.source == r) (λ (a : Asking). a.ask.source == ask.source) (λ a k. same_sources a.ask.source ask.source r e k) asks in
-    ap (λ (x : Option Asking). option_map (λ (a : Asking). a.ask) x) (find_new (λ (a : Asking). a.ask.source == r) (others_than ask.source asks) (just_asked ask) none e)
+    ap (λ (x : Option Asking). option_map (λ (a : Asking). a.ask) x) (find_new (λ (a : Asking). a.ask.source == r) (others_than ask.source asks) (new_asking ask) none e)
 asked asks ask r false e =
-    ap (λ (x : Option Asking). option_map (λ (a : Asking). a.ask) x) (find_same (λ (a : Asking). a.ask.source == r) (others_than ask.source asks) (just_asked ask) e)
+    ap (λ (x : Option Asking). option_map (λ (a : Asking). a.ask) x) (find_same (λ (a : Asking). a.ask.source == r) (others_than ask.source asks) (new_asking ask) e)
     ∙ ask_kept asks ask.source r e
 
 ask_left : (r : ℕ) (now : Facts) (act : Act) → Leaves (λ (f : Facts). ask_of f.asks r) (of_ask r) now act
@@ -193,14 +193,14 @@ none_found f p h (x ∷ xs) few = either (p x) refl (none_found f p h xs (omega 
     either true e more = let some : 0 < f x = h x e in absurd (omega (arith, some, few))
     either false e more = rw e more
 
-line_counts : (r : ℕ) (line : Line) → (line.source == r) ≡ true → 0 < in_line r line
-line_counts r line e = subst (λ (n : ℕ). 0 < in_line n line) (equal_numbers line.source r e) (source_counts line.group line.source line.target)
+line_counts : (r : ℕ) (line : Line) → (line.source == r) ≡ true → 0 < engagements_in_line r line
+line_counts r line e = subst (λ (n : ℕ). 0 < engagements_in_line n line) (equal_numbers line.source r e) (source_counts line.group line.source line.target)
 
 pub no_line : (plan : Settings) (now : Facts) (line : Line) → MayDo plan now (Lined line) → find (λ l. l.source == line.source) now.lines ≡ None
 no_line plan now line may =
     let once = may.2.once line.source in
     let counts = source_counts line.group line.source line.target in
-    none_found (in_line line.source) (λ l. l.source == line.source) (line_counts line.source) now.lines (omega (arith, once, counts))
+    none_found (engagements_in_line line.source) (λ l. l.source == line.source) (line_counts line.source) now.lines (omega (arith, once, counts))
 
 lined : (plan : Settings) (now : Facts) (line : Line) (r : ℕ) (b : Bool) → (line.source == r) ≡ b → MayDo plan now (Lined line) → line_of (now.lines ++ line ∷ []) r ≡ unwrap_or (if b then Some (Some line) else None) (line_of now.lines r)
 lined plan now line r true e may = find_new (λ l. l.source == r) now.lines line (subst (λ (n : ℕ). find (λ l. l.source == n) now.lines ≡ None) (equal_numbers line.source r e) (no_line plan now line may)) e
@@ -261,8 +261,8 @@ carrier_over calls c slot =
 pub call_noted : (calls : List Standing) (event : Event) (slot : Slot) → call_on (calls_by_event calls event) slot ≡ unwrap_or (closed_with slot.carrier event) (call_on calls slot)
 call_noted calls (Up c) slot = carrier_over calls c slot
 call_noted calls (Lost c) slot = carrier_over calls c slot
-call_noted calls (Active there) slot = found_map (λ (s : Standing). is_slot s.call.slot slot) (λ (s : Standing). s.call) (marked there) (λ s. ap (λ (k : Call). is_slot k.slot slot) (marked_call there s)) (marked_call there) calls
-call_noted calls Tick slot = found_map (λ (s : Standing). is_slot s.call.slot slot) (λ (s : Standing). s.call) counted (λ s. refl) (λ s. refl) calls
+call_noted calls (Active there) slot = found_map (λ (s : Standing). is_slot s.call.slot slot) (λ (s : Standing). s.call) (with_activity there) (λ s. ap (λ (k : Call). is_slot k.slot slot) (marked_call there s)) (marked_call there) calls
+call_noted calls Tick slot = found_map (λ (s : Standing). is_slot s.call.slot slot) (λ (s : Standing). s.call) one_tick_older (λ s. refl) (λ s. refl) calls
 call_noted calls _ slot = refl
 
 pub call_by_last : (plan : Settings) (facts : Facts) (journal : List Entry) (slot : Slot) → KnowsPlan plan → IsSound plan facts → IsLegal plan facts journal → call_on (facts_after plan facts journal).calls slot ≡ stands (closed_with slot.carrier) (of_call slot) (call_on facts.calls slot) journal

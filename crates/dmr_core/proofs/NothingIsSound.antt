@@ -5,7 +5,7 @@ use Rattle.std.specs.List.{list_any}
 use Rattle.dmr_pdu.specs.declared.pdu.Pdu.{Pdu}
 use Rattle.dmr_plan.specs.declared.settings.Settings.{Settings}
 use Rattle.dmr_pool.specs.Slots.{place}
-use Rattle.dmr_core.specs.Facts.{nothing}
+use Rattle.dmr_core.specs.Facts.{no_facts}
 use Rattle.dmr_core.specs.Sound.{IsSound, is_grant}
 use Rattle.dmr_core.proofs.SlotsStaySound.{true_false}
 
@@ -25,7 +25,7 @@ no_length xs h = rw h (omega arith)
 no_grants : (xs : List Pdu) → xs ≡ [] → list_any is_grant xs ≡ false
 no_grants xs h = rw h refl
 
-pub nothing_is_sound : (plan : Settings) → IsSound plan nothing
+pub nothing_is_sound : (plan : Settings) → IsSound plan no_facts
 nothing_is_sound plan = record {
   carriers = refl;
   slots = refl;

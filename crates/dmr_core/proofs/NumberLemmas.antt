@@ -6,7 +6,7 @@ use Rattle.std.proofs.lemmas.Bool.Decides.{nat_tests}
 use Rattle.std.proofs.lemmas.List.Elements.{All-head, All-tail}
 use Rattle.dmr_plan.specs.declared.carriers.CarrierRow.{CarrierRow}
 use Rattle.dmr_plan.specs.Carriers.{has_number_in}
-use Rattle.dmr_plan.specs.Kept.{IsRow}
+use Rattle.dmr_plan.specs.Kept.{IsCarrierRow}
 
 pub equal_numbers : (a b : ℕ) → (a == b) ≡ true → a ≡ b
 equal_numbers a b h = grind (arith, nat_tests)
@@ -24,10 +24,10 @@ pub other_number : (a b : ℕ) → (a == b) ≡ false → a ≢ b
 other_number a b h = λ same. absurd (grind (arith, nat_tests))
 
 -- a carrier of the plan has a number below 16
-pub row_below : (rows : List CarrierRow) (c : ℕ) → All IsRow rows → has_number_in rows c ≡ true → c < 16
+pub row_below : (rows : List CarrierRow) (c : ℕ) → All IsCarrierRow rows → has_number_in rows c ≡ true → c < 16
 row_below [] c each h = cc
-row_below (row ∷ rows) c each h = either (row.number == c) refl h (row_below rows c (All-tail IsRow row rows each))
+row_below (row ∷ rows) c each h = either (row.number == c) refl h (row_below rows c (All-tail IsCarrierRow row rows each))
   where
     either : (b : Bool) → (row.number == c) ≡ b → (b || has_number_in rows c) ≡ true → (has_number_in rows c ≡ true → c < 16) → c < 16
-    either true e h more = let same : row.number ≡ c = equal_numbers row.number c e in let small : row.number ≤ 15 = (All-head IsRow row rows each).number.1 in omega arith
+    either true e h more = let same : row.number ≡ c = equal_numbers row.number c e in let small : row.number ≤ 15 = (All-head IsCarrierRow row rows each).number.1 in omega arith
     either false e h more = more h

@@ -12,20 +12,20 @@ use Rattle.dmr_calls.specs.declared.ask.Asking.{Asking}
 use Rattle.dmr_calls.specs.declared.line.Line.{Line}
 use Rattle.dmr_calls.specs.declared.call.Call.{Call}
 use Rattle.dmr_calls.specs.declared.call.Standing.{Standing}
-use Rattle.dmr_calls.specs.Asks.{others_than, just_asked, waited_more}
-use Rattle.dmr_calls.specs.Calls.{counted, is_slot, just_begun, marked, on_other_carriers}
+use Rattle.dmr_calls.specs.Asks.{others_than, new_asking, waited_more}
+use Rattle.dmr_calls.specs.Calls.{one_tick_older, is_slot, just_begun, with_activity, on_other_carriers}
 use Rattle.dmr_core.specs.declared.event.Event.{Event}
 use Rattle.dmr_core.specs.declared.event.Event.TheVariants.{Active, Lost, Tick, Up}
 use Rattle.dmr_core.specs.declared.act.Act.{Act}
 use Rattle.dmr_core.specs.declared.act.Act.TheVariants.{AskOver, Asked, Began, Ended, Joined, Left, Lined, Unlined}
 use Rattle.dmr_core.specs.declared.entry.Entry.{Entry}
-use Rattle.dmr_core.specs.Facts.{Facts, done, facts_after, noted}
+use Rattle.dmr_core.specs.Facts.{Facts, facts_after_act, facts_after, facts_after_event}
 use Rattle.dmr_core.specs.Words.{stands_on}
 use Rattle.dmr_core.specs.Journal.{IsLegal}
-use Rattle.dmr_core.specs.Sound.{AreApart, IsSound, in_ask, in_line, total}
+use Rattle.dmr_core.specs.Sound.{AreOnDistinctSlots, IsSound, engagements_in_ask, engagements_in_line, total}
 use Rattle.dmr_core.specs.May.{MayDo}
 use Rattle.dmr_core.specs.Laws.{EachAct, Throughout}
-use Rattle.dmr_core.specs.Orders.{IsInOrder, asked_by, begun_by, joined_by, last_of_each, lined_by, opened, slots_of_calls, sources_of_asks, sources_of_lines}
+use Rattle.dmr_core.specs.Orders.{IsInOrder, asked_by, begun_by, joined_by, last_of_each, lined_by, with_openings, slots_of_calls, sources_of_asks, sources_of_lines}
 use Rattle.dmr_core.proofs.PlanLemmas.{KnowsPlan}
 use Rattle.dmr_core.proofs.NumberLemmas.{equal_itself, equal_numbers}
 use Rattle.dmr_core.proofs.ListLemmas.{any-push}
@@ -183,25 +183,25 @@ order_single same eq xs h = sym (ap (λ ys. filter (λ x. list_any (same x) xs) 
 
 -- an act puts what it opens behind the others, in place of what is the same
 abbrev Orders : {X : Type 0} → (X → X → Bool) → (Facts → List X) → (Act → List X) → Facts → Act → Type 0
-Orders same keys by_act now act = (all : List _) → IsInOrder same all (keys now) → IsInOrder same (all ++ by_act act) (keys (done now act))
+Orders same keys by_act now act = (all : List _) → IsInOrder same all (keys now) → IsInOrder same (all ++ by_act act) (keys (facts_after_act now act))
 
-acts_order : {X : Type 0} (same : X → X → Bool) (keys : Facts → List X) (by_act : Act → List X) (now : Facts) (acts : List Act) (all : List X) → EachAct (Orders same keys by_act) now acts → IsInOrder same all (keys now) → IsInOrder same (all ++ flat_map by_act acts) (keys (fold done now acts))
+acts_order : {X : Type 0} (same : X → X → Bool) (keys : Facts → List X) (by_act : Act → List X) (now : Facts) (acts : List Act) (all : List X) → EachAct (Orders same keys by_act) now acts → IsInOrder same all (keys now) → IsInOrder same (all ++ flat_map by_act acts) (keys (fold facts_after_act now acts))
 acts_order same keys by_act now [] all each h = order_kept same all (keys now) h
 acts_order same keys by_act now (act ∷ acts) all each h =
-    subst (λ (ys : List _). IsInOrder same ys (keys (fold done (done now act) acts))) (append_assoc all (by_act act) (flat_map by_act acts))
-    (acts_order same keys by_act (done now act) acts (all ++ by_act act) each.1 (each.0 all h))
+    subst (λ (ys : List _). IsInOrder same ys (keys (fold facts_after_act (facts_after_act now act) acts))) (append_assoc all (by_act act) (flat_map by_act acts))
+    (acts_order same keys by_act (facts_after_act now act) acts (all ++ by_act act) each.1 (each.0 all h))
 
 -- an event keeps the order
 abbrev Keeps : {X : Type 0} → (X → X → Bool) → Settings → (Facts → List X) → Type 0
-Keeps same plan keys = (now : Facts) (event : Event) (all : List _) → IsInOrder same all (keys now) → IsInOrder same all (keys (noted plan now event))
+Keeps same plan keys = (now : Facts) (event : Event) (all : List _) → IsInOrder same all (keys now) → IsInOrder same all (keys (facts_after_event plan now event))
 
-ordered : {X : Type 0} (same : X → X → Bool) (plan : Settings) (facts : Facts) (keys : Facts → List X) (by_act : Act → List X) → Keeps same plan keys → IsInOrder same (keys facts) (keys facts) → (journal : List Entry) → Throughout plan facts (Orders same keys by_act) journal → IsInOrder same (opened by_act (keys facts) journal) (keys (facts_after plan facts journal))
+ordered : {X : Type 0} (same : X → X → Bool) (plan : Settings) (facts : Facts) (keys : Facts → List X) (by_act : Act → List X) → Keeps same plan keys → IsInOrder same (keys facts) (keys facts) → (journal : List Entry) → Throughout plan facts (Orders same keys by_act) journal → IsInOrder same (with_openings by_act (keys facts) journal) (keys (facts_after plan facts journal))
 ordered same plan facts keys by_act keeps h [] each = h
 ordered same plan facts keys by_act keeps h (entry ∷ earlier) each =
     let now : Facts = facts_after plan facts earlier in
-    let all : List _ = opened by_act (keys facts) earlier in
+    let all : List _ = with_openings by_act (keys facts) earlier in
     subst (λ (f : Facts). IsInOrder same (all ++ flat_map by_act entry.acts.list) (keys f)) (sym (facts_after-step plan facts entry earlier))
-    (acts_order same keys by_act (noted plan now entry.event) entry.acts.list all each.0 (keeps now entry.event all (ordered same plan facts keys by_act keeps h earlier each.1)))
+    (acts_order same keys by_act (facts_after_event plan now entry.event) entry.acts.list all each.0 (keeps now entry.event all (ordered same plan facts keys by_act keeps h earlier each.1)))
 
 -- radios
 numbers : Equals ◌==◌
@@ -223,7 +223,7 @@ registered_order plan now (Joined r) sound may = λ all h. order_new ◌==◌ nu
 registered_order plan now (Left r) sound may = λ all h. order_kept ◌==◌ all (filter (λ x. not (x == r)) now.registered) (order_filter ◌==◌ numbers all now.registered (λ x. not (x == r)) h)
 registered_order plan now act sound may = λ all h. order_kept ◌==◌ all now.registered h
 
-pub registered_in_order : (plan : Settings) (facts : Facts) (journal : List Entry) → KnowsPlan plan → IsSound plan facts → IsLegal plan facts journal → IsInOrder ◌==◌ (opened joined_by facts.registered journal) (facts_after plan facts journal).registered
+pub registered_in_order : (plan : Settings) (facts : Facts) (journal : List Entry) → KnowsPlan plan → IsSound plan facts → IsLegal plan facts journal → IsInOrder ◌==◌ (with_openings joined_by facts.registered journal) (facts_after plan facts journal).registered
 registered_in_order plan facts journal p sound legal =
     ordered ◌==◌ plan facts (λ (f : Facts). f.registered) joined_by (λ now event all h. h) (order_single ◌==◌ numbers facts.registered (single_radios facts.registered sound.distinct)) journal
     (throughout plan facts (Orders ◌==◌ (λ (f : Facts). f.registered) joined_by) (registered_order plan) journal p sound legal)
@@ -249,7 +249,7 @@ single_once key f h (x ∷ xs) once = (either (list_any (λ y. key x == y) (map 
 ask_order : (now : Facts) (act : Act) → Orders ◌==◌ (λ (f : Facts). sources_of_asks f.asks) asked_by now act
 ask_order now (Asked ask) = λ all h.
     subst (λ (ys : List ℕ). IsInOrder ◌==◌ (all ++ ask.source ∷ []) ys)
-    (sym (map-append (λ (a : Asking). a.ask.source) (others_than ask.source now.asks) (just_asked ask ∷ []) ∙ ap (λ (ys : List ℕ). ys ++ ask.source ∷ []) (map_filter (λ (a : Asking). a.ask.source) (λ x. not (x == ask.source)) now.asks)))
+    (sym (map-append (λ (a : Asking). a.ask.source) (others_than ask.source now.asks) (new_asking ask ∷ []) ∙ ap (λ (ys : List ℕ). ys ++ ask.source ∷ []) (map_filter (λ (a : Asking). a.ask.source) (λ x. not (x == ask.source)) now.asks)))
     (order_push ◌==◌ numbers all (sources_of_asks now.asks) ask.source h)
 ask_order now (AskOver q) = λ all h.
     subst (λ (ys : List ℕ). IsInOrder ◌==◌ (all ++ []) ys) (sym (map_filter (λ (a : Asking). a.ask.source) (λ x. not (x == q)) now.asks))
@@ -266,9 +266,9 @@ ask_keeps plan now (Lost c) all h = asks_closed now.asks (c == plan.control) all
 ask_keeps plan now Tick all h = subst (λ (ys : List ℕ). IsInOrder ◌==◌ all ys) (sym (map_kept (λ (a : Asking). a.ask.source) waited_more (λ a. refl) now.asks)) h
 ask_keeps plan now _ all h = h
 
-pub asks_in_order : (plan : Settings) (facts : Facts) (journal : List Entry) → IsSound plan facts → IsInOrder ◌==◌ (opened asked_by (sources_of_asks facts.asks) journal) (sources_of_asks (facts_after plan facts journal).asks)
+pub asks_in_order : (plan : Settings) (facts : Facts) (journal : List Entry) → IsSound plan facts → IsInOrder ◌==◌ (with_openings asked_by (sources_of_asks facts.asks) journal) (sources_of_asks (facts_after plan facts journal).asks)
 asks_in_order plan facts journal sound =
-    let single : Single ◌==◌ (sources_of_asks facts.asks) = single_once (λ (a : Asking). a.ask.source) in_ask (λ a. source_counts false a.ask.source a.ask.target) facts.asks (λ r. omega (arith, sound.once r)) in
+    let single : Single ◌==◌ (sources_of_asks facts.asks) = single_once (λ (a : Asking). a.ask.source) engagements_in_ask (λ a. source_counts false a.ask.source a.ask.target) facts.asks (λ r. omega (arith, sound.once r)) in
     ordered ◌==◌ plan facts (λ (f : Facts). sources_of_asks f.asks) asked_by (ask_keeps plan) (order_single ◌==◌ numbers (sources_of_asks facts.asks) single) journal
     (everywhere plan facts (Orders ◌==◌ (λ (f : Facts). sources_of_asks f.asks) asked_by) ask_order journal)
 
@@ -300,9 +300,9 @@ line_keeps plan now (Up c) all h = lines_closed now.lines (c == plan.control) al
 line_keeps plan now (Lost c) all h = lines_closed now.lines (c == plan.control) all h
 line_keeps plan now _ all h = h
 
-pub lines_in_order : (plan : Settings) (facts : Facts) (journal : List Entry) → KnowsPlan plan → IsSound plan facts → IsLegal plan facts journal → IsInOrder ◌==◌ (opened lined_by (sources_of_lines facts.lines) journal) (sources_of_lines (facts_after plan facts journal).lines)
+pub lines_in_order : (plan : Settings) (facts : Facts) (journal : List Entry) → KnowsPlan plan → IsSound plan facts → IsLegal plan facts journal → IsInOrder ◌==◌ (with_openings lined_by (sources_of_lines facts.lines) journal) (sources_of_lines (facts_after plan facts journal).lines)
 lines_in_order plan facts journal p sound legal =
-    let single : Single ◌==◌ (sources_of_lines facts.lines) = single_once (λ (l : Line). l.source) in_line (λ l. source_counts l.group l.source l.target) facts.lines (λ r. omega (arith, sound.once r)) in
+    let single : Single ◌==◌ (sources_of_lines facts.lines) = single_once (λ (l : Line). l.source) engagements_in_line (λ l. source_counts l.group l.source l.target) facts.lines (λ r. omega (arith, sound.once r)) in
     ordered ◌==◌ plan facts (λ (f : Facts). sources_of_lines f.lines) lined_by (line_keeps plan) (order_single ◌==◌ numbers (sources_of_lines facts.lines) single) journal
     (throughout plan facts (Orders ◌==◌ (λ (f : Facts). sources_of_lines f.lines) lined_by) (line_order plan) journal p sound legal)
 
@@ -314,7 +314,7 @@ any_flipped : (a : Slot) (calls : List Standing) → list_any (λ (s : Standing)
 any_flipped a [] = refl
 any_flipped a (s ∷ calls) = rw (same_slots a s.call.slot, any_flipped a calls) refl
 
-single_slots : (calls : List Standing) → AreApart calls → Single is_slot (slots_of_calls calls)
+single_slots : (calls : List Standing) → AreOnDistinctSlots calls → Single is_slot (slots_of_calls calls)
 single_slots [] h = tt
 single_slots (s ∷ calls) h = (any_mapped (λ (x : Standing). x.call.slot) (λ x. is_slot s.call.slot x) calls ∙ any_flipped s.call.slot calls ∙ h.0, single_slots calls h.1)
 
@@ -339,11 +339,11 @@ changed f same calls all h = subst (λ (ys : List Slot). IsInOrder is_slot all y
 call_keeps : (plan : Settings) → Keeps is_slot plan (λ (f : Facts). slots_of_calls f.calls)
 call_keeps plan now (Up c) all h = off_carrier now.calls c all h
 call_keeps plan now (Lost c) all h = off_carrier now.calls c all h
-call_keeps plan now (Active there) all h = changed (marked there) (marked_call there) now.calls all h
-call_keeps plan now Tick all h = changed counted (λ s. refl) now.calls all h
+call_keeps plan now (Active there) all h = changed (with_activity there) (marked_call there) now.calls all h
+call_keeps plan now Tick all h = changed one_tick_older (λ s. refl) now.calls all h
 call_keeps plan now _ all h = h
 
-pub calls_in_order : (plan : Settings) (facts : Facts) (journal : List Entry) → KnowsPlan plan → IsSound plan facts → IsLegal plan facts journal → IsInOrder is_slot (opened begun_by (slots_of_calls facts.calls) journal) (slots_of_calls (facts_after plan facts journal).calls)
+pub calls_in_order : (plan : Settings) (facts : Facts) (journal : List Entry) → KnowsPlan plan → IsSound plan facts → IsLegal plan facts journal → IsInOrder is_slot (with_openings begun_by (slots_of_calls facts.calls) journal) (slots_of_calls (facts_after plan facts journal).calls)
 calls_in_order plan facts journal p sound legal =
     ordered is_slot plan facts (λ (f : Facts). slots_of_calls f.calls) begun_by (call_keeps plan) (order_single is_slot slots (slots_of_calls facts.calls) (single_slots facts.calls sound.apart)) journal
     (throughout plan facts (Orders is_slot (λ (f : Facts). slots_of_calls f.calls) begun_by) (call_order plan) journal p sound legal)

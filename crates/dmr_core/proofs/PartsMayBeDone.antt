@@ -19,10 +19,10 @@ use Rattle.dmr_calls.specs.Engaged.{is_party}
 use Rattle.dmr_pool.specs.Slots.{box, place, slot_at}
 use Rattle.dmr_pool.specs.Free.{control_slot, names, lowest_free_by}
 use Rattle.dmr_core.specs.declared.act.Act.TheVariants.{Began, Ended, Queue}
-use Rattle.dmr_core.specs.Facts.{Facts, done}
+use Rattle.dmr_core.specs.Facts.{Facts, facts_after_act}
 use Rattle.dmr_core.specs.Words.{is_engaged, is_free, is_registered, is_up, lowest_free, lpcn_of, outbox, stands_on}
 use Rattle.dmr_core.specs.Rules.{ack, begin, clear, grant, grant_pdu}
-use Rattle.dmr_core.specs.Sound.{IsPayload, IsSound, engagements, in_ask, in_call, in_line, is_grant, party, total}
+use Rattle.dmr_core.specs.Sound.{IsPayload, IsSound, engagements, engagements_in_ask, engagements_in_call, engagements_in_line, is_grant, party, total}
 use Rattle.dmr_core.specs.May.{AllMayDo, IsGrantOf, MayBegin, MayEngage, MayName}
 use Rattle.dmr_core.proofs.PlanLemmas.{KnowsPlan}
 use Rattle.dmr_core.proofs.NumberLemmas.{equal_numbers}
@@ -42,7 +42,7 @@ pub copies_may : (n : ℕ) (plan : Settings) (now : Facts) (slot : Slot) (pdu : 
 copies_may zero plan now slot pdu up small none names room = tt
 copies_may (suc n) plan now slot pdu up small none names room = (
   record { up = up; small = small; none = none; room = omega arith; names = names },
-  copies_may n plan (done now (Queue slot pdu)) slot pdu up small none names
+  copies_may n plan (facts_after_act now (Queue slot pdu)) slot pdu up small none names
       (omega (arith, read_put now.outboxes (place slot) (box now.outboxes slot ++ pdu ∷ []), length-append (box now.outboxes slot) (pdu ∷ []))),
 )
 
@@ -81,29 +81,29 @@ clear_may plan now call p h stands =
     let on = call_stands now.calls call.slot call stands in
     let there : IsPayload plan now.up call.slot = h.payload call.slot on.0 in
     let none : length (outbox now call.slot) ≡ 0 = ap (λ (xs : List Pdu). length xs) (h.quiet call.slot on.0) in
-    (tt, copies_may plan.clear_copies plan (done now (Ended call.slot)) call.slot (Clear (lpcn_of plan plan.control) call.group call.target plan.tsi) there.is_up there.small (none_left call.slot now.calls) tt (omega (arith, p.few_clears)))
+    (tt, copies_may plan.clear_copies plan (facts_after_act now (Ended call.slot)) call.slot (Clear (lpcn_of plan plan.control) call.group call.target plan.tsi) there.is_up there.small (none_left call.slot now.calls) tt (omega (arith, p.few_clears)))
 
 pub begin_may : (plan : Settings) (now : Facts) (call : Call) → KnowsPlan plan → IsSound plan now → is_up now plan.control ≡ true → MayBegin plan now call → length (outbox now (control_slot plan)) + plan.grant_copies ≤ 64 → AllMayDo plan now (begin plan call)
 begin_may plan now call p h up may room =
-    (may, grant_may plan (done now (Began call)) call false (sound-done plan now (Began call) p h may) up (call_begun now.calls (just_begun call) (free_is plan now call.slot may.free).none) room)
+    (may, grant_may plan (facts_after_act now (Began call)) call false (sound-done plan now (Began call) p h may) up (call_begun now.calls (just_begun call) (free_is plan now call.slot may.free).none) room)
 
 -- who isn't engaged
 no_party : (r : ℕ) (group : Bool) (source target : ℕ) → is_party r group source target ≡ false → party r group source target ≡ 0
 no_party r group source target h = let both = or_false (source == r) (not group && (target == r)) h in rw (both.0, both.1) refl
 
-none_in_calls : (r : ℕ) (cs : List Standing) → list_any (λ s. is_party r s.call.group s.call.source s.call.target) cs ≡ false → total (in_call r) cs ≡ 0
+none_in_calls : (r : ℕ) (cs : List Standing) → list_any (λ s. is_party r s.call.group s.call.source s.call.target) cs ≡ false → total (engagements_in_call r) cs ≡ 0
 none_in_calls r [] h = refl
 none_in_calls r (s ∷ cs) h =
     let both = or_false (is_party r s.call.group s.call.source s.call.target) (list_any (λ x. is_party r x.call.group x.call.source x.call.target) cs) h in
     omega (arith, no_party r s.call.group s.call.source s.call.target both.0, none_in_calls r cs both.1)
 
-none_in_lines : (r : ℕ) (ls : List Line) → list_any (λ l. is_party r l.group l.source l.target) ls ≡ false → total (in_line r) ls ≡ 0
+none_in_lines : (r : ℕ) (ls : List Line) → list_any (λ l. is_party r l.group l.source l.target) ls ≡ false → total (engagements_in_line r) ls ≡ 0
 none_in_lines r [] h = refl
 none_in_lines r (l ∷ ls) h =
     let both = or_false (is_party r l.group l.source l.target) (list_any (λ x. is_party r x.group x.source x.target) ls) h in
     omega (arith, no_party r l.group l.source l.target both.0, none_in_lines r ls both.1)
 
-none_in_asks : (r : ℕ) (xs : List Asking) → list_any (λ a. is_party r false a.ask.source a.ask.target) xs ≡ false → total (in_ask r) xs ≡ 0
+none_in_asks : (r : ℕ) (xs : List Asking) → list_any (λ a. is_party r false a.ask.source a.ask.target) xs ≡ false → total (engagements_in_ask r) xs ≡ 0
 none_in_asks r [] h = refl
 none_in_asks r (a ∷ xs) h =
     let both = or_false (is_party r false a.ask.source a.ask.target) (list_any (λ x. is_party r false x.ask.source x.ask.target) xs) h in
@@ -144,7 +144,7 @@ two_parties r source target apart = either (source == r) (target == r) refl refl
     either false true e f = inr (rw (e, f) refl, inr (equal_numbers target r f))
     either false false e f = inl (rw (e, f) refl)
 
-pub individual_engage : (plan : Settings) (now : Facts) (asks : List Asking) (source target : ℕ) → IsSound plan now → ((r : ℕ) → total (in_ask r) asks ≤ total (in_ask r) now.asks) → (target == source) ≡ false → is_registered now source ≡ true → is_registered now target ≡ true → is_engaged now source ≡ false → is_engaged now target ≡ false → MayEngage plan now asks false source target
+pub individual_engage : (plan : Settings) (now : Facts) (asks : List Asking) (source target : ℕ) → IsSound plan now → ((r : ℕ) → total (engagements_in_ask r) asks ≤ total (engagements_in_ask r) now.asks) → (target == source) ≡ false → is_registered now source ≡ true → is_registered now target ≡ true → is_engaged now source ≡ false → is_engaged now target ≡ false → MayEngage plan now asks false source target
 individual_engage plan now asks source target h fewer apart registered also free idle = record {
   parties = λ r k. elim (two_parties r source target apart) [
     | inl e ↦ absurd (omega arith)

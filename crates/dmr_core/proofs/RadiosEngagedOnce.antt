@@ -10,37 +10,37 @@ use Rattle.dmr_calls.specs.declared.ask.Asking.{Asking}
 use Rattle.dmr_calls.specs.declared.line.Line.{Line}
 use Rattle.dmr_calls.specs.declared.call.Call.{Call}
 use Rattle.dmr_calls.specs.declared.call.Standing.{Standing}
-use Rattle.dmr_calls.specs.Asks.{just_asked, others_than}
+use Rattle.dmr_calls.specs.Asks.{new_asking, others_than}
 use Rattle.dmr_calls.specs.Calls.{is_slot, just_begun}
 use Rattle.dmr_core.specs.declared.act.Act.{Act}
 use Rattle.dmr_core.specs.declared.act.Act.TheVariants.{AskOver, Asked, Began, Ended, Joined, Left, Lined, Unlined}
-use Rattle.dmr_core.specs.Facts.{Facts, done}
+use Rattle.dmr_core.specs.Facts.{Facts, facts_after_act}
 use Rattle.dmr_core.specs.Words.{is_registered}
-use Rattle.dmr_core.specs.Sound.{IsSound, engagements, in_ask, in_call, in_line, party}
+use Rattle.dmr_core.specs.Sound.{IsSound, engagements, engagements_in_ask, engagements_in_call, engagements_in_line, party}
 use Rattle.dmr_core.specs.May.{MayDo}
 use Rattle.dmr_core.proofs.ListLemmas.{total-append, total-filter, any-push}
 
 -- what a new call or line adds
 pub with_call : (calls : List Standing) (asks : List Asking) (lines : List Line) (call : Call) (r : ℕ) → engagements (calls ++ just_begun call ∷ []) asks lines r ≡ engagements calls asks lines r + party r call.group call.source call.target
-with_call calls asks lines call r = omega (arith, total-append (in_call r) calls (just_begun call))
+with_call calls asks lines call r = omega (arith, total-append (engagements_in_call r) calls (just_begun call))
 
 pub with_line : (calls : List Standing) (asks : List Asking) (lines : List Line) (l : Line) (r : ℕ) → engagements calls asks (lines ++ l ∷ []) r ≡ engagements calls asks lines r + party r l.group l.source l.target
-with_line calls asks lines l r = omega (arith, total-append (in_line r) lines l)
+with_line calls asks lines l r = omega (arith, total-append (engagements_in_line r) lines l)
 
 pub fewer_calls : (q : Standing → Bool) (calls : List Standing) (asks : List Asking) (lines : List Line) (r : ℕ) → engagements (filter q calls) asks lines r ≤ engagements calls asks lines r
-fewer_calls q calls asks lines r = omega (arith, total-filter (in_call r) q calls)
+fewer_calls q calls asks lines r = omega (arith, total-filter (engagements_in_call r) q calls)
 
 pub fewer_lines : (q : Line → Bool) (calls : List Standing) (asks : List Asking) (lines : List Line) (r : ℕ) → engagements calls asks (filter q lines) r ≤ engagements calls asks lines r
-fewer_lines q calls asks lines r = omega (arith, total-filter (in_line r) q lines)
+fewer_lines q calls asks lines r = omega (arith, total-filter (engagements_in_line r) q lines)
 
 -- an ask of the same source goes first
-pub with_ask : (calls : List Standing) (asks : List Asking) (lines : List Line) (a : Ask) (r : ℕ) → engagements calls (asks ++ just_asked a ∷ []) lines r ≡ engagements calls asks lines r + party r false a.source a.target
-with_ask calls asks lines a r = omega (arith, total-append (in_ask r) asks (just_asked a))
+pub with_ask : (calls : List Standing) (asks : List Asking) (lines : List Line) (a : Ask) (r : ℕ) → engagements calls (asks ++ new_asking a ∷ []) lines r ≡ engagements calls asks lines r + party r false a.source a.target
+with_ask calls asks lines a r = omega (arith, total-append (engagements_in_ask r) asks (new_asking a))
 
 pub fewer_asks : (q : Asking → Bool) (calls : List Standing) (asks : List Asking) (lines : List Line) (r : ℕ) → engagements calls (filter q asks) lines r ≤ engagements calls asks lines r
-fewer_asks q calls asks lines r = omega (arith, total-filter (in_ask r) q asks)
+fewer_asks q calls asks lines r = omega (arith, total-filter (engagements_in_ask r) q asks)
 
-pub once-done : (plan : Settings) (now : Facts) (act : Act) → IsSound plan now → MayDo plan now act → (r : ℕ) → engagements (done now act).calls (done now act).asks (done now act).lines r ≤ 1
+pub once-done : (plan : Settings) (now : Facts) (act : Act) → IsSound plan now → MayDo plan now act → (r : ℕ) → engagements (facts_after_act now act).calls (facts_after_act now act).asks (facts_after_act now act).lines r ≤ 1
 once-done plan now (Began call) h may r = rw (with_call now.calls now.asks now.lines call r) (may.engage.once r)
 once-done plan now (Lined l) h may r = rw (with_line now.calls now.asks now.lines l r) (may.2.once r)
 once-done plan now (Asked a) h may r = rw (with_ask now.calls (others_than a.source now.asks) now.lines a r) (may.2.once r)
@@ -73,7 +73,7 @@ engaged_differs now q r h k = different (r == q) (λ same. same_radio r q same)
     different true same = let e : engagements now.calls now.asks now.lines r ≡ engagements now.calls now.asks now.lines q = ap (λ n. engagements now.calls now.asks now.lines n) (same refl) in absurd (omega arith)
     different false same = refl
 
-pub parties-done : (plan : Settings) (now : Facts) (act : Act) → IsSound plan now → MayDo plan now act → (r : ℕ) → 0 < engagements (done now act).calls (done now act).asks (done now act).lines r → is_registered (done now act) r ≡ true
+pub parties-done : (plan : Settings) (now : Facts) (act : Act) → IsSound plan now → MayDo plan now act → (r : ℕ) → 0 < engagements (facts_after_act now act).calls (facts_after_act now act).asks (facts_after_act now act).lines r → is_registered (facts_after_act now act) r ≡ true
 parties-done plan now (Began call) h may r k = new_party now (engagements now.calls now.asks now.lines r) (party r call.group call.source call.target) r (h.parties r) (may.engage.parties r) (rw (with_call now.calls now.asks now.lines call r) at k)
 parties-done plan now (Lined l) h may r k = new_party now (engagements now.calls now.asks now.lines r) (party r l.group l.source l.target) r (h.parties r) (may.2.parties r) (rw (with_line now.calls now.asks now.lines l r) at k)
 parties-done plan now (Asked a) h may r k =

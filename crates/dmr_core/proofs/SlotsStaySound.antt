@@ -15,9 +15,9 @@ use Rattle.dmr_pool.specs.Slots.{box, place}
 use Rattle.dmr_pool.specs.Free.{control_slot, is_empty, names}
 use Rattle.dmr_core.specs.declared.act.Act.{Act}
 use Rattle.dmr_core.specs.declared.act.Act.TheVariants.{Began, Ended, Queue, Send}
-use Rattle.dmr_core.specs.Facts.{Facts, done, has_carrier}
+use Rattle.dmr_core.specs.Facts.{Facts, facts_after_act, has_carrier}
 use Rattle.dmr_core.specs.Words.{is_free, is_up, lpcn_of, outbox, stands_on}
-use Rattle.dmr_core.specs.Sound.{AreApart, IsPayload, IsSound, is_grant}
+use Rattle.dmr_core.specs.Sound.{AreOnDistinctSlots, IsPayload, IsSound, is_grant}
 use Rattle.dmr_core.specs.May.{MayDo, MayName}
 use Rattle.dmr_core.proofs.FreeLemmas.{granted_known}
 use Rattle.dmr_core.proofs.PlanLemmas.{KnowsPlan}
@@ -83,7 +83,7 @@ free_is plan now slot h =
     let e = and_true _ _ d.0 in
     record { known = e.0; up = e.1; apart = not_true _ d.1; none = not_true _ c.1; quiet = empty_is _ b.1; ungranted = sym (granted_known plan now.outboxes slot e.0) ∙ not_true _ a.1 }
 
-pub payload-done : (plan : Settings) (now : Facts) (act : Act) → IsSound plan now → MayDo plan now act → (slot : Slot) → stands_on (done now act).calls slot ≡ true → IsPayload plan (done now act).up slot
+pub payload-done : (plan : Settings) (now : Facts) (act : Act) → IsSound plan now → MayDo plan now act → (slot : Slot) → stands_on (facts_after_act now act).calls slot ≡ true → IsPayload plan (facts_after_act now act).up slot
 payload-done plan now (Began call) h may slot k =
     let free : IsFree plan now call.slot = free_is plan now call.slot may.free in
     elim (stands_there now.calls call slot k) [ inl e ↦ h.payload slot e | inr e ↦ subst (IsPayload plan now.up) (sym e) (record { known = free.known; is_up = free.up; small = may.small; apart = free.apart }) ]
@@ -96,7 +96,7 @@ drop_none xs h = rw h refl
 pub true_false : {X : Type 0} (b : Bool) → b ≡ true → b ≡ false → X
 true_false b h k = cc
 
-pub quiet-done : (plan : Settings) (now : Facts) (act : Act) → KnowsPlan plan → IsSound plan now → MayDo plan now act → (slot : Slot) → stands_on (done now act).calls slot ≡ true → outbox (done now act) slot ≡ []
+pub quiet-done : (plan : Settings) (now : Facts) (act : Act) → KnowsPlan plan → IsSound plan now → MayDo plan now act → (slot : Slot) → stands_on (facts_after_act now act).calls slot ≡ true → outbox (facts_after_act now act) slot ≡ []
 quiet-done plan now (Began call) p h may slot k =
     let free : IsFree plan now call.slot = free_is plan now call.slot may.free in
     elim (stands_there now.calls call slot k) [ inl e ↦ h.quiet slot e | inr e ↦ subst (λ (x : Slot). outbox now x ≡ []) (sym e) free.quiet ]
@@ -109,7 +109,7 @@ quiet-done plan now (Send there pdu) p h may slot k =
     (within_boxes plan now there p h may.0 may.1) (λ e. drop_none _ (h.quiet there e)) (λ d e. h.quiet slot e) k
 quiet-done plan now act p h may slot k = h.quiet slot k
 
-pub down-done : (plan : Settings) (now : Facts) (act : Act) → KnowsPlan plan → IsSound plan now → MayDo plan now act → (slot : Slot) → slot.slot < 2 → is_up (done now act) slot.carrier ≡ false → outbox (done now act) slot ≡ []
+pub down-done : (plan : Settings) (now : Facts) (act : Act) → KnowsPlan plan → IsSound plan now → MayDo plan now act → (slot : Slot) → slot.slot < 2 → is_up (facts_after_act now act) slot.carrier ≡ false → outbox (facts_after_act now act) slot ≡ []
 down-done plan now (Queue there pdu) p h may slot small k =
     after_put (λ s b. is_up now s.carrier ≡ false → b ≡ []) now.outboxes there _ slot may.small small
     (within_boxes plan now there p h may.up may.small) (λ e. true_false _ may.up e) (λ d e. h.down slot small e) k
@@ -137,7 +137,7 @@ named_there : (plan : Settings) (now : Facts) (slot : Slot) (pdu : Pdu) (b : Boo
 named_there plan now slot pdu true may k = true_false _ (rw may.0 (itself (control_slot plan))) k
 named_there plan now slot pdu false may k = refl
 
-pub elsewhere-done : (plan : Settings) (now : Facts) (act : Act) → KnowsPlan plan → IsSound plan now → MayDo plan now act → (slot : Slot) → slot.slot < 2 → is_slot slot (control_slot plan) ≡ false → list_any is_grant (outbox (done now act) slot) ≡ false
+pub elsewhere-done : (plan : Settings) (now : Facts) (act : Act) → KnowsPlan plan → IsSound plan now → MayDo plan now act → (slot : Slot) → slot.slot < 2 → is_slot slot (control_slot plan) ≡ false → list_any is_grant (outbox (facts_after_act now act) slot) ≡ false
 elsewhere-done plan now (Queue there pdu) p h may slot small k =
     after_put (λ s b. is_slot s (control_slot plan) ≡ false → list_any is_grant b ≡ false) now.outboxes there _ slot may.small small
     (within_boxes plan now there p h may.up may.small)
@@ -150,7 +150,7 @@ elsewhere-done plan now (Send there pdu) p h may slot small k =
     (λ d e. h.elsewhere slot small e) k
 elsewhere-done plan now act p h may slot small k = h.elsewhere slot small k
 
-pub few_waiting-done : (plan : Settings) (now : Facts) (act : Act) → KnowsPlan plan → IsSound plan now → MayDo plan now act → (slot : Slot) → slot.slot < 2 → length (outbox (done now act) slot) ≤ 64
+pub few_waiting-done : (plan : Settings) (now : Facts) (act : Act) → KnowsPlan plan → IsSound plan now → MayDo plan now act → (slot : Slot) → slot.slot < 2 → length (outbox (facts_after_act now act) slot) ≤ 64
 few_waiting-done plan now (Queue there pdu) p h may slot small =
     after_put (λ s b. length b ≤ 64) now.outboxes there _ slot may.small small (within_boxes plan now there p h may.up may.small)
     (omega (arith, may.room, length-append (outbox now there) (pdu ∷ []))) (λ d. h.few_waiting slot small)
@@ -159,12 +159,12 @@ few_waiting-done plan now (Send there pdu) p h may slot small =
     (omega (arith, h.few_waiting there may.1, length-drop 1 (outbox now there))) (λ d. h.few_waiting slot small)
 few_waiting-done plan now act p h may slot small = h.few_waiting slot small
 
-pub apart-done : (plan : Settings) (now : Facts) (act : Act) → IsSound plan now → MayDo plan now act → AreApart (done now act).calls
+pub apart-done : (plan : Settings) (now : Facts) (act : Act) → IsSound plan now → MayDo plan now act → AreOnDistinctSlots (facts_after_act now act).calls
 apart-done plan now (Began call) h may = apart-append now.calls (just_begun call) h.apart (free_is plan now call.slot may.free).none
 apart-done plan now (Ended slot) h may = apart-filter (λ s. not (is_slot s.call.slot slot)) now.calls h.apart
 apart-done plan now act h may = h.apart
 
-pub slots-done : (plan : Settings) (now : Facts) (act : Act) → IsSound plan now → length (done now act).outboxes ≡ 32
+pub slots-done : (plan : Settings) (now : Facts) (act : Act) → IsSound plan now → length (facts_after_act now act).outboxes ≡ 32
 slots-done plan now (Queue slot pdu) h = length-put now.outboxes slot _ ∙ h.slots
 slots-done plan now (Send slot pdu) h = length-put now.outboxes slot _ ∙ h.slots
 slots-done plan now act h = h.slots

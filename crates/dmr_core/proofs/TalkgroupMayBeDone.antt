@@ -11,9 +11,9 @@ use Rattle.dmr_calls.specs.Calls.{group_call, own_group_call}
 use Rattle.dmr_pool.specs.Free.{control_slot, is_empty}
 use Rattle.dmr_core.specs.declared.request.Request.{Request}
 use Rattle.dmr_core.specs.declared.act.Act.TheVariants.{Lined}
-use Rattle.dmr_core.specs.Facts.{Facts, done}
+use Rattle.dmr_core.specs.Facts.{Facts, facts_after_act}
 use Rattle.dmr_core.specs.Words.{is_engaged, is_free, is_registered, is_up, lowest_free, outbox, slot_for_new}
-use Rattle.dmr_core.specs.Rules.{ack, begin, grant, new_call, talkgroup}
+use Rattle.dmr_core.specs.Rules.{ack, begin, grant, acts_for_new_call, acts_for_talkgroup_request}
 use Rattle.dmr_core.specs.Sound.{IsSound}
 use Rattle.dmr_core.specs.May.{AllMayDo, MayDo, MayEngage}
 use Rattle.dmr_core.proofs.PlanLemmas.{KnowsPlan}
@@ -38,10 +38,10 @@ begun_may plan now call p h up room engage found =
 lined_may : (plan : Settings) (now : Facts) (l : Line) → KnowsPlan plan → IsSound plan now → is_up now plan.control ≡ true → length (outbox now (control_slot plan)) ≤ 56 → MayEngage plan now now.asks l.group l.source l.target → nat_lt (length now.lines) 32 ≡ true → AllMayDo plan now (Lined l ∷ ack plan l.source l.target 0xA0)
 lined_may plan now l p h up room engage few =
     let may : MayDo plan now (Lined l) = (up, grind (arith, nat_tests), engage) in
-    (may, ack_may plan (done now (Lined l)) l.source l.target 0xA0 (sound-done plan now (Lined l) p h may) up (omega arith))
+    (may, ack_may plan (facts_after_act now (Lined l)) l.source l.target 0xA0 (sound-done plan now (Lined l) p h may) up (omega arith))
 
-pub new_call_may : (plan : Settings) (now : Facts) (l : Line) → KnowsPlan plan → IsSound plan now → is_up now plan.control ≡ true → length (outbox now (control_slot plan)) ≤ 56 → MayEngage plan now now.asks l.group l.source l.target → AllMayDo plan now (new_call plan now l)
-unfolding new_call
+pub new_call_may : (plan : Settings) (now : Facts) (l : Line) → KnowsPlan plan → IsSound plan now → is_up now plan.control ≡ true → length (outbox now (control_slot plan)) ≤ 56 → MayEngage plan now now.asks l.group l.source l.target → AllMayDo plan now (acts_for_new_call plan now l)
+unfolding acts_for_new_call
 new_call_may plan now l p h up room engage =
     let begun : (slot : Slot) → slot_for_new plan now ≡ Some slot → AllMayDo plan now (begin plan (record { slot = slot; source = l.source; target = l.target; group = l.group })) =
     λ slot k. begun_may plan now (record { slot = slot; source = l.source; target = l.target; group = l.group }) p h up room engage (new_lowest plan now slot k) in
@@ -49,14 +49,14 @@ new_call_may plan now l p h up room engage =
     let acked : (s t reason : ℕ) → AllMayDo plan now (ack plan s t reason) = λ s t reason. ack_may plan now s t reason h up (omega arith) in
     grind (arith, begun, lined, acked)
 
-pub talkgroup_may : (plan : Settings) (now : Facts) (q : Request) → KnowsPlan plan → IsSound plan now → is_up now plan.control ≡ true → length (outbox now (control_slot plan)) ≤ 56 → is_registered now q.source ≡ true → AllMayDo plan now (talkgroup plan now q)
-unfolding talkgroup
+pub talkgroup_may : (plan : Settings) (now : Facts) (q : Request) → KnowsPlan plan → IsSound plan now → is_up now plan.control ≡ true → length (outbox now (control_slot plan)) ≤ 56 → is_registered now q.source ≡ true → AllMayDo plan now (acts_for_talkgroup_request plan now q)
+unfolding acts_for_talkgroup_request
 talkgroup_may plan now q p h up room registered =
     let own : (call : Call) → own_group_call now.calls q.source q.target ≡ Some call → AllMayDo plan now (grant plan call false) =
     λ call k. grant_may plan now call false h up (found_stands (λ s. (s.call.source == q.source) && (s.call.group && (s.call.target == q.target))) now.calls call h.apart k) (omega (arith, p.few_grants)) in
     let late : (call : Call) → group_call now.calls q.target ≡ Some call → AllMayDo plan now (grant plan call true) =
     λ call k. grant_may plan now call true h up (found_stands (λ s. s.call.group && (s.call.target == q.target)) now.calls call h.apart k) (omega (arith, p.few_grants)) in
-    let new : is_engaged now q.source ≡ false → lists_group plan q.target ≡ true → AllMayDo plan now (new_call plan now (record { source = q.source; target = q.target; group = true })) =
+    let new : is_engaged now q.source ≡ false → lists_group plan q.target ≡ true → AllMayDo plan now (acts_for_new_call plan now (record { source = q.source; target = q.target; group = true })) =
     λ free listed. new_call_may plan now (record { source = q.source; target = q.target; group = true }) p h up room (group_engage plan now q.source q.target h registered free listed) in
     let acked : (s t reason : ℕ) → AllMayDo plan now (ack plan s t reason) = λ s t reason. ack_may plan now s t reason h up (omega arith) in
     grind (arith, own, late, new, acked)

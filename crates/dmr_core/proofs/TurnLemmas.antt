@@ -9,7 +9,7 @@ use Rattle.dmr_pdu.specs.declared.pdu.Pdu.{Pdu}
 use Rattle.dmr_pdu.specs.declared.pdu.Pdu.TheVariants.{TvGrant}
 use Rattle.dmr_plan.specs.declared.settings.Settings.{Settings}
 use Rattle.dmr_plan.specs.IsPlan.{IsPlan}
-use Rattle.dmr_access.specs.Fill.{is_late_due, one_filled}
+use Rattle.dmr_access.specs.Fill.{is_late_due, next_fill_count}
 use Rattle.dmr_calls.specs.declared.call.Call.{Call}
 use Rattle.dmr_calls.specs.declared.call.Standing.{Standing}
 use Rattle.dmr_calls.specs.Calls.{call_on}
@@ -24,13 +24,13 @@ use Rattle.dmr_core.specs.declared.act.Act.TheVariants.{Began, Ended, Fill}
 use Rattle.dmr_core.specs.declared.act.Acts.{Acts}
 use Rattle.dmr_core.specs.declared.entry.Entry.{Entry}
 use Rattle.dmr_core.specs.declared.named.NamedSlot.{NamedSlot}
-use Rattle.dmr_core.specs.Facts.{Facts, done, facts_after, fills_by_act, fills_by_event, has_carrier, late_by_act, noted}
+use Rattle.dmr_core.specs.Facts.{Facts, facts_after_act, facts_after, fills_by_act, fills_by_event, has_carrier, late_by_act, facts_after_event}
 use Rattle.dmr_core.specs.Late.{last_slot, next_call, slot_named}
 use Rattle.dmr_core.specs.Words.{lpcn_of}
 use Rattle.dmr_core.specs.Rules.{grant_pdu, late_entry}
 use Rattle.dmr_core.specs.Journal.{IsLegal}
 use Rattle.dmr_core.specs.Sound.{IsPayload, IsSound, is_grant, total}
-use Rattle.dmr_core.specs.May.{AllMayDo, MayDo, entry_of}
+use Rattle.dmr_core.specs.May.{AllMayDo, MayDo, late_entry_of_fill}
 use Rattle.dmr_core.specs.Turns.{FillsInTurn, HasFillOf, IsFilledWith, IsLateOf, NamesStanding, fill_in, fills_in, fills_since, is_steady, is_steady_act, is_steady_event, is_turn, talkgroup_calls}
 use Rattle.dmr_core.proofs.PlanLemmas.{KnowsPlan}
 use Rattle.dmr_core.proofs.NumberLemmas.{equal_numbers, other_number}
@@ -56,7 +56,7 @@ fills_turn plan now act h may = tt
 -- so it names a talkgroup call that stands
 pub names_standing : (plan : Settings) (now : Facts) (act : Act) → IsSound plan now → MayDo plan now act → NamesStanding plan now act
 names_standing plan now (Fill slot pdu) h may = λ k.
-    let here : entry_of pdu ≡ Some pdu = rw k refl in
+    let here : late_entry_of_fill pdu ≡ Some pdu = rw k refl in
     let there : late_entry plan now ≡ Some pdu = sym may.late ∙ here in
     subst (λ (o : Option Pdu). IfSome o (IsLateOf plan now.calls)) there (late_stands plan now)
 names_standing plan now act h may = tt
@@ -64,7 +64,7 @@ names_standing plan now act h may = tt
 -- Fills are counted modulo 4
 acts_count : (acts : List Act) (n m : ℕ) → n ≡ m % 4 → fold fills_by_act n acts ≡ (m + total fill_in acts) % 4
 acts_count [] n m h = omega (arith, h)
-acts_count (Fill slot pdu ∷ acts) n m h = let next : one_filled n ≡ (m + 1) % 4 = omega (arith, h) in omega (arith, acts_count acts (one_filled n) (m + 1) next)
+acts_count (Fill slot pdu ∷ acts) n m h = let next : next_fill_count n ≡ (m + 1) % 4 = omega (arith, h) in omega (arith, acts_count acts (next_fill_count n) (m + 1) next)
 acts_count (act ∷ acts) n m h = omega (arith, acts_count acts n m h)
 
 event_counts : (plan : Settings) (n m : ℕ) (event : Event) → n ≡ m % 4 → fills_by_event plan n event ≡ (if is_turn plan event then 0 else m) % 4
@@ -99,7 +99,7 @@ same_test : (calls other : List Standing) → ((slot : Slot) → call_on calls s
 same_test calls other same = λ i k. option_map_or (λ (call : Call). call.group) (same (slot_at k) i) false
 
 -- a steady event leaves it as it is
-going_event : (plan : Settings) (calls : List Standing) (t most n : ℕ) (now : Facts) (event : Event) → is_steady_event event ≡ true → IsGoing plan calls t most n now → IsGoing plan calls t most n (noted plan now event)
+going_event : (plan : Settings) (calls : List Standing) (t most n : ℕ) (now : Facts) (event : Event) → is_steady_event event ≡ true → IsGoing plan calls t most n now → IsGoing plan calls t most n (facts_after_event plan now event)
 going_event plan calls t most n now (Up c) steady h = cc
 going_event plan calls t most n now (Lost c) steady h = cc
 going_event plan calls t most n now (Say (Move lpcn)) steady h = cc
@@ -109,11 +109,11 @@ going_event plan calls t most n now Tick steady h = record { still = h.still; sa
 going_event plan calls t most n now event steady h = record { still = h.still; same = h.same; d = h.d; near = h.near; few = h.few }
 
 -- what a fill that is no grant leaves, and one that is
-no_entry : (late : Option NamedSlot) (slot : Slot) (pdu : Pdu) → entry_of pdu ≡ None → late_by_act late (Fill slot pdu) ≡ late
+no_entry : (late : Option NamedSlot) (slot : Slot) (pdu : Pdu) → late_entry_of_fill pdu ≡ None → late_by_act late (Fill slot pdu) ≡ late
 no_entry late slot (TvGrant channel number bit target source) h = cc
 no_entry late slot pdu h = refl
 
-entry_is : (pdu entry : Pdu) → entry_of pdu ≡ Some entry → pdu ≡ entry
+entry_is : (pdu entry : Pdu) → late_entry_of_fill pdu ≡ Some entry → pdu ≡ entry
 entry_is pdu entry h = either (is_grant pdu) h
   where
     either : (b : Bool) → (if b then Some pdu else None) ≡ Some entry → pdu ≡ entry
@@ -137,21 +137,21 @@ target_there : (calls : List Standing) (call : Call) → IsTarget calls call →
 target_there calls call h = at_place calls call.slot true h.small (rw h.stands h.group)
 
 -- before the fourth the next number counts
-counted_on : (k : ℕ) → k < 4 → k ≢ 3 → one_filled k ≡ k + 1
+counted_on : (k : ℕ) → k < 4 → k ≢ 3 → next_fill_count k ≡ k + 1
 counted_on k few other = either (cases_lt k 3)
   where
-    either : (k < 3) ⊎ (3 ≤ k) → one_filled k ≡ k + 1
+    either : (k < 3) ⊎ (3 ≤ k) → next_fill_count k ≡ k + 1
     either (inl low) = omega (arith, low)
     either (inr high) = absurd (other (omega (arith, high, few)))
 
 -- a fill where no late entry is due
-not_due : (plan : Settings) (calls : List Standing) (t most n : ℕ) (now : Facts) (slot : Slot) (pdu : Pdu) → is_late_due now.fills ≡ false → now.fills < 4 → entry_of pdu ≡ late_entry plan now → IsGoing plan calls t most n now → IsGoing plan calls t most (n + 1) (done now (Fill slot pdu))
+not_due : (plan : Settings) (calls : List Standing) (t most n : ℕ) (now : Facts) (slot : Slot) (pdu : Pdu) → is_late_due now.fills ≡ false → now.fills < 4 → late_entry_of_fill pdu ≡ late_entry plan now → IsGoing plan calls t most n now → IsGoing plan calls t most (n + 1) (facts_after_act now (Fill slot pdu))
 unfolding late_entry
 not_due plan calls t most n now slot pdu due few entry h =
-    let none : entry_of pdu ≡ None = entry ∙ rw due refl in
+    let none : late_entry_of_fill pdu ≡ None = entry ∙ rw due refl in
     let same : late_by_act now.late (Fill slot pdu) ≡ now.late = no_entry now.late slot pdu none in
     let other : now.fills ≢ 3 = other_number now.fills 3 due in
-    let more : one_filled now.fills ≡ now.fills + 1 = counted_on now.fills few other in
+    let more : next_fill_count now.fills ≡ now.fills + 1 = counted_on now.fills few other in
     record {
       still = h.still;
       same = h.same;
@@ -161,7 +161,7 @@ not_due plan calls t most n now slot pdu due few entry h =
     }
 
 -- a late entry: it is the target's, or its turn is nearer
-due_turn : (plan : Settings) (calls : List Standing) (most n : ℕ) (call other : Call) (now : Facts) (slot : Slot) (pdu : Pdu) → IsPlan plan → IsSound plan now → IsTarget calls call → is_late_due now.fills ≡ true → pdu ≡ grant_pdu plan other true → IsTurn now.calls (place_after (last_slot plan now)) other → IsGoing plan calls (place call.slot) most n now → (pdu ≡ grant_pdu plan call true) ⊎ IsGoing plan calls (place call.slot) most (n + 1) (done now (Fill slot pdu))
+due_turn : (plan : Settings) (calls : List Standing) (most n : ℕ) (call other : Call) (now : Facts) (slot : Slot) (pdu : Pdu) → IsPlan plan → IsSound plan now → IsTarget calls call → is_late_due now.fills ≡ true → pdu ≡ grant_pdu plan other true → IsTurn now.calls (place_after (last_slot plan now)) other → IsGoing plan calls (place call.slot) most n now → (pdu ≡ grant_pdu plan call true) ⊎ IsGoing plan calls (place call.slot) most (n + 1) (facts_after_act now (Fill slot pdu))
 due_turn plan calls most n call other now slot pdu p sound target due is turn h = either (turn.at == place call.slot) refl
   where
     on : IsGroupOn now.calls other.slot other
@@ -183,10 +183,10 @@ due_turn plan calls most n call other now slot pdu p sound target due is turn h 
     late : late_by_act now.late (Fill slot pdu) ≡ Some (record { channel = lpcn_of plan other.slot.carrier; slot = other.slot.slot })
     late = subst (λ (x : Pdu). late_by_act now.late (Fill slot x) ≡ Some (record { channel = lpcn_of plan other.slot.carrier; slot = other.slot.slot })) (sym is) (named_by plan now.late slot other on.group)
 
-    last : last_slot plan (done now (Fill slot pdu)) ≡ Some other.slot
+    last : last_slot plan (facts_after_act now (Fill slot pdu)) ≡ Some other.slot
     last = ap (option_and_then (slot_named plan)) late ∙ named_slot plan other.slot p there
 
-    behind : place_after (last_slot plan (done now (Fill slot pdu))) ≡ turn.at + 1
+    behind : place_after (last_slot plan (facts_after_act now (Fill slot pdu))) ≡ turn.at + 1
     behind = ap place_after last ∙ ap (λ (k : ℕ). k + 1) at
 
     around : IsFirst (is_group_at calls) (place_after (last_slot plan now)) 32 turn.at ⊎ (NonePass (is_group_at calls) (place_after (last_slot plan now)) 32 × IsFirst (is_group_at calls) 0 32 turn.at)
@@ -195,7 +195,7 @@ due_turn plan calls most n call other now slot pdu p sound target due is turn h 
     three : now.fills ≡ 3
     three = equal_numbers now.fills 3 due
 
-    either : (b : Bool) → (turn.at == place call.slot) ≡ b → (pdu ≡ grant_pdu plan call true) ⊎ IsGoing plan calls (place call.slot) most (n + 1) (done now (Fill slot pdu))
+    either : (b : Bool) → (turn.at == place call.slot) ≡ b → (pdu ≡ grant_pdu plan call true) ⊎ IsGoing plan calls (place call.slot) most (n + 1) (facts_after_act now (Fill slot pdu))
     either true e = inl (is ∙ ap (λ (c : Call). grant_pdu plan c true) (same_call (equal_numbers turn.at (place call.slot) e)))
     either false e = inr (record {
       still = h.still;
@@ -207,11 +207,11 @@ due_turn plan calls most n call other now slot pdu p sound target due is turn h 
     })
 
 -- a fill where a late entry is due
-due_step : (plan : Settings) (calls : List Standing) (most n : ℕ) (call : Call) (now : Facts) (slot : Slot) (pdu : Pdu) → IsPlan plan → IsSound plan now → IsTarget calls call → is_late_due now.fills ≡ true → entry_of pdu ≡ late_entry plan now → IsGoing plan calls (place call.slot) most n now → (pdu ≡ grant_pdu plan call true) ⊎ IsGoing plan calls (place call.slot) most (n + 1) (done now (Fill slot pdu))
+due_step : (plan : Settings) (calls : List Standing) (most n : ℕ) (call : Call) (now : Facts) (slot : Slot) (pdu : Pdu) → IsPlan plan → IsSound plan now → IsTarget calls call → is_late_due now.fills ≡ true → late_entry_of_fill pdu ≡ late_entry plan now → IsGoing plan calls (place call.slot) most n now → (pdu ≡ grant_pdu plan call true) ⊎ IsGoing plan calls (place call.slot) most (n + 1) (facts_after_act now (Fill slot pdu))
 unfolding late_entry
 due_step plan calls most n call now slot pdu p sound target due entry h = either (next_call plan now) refl (turn_of now.calls (last_slot plan now))
   where
-    either : (o : Option Call) → next_call plan now ≡ o → MatchOption o (NonePass (is_group_at now.calls) 0 32) (IsTurn now.calls (place_after (last_slot plan now))) → (pdu ≡ grant_pdu plan call true) ⊎ IsGoing plan calls (place call.slot) most (n + 1) (done now (Fill slot pdu))
+    either : (o : Option Call) → next_call plan now ≡ o → MatchOption o (NonePass (is_group_at now.calls) 0 32) (IsTurn now.calls (place_after (last_slot plan now))) → (pdu ≡ grant_pdu plan call true) ⊎ IsGoing plan calls (place call.slot) most (n + 1) (facts_after_act now (Fill slot pdu))
     either None e none =
         let there : is_group_at now.calls (place call.slot) ≡ true = subst (λ (g : ℕ → Bool). g (place call.slot) ≡ true) (sym (same_test now.calls calls h.same)) (target_there calls call target) in
         true_false _ there (none (place call.slot) (omega arith) target.within)
@@ -219,10 +219,10 @@ due_step plan calls most n call now slot pdu p sound target due entry h = either
         let some : late_entry plan now ≡ Some (grant_pdu plan other true) = rw (due, h.still, e) refl in
         due_turn plan calls most n call other now slot pdu p sound target due (entry_is pdu (grant_pdu plan other true) (entry ∙ some)) turn h
 
-fill_step : (plan : Settings) (calls : List Standing) (most n : ℕ) (call : Call) (now : Facts) (slot : Slot) (pdu : Pdu) → IsPlan plan → IsSound plan now → IsTarget calls call → entry_of pdu ≡ late_entry plan now → IsGoing plan calls (place call.slot) most n now → (pdu ≡ grant_pdu plan call true) ⊎ IsGoing plan calls (place call.slot) most (n + 1) (done now (Fill slot pdu))
+fill_step : (plan : Settings) (calls : List Standing) (most n : ℕ) (call : Call) (now : Facts) (slot : Slot) (pdu : Pdu) → IsPlan plan → IsSound plan now → IsTarget calls call → late_entry_of_fill pdu ≡ late_entry plan now → IsGoing plan calls (place call.slot) most n now → (pdu ≡ grant_pdu plan call true) ⊎ IsGoing plan calls (place call.slot) most (n + 1) (facts_after_act now (Fill slot pdu))
 fill_step plan calls most n call now slot pdu p sound target entry h = either (is_late_due now.fills) refl
   where
-    either : (b : Bool) → is_late_due now.fills ≡ b → (pdu ≡ grant_pdu plan call true) ⊎ IsGoing plan calls (place call.slot) most (n + 1) (done now (Fill slot pdu))
+    either : (b : Bool) → is_late_due now.fills ≡ b → (pdu ≡ grant_pdu plan call true) ⊎ IsGoing plan calls (place call.slot) most (n + 1) (facts_after_act now (Fill slot pdu))
     either true e = due_step plan calls most n call now slot pdu p sound target e entry h
     either false e = inr (not_due plan calls (place call.slot) most n now slot pdu e sound.counted entry h)
 
@@ -230,22 +230,22 @@ fill_step plan calls most n call now slot pdu p sound target entry h = either (i
 again : (plan : Settings) (calls : List Standing) (t most n m : ℕ) (now : Facts) → n ≡ m → IsGoing plan calls t most n now → IsGoing plan calls t most m now
 again plan calls t most n m now same h = subst (λ (k : ℕ). IsGoing plan calls t most k now) same h
 
-acts_go : (plan : Settings) (calls : List Standing) (most n : ℕ) (call : Call) (now : Facts) (acts : List Act) → IsPlan plan → IsTarget calls call → IsSound plan now → AllMayDo plan now acts → list_all is_steady_act acts ≡ true → IsGoing plan calls (place call.slot) most n now → HasFillOf (grant_pdu plan call true) acts ⊎ IsGoing plan calls (place call.slot) most (n + total fill_in acts) (fold done now acts)
+acts_go : (plan : Settings) (calls : List Standing) (most n : ℕ) (call : Call) (now : Facts) (acts : List Act) → IsPlan plan → IsTarget calls call → IsSound plan now → AllMayDo plan now acts → list_all is_steady_act acts ≡ true → IsGoing plan calls (place call.slot) most n now → HasFillOf (grant_pdu plan call true) acts ⊎ IsGoing plan calls (place call.slot) most (n + total fill_in acts) (fold facts_after_act now acts)
 acts_go plan calls most n call now [] p target sound may steady h = inr (again plan calls (place call.slot) most n (n + 0) now (omega arith) h)
 acts_go plan calls most n call now (Fill slot pdu ∷ acts) p target sound may steady h =
     elim (fill_step plan calls most n call now slot pdu p sound target may.0.late h) [
       | inl named ↦ inl (inl named)
-      | inr going ↦ elim (acts_go plan calls most (n + 1) call (done now (Fill slot pdu)) acts p target (sound-done plan now (Fill slot pdu) (plan_known plan p) sound may.0) may.1 (and_true true (list_all is_steady_act acts) steady).1 going) [
+      | inr going ↦ elim (acts_go plan calls most (n + 1) call (facts_after_act now (Fill slot pdu)) acts p target (sound-done plan now (Fill slot pdu) (plan_known plan p) sound may.0) may.1 (and_true true (list_all is_steady_act acts) steady).1 going) [
         | inl later ↦ inl (inr later)
-        | inr left ↦ inr (again plan calls (place call.slot) most (n + 1 + total fill_in acts) (n + (1 + total fill_in acts)) (fold done (done now (Fill slot pdu)) acts) (omega arith) left)
+        | inr left ↦ inr (again plan calls (place call.slot) most (n + 1 + total fill_in acts) (n + (1 + total fill_in acts)) (fold facts_after_act (facts_after_act now (Fill slot pdu)) acts) (omega arith) left)
       ]
     ]
 acts_go plan calls most n call now (Began other ∷ acts) p target sound may steady h = cc
 acts_go plan calls most n call now (Ended other ∷ acts) p target sound may steady h = cc
 acts_go plan calls most n call now (act ∷ acts) p target sound may steady h =
-    elim (acts_go plan calls most n call (done now act) acts p target (sound-done plan now act (plan_known plan p) sound may.0) may.1 (and_true true (list_all is_steady_act acts) steady).1 (record { still = h.still; same = h.same; d = h.d; near = h.near; few = h.few })) [
+    elim (acts_go plan calls most n call (facts_after_act now act) acts p target (sound-done plan now act (plan_known plan p) sound may.0) may.1 (and_true true (list_all is_steady_act acts) steady).1 (record { still = h.still; same = h.same; d = h.d; near = h.near; few = h.few })) [
       | inl later ↦ inl (inr later)
-      | inr left ↦ inr (again plan calls (place call.slot) most (n + total fill_in acts) (n + (0 + total fill_in acts)) (fold done (done now act) acts) (omega arith) left)
+      | inr left ↦ inr (again plan calls (place call.slot) most (n + total fill_in acts) (n + (0 + total fill_in acts)) (fold facts_after_act (facts_after_act now act) acts) (omega arith) left)
     ]
 
 goes : (plan : Settings) (facts : Facts) (call : Call) (journal : List Entry) → IsPlan plan → IsSound plan facts → IsLegal plan facts journal → IsTarget facts.calls call → is_steady journal ≡ true → facts.moving ≡ None → IsFilledWith (grant_pdu plan call true) journal ⊎ IsGoing plan facts.calls (place call.slot) (talkgroup_calls facts.calls) (fills_in journal) (facts_after plan facts journal)
@@ -261,10 +261,10 @@ goes plan facts call (entry ∷ earlier) p sound legal target steady still =
     let before : IsSound plan now = sound_after plan facts earlier (plan_known plan p) sound legal.1 in
     let both = and_true (is_steady_event entry.event && list_all is_steady_act entry.acts.list) (is_steady earlier) steady in
     let here = and_true (is_steady_event entry.event) (list_all is_steady_act entry.acts.list) both.0 in
-    let may : AllMayDo plan (noted plan now entry.event) entry.acts.list = subst (λ (acts : Acts). AllMayDo plan (noted plan now entry.event) acts.list) (sym legal.0) (acts_may plan now entry.event (plan_known plan p) before) in
+    let may : AllMayDo plan (facts_after_event plan now entry.event) entry.acts.list = subst (λ (acts : Acts). AllMayDo plan (facts_after_event plan now entry.event) acts.list) (sym legal.0) (acts_may plan now entry.event (plan_known plan p) before) in
     elim (goes plan facts call earlier p sound legal.1 target both.1 still) [
       | inl named ↦ inl (inr named)
-      | inr going ↦ elim (acts_go plan facts.calls (talkgroup_calls facts.calls) (fills_in earlier) call (noted plan now entry.event) entry.acts.list p target (sound-noted plan now entry.event (plan_known plan p) before) may here.1 (going_event plan facts.calls (place call.slot) (talkgroup_calls facts.calls) (fills_in earlier) now entry.event here.0 going)) [
+      | inr going ↦ elim (acts_go plan facts.calls (talkgroup_calls facts.calls) (fills_in earlier) call (facts_after_event plan now entry.event) entry.acts.list p target (sound-noted plan now entry.event (plan_known plan p) before) may here.1 (going_event plan facts.calls (place call.slot) (talkgroup_calls facts.calls) (fills_in earlier) now entry.event here.0 going)) [
         | inl named ↦ inl (inl named)
         | inr left ↦ inr (subst (IsGoing plan facts.calls (place call.slot) (talkgroup_calls facts.calls) (fills_in (entry ∷ earlier))) (sym (facts_after-step plan facts entry earlier)) left)
       ]

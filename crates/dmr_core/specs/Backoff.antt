@@ -22,8 +22,8 @@ noise_in plan (Noise slot) = if is_control plan slot then 1 else 0
 noise_in plan _ = 0
 
 -- one event more: what came before its Up does not count, nor what came before a Poll that is one too many
-abbrev pub counted : Settings → ℕ → Event → (ℕ → ℕ) → ℕ
-counted plan polls event before =
+abbrev pub noises_with_event : Settings → ℕ → Event → (ℕ → ℕ) → ℕ
+noises_with_event plan polls event before =
     if is_start plan event then 0 else
     if is_poll plan event then (if polls == 0 then 0 else before (polls - 1)) else
     noise_in plan event + before polls
@@ -32,7 +32,7 @@ counted plan polls event before =
 -- comes, those of what stood before too, one number more than Polls are left
 abbrev pub noises_within : Settings → List ℕ → List Entry → ℕ → ℕ
 noises_within plan before [] polls = sum (take (polls + 1) before)
-noises_within plan before (entry ∷ earlier) polls = counted plan polls entry.event (noises_within plan before earlier)
+noises_within plan before (entry ∷ earlier) polls = noises_with_event plan polls entry.event (noises_within plan before earlier)
 
 -- the Noises on the control slot after the later of its carrier's last Up and the 32nd last of its Polls
 abbrev pub recent_noises : Settings → List ℕ → List Entry → ℕ

@@ -17,7 +17,7 @@ elsewhere plan (Queue slot pdu) = cond (is_control plan slot) 0 1
 elsewhere plan _ = 0
 
 -- so many acts at most, and so many PDUs
-pub record AreFew (plan : Settings) (acts : List Act) (most control others : ℕ) : Type 0 where
+pub record AreFewActs (plan : Settings) (acts : List Act) (most control others : ℕ) : Type 0 where
   pub size : length acts ≤ most
   pub waiting : total (on_control plan) acts ≤ control
   pub apart : total (elsewhere plan) acts ≤ others

@@ -6,14 +6,14 @@ use Rattle.dmr_plan.specs.declared.settings.Settings.{Settings}
 use Rattle.dmr_plan.specs.Carriers.{has_number_in}
 use Rattle.dmr_registry.specs.Radios.{without}
 use Rattle.dmr_access.specs.Noise.{noise_at_up, with_noise, with_poll}
-use Rattle.dmr_access.specs.Fill.{one_filled}
+use Rattle.dmr_access.specs.Fill.{next_fill_count}
 use Rattle.dmr_calls.specs.declared.ask.Asking.{Asking}
 use Rattle.dmr_calls.specs.declared.line.Line.{Line}
 use Rattle.dmr_calls.specs.declared.call.Standing.{Standing}
-use Rattle.dmr_calls.specs.Asks.{just_asked, waited_more, others_than}
+use Rattle.dmr_calls.specs.Asks.{new_asking, waited_more, others_than}
 use Rattle.dmr_calls.specs.Lines.{without_line}
-use Rattle.dmr_calls.specs.Calls.{just_begun, counted, marked, on_other_slots, on_other_carriers}
-use Rattle.dmr_pool.specs.Slots.{emptied, queued, sent}
+use Rattle.dmr_calls.specs.Calls.{just_begun, one_tick_older, with_activity, on_other_slots, on_other_carriers}
+use Rattle.dmr_pool.specs.Slots.{outboxes_without_carrier, outboxes_with_pdu, outboxes_after_send}
 use Rattle.dmr_pool.specs.Free.{is_control}
 use Rattle.dmr_core.specs.declared.event.Event.{Event}
 use Rattle.dmr_core.specs.declared.event.Event.TheVariants.{Up, Lost, Noise, Active, Poll, Tick, Say}
@@ -42,8 +42,8 @@ since by_event by_act x [] = x
 since by_event by_act x (entry ∷ earlier) = fold by_act (by_event (since by_event by_act x earlier) entry.event) entry.acts.list
 
 -- no event, or no act, changes it
-abbrev pub unchanged : {X Y : Type 0} → X → Y → X
-unchanged x y = x
+abbrev pub same_as_before : {X Y : Type 0} → X → Y → X
+same_as_before x y = x
 
 -- the plan has a carrier of this number
 abbrev pub has_carrier : Settings → ℕ → Bool
@@ -70,7 +70,7 @@ asks_by_event plan asks _ = asks
 
 -- the same: opened by Asked, in place of the one of its source, closed by AskOver
 abbrev pub asks_by_act : List Asking → Act → List Asking
-asks_by_act asks (Asked ask) = others_than ask.source asks ++ just_asked ask ∷ []
+asks_by_act asks (Asked ask) = others_than ask.source asks ++ new_asking ask ∷ []
 asks_by_act asks (AskOver r) = others_than r asks
 asks_by_act asks _ = asks
 
@@ -90,8 +90,8 @@ lines_by_act lines _ = lines
 abbrev pub calls_by_event : List Standing → Event → List Standing
 calls_by_event calls (Up c) = on_other_carriers c calls
 calls_by_event calls (Lost c) = on_other_carriers c calls
-calls_by_event calls (Active slot) = map (marked slot) calls
-calls_by_event calls Tick = map counted calls
+calls_by_event calls (Active slot) = map (with_activity slot) calls
+calls_by_event calls Tick = map one_tick_older calls
 calls_by_event calls _ = calls
 
 -- the same: opened by Began, closed by Ended
@@ -102,14 +102,14 @@ calls_by_act calls _ = calls
 
 -- outboxes: those of a carrier are emptied by its Up and its Lost
 abbrev pub outboxes_by_event : List (List Pdu) → Event → List (List Pdu)
-outboxes_by_event boxes (Up c) = emptied boxes c
-outboxes_by_event boxes (Lost c) = emptied boxes c
+outboxes_by_event boxes (Up c) = outboxes_without_carrier boxes c
+outboxes_by_event boxes (Lost c) = outboxes_without_carrier boxes c
 outboxes_by_event boxes _ = boxes
 
 -- the same: Queue puts behind the last, Send takes the first
 abbrev pub outboxes_by_act : List (List Pdu) → Act → List (List Pdu)
-outboxes_by_act boxes (Queue slot pdu) = queued boxes slot pdu
-outboxes_by_act boxes (Send slot pdu) = sent boxes slot
+outboxes_by_act boxes (Queue slot pdu) = outboxes_with_pdu boxes slot pdu
+outboxes_by_act boxes (Send slot pdu) = outboxes_after_send boxes slot
 outboxes_by_act boxes _ = boxes
 
 -- noise numbers: 32 from Up of the control carrier on, none from its Lost on; its Polls part them
@@ -134,7 +134,7 @@ fills_by_event plan fills _ = fills
 
 -- the same: each Fill is counted, modulo 4
 abbrev pub fills_by_act : ℕ → Act → ℕ
-fills_by_act fills (Fill slot pdu) = one_filled fills
+fills_by_act fills (Fill slot pdu) = next_fill_count fills
 fills_by_act fills _ = fills
 
 -- the slot of the last late entry: closed by Up and Lost of the control carrier
@@ -151,21 +151,21 @@ late_by_act late _ = late
 -- the facts after the entries, the newest first
 abbrev pub facts_after : Settings → Facts → List Entry → Facts
 facts_after plan facts journal = record {
-  up = since (up_by_event plan) unchanged facts.up journal;
-  registered = since unchanged registered_by_act facts.registered journal;
+  up = since (up_by_event plan) same_as_before facts.up journal;
+  registered = since same_as_before registered_by_act facts.registered journal;
   asks = since (asks_by_event plan) asks_by_act facts.asks journal;
   lines = since (lines_by_event plan) lines_by_act facts.lines journal;
   calls = since calls_by_event calls_by_act facts.calls journal;
   outboxes = since outboxes_by_event outboxes_by_act facts.outboxes journal;
-  noise = since (noise_by_event plan) unchanged facts.noise journal;
-  moving = since moving_by_event unchanged facts.moving journal;
+  noise = since (noise_by_event plan) same_as_before facts.noise journal;
+  moving = since moving_by_event same_as_before facts.moving journal;
   fills = since (fills_by_event plan) fills_by_act facts.fills journal;
   late = since (late_by_event plan) late_by_act facts.late journal;
 }
 
 -- the facts after an event
-abbrev pub noted : Settings → Facts → Event → Facts
-noted plan facts event = record {
+abbrev pub facts_after_event : Settings → Facts → Event → Facts
+facts_after_event plan facts event = record {
   up = up_by_event plan facts.up event;
   registered = facts.registered;
   asks = asks_by_event plan facts.asks event;
@@ -179,8 +179,8 @@ noted plan facts event = record {
 }
 
 -- the facts after an act
-abbrev pub done : Facts → Act → Facts
-done facts act = record {
+abbrev pub facts_after_act : Facts → Act → Facts
+facts_after_act facts act = record {
   up = facts.up;
   registered = registered_by_act facts.registered act;
   asks = asks_by_act facts.asks act;
@@ -194,5 +194,5 @@ done facts act = record {
 }
 
 -- what stands at first: nothing
-abbrev pub nothing : Facts
-nothing = record { up = replicate 16 false; registered = []; asks = []; lines = []; calls = []; outboxes = replicate 32 []; noise = []; moving = None; fills = 0; late = None }
+abbrev pub no_facts : Facts
+no_facts = record { up = replicate 16 false; registered = []; asks = []; lines = []; calls = []; outboxes = replicate 32 []; noise = []; moving = None; fills = 0; late = None }

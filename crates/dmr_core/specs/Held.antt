@@ -2,9 +2,9 @@
 use Rattle.std.specs.Prelude.{◌≡◌, List, Bool}
 use Rattle.dmr_pdu.specs.declared.slots.Slot.{Slot}
 use Rattle.dmr_calls.specs.declared.call.Standing.{Standing}
-use Rattle.dmr_pool.specs.Slots.{IsSlot, is_held}
+use Rattle.dmr_pool.specs.Slots.{IsSlot, is_slot_held}
 use Rattle.dmr_core.specs.Words.{stands_on}
 
 -- a slot is held exactly where a call stands on it
 abbrev pub HoldsCalls : List Bool → List Standing → Type 0
-HoldsCalls held calls = (slot : Slot) → IsSlot slot → is_held held slot ≡ stands_on calls slot
+HoldsCalls held calls = (slot : Slot) → IsSlot slot → is_slot_held held slot ≡ stands_on calls slot

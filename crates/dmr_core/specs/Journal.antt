@@ -9,8 +9,8 @@ use Rattle.dmr_core.specs.Rules.{acts_of}
 use Rattle.dmr_core.specs.Replies.{reply_to}
 
 -- the answer to an event after the facts and the entries
-abbrev pub answer : Settings → Facts → List Entry → Event → Acts
-answer plan facts journal event = record {
+abbrev pub answer_after_entries : Settings → Facts → List Entry → Event → Acts
+answer_after_entries plan facts journal event = record {
   list = acts_of plan (facts_after plan facts journal) event;
   said = reply_to plan (facts_after plan facts journal) event;
 }
@@ -22,14 +22,14 @@ entry_by_nobody event acts = record { actor = 0; event = event; acts = acts }
 -- each entry's acts are the answer of the entries before it
 abbrev pub IsLegal : Settings → Facts → List Entry → Type 0
 IsLegal plan facts [] = Unit {0}
-IsLegal plan facts (entry ∷ earlier) = (entry.acts ≡ answer plan facts earlier entry.event) × IsLegal plan facts earlier
+IsLegal plan facts (entry ∷ earlier) = (entry.acts ≡ answer_after_entries plan facts earlier entry.event) × IsLegal plan facts earlier
 
 -- the one legal journal that has these events, the newest first
 abbrev pub journal_of : Settings → Facts → List Event → List Entry
 journal_of plan facts [] = []
 journal_of plan facts (event ∷ earlier) =
     let journal = journal_of plan facts earlier in
-    entry_by_nobody event (answer plan facts journal event) ∷ journal
+    entry_by_nobody event (answer_after_entries plan facts journal event) ∷ journal
 
 -- the events of a journal
 abbrev pub events_of : List Entry → List Event

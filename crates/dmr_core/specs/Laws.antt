@@ -15,19 +15,19 @@ use Rattle.dmr_core.specs.declared.event.Event.TheVariants.{Lost, Up}
 use Rattle.dmr_core.specs.declared.act.Act.{Act}
 use Rattle.dmr_core.specs.declared.act.Act.TheVariants.{Began, Fill, Queue, Send}
 use Rattle.dmr_core.specs.declared.entry.Entry.{Entry}
-use Rattle.dmr_core.specs.Facts.{Facts, done, facts_after, noted, since}
+use Rattle.dmr_core.specs.Facts.{Facts, facts_after_act, facts_after, facts_after_event, since}
 use Rattle.dmr_core.specs.Words.{is_registered, is_up, lpcn_of, stands_on}
 use Rattle.dmr_core.specs.Sound.{is_grant, is_own}
 
 -- each act, at the facts just before it
 abbrev pub EachAct : (Facts → Act → Type 0) → Facts → List Act → Type 0
 EachAct P now [] = Unit {0}
-EachAct P now (act ∷ acts) = P now act × EachAct P (done now act) acts
+EachAct P now (act ∷ acts) = P now act × EachAct P (facts_after_act now act) acts
 
 -- so it is in each entry
 abbrev pub Throughout : Settings → Facts → (Facts → Act → Type 0) → List Entry → Type 0
 Throughout plan facts P [] = Unit {0}
-Throughout plan facts P (entry ∷ earlier) = EachAct P (noted plan (facts_after plan facts earlier) entry.event) entry.acts.list × Throughout plan facts P earlier
+Throughout plan facts P (entry ∷ earlier) = EachAct P (facts_after_event plan (facts_after plan facts earlier) entry.event) entry.acts.list × Throughout plan facts P earlier
 
 -- a call begins on a slot on which none stands, of a carrier that is up
 abbrev pub BeginsOnFree : Facts → Act → Type 0
@@ -86,7 +86,7 @@ has_call calls c = list_any (λ s. s.call.slot.carrier == c) calls
 -- while it is so, no call stands on the carrier, and no grant that is queued, or sent as a fill, names a slot of it
 abbrev pub QuietActs : Settings → ℕ → Bool → Facts → List Act → Type 0
 QuietActs plan c b now [] = b ≡ true → has_call now.calls c ≡ false
-QuietActs plan c b now (act ∷ acts) = (b ≡ true → (has_call now.calls c ≡ false) × (grants_on plan c act ≡ false)) × QuietActs plan c (reset_by_act c b act) (done now act) acts
+QuietActs plan c b now (act ∷ acts) = (b ≡ true → (has_call now.calls c ≡ false) × (grants_on plan c act ≡ false)) × QuietActs plan c (reset_by_act c b act) (facts_after_act now act) acts
 
 -- whether it is so after a journal
 abbrev pub is_reset : ℕ → List Entry → Bool
@@ -96,4 +96,4 @@ is_reset c journal = since (reset_by_event c) (reset_by_act c) false journal
 abbrev pub QuietAfterReset : Settings → Facts → ℕ → List Entry → Type 0
 QuietAfterReset plan facts c [] = Unit {0}
 QuietAfterReset plan facts c (entry ∷ earlier) =
-    QuietActs plan c (reset_by_event c (is_reset c earlier) entry.event) (noted plan (facts_after plan facts earlier) entry.event) entry.acts.list × QuietAfterReset plan facts c earlier
+    QuietActs plan c (reset_by_event c (is_reset c earlier) entry.event) (facts_after_event plan (facts_after plan facts earlier) entry.event) entry.acts.list × QuietAfterReset plan facts c earlier

@@ -15,7 +15,7 @@ use Rattle.dmr_pool.specs.declared.outbox.TheConstants.{MOST_PDUS_OF_A_SLOT}
 use Rattle.dmr_pool.specs.Free.{control_slot}
 use Rattle.dmr_core.specs.declared.act.Act.{Act}
 use Rattle.dmr_core.specs.declared.act.Act.TheVariants.{Asked, Began, Fill, Joined, Left, Lined, Queue, Send}
-use Rattle.dmr_core.specs.Facts.{Facts, done}
+use Rattle.dmr_core.specs.Facts.{Facts, facts_after_act}
 use Rattle.dmr_core.specs.Words.{is_free, is_registered, is_up, outbox, stands_on}
 use Rattle.dmr_core.specs.Rules.{grant_pdu, late_entry}
 use Rattle.dmr_core.specs.Sound.{engagements, is_grant, party}
@@ -33,14 +33,14 @@ MayName plan calls slot pdu true = (slot ≡ control_slot plan) × IsGrantOf pla
 MayName plan calls slot pdu false = Unit {0}
 
 -- the late entry that a fill is, if it is one
-abbrev pub entry_of : Pdu → Option Pdu
-entry_of pdu = if is_grant pdu then Some pdu else None
+abbrev pub late_entry_of_fill : Pdu → Option Pdu
+late_entry_of_fill pdu = if is_grant pdu then Some pdu else None
 
 -- a PDU may fill the control slot: its carrier is up, a grant is that of a call that stands, and it is the late entry if there is one
 pub record MayFill (plan : Settings) (now : Facts) (slot : Slot) (pdu : Pdu) : Type 0 where
   pub up : is_up now plan.control ≡ true
   pub names : MayName plan now.calls slot pdu (is_grant pdu)
-  pub late : entry_of pdu ≡ late_entry plan now
+  pub late : late_entry_of_fill pdu ≡ late_entry plan now
 
 -- a PDU may be queued: its carrier is up, no call stands on the slot, the outbox has a place, and a grant is that of a call that stands
 pub record MayQueue (plan : Settings) (now : Facts) (slot : Slot) (pdu : Pdu) : Type 0 where
@@ -78,4 +78,4 @@ MayDo plan now _ = Unit {0}
 -- each act of a list may be done on the facts that the acts before it leave
 abbrev pub AllMayDo : Settings → Facts → List Act → Type 0
 AllMayDo plan now [] = Unit {0}
-AllMayDo plan now (act ∷ acts) = MayDo plan now act × AllMayDo plan (done now act) acts
+AllMayDo plan now (act ∷ acts) = MayDo plan now act × AllMayDo plan (facts_after_act now act) acts

@@ -42,9 +42,9 @@ abbrev pub slots_of_calls : List Standing → List Slot
 slots_of_calls calls = map (λ (s : Standing). s.call.slot) calls
 
 -- what stood before, and behind it what the acts opened, the newest last
-abbrev pub opened : {X : Type 0} → (Act → List X) → List X → List Entry → List X
-opened by_act before [] = before
-opened by_act before (entry ∷ earlier) = opened by_act before earlier ++ flat_map by_act entry.acts.list
+abbrev pub with_openings : {X : Type 0} → (Act → List X) → List X → List Entry → List X
+with_openings by_act before [] = before
+with_openings by_act before (entry ∷ earlier) = with_openings by_act before earlier ++ flat_map by_act entry.acts.list
 
 -- of equal ones only the last
 abbrev pub last_of_each : {X : Type 0} → (X → X → Bool) → List X → List X

@@ -5,9 +5,9 @@ use Rattle.dmr_core.specs.declared.reply.Reply.{Reply}
 use Rattle.dmr_core.specs.declared.event.Event.{Event}
 use Rattle.dmr_core.specs.declared.event.Event.TheVariants.{Say}
 use Rattle.dmr_core.specs.Facts.{Facts}
-use Rattle.dmr_core.specs.Rules.{commanded}
+use Rattle.dmr_core.specs.Rules.{answer_to_command}
 
 -- the reply to a command, as what answers it says
 abbrev pub reply_to : Settings → Facts → Event → Option Reply
-reply_to plan now (Say command) = (commanded plan now command).said
+reply_to plan now (Say command) = (answer_to_command plan now command).said
 reply_to plan now _ = None

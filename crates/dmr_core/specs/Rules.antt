@@ -17,7 +17,7 @@ use Rattle.dmr_calls.specs.declared.call.Call.{Call}
 use Rattle.dmr_calls.specs.declared.call.Standing.{Standing}
 use Rattle.dmr_calls.specs.declared.calls.TheConstants.{MOST_ASKS, MOST_LINES}
 use Rattle.dmr_calls.specs.Asks.{ask_of, ask_to, has_own_ask}
-use Rattle.dmr_calls.specs.Lines.{first_line, lines_from, line_of, line_to, has_group_line, has_own_group_line, has_own_line}
+use Rattle.dmr_calls.specs.Lines.{first_line, page_of_lines, line_of, line_to, has_group_line, has_own_group_line, has_own_line}
 use Rattle.dmr_calls.specs.Calls.{call_on, group_call, own_group_call, own_call}
 use Rattle.dmr_calls.specs.Engaged.{call_of}
 use Rattle.dmr_calls.specs.Due.{due_call, due_ask}
@@ -34,7 +34,7 @@ use Rattle.dmr_core.specs.declared.act.Acts.{Acts}
 use Rattle.dmr_core.specs.declared.act.Act.TheVariants.{Queue, Send, Fill, Joined, Left, Asked, AskOver, Lined, Unlined, Began, Ended}
 use Rattle.dmr_core.specs.Facts.{Facts, asks_by_event, calls_by_event, has_carrier}
 use Rattle.dmr_core.specs.Late.{next_call}
-use Rattle.dmr_core.specs.Shown.{all_shown, calls_of}
+use Rattle.dmr_core.specs.Shown.{all_slot_states, calls_on_carrier}
 use Rattle.dmr_core.specs.Words.{is_up, outbox, lpcn_of, lowest_free, slot_for_new, has_room, is_registered, is_engaged}
 
 -- C_ACKD to the source, for the reason, with the target besides
@@ -84,42 +84,42 @@ close plan now r =
     []))))
 
 -- a radio that leaves is registered no more, if it was, and is told so
-unfoldable pub leaving : Settings → Facts → Request → List Act
-leaving plan now q = close plan now q.source ++ (if is_registered now q.source then Left q.source ∷ [] else []) ++ ack plan q.source q.target message_accepted
+unfoldable pub acts_for_leaving : Settings → Facts → Request → List Act
+acts_for_leaving plan now q = close plan now q.source ++ (if is_registered now q.source then Left q.source ∷ [] else []) ++ ack plan q.source q.target message_accepted
 
 -- a radio leaves, or is registered if it is listed and there is a place
-unfoldable pub registration : Settings → Facts → Request → List Act
-registration plan now q =
-    if is_leaving plan q.options then leaving plan now q else
+unfoldable pub acts_for_registration : Settings → Facts → Request → List Act
+acts_for_registration plan now q =
+    if is_leaving plan q.options then acts_for_leaving plan now q else
     if not (lists_radio plan q.source) then ack plan q.source q.target reg_denied else
     if is_registered now q.source then ack plan q.source q.target reg_accepted else
     if nat_le MOST_RADIOS (length now.registered) then ack plan q.source q.target reg_refused else
     (Joined q.source ∷ ack plan q.source q.target reg_accepted)
 
 -- a call where a slot is free and no line stands, else a line, else neither
-unfoldable pub new_call : Settings → Facts → Line → List Act
-new_call plan now line =
+unfoldable pub acts_for_new_call : Settings → Facts → Line → List Act
+acts_for_new_call plan now line =
     option_map_or (λ (slot : Slot). begin plan (call_of_line line slot)) (slot_for_new plan now)
     (if nat_lt (length now.lines) MOST_LINES then Lined line ∷ ack plan line.source line.target queued_for_resource else ack plan line.source line.target sysbusy_refused)
 
 -- a talkgroup request
-unfoldable pub talkgroup : Settings → Facts → Request → List Act
-talkgroup plan now q =
+unfoldable pub acts_for_talkgroup_request : Settings → Facts → Request → List Act
+acts_for_talkgroup_request plan now q =
     if not (lists_group plan q.target) then ack plan q.source q.target group_not_allowed else
     option_map_or (λ (call : Call). grant plan call false) (own_group_call now.calls q.source q.target)
     (if has_own_group_line now.lines q.source q.target then ack plan q.source q.target queued_for_resource else
     if is_engaged now q.source then ack plan q.source q.target transient_sys_refused else
     option_map_or (λ (call : Call). grant plan call true) (group_call now.calls q.target)
     (if has_group_line now.lines q.target then ack plan q.source q.target queued_for_resource else
-    new_call plan now (record { source = q.source; target = q.target; group = true })))
+    acts_for_new_call plan now (record { source = q.source; target = q.target; group = true })))
 
 -- C_AHOY to the target of an ask
 abbrev pub ahoy : Settings → Ask → List Act
 ahoy plan ask = Queue (control_slot plan) (Ahoy ask.options false individual_voice ask.target ask.source) ∷ []
 
 -- an individual request
-unfoldable pub individual : Settings → Facts → Request → List Act
-individual plan now q =
+unfoldable pub acts_for_individual_request : Settings → Facts → Request → List Act
+acts_for_individual_request plan now q =
     if (q.target == q.source) || not (lists_radio plan q.target) then ack plan q.source q.target perm_user_refused else
     option_map_or (λ (call : Call). grant plan call false) (own_call now.calls q.source q.target)
     (if has_own_ask now.asks q.source q.target then ack plan q.source q.target wait else
@@ -133,43 +133,43 @@ individual plan now q =
     else ack plan q.source q.target sysbusy_refused)
 
 -- the called radio's answer
-unfoldable pub answered : Settings → Facts → ℕ → ℕ → List Act
-answered plan now reason called =
-    option_map_or (λ (ask : Ask). AskOver ask.source ∷ (if reason == ms_accepted then new_call plan now (record { source = ask.source; target = ask.target; group = false }) else ack plan ask.source ask.target called_party_busy))
+unfoldable pub acts_for_called_radio : Settings → Facts → ℕ → ℕ → List Act
+acts_for_called_radio plan now reason called =
+    option_map_or (λ (ask : Ask). AskOver ask.source ∷ (if reason == ms_accepted then acts_for_new_call plan now (record { source = ask.source; target = ask.target; group = false }) else ack plan ask.source ask.target called_party_busy))
     (ask_to now.asks called) []
 
 -- a request is called off
-unfoldable pub cancel : Settings → Facts → Request → List Act
-cancel plan now q =
+unfoldable pub acts_for_cancel : Settings → Facts → Request → List Act
+acts_for_cancel plan now q =
     option_map_or (λ (ask : Ask). AskOver ask.source ∷ ack plan q.source q.target message_accepted) (ask_of now.asks q.source)
     (option_map_or (λ (line : Line). Unlined line.source ∷ ack plan q.source q.target message_accepted) (line_of now.lines q.source)
     (ack plan q.source q.target call_cancel_refused))
 
 -- a request on the control slot, with room
-unfoldable pub request : Settings → Facts → Request → ℕ → ℕ → List Act
-request plan now q flags kind =
+unfoldable pub acts_for_request : Settings → Facts → Request → ℕ → ℕ → List Act
+acts_for_request plan now q flags kind =
     if not (flags == 0) then ack plan q.source q.target not_supported else
-    if kind == registration_kind then registration plan now q else
+    if kind == registration_kind then acts_for_registration plan now q else
     if not (kind == talkgroup_voice) && (not (kind == individual_voice) && not (kind == cancel_kind)) then ack plan q.source q.target not_supported else
     if not (is_registered now q.source) then ack plan q.source q.target ms_not_registered else
-    if kind == cancel_kind then cancel plan now q else
-    if kind == talkgroup_voice then talkgroup plan now q else individual plan now q
+    if kind == cancel_kind then acts_for_cancel plan now q else
+    if kind == talkgroup_voice then acts_for_talkgroup_request plan now q else acts_for_individual_request plan now q
 
 -- a PDU on the control slot, with room: only requests and answers are answered
-unfoldable pub heard : Settings → Facts → Pdu → List Act
-heard plan now (Random options flags kind target source) = request plan now (record { options = options; source = source; target = target }) flags kind
-heard plan now (Acku info reason spare target additional) = answered plan now reason additional
-heard plan now _ = []
+unfoldable pub acts_for_pdu : Settings → Facts → Pdu → List Act
+acts_for_pdu plan now (Random options flags kind target source) = acts_for_request plan now (record { options = options; source = source; target = target }) flags kind
+acts_for_pdu plan now (Acku info reason spare target additional) = acts_for_called_radio plan now reason additional
+acts_for_pdu plan now _ = []
 
 -- a slot for the first line
-unfoldable pub serve : Settings → Facts → List Act
-serve plan now =
+unfoldable pub acts_for_first_line : Settings → Facts → List Act
+acts_for_first_line plan now =
     option_map_or (λ (line : Line). option_map_or (λ (slot : Slot). Unlined line.source ∷ begin plan (call_of_line line slot)) (lowest_free plan now) [])
     (first_line now.lines) []
 
 -- the ask with the oldest C_AHOY, once more or given up
-unfoldable pub repeat : Settings → Facts → List Act
-repeat plan now =
+unfoldable pub acts_for_due_ask : Settings → Facts → List Act
+acts_for_due_ask plan now =
     option_map_or (λ (ask : Ask).
     if nat_lt ask.attempt plan.ahoy_tries
     then Asked (record { source = ask.source; target = ask.target; options = ask.options; attempt = ask.attempt + 1 }) ∷ ahoy plan ask
@@ -177,12 +177,12 @@ repeat plan now =
     (due_ask plan.ahoy_wait now.asks) []
 
 -- the call on the slot of the first call that is over is cleared
-unfoldable pub ended : Settings → List Standing → List Act
-ended plan calls = option_map_or (λ (slot : Slot). option_map_or (λ (call : Call). clear plan call) (call_on calls slot) []) (due_call plan.hang plan.maximum calls) []
+unfoldable pub acts_for_due_call : Settings → List Standing → List Act
+acts_for_due_call plan calls = option_map_or (λ (slot : Slot). option_map_or (λ (call : Call). clear plan call) (call_on calls slot) []) (due_call plan.hang plan.maximum calls) []
 
 -- a tick, which was counted
-unfoldable pub tick : Settings → Facts → List Act
-tick plan now = ended plan now.calls ++ (if has_room plan now then repeat plan now ++ serve plan now else [])
+unfoldable pub acts_for_tick : Settings → Facts → List Act
+acts_for_tick plan now = acts_for_due_call plan now.calls ++ (if has_room plan now then acts_for_due_ask plan now ++ acts_for_first_line plan now else [])
 
 -- the late entry of the next Fill, if it has one: where it is due and nothing is moved, the grant of the next talkgroup call
 unfoldable pub late_entry : Settings → Facts → Option Pdu
@@ -190,13 +190,13 @@ late_entry plan now =
     if is_late_due now.fills && not (is_some now.moving) then option_map (λ (call : Call). grant_pdu plan call true) (next_call plan now) else None
 
 -- the first PDU that waits for a slot, or what fills the control slot
-abbrev pub sent : Settings → Facts → Slot → List Pdu → List Act
-sent plan now slot [] = if is_control plan slot then Fill slot (fill_of plan now.moving now.noise now.fills (late_entry plan now)) ∷ [] else []
-sent plan now slot (pdu ∷ pdus) = Send slot pdu ∷ []
+abbrev pub acts_for_outbox : Settings → Facts → Slot → List Pdu → List Act
+acts_for_outbox plan now slot [] = if is_control plan slot then Fill slot (fill_of plan now.moving now.noise now.fills (late_entry plan now)) ∷ [] else []
+acts_for_outbox plan now slot (pdu ∷ pdus) = Send slot pdu ∷ []
 
 -- what a slot of a carrier is sent
-unfoldable pub poll : Settings → Facts → Slot → List Act
-poll plan now slot = sent plan now slot (outbox now slot)
+unfoldable pub acts_for_slot : Settings → Facts → Slot → List Act
+acts_for_slot plan now slot = acts_for_outbox plan now slot (outbox now slot)
 
 -- a command that changes nothing has this reply alone
 abbrev pub reply_alone : Reply → Acts
@@ -220,24 +220,24 @@ end_call plan now slot =
     option_map_or (λ (call : Call). acts_and_done (clear plan call)) (call_on now.calls slot) (reply_alone reply.NoCall)
 
 -- an operator's command: its acts and its reply
-unfoldable pub commanded : Settings → Facts → Command → Acts
-commanded plan now command.Status =
+unfoldable pub answer_to_command : Settings → Facts → Command → Acts
+answer_to_command plan now command.Status =
     reply_alone (reply.Status (length (filter (λ up. up) now.up)) (length now.registered) (length now.asks) (length now.lines) (length now.calls) now.moving)
-commanded plan now (command.Radios from) = reply_alone (reply.Radios (least_from now.registered from))
-commanded plan now (command.Calls c) = reply_alone (if has_carrier plan c then reply.Calls (calls_of now.calls c) else reply.NoCarrier)
-commanded plan now (command.Lines from) = reply_alone (reply.Lines from (lines_from now.lines (from - 1)))
-commanded plan now command.Slots = reply_alone (reply.Slots (all_shown plan now))
-commanded plan now (command.Drop r) = drop_radio plan now r
-commanded plan now (command.End c s) = end_call plan now (record { carrier = c; slot = s })
-commanded plan now (command.Move lpcn) = acts_and_done []
-commanded plan now command.Stay = acts_and_done []
+answer_to_command plan now (command.Radios from) = reply_alone (reply.Radios (least_from now.registered from))
+answer_to_command plan now (command.Calls c) = reply_alone (if has_carrier plan c then reply.Calls (calls_on_carrier now.calls c) else reply.NoCarrier)
+answer_to_command plan now (command.Lines from) = reply_alone (reply.Lines from (page_of_lines now.lines (from - 1)))
+answer_to_command plan now command.Slots = reply_alone (reply.Slots (all_slot_states plan now))
+answer_to_command plan now (command.Drop r) = drop_radio plan now r
+answer_to_command plan now (command.End c s) = end_call plan now (record { carrier = c; slot = s })
+answer_to_command plan now (command.Move lpcn) = acts_and_done []
+answer_to_command plan now command.Stay = acts_and_done []
 
 -- the acts that answer the event, from what stands when it comes; a tick is counted first
 abbrev pub acts_of : Settings → Facts → Event → List Act
 acts_of plan now (Heard slot pdu) =
-    if is_up now slot.carrier && (is_control plan slot && has_room plan now) then heard plan now pdu else []
+    if is_up now slot.carrier && (is_control plan slot && has_room plan now) then acts_for_pdu plan now pdu else []
 acts_of plan now (Poll c) =
-    if is_up now c then poll plan now (record { carrier = c; slot = 0 }) ++ poll plan now (record { carrier = c; slot = 1 }) else []
-acts_of plan now Tick = tick plan (record now { calls = calls_by_event now.calls Tick; asks = asks_by_event plan now.asks Tick })
-acts_of plan now (Say command) = (commanded plan now command).list
+    if is_up now c then acts_for_slot plan now (record { carrier = c; slot = 0 }) ++ acts_for_slot plan now (record { carrier = c; slot = 1 }) else []
+acts_of plan now Tick = acts_for_tick plan (record now { calls = calls_by_event now.calls Tick; asks = asks_by_event plan now.asks Tick })
+acts_of plan now (Say command) = (answer_to_command plan now command).list
 acts_of plan now _ = []

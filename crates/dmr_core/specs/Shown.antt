@@ -18,8 +18,8 @@ at_most_one None = []
 at_most_one (Some call) = call ∷ []
 
 -- the calls on a carrier, by slot
-abbrev pub calls_of : List Standing → ℕ → List Call
-calls_of calls c = at_most_one (call_on calls (record { carrier = c; slot = 0 })) ++ at_most_one (call_on calls (record { carrier = c; slot = 1 }))
+abbrev pub calls_on_carrier : List Standing → ℕ → List Call
+calls_on_carrier calls c = at_most_one (call_on calls (record { carrier = c; slot = 0 })) ++ at_most_one (call_on calls (record { carrier = c; slot = 1 }))
 
 -- how a slot stands: the first that applies
 abbrev pub state_of : Settings → Facts → Slot → State
@@ -30,9 +30,9 @@ state_of plan now slot =
     if is_free plan now slot then state.Free else state.Waiting
 
 -- a slot, and how it stands, if the plan has its carrier
-abbrev pub shown : Settings → Facts → Slot → List SlotState
-shown plan now slot = if has_carrier plan slot.carrier then record { slot = slot; state = state_of plan now slot } ∷ [] else []
+abbrev pub slot_states : Settings → Facts → Slot → List SlotState
+slot_states plan now slot = if has_carrier plan slot.carrier then record { slot = slot; state = state_of plan now slot } ∷ [] else []
 
 -- so each slot, by carrier number, then slot
-unfoldable pub all_shown : Settings → Facts → List SlotState
-all_shown plan now = flat_map (shown plan now) all_slots
+unfoldable pub all_slot_states : Settings → Facts → List SlotState
+all_slot_states plan now = flat_map (slot_states plan now) all_slots

@@ -21,9 +21,9 @@ use Rattle.dmr_core.specs.Facts.{Facts, has_carrier}
 use Rattle.dmr_core.specs.Words.{is_up, outbox, lpcn_of, is_registered, stands_on}
 
 -- no two calls stand on one slot
-abbrev pub AreApart : List Standing → Type 0
-AreApart [] = Unit {0}
-AreApart (s ∷ calls) = (stands_on calls s.call.slot ≡ false) × AreApart calls
+abbrev pub AreOnDistinctSlots : List Standing → Type 0
+AreOnDistinctSlots [] = Unit {0}
+AreOnDistinctSlots (s ∷ calls) = (stands_on calls s.call.slot ≡ false) × AreOnDistinctSlots calls
 
 -- how often a thing is counted in a list
 abbrev pub total : {X : Type 0} → (X → ℕ) → List X → ℕ
@@ -35,18 +35,18 @@ abbrev pub party : ℕ → Bool → ℕ → ℕ → ℕ
 party r group source target = cond (source == r) 1 0 + cond (not group && (target == r)) 1 0
 
 -- the same of a call, a line, an ask
-abbrev pub in_call : ℕ → Standing → ℕ
-in_call r s = party r s.call.group s.call.source s.call.target
+abbrev pub engagements_in_call : ℕ → Standing → ℕ
+engagements_in_call r s = party r s.call.group s.call.source s.call.target
 
-abbrev pub in_line : ℕ → Line → ℕ
-in_line r l = party r l.group l.source l.target
+abbrev pub engagements_in_line : ℕ → Line → ℕ
+engagements_in_line r l = party r l.group l.source l.target
 
-abbrev pub in_ask : ℕ → Asking → ℕ
-in_ask r a = party r false a.ask.source a.ask.target
+abbrev pub engagements_in_ask : ℕ → Asking → ℕ
+engagements_in_ask r a = party r false a.ask.source a.ask.target
 
 -- how often a radio is engaged
 abbrev pub engagements : List Standing → List Asking → List Line → ℕ → ℕ
-engagements calls asks lines r = total (in_call r) calls + total (in_ask r) asks + total (in_line r) lines
+engagements calls asks lines r = total (engagements_in_call r) calls + total (engagements_in_ask r) asks + total (engagements_in_line r) lines
 
 -- a talkgroup call of the group stands
 abbrev pub has_group_call : List Standing → ℕ → Bool
@@ -80,7 +80,7 @@ pub record IsSound (plan : Settings) (facts : Facts) : Type 0 where
   pub slots : length facts.outboxes ≡ 32
   pub known : (c : ℕ) → is_up facts c ≡ true → has_carrier plan c ≡ true
   -- calls stand on distinct payload slots whose outboxes are empty; asks and lines only while the control carrier is up
-  pub apart : AreApart facts.calls
+  pub apart : AreOnDistinctSlots facts.calls
   pub payload : (slot : Slot) → stands_on facts.calls slot ≡ true → IsPayload plan facts.up slot
   pub quiet : (slot : Slot) → stands_on facts.calls slot ≡ true → outbox facts slot ≡ []
   pub asks : is_up facts plan.control ≡ false → facts.asks ≡ []

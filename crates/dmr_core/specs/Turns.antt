@@ -15,11 +15,11 @@ use Rattle.dmr_core.specs.declared.entry.Entry.{Entry}
 use Rattle.dmr_core.specs.Facts.{Facts}
 use Rattle.dmr_core.specs.Rules.{grant_pdu, late_entry}
 use Rattle.dmr_core.specs.Sound.{is_grant, total}
-use Rattle.dmr_core.specs.May.{entry_of}
+use Rattle.dmr_core.specs.May.{late_entry_of_fill}
 
 -- a fill is the late entry that is due, where one is, and else no grant
 abbrev pub FillsInTurn : Settings → Facts → Act → Type 0
-FillsInTurn plan now (Fill slot pdu) = entry_of pdu ≡ late_entry plan now
+FillsInTurn plan now (Fill slot pdu) = late_entry_of_fill pdu ≡ late_entry plan now
 FillsInTurn plan now _ = Unit {0}
 
 -- the late grant of a talkgroup call that stands

@@ -20,13 +20,13 @@ sent_by slot (Send other pdu) = if is_slot other slot then pdu ∷ [] else []
 sent_by slot _ = []
 
 -- the carrier comes up, or is lost
-abbrev pub is_turn : ℕ → Event → Bool
-is_turn c (Up d) = d == c
-is_turn c (Lost d) = d == c
-is_turn c _ = false
+abbrev pub is_turn_of_carrier : ℕ → Event → Bool
+is_turn_of_carrier c (Up d) = d == c
+is_turn_of_carrier c (Lost d) = d == c
+is_turn_of_carrier c _ = false
 
 -- what the acts name since the carrier last came up or was lost, the oldest first; where it never did, behind what was before
 abbrev pub since_turn : ℕ → (Act → List Pdu) → List Pdu → List Entry → List Pdu
 since_turn c named before [] = before
 since_turn c named before (entry ∷ earlier) =
-    (if is_turn c entry.event then [] else since_turn c named before earlier) ++ flat_map named entry.acts.list
+    (if is_turn_of_carrier c entry.event then [] else since_turn c named before earlier) ++ flat_map named entry.acts.list

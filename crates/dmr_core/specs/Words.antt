@@ -7,7 +7,7 @@ use Rattle.dmr_pdu.specs.declared.pdu.Pdu.{Pdu}
 use Rattle.dmr_plan.specs.declared.settings.Settings.{Settings}
 use Rattle.dmr_plan.specs.declared.carriers.CarrierRow.{CarrierRow}
 use Rattle.dmr_plan.specs.Carriers.{row_with}
-use Rattle.dmr_registry.specs.Radios.{is_held}
+use Rattle.dmr_registry.specs.Radios.{is_registered_in}
 use Rattle.dmr_calls.specs.declared.call.Standing.{Standing}
 use Rattle.dmr_calls.specs.Calls.{is_slot}
 use Rattle.dmr_calls.specs.Standings.{Standings}
@@ -51,7 +51,7 @@ slot_for_new plan now = if is_empty now.lines then lowest_free plan now else Non
 
 -- the radio is registered
 abbrev pub is_registered : Facts → ℕ → Bool
-is_registered now r = is_held now.registered r
+is_registered now r = is_registered_in now.registered r
 
 -- what engages radios
 abbrev pub standings : Facts → Standings

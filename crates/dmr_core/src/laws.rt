@@ -11,18 +11,18 @@ ghost use Rattle.dmr_calls.specs.Lines.{line_of};
 ghost use Rattle.dmr_calls.specs.Calls.{call_on, is_slot};
 ghost use Rattle.dmr_core.specs.declared.event.Event.{Event};
 ghost use Rattle.dmr_core.specs.declared.entry.Entry.{Entry};
-ghost use Rattle.dmr_core.specs.Facts.{Facts, facts_after, has_carrier, noted, nothing};
+ghost use Rattle.dmr_core.specs.Facts.{Facts, facts_after, has_carrier, facts_after_event, no_facts};
 ghost use Rattle.dmr_core.specs.Words.{is_registered, is_up, outbox};
 ghost use Rattle.dmr_core.specs.Rules.{acts_of, grant_pdu};
 ghost use Rattle.dmr_core.specs.Journal.{IsLegal, journal_of, events_of, answers_of};
 ghost use Rattle.dmr_core.specs.Sound.{IsSound};
 ghost use Rattle.dmr_core.specs.May.{AllMayDo};
-ghost use Rattle.dmr_core.specs.Counts.{AreFew};
+ghost use Rattle.dmr_core.specs.Counts.{AreFewActs};
 ghost use Rattle.dmr_core.specs.Laws.{BeginsOnFree, GrantsKnown, QuietAfterReset, SendsOwn, Throughout};
 ghost use Rattle.dmr_access.specs.Noise.{backoff_of};
 ghost use Rattle.dmr_core.specs.Backoff.{recent_noises};
 ghost use Rattle.dmr_core.specs.Ages.{age_on, quiet_on, waited_of, begins_on, stirs_on, asked_in, ticks_since};
-ghost use Rattle.dmr_core.specs.Orders.{IsInOrder, opened, joined_by, asked_by, lined_by, begun_by, sources_of_asks, sources_of_lines, slots_of_calls};
+ghost use Rattle.dmr_core.specs.Orders.{IsInOrder, with_openings, joined_by, asked_by, lined_by, begun_by, sources_of_asks, sources_of_lines, slots_of_calls};
 ghost use Rattle.dmr_core.specs.Down.{IsOfNoCarrier};
 ghost use Rattle.dmr_core.specs.Waiting.{queued_by, sent_by, since_turn};
 ghost use Rattle.dmr_core.specs.Turns.{FillsInTurn, NamesStanding, IsFilledWith, fills_in, fills_since, is_steady, talkgroup_calls};
@@ -39,9 +39,9 @@ pub fn one_legal_journal()
 /// answered by at most two acts, whatever the facts.
 pub fn facts_stay_sound()
     ensures sound { (plan : Settings) (facts : Facts) (journal : List Entry) → IsPlan plan → IsSound plan facts → IsLegal plan facts journal → IsSound plan (facts_after plan facts journal) }
-    ensures nothing { (plan : Settings) → IsSound plan nothing }
-    ensures few { (plan : Settings) (facts : Facts) (event : Event) → IsPlan plan → IsSound plan facts → AreFew plan (acts_of plan facts event) 13 5 4 }
-    ensures may { (plan : Settings) (facts : Facts) (event : Event) → IsPlan plan → IsSound plan facts → AllMayDo plan (noted plan facts event) (acts_of plan facts event) }
+    ensures nothing { (plan : Settings) → IsSound plan no_facts }
+    ensures few { (plan : Settings) (facts : Facts) (event : Event) → IsPlan plan → IsSound plan facts → AreFewActs plan (acts_of plan facts event) 13 5 4 }
+    ensures may { (plan : Settings) (facts : Facts) (event : Event) → IsPlan plan → IsSound plan facts → AllMayDo plan (facts_after_event plan facts event) (acts_of plan facts event) }
     ensures polled { (plan : Settings) (facts : Facts) (carrier : ℕ) → length (acts_of plan facts (Event.Poll carrier)) ≤ 2 }
 {}
 
@@ -96,7 +96,7 @@ pub fn sent_in_order()
 /// are none.
 pub fn backoff_counts_noises()
     ensures counts { (plan : Settings) (facts : Facts) (journal : List Entry) → IsPlan plan → IsSound plan facts → IsLegal plan facts journal → is_up (facts_after plan facts journal) plan.control ≡ true → backoff_of plan (facts_after plan facts journal).noise ≡ min plan.backoff_high (plan.backoff_low + recent_noises plan facts.noise journal) }
-    ensures from_nothing { (plan : Settings) (journal : List Entry) → IsPlan plan → IsLegal plan nothing journal → is_up (facts_after plan nothing journal) plan.control ≡ true → backoff_of plan (facts_after plan nothing journal).noise ≡ min plan.backoff_high (plan.backoff_low + recent_noises plan [] journal) }
+    ensures from_nothing { (plan : Settings) (journal : List Entry) → IsPlan plan → IsLegal plan no_facts journal → is_up (facts_after plan no_facts journal) plan.control ≡ true → backoff_of plan (facts_after plan no_facts journal).noise ≡ min plan.backoff_high (plan.backoff_low + recent_noises plan [] journal) }
 {
     facts_stay_sound();
 }
@@ -114,15 +114,15 @@ pub fn ages_count_ticks()
 /// that of beginning; what stood before stands in front of these, in its own order. For asks it is so in every journal from sound
 /// facts, legal or not.
 pub fn stand_in_order()
-    ensures registered { (plan : Settings) (facts : Facts) (journal : List Entry) → IsPlan plan → IsSound plan facts → IsLegal plan facts journal → IsInOrder ◌==◌ (opened joined_by facts.registered journal) (facts_after plan facts journal).registered }
-    ensures asks { (plan : Settings) (facts : Facts) (journal : List Entry) → IsSound plan facts → IsInOrder ◌==◌ (opened asked_by (sources_of_asks facts.asks) journal) (sources_of_asks (facts_after plan facts journal).asks) }
-    ensures lines { (plan : Settings) (facts : Facts) (journal : List Entry) → IsPlan plan → IsSound plan facts → IsLegal plan facts journal → IsInOrder ◌==◌ (opened lined_by (sources_of_lines facts.lines) journal) (sources_of_lines (facts_after plan facts journal).lines) }
-    ensures calls { (plan : Settings) (facts : Facts) (journal : List Entry) → IsPlan plan → IsSound plan facts → IsLegal plan facts journal → IsInOrder is_slot (opened begun_by (slots_of_calls facts.calls) journal) (slots_of_calls (facts_after plan facts journal).calls) }
+    ensures registered { (plan : Settings) (facts : Facts) (journal : List Entry) → IsPlan plan → IsSound plan facts → IsLegal plan facts journal → IsInOrder ◌==◌ (with_openings joined_by facts.registered journal) (facts_after plan facts journal).registered }
+    ensures asks { (plan : Settings) (facts : Facts) (journal : List Entry) → IsSound plan facts → IsInOrder ◌==◌ (with_openings asked_by (sources_of_asks facts.asks) journal) (sources_of_asks (facts_after plan facts journal).asks) }
+    ensures lines { (plan : Settings) (facts : Facts) (journal : List Entry) → IsPlan plan → IsSound plan facts → IsLegal plan facts journal → IsInOrder ◌==◌ (with_openings lined_by (sources_of_lines facts.lines) journal) (sources_of_lines (facts_after plan facts journal).lines) }
+    ensures calls { (plan : Settings) (facts : Facts) (journal : List Entry) → IsPlan plan → IsSound plan facts → IsLegal plan facts journal → IsInOrder is_slot (with_openings begun_by (slots_of_calls facts.calls) journal) (slots_of_calls (facts_after plan facts journal).calls) }
 {}
 
 /// An event of a carrier that isn't up, other than its Up, is answered by nothing and changes nothing; nor does the Up of a
 /// carrier that the plan doesn't have.
 pub fn no_carrier_no_change()
     ensures acts { (plan : Settings) (facts : Facts) (event : Event) → IsOfNoCarrier plan facts event → acts_of plan facts event ≡ [] }
-    ensures facts { (plan : Settings) (facts : Facts) (event : Event) → IsPlan plan → IsSound plan facts → IsOfNoCarrier plan facts event → noted plan facts event ≡ facts }
+    ensures facts { (plan : Settings) (facts : Facts) (event : Event) → IsPlan plan → IsSound plan facts → IsOfNoCarrier plan facts event → facts_after_event plan facts event ≡ facts }
 {}

@@ -2,7 +2,7 @@
 
 ghost use Rattle.std.specs.Prelude.{◌≡◌, ◌≢◌, [], ◌∷◌, fold, IfOk};
 ghost use Rattle.dmr_core.specs.declared.event.Event.TheVariants.{Up, Lost, Heard, Tick};
-ghost use Rattle.dmr_core.specs.Facts.{facts_after, noted, done, nothing};
+ghost use Rattle.dmr_core.specs.Facts.{facts_after, facts_after_event, facts_after_act, no_facts};
 ghost use Rattle.dmr_core.specs.Rules.{acts_of};
 ghost use Rattle.dmr_core.specs.Replies.{reply_to};
 ghost use Rattle.dmr_core.specs.Journal.{entry_by_nobody};
@@ -46,10 +46,10 @@ pub struct Machine {
 
 impl Model for Machine {
     ghost use Rattle.std.specs.Prelude.{◌≡◌};
-    ghost use Rattle.dmr_core.specs.State.{State};
+    ghost use Rattle.dmr_core.specs.State.{SiteState};
     ghost use Rattle.dmr_core.specs.Held.{HoldsCalls};
 
-    ghost Value = { State };
+    ghost Value = { SiteState };
 
     ghost view = { λ m. record {
       plan = m.plan;
@@ -70,7 +70,7 @@ impl Machine {
     /// A site of the plan on which nothing stands. `Err` where there is no memory for its parts.
     #[tactic(auto, using(crate::proofs::HeldLemmas::at_first))]
     pub fn new(alloc: Global, plan: &Plan) -> Result<Machine, OutOfMemory>
-        ensures { IfOk result (λ m. m ≡ record { plan = plan.now; facts = nothing }) }
+        ensures { IfOk result (λ m. m ≡ record { plan = plan.now; facts = no_facts }) }
     {
         let registry = Registry::new(alloc)?;
         let pool = Pool::new(alloc, plan)?;
@@ -117,7 +117,7 @@ impl Machine {
     /// lines, and on the control slot nothing was disturbed yet.
     #[tactic(auto, using(crate::proofs::HeldLemmas::lost))]
     fn came_up(&mut self, carrier: CarrierNo)
-        ensures { self.new ≡ record { plan = self.old.plan; facts = noted self.old.plan self.old.facts (Up carrier) } }
+        ensures { self.new ≡ record { plan = self.old.plan; facts = facts_after_event self.old.plan self.old.facts (Up carrier) } }
     {
         self.pool.keeps();
         self.calls.end_of_carrier(carrier);
@@ -136,7 +136,7 @@ impl Machine {
     /// A carrier is lost: its calls end and what waited for its slots is gone; with the control carrier go asks and lines.
     #[tactic(auto, using(crate::proofs::HeldLemmas::lost))]
     fn lost(&mut self, lost: CarrierNo)
-        ensures { self.new ≡ record { plan = self.old.plan; facts = noted self.old.plan self.old.facts (Lost lost) } }
+        ensures { self.new ≡ record { plan = self.old.plan; facts = facts_after_event self.old.plan self.old.facts (Lost lost) } }
     {
         self.pool.keeps();
         self.calls.end_of_carrier(lost);
@@ -151,7 +151,7 @@ impl Machine {
     /// An event opens and closes what stands.
     #[tactic(auto, using(crate::proofs::HeldLemmas::marked_held, crate::proofs::HeldLemmas::counted_held))]
     fn note(&mut self, event: &Event)
-        ensures { self.new ≡ record { plan = self.old.plan; facts = noted self.old.plan self.old.facts event.now } }
+        ensures { self.new ≡ record { plan = self.old.plan; facts = facts_after_event self.old.plan self.old.facts event.now } }
     {
         match event {
             Event::Up(carrier) => self.came_up(*carrier),
@@ -177,7 +177,7 @@ impl Machine {
     /// A call begins, and holds its slot.
     fn begin(&mut self, call: &Call)
         requires { MayBegin self.old.plan self.old.facts call.now }
-        ensures { self.new ≡ record { plan = self.old.plan; facts = done self.old.facts (Began call.now) } }
+        ensures { self.new ≡ record { plan = self.old.plan; facts = facts_after_act self.old.facts (Began call.now) } }
     {
         numbers_of(&call.slot);
         self.pool.keeps();
@@ -187,7 +187,7 @@ impl Machine {
 
     /// The call on a slot ends, and no longer holds it.
     fn end(&mut self, slot: &Slot)
-        ensures { self.new ≡ record { plan = self.old.plan; facts = done self.old.facts (Ended slot.now) } }
+        ensures { self.new ≡ record { plan = self.old.plan; facts = facts_after_act self.old.facts (Ended slot.now) } }
     {
         numbers_of(slot);
         self.pool.keeps();
@@ -198,7 +198,7 @@ impl Machine {
     /// An act opens and closes what stands.
     fn perform(&mut self, act: &Act)
         requires { MayDo self.old.plan self.old.facts act.now }
-        ensures { self.new ≡ record { plan = self.old.plan; facts = done self.old.facts act.now } }
+        ensures { self.new ≡ record { plan = self.old.plan; facts = facts_after_act self.old.facts act.now } }
     {
         match act {
             Act::Queue(slot, pdu) => self.pool.put(slot, pdu),
@@ -217,7 +217,7 @@ impl Machine {
 
     fn perform_all(&mut self, acts: &[Act])
         requires { AllMayDo self.old.plan self.old.facts acts.now }
-        ensures { self.new ≡ record { plan = self.old.plan; facts = fold done self.old.facts acts.now } }
+        ensures { self.new ≡ record { plan = self.old.plan; facts = fold facts_after_act self.old.facts acts.now } }
     {
         for act in acts {
             self.perform(act);
@@ -251,7 +251,7 @@ impl Machine {
     /// Notes an event, and answers it: a tick is counted first.
     fn noted(&mut self, event: &Event) -> Acts
         ensures acts { result ≡ record { list = acts_of self.old.plan self.old.facts event.now; said = reply_to self.old.plan self.old.facts event.now } }
-        ensures facts { self.new ≡ record { plan = self.old.plan; facts = noted self.old.plan self.old.facts event.now } }
+        ensures facts { self.new ≡ record { plan = self.old.plan; facts = facts_after_event self.old.plan self.old.facts event.now } }
     {
         if let Event::Tick = event {
             self.note(event);
@@ -265,7 +265,7 @@ impl Machine {
 
     /// Answers an event, and stands after it as an entry of both says.
     pub fn apply(&mut self, event: &Event) -> Acts
-        requires { AllMayDo self.old.plan (noted self.old.plan self.old.facts event.now) (acts_of self.old.plan self.old.facts event.now) }
+        requires { AllMayDo self.old.plan (facts_after_event self.old.plan self.old.facts event.now) (acts_of self.old.plan self.old.facts event.now) }
         ensures acts { result ≡ record { list = acts_of self.old.plan self.old.facts event.now; said = reply_to self.old.plan self.old.facts event.now } }
         ensures facts { self.new ≡ record { plan = self.old.plan; facts = facts_after self.old.plan self.old.facts (entry_by_nobody event.now result ∷ []) } }
     {

@@ -1,7 +1,7 @@
 //! A site.
 
 ghost use Rattle.std.specs.Prelude.{◌≡◌, ◌↔◌, [], ◌∷◌, IfOk, IsTrue};
-ghost use Rattle.dmr_core.specs.Facts.{facts_after, nothing};
+ghost use Rattle.dmr_core.specs.Facts.{facts_after, no_facts};
 ghost use Rattle.dmr_core.specs.Journal.{entry_by_nobody};
 ghost use Rattle.dmr_core.specs.Replies.{reply_to};
 ghost use Rattle.dmr_core.specs.Rules.{acts_of};
@@ -25,9 +25,9 @@ pub struct Site {
 }
 
 impl Model for Site {
-    ghost use Rattle.dmr_core.specs.State.{State, IsSite};
+    ghost use Rattle.dmr_core.specs.State.{SiteState, IsSite};
 
-    ghost Value = { State };
+    ghost Value = { SiteState };
 
     ghost view = { λ site. site.machine };
 
@@ -38,7 +38,7 @@ impl Site {
     /// The site of a plan on which nothing stands. It takes all the memory that it ever needs; `Err` where there is none
     /// for that.
     pub fn new(alloc: Global, plan: Plan) -> Result<Site, OutOfMemory>
-        ensures { IfOk result (λ site. site ≡ record { plan = plan; facts = nothing }) }
+        ensures { IfOk result (λ site. site ≡ record { plan = plan; facts = no_facts }) }
     {
         plan.keeps();
         Ok(Site {

@@ -2,13 +2,13 @@
 use Rattle.std.specs.Prelude.{◌≡◌, ◌≢◌, ◌⊎◌, ◌<◌, ◌≤◌, ◌+◌, ℕ, List, [], ◌∷◌, length, reverse, slice_get, Some, Contains, All}
 use Rattle.dmr_core.specs.declared.entry.Entry.{Entry}
 use Rattle.dmr_core.specs.Journal.{IsLegal}
-use Rattle.dmr_core.specs.State.{State}
+use Rattle.dmr_core.specs.State.{SiteState}
 use Rattle.dmr_link.specs.Runs.{IsSafe}
 use Rattle.dmr_link.specs.declared.desk.Deposit.{Deposit}
 use Rattle.dmr_desk.specs.declared.report.Report.{Report}
 use Rattle.dmr_desk.specs.declared.fault.CloseFault.{CloseFault}
 use Rattle.dmr_desk.specs.declared.fault.CloseFault.TheVariants.{SeatMissing, Differs}
-use Rattle.dmr_desk.specs.Pages.{Pages, site_after}
+use Rattle.dmr_desk.specs.Pages.{Pages, site_after_entries}
 use Rattle.dmr_desk.specs.Sitting.{Sitting, Opened, HasSeat, NoneMissing}
 use Rattle.dmr_desk.specs.Views.{view_of}
 
@@ -25,11 +25,11 @@ pub record AreViews (views : List (List Deposit)) (journal : List Entry) : Type 
 
 -- a report from this opening site and with this limit, with these views: its journal is legal from that site, its acts are safe, and
 -- it has at most as many entries as the limit; the site is the one that it leaves; the views are what it has of their actors
-pub record IsReported (opening : State) (limit : ℕ) (views : List (List Deposit)) (report : Report) : Type 0 where
+pub record IsReported (opening : SiteState) (limit : ℕ) (views : List (List Deposit)) (report : Report) : Type 0 where
   pub legal : IsLegal opening.plan opening.facts (reverse report.journal)
   pub safe : IsSafe opening.plan opening.facts (reverse report.journal)
   pub within : length report.journal ≤ limit
-  pub site : report.site ≡ site_after opening report.journal
+  pub site : report.site ≡ site_after_entries opening report.journal
   pub views_are : report.views.items ≡ views
   pub told : AreViews views report.journal
 
@@ -40,7 +40,7 @@ pub record IsAudited (desk : Opened) (seats : List Sitting) (report : Report) : 
   pub actors : length report.views.items ≡ desk.actors
 
 -- the book was opened with this site and this limit
-abbrev pub IsOpenedWith : Pages → State → ℕ → Type 0
+abbrev pub IsOpenedWith : Pages → SiteState → ℕ → Type 0
 IsOpenedWith pages opening limit = (pages.opening ≡ opening) × (pages.limit ≡ limit)
 
 -- the view of each actor below a number is what the journal has of it
@@ -53,7 +53,7 @@ IsDiffering views journal actor =
     (actor < length views) × (slice_get views actor ≢ Some (view_of actor journal)) × SameBelow actor views journal
 
 -- why views are refused: the book is of another site or limit, or a view is not what its journal has of the actor
-abbrev pub IsOther : State → ℕ → List (List Deposit) → Pages → CloseFault → Type 0
+abbrev pub IsOther : SiteState → ℕ → List (List Deposit) → Pages → CloseFault → Type 0
 IsOther opening limit views pages (SeatMissing actor) = ⊥
 IsOther opening limit views pages (Differs actor) = ((actor ≡ 0) × ¬ IsOpenedWith pages opening limit) ⊎ IsDiffering views pages.entries actor
 
@@ -81,9 +81,9 @@ IsFault desk seats pages held (Differs actor) =
     × ((other : Sitting) → Contains seats other → other.actor < actor → other.deposits ≡ view_of other.actor pages.entries)))
 
 -- how many deposits these views have together
-abbrev pub all_told : List (List Deposit) → ℕ
-all_told [] = 0
-all_told (view ∷ views) = length view + all_told views
+abbrev pub count_of_deposits : List (List Deposit) → ℕ
+count_of_deposits [] = 0
+count_of_deposits (view ∷ views) = length view + count_of_deposits views
 
 -- a list of seats from which one was taken out, and what is left
 pub record IsOutOf (seats : List Sitting) (seat : Sitting) (left : List Sitting) : Type 0 where

@@ -5,12 +5,12 @@ use Rattle.dmr_link.specs.Notices.{Notice}
 use Rattle.dmr_link.specs.declared.stream.Peer.{Peer}
 use Rattle.dmr_link.specs.declared.talk.Talk.{Talk}
 use Rattle.dmr_link.specs.Happenings.{answers_in}
-use Rattle.dmr_link.specs.Owed.{Means, IsFirst, owed}
-use Rattle.dmr_link.specs.Peers.{text_of}
-use Rattle.dmr_link.specs.Recorded.{reading, all_recorded}
+use Rattle.dmr_link.specs.Owed.{OwesMeaning, IsFirst, notices_owed}
+use Rattle.dmr_link.specs.Peers.{text_to_peer}
+use Rattle.dmr_link.specs.Recorded.{reading_at, reading_after_all}
 use Rattle.dmr_link.specs.Session.{events_in}
 use Rattle.dmr_link.specs.Sessions.{Session}
-use Rattle.dmr_desk.specs.Work.{Doing, happened_of, past_after, calls_of}
+use Rattle.dmr_desk.specs.Work.{Doing, happened_of, past_after, deposits_of_sessions}
 
 -- ---- one record
 
@@ -20,7 +20,7 @@ in_record s = record { came = s.came; taken = s.taken; how = s.how; is_cut = s.i
 
 -- the connections, where a record was read on from those that there were; the newest first
 abbrev pub read_on : List Session → List Answer → List Session
-read_on past answers = (all_recorded (reading (map in_record past) 0 0 0) answers).past
+read_on past answers = (reading_after_all (reading_at (map in_record past) 0 0 0) answers).past
 
 -- ONE RECORD: all that the port answered, read in one go, gives the connections that the steps gave, one after another
 abbrev pub IsOneRecord : List Session → List Doing → Type 0
@@ -32,14 +32,14 @@ IsOneRecord past doings = map in_record (past_after past doings) ≡ read_on pas
 abbrev pub AllMean : Peer → List Session → List Notice → Type 0
 AllMean who [] notices = notices ≡ []
 AllMean who (s ∷ ss) notices =
-    (earlier : List Notice) × (own : List Notice) × (notices ≡ earlier ++ own) × AllMean who ss earlier × Means who s.how s.came own
+    (earlier : List Notice) × (own : List Notice) × (notices ≡ earlier ++ own) × AllMean who ss earlier × OwesMeaning who s.how s.came own
 
 -- a connection: it means what was done of it, and then what is owed; the desk took the events of what was done, and no others; and
 -- the octets that it took are the text of what was done, or, where a write failed or an event was kept at a cut, the first of it
 pub record IsAccounted (who : Peer) (s : Session) (done owing : List Notice) : Type 0 where
-  pub means : Means who s.how s.came (done ++ owing)
+  pub means : OwesMeaning who s.how s.came (done ++ owing)
   pub events : events_in done ≡ map (λ d. d.event) s.calls
-  pub taken : IsFirst s.how s.taken (text_of who done s.calls)
+  pub taken : IsFirst s.how s.taken (text_to_peer who done s.calls)
 
 -- connections, the newest first: this was done of them, the oldest first, and this is owed of the newest, and of the others nothing
 abbrev pub AreAccounted : Peer → List Session → List Notice → List Notice → Type 0
@@ -52,6 +52,6 @@ AreAccounted who (s ∷ ss) done owing =
 -- took its text, or a first part
 pub record IsOneMeaning (link : Talk) (past : List Session) : Type 0 where
   pub done : List Notice
-  pub means : AllMean link.who past (done ++ owed link)
-  pub events : events_in done ≡ map (λ d. d.event) (calls_of past)
-  pub connections : AreAccounted link.who past done (owed link)
+  pub means : AllMean link.who past (done ++ notices_owed link)
+  pub events : events_in done ≡ map (λ d. d.event) (deposits_of_sessions past)
+  pub connections : AreAccounted link.who past done (notices_owed link)

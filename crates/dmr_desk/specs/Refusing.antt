@@ -12,7 +12,7 @@ use Rattle.dmr_desk.specs.declared.fault.TermFault.{TermFault}
 use Rattle.dmr_desk.specs.declared.fault.TermFault.TheVariants.{BadStations, Open, NoThread, Audit, Early}
 use Rattle.dmr_desk.specs.Audited.{IsFault}
 use Rattle.dmr_desk.specs.Opening.{IsLimit}
-use Rattle.dmr_desk.specs.Pages.{Pages, AreKept}
+use Rattle.dmr_desk.specs.Pages.{Pages, AreSoundPages}
 use Rattle.dmr_desk.specs.Sitting.{Sitting, HasSeat}
 use Rattle.dmr_desk.specs.Term.{Start, End, HasRun}
 use Rattle.dmr_desk.specs.Work.{Stand}
@@ -23,17 +23,17 @@ numbers_from plan zero n = []
 numbers_from plan (suc many) n = if has_carrier plan n then n ∷ numbers_from plan many (n + 1) else numbers_from plan many (n + 1)
 
 -- the numbers of the plan's carriers, the least first
-abbrev pub numbers_of : Settings → List ℕ
-numbers_of plan = numbers_from plan 16 0
+abbrev pub carrier_numbers : Settings → List ℕ
+carrier_numbers plan = numbers_from plan 16 0
 
 -- the carrier of a link
-abbrev pub number_of : Peer → Option ℕ
-number_of (Carrier who) = Some who.carrier
-number_of Operator = None
+abbrev pub carrier_of_peer : Peer → Option ℕ
+carrier_of_peer (Carrier who) = Some who.carrier
+carrier_of_peer Operator = None
 
 -- there is one station for each carrier of the plan, by number
 abbrev pub AreStations : Settings → List Stand → Type 0
-AreStations plan stations = map (λ (s : Stand). number_of s.talk.who) stations ≡ map (λ (n : ℕ). Some n) (numbers_of plan)
+AreStations plan stations = map (λ (s : Stand). carrier_of_peer s.talk.who) stations ≡ map (λ (n : ℕ). Some n) (carrier_numbers plan)
 
 -- of actors that have all done their part, this is the least that ended because the term was over, though the journal was below its
 -- limit
@@ -50,7 +50,7 @@ pub record IsUnaudited (start : Start) (fault : CloseFault) : Type 0 where
   pub pages : Pages
   pub held : ℕ
   pub each : (actor : ℕ) → actor < length start.stations + 2 → HasSeat seats actor
-  pub kept : AreKept pages
+  pub kept : AreSoundPages pages
   pub refused : IsFault (record { site = start.site; limit = start.limit; actors = length start.stations + 2 }) seats pages held fault
 
 -- what may be wrong where the stations are right: the first that applies

@@ -2,7 +2,7 @@
 use Rattle.std.specs.Prelude.{◌≡◌, ◌<◌, ◌++◌, ℕ, zero, suc, List, [], ◌∷◌, Contains}
 use Rattle.dmr_core.specs.declared.event.Event.{Event}
 use Rattle.dmr_core.specs.declared.act.Acts.{Acts}
-use Rattle.dmr_core.specs.State.{State}
+use Rattle.dmr_core.specs.State.{SiteState}
 use Rattle.dmr_link.specs.declared.desk.Deposit.{Deposit}
 
 -- a seat: whose it is, and what was deposited from it, the oldest first
@@ -11,12 +11,12 @@ pub record Sitting : Type 0 where
   pub deposits : List Deposit
 
 -- the seat with one deposit more, the newest: an event, and the answer to it
-abbrev pub deposited : Sitting → Event → Acts → Sitting
-deposited seat event acts = record { actor = seat.actor; deposits = seat.deposits ++ record { event = event; acts = acts } ∷ [] }
+abbrev pub seat_with_deposit : Sitting → Event → Acts → Sitting
+seat_with_deposit seat event acts = record { actor = seat.actor; deposits = seat.deposits ++ record { event = event; acts = acts } ∷ [] }
 
 -- a desk: the site when it was opened, the most entries that its journal may have, and how many actors it has
 pub record Opened : Type 0 where
-  pub site : State
+  pub site : SiteState
   pub limit : ℕ
   pub actors : ℕ
 

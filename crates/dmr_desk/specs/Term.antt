@@ -1,6 +1,6 @@
 -- What a term does: each actor's part, and the whole.
 use Rattle.std.specs.Prelude.{◌≡◌, ℕ, ◌+◌, ◌≤◌, ◌<◌, ◌==◌, ◌&&◌, Bool, true, false, List, [], ◌∷◌, Option, Some, length, reverse, slice_get, All}
-use Rattle.dmr_core.specs.State.{State}
+use Rattle.dmr_core.specs.State.{SiteState}
 use Rattle.dmr_core.specs.Journal.{IsLegal}
 use Rattle.dmr_core.specs.declared.entry.Entry.{Entry}
 use Rattle.dmr_link.specs.Runs.{IsSafe}
@@ -9,16 +9,16 @@ use Rattle.dmr_desk.specs.declared.ending.Ending.{Ending}
 use Rattle.dmr_desk.specs.declared.ending.Ending.TheVariants as ending
 use Rattle.dmr_desk.specs.declared.report.Report.{Report}
 use Rattle.dmr_desk.specs.Pace.{Paced, Ticks}
-use Rattle.dmr_desk.specs.Pages.{site_after}
+use Rattle.dmr_desk.specs.Pages.{site_after_entries}
 use Rattle.dmr_desk.specs.Sitting.{Sitting}
 use Rattle.dmr_desk.specs.Views.{view_of}
-use Rattle.dmr_desk.specs.Work.{Stand, moment, Works}
+use Rattle.dmr_desk.specs.Work.{Stand, moment, WorksUntil}
 
 -- ---- each actor's part
 
 -- a link's worker did its work from one stand to another, with a new desk that took these events
 abbrev pub HasWorked : Stand → Stand → List Deposit → Ending → Type 0
-HasWorked s t view e = Works (moment s []) (moment t view) e
+HasWorked s t view e = WorksUntil (moment s []) (moment t view) e
 
 -- the ticker did its work, with a new desk that took these events
 abbrev pub HasTicked : Option Paced → Option Paced → List Deposit → Ending → Type 0
@@ -28,7 +28,7 @@ HasTicked before after view e = Ticks before [] after view e
 
 -- what is handed in
 pub record Start : Type 0 where
-  pub site : State
+  pub site : SiteState
   pub limit : ℕ
   pub stations : List Stand
   pub pacer : Option Paced
@@ -36,7 +36,7 @@ pub record Start : Type 0 where
 
 -- what is handed back
 pub record End : Type 0 where
-  pub site : State
+  pub site : SiteState
   pub journal : List Entry
   pub views : List (List Deposit)
   pub ends : List Ending
@@ -45,11 +45,11 @@ pub record End : Type 0 where
   pub console : Stand
 
 -- what a term begins with, and what it ends with
-abbrev pub started : State → ℕ → List Stand → Option Paced → Stand → Start
-started site limit stations pacer console = record { site = site; limit = limit; stations = stations; pacer = pacer; console = console }
+abbrev pub start_of_term : SiteState → ℕ → List Stand → Option Paced → Stand → Start
+start_of_term site limit stations pacer console = record { site = site; limit = limit; stations = stations; pacer = pacer; console = console }
 
-abbrev pub ended : Report → List Ending → List Stand → Option Paced → Stand → End
-ended report ends stations pacer console = record {
+abbrev pub end_of_term : Report → List Ending → List Stand → Option Paced → Stand → End
+end_of_term report ends stations pacer console = record {
   site = report.site;
   journal = report.journal;
   views = report.views.items;
@@ -65,7 +65,7 @@ pub record HasRun (start : Start) (end : End) : Type 0 where
   pub legal : IsLegal start.site.plan start.site.facts (reverse end.journal)
   pub safe : IsSafe start.site.plan start.site.facts (reverse end.journal)
   pub within : length end.journal ≤ start.limit
-  pub site : end.site ≡ site_after start.site end.journal
+  pub site : end.site ≡ site_after_entries start.site end.journal
   -- each actor has a view, which is what the journal has of it, and no entry is of anybody else
   pub actors : length end.views ≡ length start.stations + 2
   pub views : (k : ℕ) → k < length end.views → slice_get end.views k ≡ Some (view_of k end.journal)
@@ -92,17 +92,17 @@ pub record Done : Type 0 where
   pub seat : Sitting
   pub ending : Ending
 
-abbrev pub done : Stand → Sitting → Ending → Done
-done at seat e = record { at = at; seat = seat; ending = e }
+abbrev pub work_done : Stand → Sitting → Ending → Done
+work_done at seat e = record { at = at; seat = seat; ending = e }
 
 -- the worker of this actor did its work
-abbrev pub IsDone : ℕ → Stand → Done → Type 0
-IsDone actor s d = (d.seat.actor ≡ actor) × HasWorked s d.at d.seat.deposits d.ending
+abbrev pub IsWorkDone : ℕ → Stand → Done → Type 0
+IsWorkDone actor s d = (d.seat.actor ≡ actor) × HasWorked s d.at d.seat.deposits d.ending
 
 -- the workers of the actors from this number on did their work
 abbrev pub AllDone : ℕ → List Stand → List Done → Type 0
 AllDone actor [] [] = Unit {0}
-AllDone actor (s ∷ ss) (d ∷ ds) = IsDone actor s d × AllDone (actor + 1) ss ds
+AllDone actor (s ∷ ss) (d ∷ ds) = IsWorkDone actor s d × AllDone (actor + 1) ss ds
 AllDone actor ss ds = ⊥
 
 -- the ticker, as this actor, did its work

@@ -6,10 +6,10 @@ use Rattle.dmr_link.specs.declared.ended.Ended.{Ended}
 use Rattle.dmr_link.specs.declared.ended.Ended.TheVariants as ended
 use Rattle.dmr_link.specs.declared.stream.Peer.{Peer}
 use Rattle.dmr_link.specs.declared.talk.Talk.{Talk}
-use Rattle.dmr_link.specs.Happenings.{Happening, Answered, Handed, answers_in, deposits_in, passages_in, Outside, all_staged, stage_at, passages_of, EndsInBlock}
+use Rattle.dmr_link.specs.Happenings.{Happening, Answered, Handed, answers_in, deposits_in, passages_in, Outside, stage_after_all, stage_at, passages_of, EndsInBlock}
 use Rattle.dmr_link.specs.Passages.{Passage}
-use Rattle.dmr_link.specs.Recorded.{silenced}
-use Rattle.dmr_link.specs.Sessions.{Session, new_session, with_calls, hearing, all_heard, reads_in, AreOfWire, IsQuiet, IsOver, StandsFor, served, KeepsTurns, Sides, sides, Happens}
+use Rattle.dmr_link.specs.Recorded.{sessions_after_silence}
+use Rattle.dmr_link.specs.Sessions.{Session, new_session, with_calls, hearing_at, hearing_after_answers, reads_in, AreOfWire, IsQuiet, IsOver, StandsFor, sessions_after, KeepsTurns, Sides, sides, Happens}
 use Rattle.dmr_link.specs.Talks.{is_live}
 use Rattle.dmr_desk.specs.declared.ending.Ending.{Ending}
 use Rattle.dmr_desk.specs.declared.ending.Ending.TheVariants as ending
@@ -70,24 +70,24 @@ happened_of [] = []
 happened_of (d ∷ earlier) = happened_of earlier ++ happened_in d
 
 -- what the newest connection has handed in
-abbrev pub handing : List Session → List Deposit → List Session
-handing [] deposits = []
-handing (s ∷ ss) deposits = with_calls s deposits ∷ ss
+abbrev pub with_newest_deposits : List Session → List Deposit → List Session
+with_newest_deposits [] deposits = []
+with_newest_deposits (s ∷ ss) deposits = with_calls s deposits ∷ ss
 
 -- the connections, after an ask, and after a wait
-abbrev pub asked : List Session → Answer → List Session
-asked past Opened = new_session ∷ past
-asked past answer = past
+abbrev pub sessions_after_ask : List Session → Answer → List Session
+sessions_after_ask past Opened = new_session ∷ past
+sessions_after_ask past answer = past
 
-abbrev pub waited : List Session → Answer → List Deposit → List Session
-waited past Silent deposits = handing (silenced past) deposits
-waited past answer deposits = past
+abbrev pub sessions_after_wait : List Session → Answer → List Deposit → List Session
+sessions_after_wait past Silent deposits = with_newest_deposits (sessions_after_silence past) deposits
+sessions_after_wait past answer deposits = past
 
 -- the connections, after a step
 abbrev pub past_then : List Session → Doing → List Session
-past_then past (Asked answer) = asked past answer
-past_then past (Served happened stop) = served past (answers_in happened) (deposits_in happened)
-past_then past (Waited answer deposits) = waited past answer deposits
+past_then past (Asked answer) = sessions_after_ask past answer
+past_then past (Served happened stop) = sessions_after past (answers_in happened) (deposits_in happened)
+past_then past (Waited answer deposits) = sessions_after_wait past answer deposits
 
 -- the connections, after all
 abbrev pub past_after : List Session → List Doing → List Session
@@ -95,9 +95,9 @@ past_after past [] = past
 past_after past (d ∷ earlier) = past_then (past_after past earlier) d
 
 -- what a desk took of connections, the oldest first
-abbrev pub calls_of : List Session → List Deposit
-calls_of [] = []
-calls_of (s ∷ ss) = calls_of ss ++ s.calls
+abbrev pub deposits_of_sessions : List Session → List Deposit
+deposits_of_sessions [] = []
+deposits_of_sessions (s ∷ ss) = deposits_of_sessions ss ++ s.calls
 
 -- ---- in order
 
@@ -118,12 +118,12 @@ abbrev pub Rests : List Session → Type 0
 Rests past = (link : Talk) × IsOver link × StandsFor link past
 
 -- a call of `serve` may begin at the start, at an opening, after an Again, and after the 64 reads of the call before
-abbrev pub MayBegin : List Doing → Type 0
-MayBegin [] = Unit {0}
-MayBegin (Asked Opened ∷ earlier) = Unit {0}
-MayBegin (Served happened ended.Paused ∷ earlier) = Unit {0}
-MayBegin (Waited Again deposits ∷ earlier) = Unit {0}
-MayBegin other = ⊥
+abbrev pub MayBeginServe : List Doing → Type 0
+MayBeginServe [] = Unit {0}
+MayBeginServe (Asked Opened ∷ earlier) = Unit {0}
+MayBeginServe (Served happened ended.Paused ∷ earlier) = Unit {0}
+MayBeginServe (Waited Again deposits ∷ earlier) = Unit {0}
+MayBeginServe other = ⊥
 
 -- a wait may follow a call of `serve` that ended at a read that would block
 abbrev pub MayWait : List Doing → Type 0
@@ -141,10 +141,10 @@ StopsAt stop answers = Unit {0}
 pub record IsCall (who : Peer) (past : List Session) (happened : List Happening) (stop : Ended) : Type 0 where
   pub wire : AreOfWire (answers_in happened)
   pub few : reads_in (answers_in happened) ≤ 64
-  pub order : all_staged Outside happened ≡ stage_at stop
+  pub order : stage_after_all Outside happened ≡ stage_at stop
   pub passages : passages_in happened ≡ passages_of (deposits_in happened) stop
-  pub turns : (s : Session) (ss : List Session) → past ≡ s ∷ ss → KeepsTurns who (hearing s 0) happened
-  pub rested : (s : Session) (ss : List Session) → past ≡ s ∷ ss → (all_heard (hearing s 0) (answers_in happened)).writing ≡ 0
+  pub turns : (s : Session) (ss : List Session) → past ≡ s ∷ ss → KeepsTurns who (hearing_at s 0) happened
+  pub rested : (s : Session) (ss : List Session) → past ≡ s ∷ ss → (hearing_after_answers (hearing_at s 0) (answers_in happened)).writing ≡ 0
   pub stops : StopsAt stop (answers_in happened)
 
 -- it asked only where no connection was open and nothing was owed, its calls of `serve` began where they may, and each wait stands right
@@ -152,7 +152,7 @@ pub record IsCall (who : Peer) (past : List Session) (happened : List Happening)
 abbrev pub IsOrderly : Peer → List Session → List Doing → Type 0
 IsOrderly who past [] = Unit {0}
 IsOrderly who past (Asked answer ∷ earlier) = IsAsk answer × Rests (past_after past earlier) × IsOrderly who past earlier
-IsOrderly who past (Served happened stop ∷ earlier) = IsCall who (past_after past earlier) happened stop × MayBegin earlier × IsOrderly who past earlier
+IsOrderly who past (Served happened stop ∷ earlier) = IsCall who (past_after past earlier) happened stop × MayBeginServe earlier × IsOrderly who past earlier
 IsOrderly who past (Waited answer deposits ∷ earlier) = IsWait answer deposits × MayWait earlier × IsOrderly who past earlier
 
 -- ---- from one moment to another
@@ -165,7 +165,7 @@ pub record Went (m : Moment) (n : Moment) (doings : List Doing) : Type 0 where
   -- whatever connections the link stood for, it stands for what these steps make of them
   pub stands : (past : List Session) → StandsFor m.at.talk past → StandsFor n.at.talk (past_after past doings)
   -- what the desk took in these steps is, in one list, what it took of these connections since
-  pub view : (past : List Session) → StandsFor m.at.talk past → calls_of (past_after past doings) ≡ calls_of past ++ deposits_in (happened_of doings)
+  pub view : (past : List Session) → StandsFor m.at.talk past → deposits_of_sessions (past_after past doings) ≡ deposits_of_sessions past ++ deposits_in (happened_of doings)
   pub orderly : (past : List Session) → StandsFor m.at.talk past → IsOrderly m.at.talk.who past doings
 
 -- the last answer to an ask was that there will be no more connections
@@ -185,19 +185,19 @@ EndsFor ending.GateShut talk doings = WasShut doings
 EndsFor ending.TermOver talk doings = Unit {0}
 
 -- the whole work
-abbrev pub Works : Moment → Moment → Ending → Type 0
-Works m n e = (doings : List Doing) × Went m n doings × EndsFor e n.at.talk doings
+abbrev pub WorksUntil : Moment → Moment → Ending → Type 0
+WorksUntil m n e = (doings : List Doing) × Went m n doings × EndsFor e n.at.talk doings
 
 -- ---- on the way
 
 -- it goes on: to a call of `serve`, or to an ask
 abbrev pub Going : Moment → Moment → Type 0
-Going m n = (doings : List Doing) × Went m n doings × (is_live n.at.talk ≡ true → MayBegin doings)
+Going m n = (doings : List Doing) × Went m n doings × (is_live n.at.talk ≡ true → MayBeginServe doings)
 
 -- it is about to wait
-abbrev pub Waiting : Moment → Moment → Type 0
-Waiting m n = (doings : List Doing) × Went m n doings × MayWait doings × IsQuiet n.at.talk × (n.at.talk.unread ≡ [])
+abbrev pub IsAboutToWait : Moment → Moment → Type 0
+IsAboutToWait m n = (doings : List Doing) × Went m n doings × MayWait doings × IsQuiet n.at.talk × (n.at.talk.unread ≡ [])
 
 abbrev pub GoesOn : Moment → Moment → Option Ending → Type 0
 GoesOn m n None = Going m n
-GoesOn m n (Some e) = Works m n e
+GoesOn m n (Some e) = WorksUntil m n e

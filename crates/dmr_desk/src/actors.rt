@@ -1,7 +1,7 @@
 //! Each actor's work at its seat.
 
 ghost use Rattle.std.specs.Prelude.{◌≡◌, []};
-ghost use Rattle.dmr_desk.specs.Term.{HasWorked, HasTicked, IsDone, IsTicked, done};
+ghost use Rattle.dmr_desk.specs.Term.{HasWorked, HasTicked, IsWorkDone, IsTicked, work_done};
 
 use crate::at::SeatAt;
 use crate::desk::SharedDesk;
@@ -44,7 +44,7 @@ pub struct LinkKept<S>(pub Snapshot<S>, pub u8);
 impl<S: Serving, L: Ledger> Promise<LinkWork<S, L>> for LinkKept<S> {
     ghost use Rattle.dmr_desk.specs.declared.ending.Ending.TheVariants.{GateShut};
 
-    ghost kept_by = { λ p r. IsDone p.1 (S.stand p.0.value) (done (S.stand r.station) r.seat r.ending) × (r.ending ≡ GateShut → S.shut r.station) };
+    ghost kept_by = { λ p r. IsWorkDone p.1 (S.stand p.0.value) (work_done (S.stand r.station) r.seat r.ending) × (r.ending ≡ GateShut → S.shut r.station) };
 }
 
 /// That the ticker does its work with this pacer, and a new seat of this actor.
@@ -63,7 +63,7 @@ pub fn serve_at<S: Serving, L: Ledger, R: Wait>(
     seat: Seat<L>,
 ) -> LinkWork<S, L>
     requires { seat.deposits ≡ [] }
-    ensures done { IsDone seat.actor (S.stand station) (done (S.stand result.station) result.seat result.ending) }
+    ensures done { IsWorkDone seat.actor (S.stand station) (work_done (S.stand result.station) result.seat result.ending) }
     ensures shut { result.ending ≡ Ending.GateShut → S.shut result.station }
 {
     let mut station = station;

@@ -2,7 +2,7 @@
 
 ghost use Rattle.std.specs.Prelude.{◌≡◌, ◌<◌, [], length, reverse, IsOk, IsTrue, ◌↔◌, IfOk, IfErr};
 ghost use Rattle.dmr_link.specs.Runs.{IsSafe};
-ghost use Rattle.dmr_desk.specs.Pages.{AreKept, answer_to, entered, site_after};
+ghost use Rattle.dmr_desk.specs.Pages.{AreSoundPages, answer_to, pages_with_entry, site_after_entries};
 
 use crate::report::Journal;
 use crate::room::push_copy;
@@ -25,13 +25,13 @@ pub struct Book {
 
 impl Model for Book {
     ghost use Rattle.std.specs.Prelude.{◌≡◌, ◌≤◌, vec_capacity};
-    ghost use Rattle.dmr_desk.specs.Pages.{Pages, AreKept, site_after};
+    ghost use Rattle.dmr_desk.specs.Pages.{Pages, AreSoundPages, site_after_entries};
 
     ghost Value = { Pages };
 
     ghost view = { λ b. record { opening = b.opening; limit = b.limit; entries = b.journal.items } };
 
-    ghost invariant = { λ b. AreKept (record { opening = b.opening; limit = b.limit; entries = b.journal.items }) × (b.site ≡ site_after b.opening b.journal.items) × (b.limit ≤ vec_capacity b.journal) };
+    ghost invariant = { λ b. AreSoundPages (record { opening = b.opening; limit = b.limit; entries = b.journal.items }) × (b.site ≡ site_after_entries b.opening b.journal.items) × (b.limit ≤ vec_capacity b.journal) };
 }
 
 /// The entry of an actor's event and its answer.
@@ -71,7 +71,7 @@ impl Book {
     /// takes no memory. `Err`: the journal has as many entries as it may have; the site was not told, and nothing has changed.
     pub fn apply(&mut self, actor: u8, event: Event) -> Result<Acts, TermOver>
         ensures acts { IfOk result (λ acts. acts ≡ answer_to self.old event) }
-        ensures entered { IfOk result (λ acts. self.new ≡ entered self.old actor event acts) }
+        ensures entered { IfOk result (λ acts. self.new ≡ pages_with_entry self.old actor event acts) }
         ensures room { length self.old.entries < self.old.limit → IsOk result }
         ensures over { IfErr result (λ over. (self.new ≡ self.old) × (over.entries ≡ length self.old.entries) × (length self.old.entries ≡ self.old.limit)) }
     {
@@ -81,7 +81,7 @@ impl Book {
     /// As [`apply`](Book::apply), of an event that is lent.
     fn enter(&mut self, actor: u8, event: &Event) -> Result<Acts, TermOver>
         ensures acts { IfOk result (λ acts. acts ≡ answer_to self.old event.now) }
-        ensures entered { IfOk result (λ acts. self.new ≡ entered self.old actor event.now acts) }
+        ensures entered { IfOk result (λ acts. self.new ≡ pages_with_entry self.old actor event.now acts) }
         ensures room { length self.old.entries < self.old.limit → IsOk result }
         ensures over { IfErr result (λ over. (self.new ≡ self.old) × (over.entries ≡ length self.old.entries) × (length self.old.entries ≡ self.old.limit)) }
     {
@@ -110,7 +110,7 @@ impl Book {
 
     /// Does nothing. A proof learns from it what every book keeps, and that every act in its journal is safe.
     pub fn keeps(&self)
-        ensures kept { AreKept self.now }
+        ensures kept { AreSoundPages self.now }
         ensures safe { IsSafe self.now.opening.plan self.now.opening.facts (reverse self.now.entries) }
     {
         each_act_is_safe();
@@ -133,7 +133,7 @@ impl Book {
 
     /// The site as the journal leaves it, and the journal.
     pub fn into_parts(self) -> (Site, Journal)
-        ensures site { result.0 ≡ site_after self.opening self.entries }
+        ensures site { result.0 ≡ site_after_entries self.opening self.entries }
         ensures journal { result.1 ≡ self.entries }
     {
         let Book { site, journal, .. } = self;

@@ -1,8 +1,8 @@
 //! The desk: a book behind a lock, and seats round it.
 
 ghost use Rattle.std.specs.Prelude.{◌≡◌, ◌≤◌, ◌+◌, ◌↔◌, ◌⊎◌, ℕ, length, true, false, IsTrue, IfOk, IfErr, OnOk};
-ghost use Rattle.dmr_desk.specs.Pages.{AreKept, Pages, answer_to, entered};
-ghost use Rattle.dmr_desk.specs.Sitting.{deposited, empty_seats};
+ghost use Rattle.dmr_desk.specs.Pages.{AreSoundPages, Pages, answer_to, pages_with_entry};
+ghost use Rattle.dmr_desk.specs.Sitting.{seat_with_deposit, empty_seats};
 ghost use Rattle.dmr_desk.specs.Opening.{IsLimit, IsNumber, IsRefused};
 ghost use Rattle.dmr_desk.specs.Audited.{IsAudited, IsFault};
 
@@ -42,8 +42,8 @@ impl<L: Ledger> Locked<L> {
     /// number of the book's entries.
     fn tell(&mut self, seat: &mut Seat<L>, event: &Event) -> Result<Acts, TermOver>
         ensures acts { IfOk result (λ acts. acts ≡ answer_to self.old.book event.now) }
-        ensures entered { IfOk result (λ acts. self.new.book ≡ entered self.old.book seat.old.actor event.now acts) }
-        ensures deposited { IfOk result (λ acts. seat.new ≡ deposited seat.old event.now acts) }
+        ensures entered { IfOk result (λ acts. self.new.book ≡ pages_with_entry self.old.book seat.old.actor event.now acts) }
+        ensures deposited { IfOk result (λ acts. seat.new ≡ seat_with_deposit seat.old event.now acts) }
         ensures over { IfErr result (λ over. (self.new.book ≡ self.old.book) × (seat.new ≡ seat.old) × (over.entries ≡ length self.old.book.entries)) }
         ensures among { IfErr result (λ over. length seat.old.deposits ≤ over.entries) }
         ensures taken { OnOk result (self.old.abandoned ≡ false) }
@@ -211,7 +211,7 @@ impl<L: Ledger> SharedDesk<L> {
         seat: &mut Seat<L>,
         event: Event,
     ) -> Result<Acts, TermOver>
-        ensures ok { IfOk result (λ acts. seat.new ≡ deposited seat.old event acts) }
+        ensures ok { IfOk result (λ acts. seat.new ≡ seat_with_deposit seat.old event acts) }
         ensures over { IfErr result (λ over. (seat.new ≡ seat.old) × (length seat.old.deposits ≤ over.entries)) }
     {
         self.locked.lock(rt).tell(seat, &event)
@@ -238,7 +238,7 @@ impl<L: Ledger> SharedDesk<L> {
     pub fn close<R: Wait>(self, _rt: &R, seats: Vec<Seat<L>>) -> Result<Report, CloseFault>
         requires { L.parts ≡ 18 }
         ensures ok { IfOk result (λ report. IsAudited self seats.items report) }
-        ensures fault { IfErr result (λ fault. (pages : Pages) × (held : ℕ) × AreKept pages × IsFault self seats.items pages held fault) }
+        ensures fault { IfErr result (λ fault. (pages : Pages) × (held : ℕ) × AreSoundPages pages × IsFault self seats.items pages held fault) }
     {
         let SharedDesk {
             locked,

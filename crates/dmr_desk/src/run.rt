@@ -2,8 +2,8 @@
 
 ghost use Rattle.std.specs.Prelude.{◌≡◌, ◌+◌, ◌-◌, ◌≤◌, ◌↔◌, ℕ, IfErr, IfOk, IsTrue, None, OnOk, Some, map, slice_get, vec_len};
 ghost use Rattle.dmr_desk.specs.Opening.{IsLimit};
-ghost use Rattle.dmr_desk.specs.Refusing.{AreStations, IsFaultFor, IsTermFault, number_of, numbers_from};
-ghost use Rattle.dmr_desk.specs.Term.{IsTerm, ended, started};
+ghost use Rattle.dmr_desk.specs.Refusing.{AreStations, IsFaultFor, IsTermFault, carrier_of_peer, numbers_from};
+ghost use Rattle.dmr_desk.specs.Term.{IsTerm, end_of_term, start_of_term};
 ghost use Rattle.dmr_desk.specs.Work.{stand};
 
 use crate::desk::{PARTS, SharedDesk};
@@ -27,7 +27,7 @@ use std::thread::Threads;
 /// Whether these are the stations of the last `many` carrier numbers that the plan has, by number.
 fn are_stations<P, G>(plan: &Plan, many: u32, stations: &[Station<P, G>]) -> bool
     requires { many ≤ 16 }
-    ensures { IsTrue result ↔ (map (λ s. number_of s.link.who) stations.now ≡ map (λ n. Some n) (numbers_from plan.now many (16 - many))) }
+    ensures { IsTrue result ↔ (map (λ s. carrier_of_peer s.link.who) stations.now ≡ map (λ n. Some n) (numbers_from plan.now many (16 - many))) }
 {
     if many == 0 {
         return stations.is_empty();
@@ -68,11 +68,11 @@ where
     requires parts { blank.parts ≡ L.parts }
     requires eighteen { blank.parts ≡ 18 }
     requires few { vec_len stations ≤ 16 }
-    ensures term { IfOk result (λ t. IsTerm (started site limit (map (λ s. S.stand s) stations.items) (T.paced pacer) (C.stand console))
-        (ended t.report t.ends.items (map (λ s. S.stand s) t.stations.items) (T.paced t.pacer) (C.stand t.console))) }
+    ensures term { IfOk result (λ t. IsTerm (start_of_term site limit (map (λ s. S.stand s) stations.items) (T.paced pacer) (C.stand console))
+        (end_of_term t.report t.ends.items (map (λ s. S.stand s) t.stations.items) (T.paced t.pacer) (C.stand t.console))) }
     ensures shut { IfOk result (λ t. (k : ℕ) (s : _) → slice_get t.stations.items k ≡ Some s → slice_get t.ends.items k ≡ Some Ending.GateShut → S.shut s) }
     ensures open { IfOk result (λ t. slice_get t.ends.items (vec_len stations + 1) ≡ Some Ending.GateShut → C.shut t.console) }
-    ensures fault { IfErr result (IsFaultFor (started site limit (map (λ s. S.stand s) stations.items) (T.paced pacer) (C.stand console))) }
+    ensures fault { IfErr result (IsFaultFor (start_of_term site limit (map (λ s. S.stand s) stations.items) (T.paced pacer) (C.stand console))) }
     ensures limit { OnOk result (IsLimit limit) }
 {
     let count = stations.len();
@@ -123,11 +123,11 @@ where
     T: Pacer + Send + Drop,
     C: Port + Send + Drop,
     R: Wait + Threads + Sync,
-    ensures term { IfOk result (λ t. IsTerm (started site limit (map (λ s. stand s.link (P.told s.port) (G.passed s.gate)) stations.items) (T.paced pacer) (stand console.link (C.told console.port) None))
-        (ended t.report t.ends.items (map (λ s. stand s.link (P.told s.port) (G.passed s.gate)) t.stations.items) (T.paced t.pacer) (stand t.console.link (C.told t.console.port) None))) }
+    ensures term { IfOk result (λ t. IsTerm (start_of_term site limit (map (λ s. stand s.link (P.told s.port) (G.passed s.gate)) stations.items) (T.paced pacer) (stand console.link (C.told console.port) None))
+        (end_of_term t.report t.ends.items (map (λ s. stand s.link (P.told s.port) (G.passed s.gate)) t.stations.items) (T.paced t.pacer) (stand t.console.link (C.told t.console.port) None))) }
     ensures shut { IfOk result (λ t. (k : ℕ) (s : _) → slice_get t.stations.items k ≡ Some s → slice_get t.ends.items k ≡ Some Ending.GateShut → (before : _) × G.shuts before s.gate) }
     ensures open { IfOk result (λ t. slice_get t.ends.items (vec_len stations + 1) ≡ Some Ending.GateShut → ⊥) }
-    ensures fault { IfErr result (IsTermFault (started site limit (map (λ s. stand s.link (P.told s.port) (G.passed s.gate)) stations.items) (T.paced pacer) (stand console.link (C.told console.port) None))) }
+    ensures fault { IfErr result (IsTermFault (start_of_term site limit (map (λ s. stand s.link (P.told s.port) (G.passed s.gate)) stations.items) (T.paced pacer) (stand console.link (C.told console.port) None))) }
     ensures fits { OnOk result (AreStations site.plan (map (λ s. stand s.link (P.told s.port) (G.passed s.gate)) stations.items) × IsLimit limit) }
 {
     if !are_stations(site.plan(), 16, stations.as_slice()) {

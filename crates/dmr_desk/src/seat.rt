@@ -1,8 +1,8 @@
 //! A seat at the desk.
 
 ghost use Rattle.std.specs.Prelude.{◌≡◌, ◌≤◌, ◌+◌, [], length, IfOk, IfErr, OnOk};
-ghost use Rattle.dmr_desk.specs.Pages.{answer_to, entered};
-ghost use Rattle.dmr_desk.specs.Sitting.{deposited};
+ghost use Rattle.dmr_desk.specs.Pages.{answer_to, pages_with_entry};
+ghost use Rattle.dmr_desk.specs.Sitting.{seat_with_deposit};
 
 use crate::book::Book;
 use crate::room::push_copy;
@@ -82,8 +82,8 @@ impl<L: Ledger> Seat<L> {
         event: &Event,
     ) -> Result<Acts, TermOver>
         ensures acts { IfOk result (λ acts. acts ≡ answer_to book.old event.now) }
-        ensures entered { IfOk result (λ acts. book.new ≡ entered book.old self.old.actor event.now acts) }
-        ensures deposited { IfOk result (λ acts. self.new ≡ deposited self.old event.now acts) }
+        ensures entered { IfOk result (λ acts. book.new ≡ pages_with_entry book.old self.old.actor event.now acts) }
+        ensures deposited { IfOk result (λ acts. self.new ≡ seat_with_deposit self.old event.now acts) }
         ensures among { length self.old.deposits ≤ total.old.total }
         ensures counted { OnOk result (total.new.total ≡ total.old.total + 1) }
         ensures over { IfErr result (λ over. (book.new ≡ book.old) × (self.new ≡ self.old) × (total.new.total ≡ total.old.total) × (over.entries ≡ length book.old.entries)) }

@@ -5,7 +5,7 @@ ghost use Rattle.arrayvec.specs.ArrayVec.{array_vec_len};
 ghost use Rattle.dmr_desk.specs.Pace.{Paced};
 ghost use Rattle.dmr_desk.specs.Refusing.{IsLate, early_actor, first_over};
 ghost use Rattle.dmr_desk.specs.Sitting.{empty_seats};
-ghost use Rattle.dmr_desk.specs.Term.{AllDone, IsDone, IsTerm, IsTicked, done, ended, started};
+ghost use Rattle.dmr_desk.specs.Term.{AllDone, IsWorkDone, IsTerm, IsTicked, work_done, end_of_term, start_of_term};
 ghost use Rattle.dmr_desk.specs.Work.{Stand};
 
 use crate::actors::LinkWork;
@@ -155,19 +155,19 @@ where
     requires room { vec_len all.carriers ≤ vec_capacity back.stations }
     requires seats_room { vec_len all.carriers + 2 ≤ vec_capacity back.seats }
     ensures term { IfOk result (λ t. (stations : List Stand) (pacer : Option Paced) (console : Stand)
-        → AllDone 0 stations (map (λ w. done (S.stand w.station) w.seat w.ending) all.carriers.items)
+        → AllDone 0 stations (map (λ w. work_done (S.stand w.station) w.seat w.ending) all.carriers.items)
         → IsTicked (length stations) pacer (T.paced all.ticker.pacer) all.ticker.seat all.ticker.ending
-        → IsDone (length stations + 1) console (done (C.stand all.console.station) all.console.seat all.console.ending)
-        → IsTerm (started desk.site desk.limit stations pacer console) (ended t.report t.ends.items (map (λ s. S.stand s) t.stations.items) (T.paced t.pacer) (C.stand t.console))) }
+        → IsWorkDone (length stations + 1) console (work_done (C.stand all.console.station) all.console.seat all.console.ending)
+        → IsTerm (start_of_term desk.site desk.limit stations pacer console) (end_of_term t.report t.ends.items (map (λ s. S.stand s) t.stations.items) (T.paced t.pacer) (C.stand t.console))) }
     ensures shut { IfOk result (λ t. All (λ w. w.ending ≡ Ending.GateShut → S.shut w.station) all.carriers.items
         → (k : ℕ) (s : _) → slice_get t.stations.items k ≡ Some s → slice_get t.ends.items k ≡ Some Ending.GateShut → S.shut s) }
     ensures open { IfOk result (λ t. (all.console.ending ≡ Ending.GateShut → C.shut all.console.station)
         → slice_get t.ends.items (vec_len all.carriers + 1) ≡ Some Ending.GateShut → C.shut t.console) }
     ensures late { IfErr result (λ fault. (stations : List Stand) (pacer : Option Paced) (console : Stand)
-        → AllDone 0 stations (map (λ w. done (S.stand w.station) w.seat w.ending) all.carriers.items)
+        → AllDone 0 stations (map (λ w. work_done (S.stand w.station) w.seat w.ending) all.carriers.items)
         → IsTicked (length stations) pacer (T.paced all.ticker.pacer) all.ticker.seat all.ticker.ending
-        → IsDone (length stations + 1) console (done (C.stand all.console.station) all.console.seat all.console.ending)
-        → IsLate (started desk.site desk.limit stations pacer console) fault) }
+        → IsWorkDone (length stations + 1) console (work_done (C.stand all.console.station) all.console.seat all.console.ending)
+        → IsLate (start_of_term desk.site desk.limit stations pacer console) fault) }
 {
     let (back, pacer, console) = gather_all(all, back);
     let Back {
@@ -212,11 +212,11 @@ where
     requires seats { seats.items ≡ empty_seats (vec_len stations + 2) }
     requires empty { room.items ≡ [] }
     requires room { vec_len stations ≤ vec_capacity room }
-    ensures carriers { IfSome result (λ r. AllDone 0 (map (λ s. S.stand s) stations.items) (map (λ w. done (S.stand w.station) w.seat w.ending) r.carriers.items)) }
+    ensures carriers { IfSome result (λ r. AllDone 0 (map (λ s. S.stand s) stations.items) (map (λ w. work_done (S.stand w.station) w.seat w.ending) r.carriers.items)) }
     ensures shut { IfSome result (λ r. All (λ w. w.ending ≡ Ending.GateShut → S.shut w.station) r.carriers.items) }
     ensures len { IfSome result (λ r. vec_len r.carriers ≡ vec_len stations) }
     ensures ticker { IfSome result (λ r. IsTicked (vec_len stations) (T.paced pacer) (T.paced r.ticker.pacer) r.ticker.seat r.ticker.ending) }
-    ensures console { IfSome result (λ r. IsDone (vec_len stations + 1) (C.stand console) (done (C.stand r.console.station) r.console.seat r.console.ending)) }
+    ensures console { IfSome result (λ r. IsWorkDone (vec_len stations + 1) (C.stand console) (work_done (C.stand r.console.station) r.console.seat r.console.ending)) }
     ensures open { IfSome result (λ r. r.console.ending ≡ Ending.GateShut → C.shut r.console.station) }
 {
     let console_seat = seats.pop()?;

@@ -1,7 +1,7 @@
 //! The threads of a term.
 
 ghost use Rattle.std.specs.Prelude.{◌≡◌, ◌≤◌, ◌+◌, [], All, IfSome, true, map, vec_len, vec_capacity};
-ghost use Rattle.dmr_desk.specs.Term.{AllDone, AreNew, IsDone, IsNew, IsTicked, are_new, done, is_new};
+ghost use Rattle.dmr_desk.specs.Term.{AllDone, AreNew, IsWorkDone, IsNew, IsTicked, are_new, work_done, is_new};
 
 use crate::actors::{LinkKept, LinkWork, TickerKept, TickerWork, serve_at, tick_at};
 use crate::desk::SharedDesk;
@@ -52,7 +52,7 @@ where
     L: Ledger + Send + Sync + 's,
     R: Wait + Threads + Sync,
     requires { seat.deposits ≡ [] }
-    ensures done { IfSome result (λ r. IsDone seat.actor (C.stand station) (done (C.stand r.station) r.seat r.ending)) }
+    ensures done { IfSome result (λ r. IsWorkDone seat.actor (C.stand station) (work_done (C.stand r.station) r.seat r.ending)) }
     ensures shut { IfSome result (λ r. r.ending ≡ Ending.GateShut → C.shut r.station) }
 {
     let promise = LinkKept(Snapshot::of(&station), seat.actor());
@@ -60,7 +60,7 @@ where
         promise,
         move || -> LinkWork<C, L>
             requires { seat.deposits ≡ [] }
-            ensures { IsDone seat.actor (C.stand station) (done (C.stand result.station) result.seat result.ending) × (result.ending ≡ Ending.GateShut → C.shut result.station) }
+            ensures { IsWorkDone seat.actor (C.stand station) (work_done (C.stand result.station) result.seat result.ending) × (result.ending ≡ Ending.GateShut → C.shut result.station) }
         { serve_at(rt, desk, station, seat) },
     ) {
         Ok(child) => Some(child.join(rt)),
@@ -90,7 +90,7 @@ where
     requires console { others.console_seat.deposits ≡ [] }
     ensures carriers { IfSome result (λ r. r.carriers ≡ carriers) }
     ensures ticker { IfSome result (λ r. IsTicked others.pacer_seat.actor (T.paced others.pacer) (T.paced r.ticker.pacer) r.ticker.seat r.ticker.ending) }
-    ensures console { IfSome result (λ r. IsDone others.console_seat.actor (C.stand others.console) (done (C.stand r.console.station) r.console.seat r.console.ending)) }
+    ensures console { IfSome result (λ r. IsWorkDone others.console_seat.actor (C.stand others.console) (work_done (C.stand r.console.station) r.console.seat r.console.ending)) }
     ensures shut { IfSome result (λ r. r.console.ending ≡ Ending.GateShut → C.shut r.console.station) }
 {
     let Others {
@@ -149,12 +149,12 @@ where
     requires console { others.console_seat.deposits ≡ [] }
     requires empty { room.items ≡ [] }
     requires room { vec_len stations ≤ vec_capacity room }
-    ensures carriers { IfSome result (λ r. AllDone 0 (map (λ s. S.stand s) stations.items) (map (λ w. done (S.stand w.station) w.seat w.ending) r.carriers.items)) }
+    ensures carriers { IfSome result (λ r. AllDone 0 (map (λ s. S.stand s) stations.items) (map (λ w. work_done (S.stand w.station) w.seat w.ending) r.carriers.items)) }
     ensures shut { IfSome result (λ r. All (λ w. w.ending ≡ Ending.GateShut → S.shut w.station) r.carriers.items) }
     ensures len { IfSome result (λ r. vec_len r.carriers ≡ vec_len stations) }
     ensures room { IfSome result (λ r. vec_capacity r.carriers ≡ vec_capacity room) }
     ensures ticker { IfSome result (λ r. IsTicked others.pacer_seat.actor (T.paced others.pacer) (T.paced r.ticker.pacer) r.ticker.seat r.ticker.ending) }
-    ensures console { IfSome result (λ r. IsDone others.console_seat.actor (C.stand others.console) (done (C.stand r.console.station) r.console.seat r.console.ending)) }
+    ensures console { IfSome result (λ r. IsWorkDone others.console_seat.actor (C.stand others.console) (work_done (C.stand r.console.station) r.console.seat r.console.ending)) }
     ensures open { IfSome result (λ r. r.console.ending ≡ Ending.GateShut → C.shut r.console.station) }
 {
     let Some(station) = stations.pop() else {
@@ -168,7 +168,7 @@ where
         promise,
         move || -> LinkWork<S, L>
             requires { seat.deposits ≡ [] }
-            ensures { IsDone seat.actor (S.stand station) (done (S.stand result.station) result.seat result.ending) × (result.ending ≡ Ending.GateShut → S.shut result.station) }
+            ensures { IsWorkDone seat.actor (S.stand station) (work_done (S.stand result.station) result.seat result.ending) × (result.ending ≡ Ending.GateShut → S.shut result.station) }
         { serve_at(rt, desk, station, seat) },
     ) {
         Ok(child) => {
@@ -222,11 +222,11 @@ where
     C: Serving + Send + Drop + 's,
     L: Ledger + Send + Sync + 's,
     R: Wait + Threads + Sync,
-    ensures carriers { IfSome result (λ r. AllDone 0 (map (λ s. S.stand s) crew.stations.items) (map (λ w. done (S.stand w.station) w.seat w.ending) r.carriers.items)) }
+    ensures carriers { IfSome result (λ r. AllDone 0 (map (λ s. S.stand s) crew.stations.items) (map (λ w. work_done (S.stand w.station) w.seat w.ending) r.carriers.items)) }
     ensures shut { IfSome result (λ r. All (λ w. w.ending ≡ Ending.GateShut → S.shut w.station) r.carriers.items) }
     ensures len { IfSome result (λ r. vec_len r.carriers ≡ vec_len crew.stations) }
     ensures ticker { IfSome result (λ r. IsTicked (vec_len crew.stations) (T.paced crew.others.pacer) (T.paced r.ticker.pacer) r.ticker.seat r.ticker.ending) }
-    ensures console { IfSome result (λ r. IsDone (vec_len crew.stations + 1) (C.stand crew.others.console) (done (C.stand r.console.station) r.console.seat r.console.ending)) }
+    ensures console { IfSome result (λ r. IsWorkDone (vec_len crew.stations + 1) (C.stand crew.others.console) (work_done (C.stand r.console.station) r.console.seat r.console.ending)) }
     ensures open { IfSome result (λ r. r.console.ending ≡ Ending.GateShut → C.shut r.console.station) }
 {
     let Crew {
@@ -251,11 +251,11 @@ where
     C: Serving + Send + Drop,
     L: Ledger + Send + Sync,
     R: Wait + Threads + Sync,
-    ensures carriers { IfSome result (λ r. AllDone 0 (map (λ s. S.stand s) crew.stations.items) (map (λ w. done (S.stand w.station) w.seat w.ending) r.carriers.items)) }
+    ensures carriers { IfSome result (λ r. AllDone 0 (map (λ s. S.stand s) crew.stations.items) (map (λ w. work_done (S.stand w.station) w.seat w.ending) r.carriers.items)) }
     ensures shut { IfSome result (λ r. All (λ w. w.ending ≡ Ending.GateShut → S.shut w.station) r.carriers.items) }
     ensures len { IfSome result (λ r. vec_len r.carriers ≡ vec_len crew.stations) }
     ensures ticker { IfSome result (λ r. IsTicked (vec_len crew.stations) (T.paced crew.others.pacer) (T.paced r.ticker.pacer) r.ticker.seat r.ticker.ending) }
-    ensures console { IfSome result (λ r. IsDone (vec_len crew.stations + 1) (C.stand crew.others.console) (done (C.stand r.console.station) r.console.seat r.console.ending)) }
+    ensures console { IfSome result (λ r. IsWorkDone (vec_len crew.stations + 1) (C.stand crew.others.console) (work_done (C.stand r.console.station) r.console.seat r.console.ending)) }
     ensures open { IfSome result (λ r. r.console.ending ≡ Ending.GateShut → C.shut r.console.station) }
 {
     thread::scope(thread::scope_env(), rt, move |scope| {

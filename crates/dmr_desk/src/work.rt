@@ -4,7 +4,7 @@ ghost use Rattle.std.specs.Prelude.{◌≡◌, ◌⊎◌, true, false, None, Som
 ghost use Rattle.dmr_core.specs.declared.event.Event.{Event as AnEvent};
 ghost use Rattle.dmr_link.specs.declared.desk.TermOver.{TermOver as ATermOver};
 ghost use Rattle.dmr_link.specs.Talks.{is_live};
-ghost use Rattle.dmr_desk.specs.Work.{stand, moment, Going, Waiting, GoesOn, Works};
+ghost use Rattle.dmr_desk.specs.Work.{stand, moment, Going, IsAboutToWait, GoesOn, WorksUntil};
 
 use crate::ending::Ending;
 use crate::station::{ConsoleStation, Serving, Station};
@@ -37,7 +37,7 @@ fn connect<S: Serving, D: Desk>(station: &mut S, desk: &mut D) -> Option<Ending>
 fn wait<S: Serving, D: Desk>(station: &mut S, desk: &mut D) -> Option<Ending>
     requires { is_live (S.stand station.old).talk ≡ true }
     ensures actor { D.actor desk.new ≡ D.actor desk.old }
-    ensures goes { (m : _) → Waiting m (moment (S.stand station.old) (D.calls desk.old)) → GoesOn m (moment (S.stand station.new) (D.calls desk.new)) result }
+    ensures goes { (m : _) → IsAboutToWait m (moment (S.stand station.old) (D.calls desk.old)) → GoesOn m (moment (S.stand station.new) (D.calls desk.new)) result }
     ensures shut { result ≡ Some Ending.GateShut → ⊥ }
     ensures over { result ≡ Some Ending.TermOver → ((before : _) × (event : AnEvent) × (over : ATermOver) × D.refuses before event over desk.new) ⊎ ((before : _) × D.ends before desk.new) }
 {
@@ -91,7 +91,7 @@ fn go_on<S: Serving, D: Desk>(station: &mut S, desk: &mut D) -> Option<Ending>
 /// Serves a station's connections, one after another, until its work is at its end.
 pub fn work<R: Wait, S: Serving, D: Desk>(rt: &R, station: &mut S, desk: &mut D) -> Ending
     ensures actor { D.actor desk.new ≡ D.actor desk.old }
-    ensures works { Works (moment (S.stand station.old) (D.calls desk.old)) (moment (S.stand station.new) (D.calls desk.new)) result }
+    ensures works { WorksUntil (moment (S.stand station.old) (D.calls desk.old)) (moment (S.stand station.new) (D.calls desk.new)) result }
     ensures shut { result ≡ Ending.GateShut → S.shut station.new }
     ensures over { result ≡ Ending.TermOver → ((before : _) × (event : AnEvent) × (over : ATermOver) × D.refuses before event over desk.new) ⊎ ((before : _) × D.ends before desk.new) }
 {
@@ -111,7 +111,7 @@ pub fn work_carrier<R: Wait, P: Port, G: Gate, D: Desk>(
     desk: &mut D,
 ) -> Ending
     ensures actor { D.actor desk.new ≡ D.actor desk.old }
-    ensures works { Works (moment (stand station.old.link (P.told station.old.port) (G.passed station.old.gate)) (D.calls desk.old)) (moment (stand station.new.link (P.told station.new.port) (G.passed station.new.gate)) (D.calls desk.new)) result }
+    ensures works { WorksUntil (moment (stand station.old.link (P.told station.old.port) (G.passed station.old.gate)) (D.calls desk.old)) (moment (stand station.new.link (P.told station.new.port) (G.passed station.new.gate)) (D.calls desk.new)) result }
     ensures shut { result ≡ Ending.GateShut → (before : _) × G.shuts before station.new.gate }
     ensures over { result ≡ Ending.TermOver → ((before : _) × (event : AnEvent) × (over : ATermOver) × D.refuses before event over desk.new) ⊎ ((before : _) × D.ends before desk.new) }
 {
@@ -126,7 +126,7 @@ pub fn work_console<R: Wait, P: Port, D: Desk>(
     desk: &mut D,
 ) -> Ending
     ensures actor { D.actor desk.new ≡ D.actor desk.old }
-    ensures works { Works (moment (stand station.old.link (P.told station.old.port) None) (D.calls desk.old)) (moment (stand station.new.link (P.told station.new.port) None) (D.calls desk.new)) result }
+    ensures works { WorksUntil (moment (stand station.old.link (P.told station.old.port) None) (D.calls desk.old)) (moment (stand station.new.link (P.told station.new.port) None) (D.calls desk.new)) result }
     ensures open { result ≡ Ending.GateShut → ⊥ }
     ensures over { result ≡ Ending.TermOver → ((before : _) × (event : AnEvent) × (over : ATermOver) × D.refuses before event over desk.new) ⊎ ((before : _) × D.ends before desk.new) }
 {

@@ -14,7 +14,7 @@ use Rattle.dmr_frames.specs.Frames.{IsFrame, spelling}
 use Rattle.dmr_frames.specs.Rest.{Rest, Open, Faulty}
 use Rattle.dmr_frames.specs.Stream.{IsOpen, Reads, IsStep}
 use Rattle.dmr_frames.specs.Shape.{AreSmall}
-use Rattle.dmr_frames.specs.Reading.{step_at, fed, left_by, rest_after, frame_of, frames_from, rest_from}
+use Rattle.dmr_frames.specs.Reading.{step_at, step_from, rest_after_octet, rest_after, frame_of, frames_from, rest_after_octets}
 use Rattle.dmr_frames.proofs.ShapeLemmas.{small-cons, small-front}
 use Rattle.dmr_frames.proofs.StreamLemmas.{readings-same}
 use Rattle.dmr_frames.proofs.StepLemmas.{step_sound}
@@ -62,25 +62,25 @@ faulty_on octets fs c x h = no_more (octets ++ x ∷ []) fs (Faulty c) (record {
   };
 })
 
-pub reads_on : (octets : List ℕ) (fs : List FrameIn) (r : Rest) (x : ℕ) → x < 256 → Reads octets fs r → Reads (octets ++ x ∷ []) (fs ++ frame_of (fed r x)) (left_by r x)
+pub reads_on : (octets : List ℕ) (fs : List FrameIn) (r : Rest) (x : ℕ) → x < 256 → Reads octets fs r → Reads (octets ++ x ∷ []) (fs ++ frame_of (step_from r x)) (rest_after_octet r x)
 reads_on octets fs (Open q) x lt h = open_on octets fs q x (step_at q x) h (step_sound q x h.rest_is.1 lt)
 reads_on octets fs (Faulty c) x lt h = faulty_on octets fs c x h
 
-pub reads_more : (octets : List ℕ) (fs : List FrameIn) (r : Rest) (xs : List ℕ) → All (λ x. x < 256) xs → Reads octets fs r → Reads (octets ++ xs) (fs ++ frames_from r xs) (rest_from r xs)
+pub reads_more : (octets : List ℕ) (fs : List FrameIn) (r : Rest) (xs : List ℕ) → All (λ x. x < 256) xs → Reads octets fs r → Reads (octets ++ xs) (fs ++ frames_from r xs) (rest_after_octets r xs)
 reads_more octets fs r [] small h =
     let P : List ℕ → Type 0 = λ o. Reads o (fs ++ []) r in
     subst P (sym (append-nil octets)) (no_more octets fs r h)
 reads_more octets fs r (x ∷ xs) small h =
-    let next : Reads (octets ++ x ∷ []) (fs ++ frame_of (fed r x)) (left_by r x) = reads_on octets fs r x (All-head (λ x. x < 256) x xs small) h in
-    let rest : Reads (octets ++ x ∷ [] ++ xs) (fs ++ frame_of (fed r x) ++ frames_from (left_by r x) xs) (rest_from (left_by r x) xs) = reads_more (octets ++ x ∷ []) (fs ++ frame_of (fed r x)) (left_by r x) xs (All-tail (λ x. x < 256) x xs small) next in
-    let P : List ℕ → Type 0 = λ o. Reads o (fs ++ frame_of (fed r x) ++ frames_from (left_by r x) xs) (rest_from (left_by r x) xs) in
-    let Q : List FrameIn → Type 0 = λ gs. Reads (octets ++ x ∷ xs) gs (rest_from (left_by r x) xs) in
-    subst Q (append_assoc fs (frame_of (fed r x)) (frames_from (left_by r x) xs)) (subst P (append_assoc octets (x ∷ []) xs) rest)
+    let next : Reads (octets ++ x ∷ []) (fs ++ frame_of (step_from r x)) (rest_after_octet r x) = reads_on octets fs r x (All-head (λ x. x < 256) x xs small) h in
+    let rest : Reads (octets ++ x ∷ [] ++ xs) (fs ++ frame_of (step_from r x) ++ frames_from (rest_after_octet r x) xs) (rest_after_octets (rest_after_octet r x) xs) = reads_more (octets ++ x ∷ []) (fs ++ frame_of (step_from r x)) (rest_after_octet r x) xs (All-tail (λ x. x < 256) x xs small) next in
+    let P : List ℕ → Type 0 = λ o. Reads o (fs ++ frame_of (step_from r x) ++ frames_from (rest_after_octet r x) xs) (rest_after_octets (rest_after_octet r x) xs) in
+    let Q : List FrameIn → Type 0 = λ gs. Reads (octets ++ x ∷ xs) gs (rest_after_octets (rest_after_octet r x) xs) in
+    subst Q (append_assoc fs (frame_of (step_from r x)) (frames_from (rest_after_octet r x) xs)) (subst P (append_assoc octets (x ∷ []) xs) rest)
 
 pub reads_nothing : Reads [] [] (Open [])
 reads_nothing = record { tail = []; whole = refl; each = All-nil IsFrame; rest_is = (refl, open_nothing) }
 
-pub reads_all : (octets : List ℕ) → All (λ x. x < 256) octets → Reads octets (frames_from (Open []) octets) (rest_from (Open []) octets)
+pub reads_all : (octets : List ℕ) → All (λ x. x < 256) octets → Reads octets (frames_from (Open []) octets) (rest_after_octets (Open []) octets)
 reads_all octets small = reads_more [] [] (Open []) octets small reads_nothing
 
 -- ---- frames whose octets are known
@@ -118,9 +118,9 @@ reads_frame f h = record {
 }
 
 -- what is no whole frame yet brings none, and stays
-pub open-brings : (q : List ℕ) → IsOpen q → (frames_from (Open []) q ≡ []) × (rest_from (Open []) q ≡ Open q)
-open-brings q h = readings-same q (frames_from (Open []) q) [] (rest_from (Open []) q) (Open q) (reads_all q (all_small q (open-small q h))) (reads_open q h)
+pub open-brings : (q : List ℕ) → IsOpen q → (frames_from (Open []) q ≡ []) × (rest_after_octets (Open []) q ≡ Open q)
+open-brings q h = readings-same q (frames_from (Open []) q) [] (rest_after_octets (Open []) q) (Open q) (reads_all q (all_small q (open-small q h))) (reads_open q h)
 
 -- the octets of a frame bring it, and nothing is left
-pub spelling-brings : (f : FrameIn) → IsFrame f → (frames_from (Open []) (spelling f) ≡ f ∷ []) × (rest_from (Open []) (spelling f) ≡ Open [])
-spelling-brings f h = readings-same (spelling f) (frames_from (Open []) (spelling f)) (f ∷ []) (rest_from (Open []) (spelling f)) (Open []) (reads_all (spelling f) (all_small (spelling f) (spelling-small f h))) (reads_frame f h)
+pub spelling-brings : (f : FrameIn) → IsFrame f → (frames_from (Open []) (spelling f) ≡ f ∷ []) × (rest_after_octets (Open []) (spelling f) ≡ Open [])
+spelling-brings f h = readings-same (spelling f) (frames_from (Open []) (spelling f)) (f ∷ []) (rest_after_octets (Open []) (spelling f)) (Open []) (reads_all (spelling f) (all_small (spelling f) (spelling-small f h))) (reads_frame f h)

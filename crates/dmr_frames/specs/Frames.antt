@@ -16,8 +16,8 @@ body_length kind =
     if kind == 0x04 || kind == 0x81 || kind == 0x84 then 1 else 0
 
 -- a frame: its type, its length, its body
-abbrev pub framed : ℕ → List ℕ → List ℕ
-framed kind body = kind ∷ body_length kind ∷ body
+abbrev pub frame_octets : ℕ → List ℕ → List ℕ
+frame_octets kind body = kind ∷ body_length kind ∷ body
 
 -- each field of a frame from a carrier is in its range
 abbrev pub IsFrame : FrameIn → Type 0
@@ -29,11 +29,11 @@ IsFrame Bye = Unit {0}
 
 -- the octets of a frame from a carrier
 abbrev pub spelling : FrameIn → List ℕ
-spelling (Hello version carrier lpcn) = framed 0x01 (version ∷ carrier ∷ (lpcn / 256) ∷ (lpcn % 256) ∷ [])
-spelling (Rx slot word) = framed 0x02 (slot ∷ word_octets word)
-spelling Poll = framed 0x03 []
-spelling (Active slot) = framed 0x04 (slot ∷ [])
-spelling Bye = framed 0x05 []
+spelling (Hello version carrier lpcn) = frame_octets 0x01 (version ∷ carrier ∷ (lpcn / 256) ∷ (lpcn % 256) ∷ [])
+spelling (Rx slot word) = frame_octets 0x02 (slot ∷ word_octets word)
+spelling Poll = frame_octets 0x03 []
+spelling (Active slot) = frame_octets 0x04 (slot ∷ [])
+spelling Bye = frame_octets 0x05 []
 
 -- the octet of a refusal
 abbrev pub refusal_octet : Refusal → ℕ
@@ -49,7 +49,7 @@ IsFrameOut (Refused refusal) = Unit {0}
 
 -- the octets of a frame to a carrier
 abbrev pub spelling_out : FrameOut → List ℕ
-spelling_out (Welcome version) = framed 0x81 (version ∷ [])
-spelling_out (Tx slot word) = framed 0x82 (slot ∷ word_octets word)
-spelling_out Done = framed 0x83 []
-spelling_out (Refused refusal) = framed 0x84 (refusal_octet refusal ∷ [])
+spelling_out (Welcome version) = frame_octets 0x81 (version ∷ [])
+spelling_out (Tx slot word) = frame_octets 0x82 (slot ∷ word_octets word)
+spelling_out Done = frame_octets 0x83 []
+spelling_out (Refused refusal) = frame_octets 0x84 (refusal_octet refusal ∷ [])

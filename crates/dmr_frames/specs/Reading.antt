@@ -51,9 +51,9 @@ step_at (kind ∷ []) x = length_step kind x
 step_at (kind ∷ n ∷ body) x = body_step kind body x
 
 -- what an octet brings
-abbrev pub fed : Rest → ℕ → Step
-fed (Open q) x = step_at q x
-fed (Faulty cause) x = Fault cause
+abbrev pub step_from : Rest → ℕ → Step
+step_from (Open q) x = step_at q x
+step_from (Faulty cause) x = Fault cause
 
 -- the rest after a step
 abbrev pub rest_after : List ℕ → ℕ → Step → Rest
@@ -62,9 +62,9 @@ rest_after q x (Frame f) = Open []
 rest_after q x (Fault cause) = Faulty cause
 
 -- the rest that an octet leaves
-abbrev pub left_by : Rest → ℕ → Rest
-left_by (Open q) x = rest_after q x (step_at q x)
-left_by (Faulty cause) x = Faulty cause
+abbrev pub rest_after_octet : Rest → ℕ → Rest
+rest_after_octet (Open q) x = rest_after q x (step_at q x)
+rest_after_octet (Faulty cause) x = Faulty cause
 
 -- the frame of a step, if it has one
 abbrev pub frame_of : Step → List FrameIn
@@ -73,8 +73,8 @@ frame_of _ = []
 
 -- the frames that octets bring
 abbrev pub frames_from : Rest → List ℕ → List FrameIn
-frames_from rest octets = flat_map frame_of (scan left_by fed rest octets)
+frames_from rest octets = flat_map frame_of (scan rest_after_octet step_from rest octets)
 
 -- the rest after octets
-abbrev pub rest_from : Rest → List ℕ → Rest
-rest_from rest octets = fold left_by rest octets
+abbrev pub rest_after_octets : Rest → List ℕ → Rest
+rest_after_octets rest octets = fold rest_after_octet rest octets

@@ -7,7 +7,7 @@ ghost use Rattle.dmr_frames.specs.Rest.{Open};
 ghost use Rattle.dmr_frames.specs.Shape.{IsShape, IsRxBody};
 ghost use Rattle.dmr_frames.specs.declared.frame.FrameIn.{FrameIn};
 ghost use Rattle.dmr_frames.specs.Stream.{Reads};
-ghost use Rattle.dmr_frames.specs.Reading.{frame_of, fed, left_by};
+ghost use Rattle.dmr_frames.specs.Reading.{frame_of, step_from, rest_after_octet};
 ghost use Rattle.dmr_frames.specs.Reading.{step_at, type_step, length_step, body_step, hello_step, rx_step, active_step};
 
 use crate::frame::{Cause, FrameIn, LONGEST_FRAME};
@@ -80,16 +80,16 @@ impl Cutter {
         // with the frame that it brings, if it brings one.
         ensures stream { (octets : List ℕ) (frames : List FrameIn) → Reads octets frames self.old →
             Reads (octets ++ octet ∷ []) (frames ++ frame_of result) self.new }
-        ensures step { result ≡ fed self.old octet }
-        ensures rest { self.new ≡ left_by self.old octet }
+        ensures step { result ≡ step_from self.old octet }
+        ensures rest { self.new ≡ rest_after_octet self.old octet }
     {
         self.take(octet)
     }
 
     /// Takes the next octet.
     fn take(&mut self, octet: u8) -> Step
-        ensures step { result ≡ fed self.old octet }
-        ensures rest { self.new ≡ left_by self.old octet }
+        ensures step { result ≡ step_from self.old octet }
+        ensures rest { self.new ≡ rest_after_octet self.old octet }
     {
         if let Some(cause) = self.fault {
             return Step::Fault(cause);

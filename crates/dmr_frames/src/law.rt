@@ -6,7 +6,7 @@ ghost use Rattle.dmr_frames.specs.declared.frame.FrameOut.{FrameOut};
 ghost use Rattle.dmr_frames.specs.Frames.{IsFrame, IsFrameOut, spelling, spelling_out};
 ghost use Rattle.dmr_frames.specs.Rest.{Rest, Open};
 ghost use Rattle.dmr_frames.specs.Stream.{IsOpen, Reads};
-ghost use Rattle.dmr_frames.specs.Reading.{frames_from, rest_from};
+ghost use Rattle.dmr_frames.specs.Reading.{frames_from, rest_after_octets};
 
 /// Octets have one reading at most, and any octets have one: the frames and the rest that they bring one by one, in
 /// whatever pieces they come.
@@ -14,15 +14,15 @@ pub fn one_reading()
     ensures one { (octets : List ℕ) (fs gs : List FrameIn) (r q : Rest) →
         Reads octets fs r → Reads octets gs q → (fs ≡ gs) × (r ≡ q) }
     ensures found { (octets : List ℕ) → All (λ x. x < 256) octets →
-        Reads octets (frames_from (Open []) octets) (rest_from (Open []) octets) }
+        Reads octets (frames_from (Open []) octets) (rest_after_octets (Open []) octets) }
     ensures cut { (rest : Rest) (a b : List ℕ) →
-        (frames_from rest (a ++ b) ≡ frames_from rest a ++ frames_from (rest_from rest a) b)
-        × (rest_from rest (a ++ b) ≡ rest_from (rest_from rest a) b) }
+        (frames_from rest (a ++ b) ≡ frames_from rest a ++ frames_from (rest_after_octets rest a) b)
+        × (rest_after_octets rest (a ++ b) ≡ rest_after_octets (rest_after_octets rest a) b) }
     // The octets of a frame bring it and leave nothing; those of a part of a frame bring nothing and stay.
     ensures frame { (f : FrameIn) → IsFrame f →
-        (frames_from (Open []) (spelling f) ≡ f ∷ []) × (rest_from (Open []) (spelling f) ≡ Open []) }
+        (frames_from (Open []) (spelling f) ≡ f ∷ []) × (rest_after_octets (Open []) (spelling f) ≡ Open []) }
     ensures part { (q : List ℕ) → IsOpen q →
-        (frames_from (Open []) q ≡ []) × (rest_from (Open []) q ≡ Open q) }
+        (frames_from (Open []) q ≡ []) × (rest_after_octets (Open []) q ≡ Open q) }
 {}
 
 /// Each frame has one spelling, and none is a proper prefix of another's: octets that begin with the spelling of one

@@ -1,7 +1,7 @@
 //! Spells the frames that go to a carrier.
 
 ghost use Rattle.std.specs.Prelude.{◌≡◌, [], ◌∷◌};
-ghost use Rattle.dmr_frames.specs.Frames.{framed, spelling_out};
+ghost use Rattle.dmr_frames.specs.Frames.{frame_octets, spelling_out};
 
 use crate::frame::{FrameOut, LONGEST_FRAME, Refusal};
 use crate::frame_type::{DONE, REFUSED, TX, WELCOME, length_octet};
@@ -9,7 +9,7 @@ use arrayvec::ArrayVec;
 
 /// A frame's first two octets: its type and its length.
 fn head_of(kind: u8) -> ArrayVec<u8, LONGEST_FRAME>
-    ensures { result.items ≡ framed kind [] }
+    ensures { result.items ≡ frame_octets kind [] }
 {
     let mut octets = ArrayVec::new();
     octets.push(kind);

@@ -9,13 +9,13 @@ use Rattle.dmr_link.specs.declared.carrier_session.CarrierSession.{CarrierSessio
 use Rattle.dmr_link.specs.declared.connection.CarrierIdentity.{CarrierIdentity}
 use Rattle.dmr_link.specs.declared.connection.Connection.{Connection}
 use Rattle.dmr_link.specs.declared.connection.Connection.TheVariants.{Closed}
-use Rattle.dmr_core.specs.State.{State as Site}
-use Rattle.dmr_link.specs.Answering.{facts_from, site_after}
+use Rattle.dmr_core.specs.State.{SiteState as Site}
+use Rattle.dmr_link.specs.Answering.{facts_from, site_after_notices}
 use Rattle.dmr_link.specs.EngineSessions.{carrier_in, connection_in, AreSessions}
 use Rattle.dmr_link.specs.Input.{Piece}
 use Rattle.dmr_link.specs.Inputs.{who_of, piece_brings, piece_leaves, leaves_by, texts_by}
 use Rattle.dmr_link.specs.Session.{text_from}
-use Rattle.dmr_link.specs.Sound.{IsSound}
+use Rattle.dmr_link.specs.Sound.{IsConnectionSound}
 use Rattle.dmr_link.specs.State.{State, connection_of, AreConnections}
 use Rattle.dmr_link.proofs.PastsStandForEngines.{who_carrier, get_or-all_same}
 
@@ -28,7 +28,7 @@ read_connection (x ∷ sessions) (suc c) = read_connection sessions c
 pub sessions_connect : (plan : Settings) (sessions : List (Option CarrierSession)) → AreSessions plan sessions → AreConnections (map connection_in sessions)
 sessions_connect plan sessions are = record {
   sixteen = length-map sessions connection_in ∙ are.sixteen;
-  sound = λ c. let P : Connection → Type 0 = IsSound in subst P (sym (read_connection sessions c)) (are.sound c);
+  sound = λ c. let P : Connection → Type 0 = IsConnectionSound in subst P (sym (read_connection sessions c)) (are.sound c);
 }
 
 -- ---- new ones
@@ -68,14 +68,14 @@ begun_all plan sessions are = record {
   sixteen = are.many;
   own = are.own;
   sound = λ c.
-      let P : Connection → Type 0 = IsSound in
+      let P : Connection → Type 0 = IsConnectionSound in
       subst P (sym (sym (read_connection sessions c) ∙ ap (λ (ks : List Connection). get_or ks c Closed) are.none ∙ get_or-all_same {A = Connection} 16 c Closed)) tt;
 }
 
 -- ---- one of them goes on
 
 pub sessions_set : (plan : Settings) (sessions : List (Option CarrierSession)) (c : ℕ) (old new : CarrierSession) → c < 16 → AreSessions plan sessions →
-    get_or sessions c None ≡ Some old → new.who ≡ old.who → IsSound new.connection → AreSessions plan (set sessions c (Some new))
+    get_or sessions c None ≡ Some old → new.who ≡ old.who → IsConnectionSound new.connection → AreSessions plan (set sessions c (Some new))
 sessions_set plan sessions c old new small are at same sound = record {
   sixteen = length-set sessions c (Some new) ∙ are.sixteen;
   own = λ d few.
@@ -84,7 +84,7 @@ sessions_set plan sessions c old new small are at same sound = record {
       (λ (other : d ≡ c → ⊥). ap carrier_in (get_or-set_other sessions c d (Some new) None other) ∙ are.own d few)
       (cases_eq d c);
   sound = λ d.
-      let P : Connection → Type 0 = IsSound in
+      let P : Connection → Type 0 = IsConnectionSound in
       ⊎_elim
       (λ (here : d ≡ c). subst P (sym (ap connection_in (read_here d here))) sound)
       (λ (other : d ≡ c → ⊥). subst P (sym (ap connection_in (get_or-set_other sessions c d (Some new) None other))) (are.sound d))
@@ -146,7 +146,7 @@ module _ (plan : Settings) (facts : Facts) (sessions : List (Option CarrierSessi
 
 module _ (site later : Site) (sessions : List (Option CarrierSession)) (console : List ℕ) (n c : ℕ) (small : n < 16) (same : n ≡ c) (are : AreSessions site.plan sessions)
     (found : Option CarrierSession) (read : found ≡ get_or sessions n found) (old : CarrierSession) (is : found ≡ Some old) (piece : Piece)
-    (brought : later ≡ site_after site (piece_brings old.who old.connection piece)) where
+    (brought : later ≡ site_after_notices site (piece_brings old.who old.connection piece)) where
   its_session : get_or sessions n None ≡ Some old
   its_session = sym (get_or_read sessions n found (omega (arith, are.sixteen)) read None) ∙ is
 
@@ -157,7 +157,7 @@ module _ (site later : Site) (sessions : List (Option CarrierSession)) (console 
       ∙ some_leaves site.plan site.facts sessions console n small are piece old its_session new (facts_from site.plan site.facts (piece_brings old.who old.connection piece)) left refl
       ∙ (λ i. leaves_by (view i) (who_of (view i).plan (same i)) piece)
 
-  pub session_stays : (new : CarrierSession) → new.who ≡ old.who → IsSound new.connection → AreSessions later.plan (set sessions n (Some new))
+  pub session_stays : (new : CarrierSession) → new.who ≡ old.who → IsConnectionSound new.connection → AreSessions later.plan (set sessions n (Some new))
   session_stays new whose sound =
       let P : Settings → Type 0 = λ plan. AreSessions plan (set sessions n (Some new)) in
       subst P (sym (ap (λ (x : Site). x.plan) brought)) (sessions_set site.plan sessions n old new small are its_session whose sound)

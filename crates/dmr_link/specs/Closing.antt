@@ -8,7 +8,7 @@ use Rattle.dmr_frames.specs.declared.frame.Cause.TheVariants as cause
 use Rattle.dmr_frames.specs.declared.cutter.Step.{Step}
 use Rattle.dmr_frames.specs.declared.cutter.Step.TheVariants.{Need, Frame, Fault}
 use Rattle.dmr_frames.specs.Rest.{Rest, Open, Faulty}
-use Rattle.dmr_frames.specs.Reading.{fed, frames_from, rest_from}
+use Rattle.dmr_frames.specs.Reading.{step_from, frames_from, rest_after_octets}
 use Rattle.dmr_link.specs.declared.ended.Ended.{Ended}
 use Rattle.dmr_link.specs.declared.ended.Ended.TheVariants as ended
 use Rattle.dmr_link.specs.declared.ended.Closing.{Closing}
@@ -17,7 +17,7 @@ use Rattle.dmr_link.specs.declared.connection.CarrierIdentity.{CarrierIdentity}
 use Rattle.dmr_link.specs.declared.connection.Connection.{Connection}
 use Rattle.dmr_link.specs.declared.connection.Connection.TheVariants.{Closed, Waiting, Running}
 use Rattle.dmr_link.specs.Meaning.{is_accepted}
-use Rattle.dmr_link.specs.Steps.{taken}
+use Rattle.dmr_link.specs.Steps.{connection_after_octet}
 
 -- what is answered for a connection that was closed so
 abbrev pub ended_of : Closing → Ended
@@ -65,7 +65,7 @@ frames_closed who (f ∷ fs) rest = if is_accepted who f then up_closed fs rest 
 
 -- HOW OCTETS CLOSE a connection, if they do: by a BYE of a carrier that is up, or for a cause
 unfoldable pub closing_of_octets : CarrierIdentity → List ℕ → Option Closing
-closing_of_octets who octets = frames_closed who (frames_from (Open []) octets) (rest_from (Open []) octets)
+closing_of_octets who octets = frames_closed who (frames_from (Open []) octets) (rest_after_octets (Open []) octets)
 
 -- ---- octet by octet
 
@@ -82,10 +82,10 @@ running_closes (Fault why) = Some (closing.Bad why)
 -- how an octet closes a connection, if it does
 abbrev pub closes : CarrierIdentity → Connection → ℕ → Option Closing
 closes who Closed x = None
-closes who (Waiting rest) x = waiting_closes who (fed rest x)
-closes who (Running rest) x = running_closes (fed rest x)
+closes who (Waiting rest) x = waiting_closes who (step_from rest x)
+closes who (Running rest) x = running_closes (step_from rest x)
 
 -- the same of octets
 abbrev pub all_closes : CarrierIdentity → Connection → List ℕ → Option Closing
 all_closes who k [] = None
-all_closes who k (x ∷ xs) = or_else (closes who k x) (all_closes who (taken who k x) xs)
+all_closes who k (x ∷ xs) = or_else (closes who k x) (all_closes who (connection_after_octet who k x) xs)

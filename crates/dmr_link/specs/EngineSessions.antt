@@ -7,7 +7,7 @@ use Rattle.dmr_link.specs.declared.connection.CarrierIdentity.{CarrierIdentity}
 use Rattle.dmr_link.specs.declared.connection.Connection.{Connection}
 use Rattle.dmr_link.specs.declared.connection.Connection.TheVariants.{Closed}
 use Rattle.dmr_link.specs.Inputs.{who_of}
-use Rattle.dmr_link.specs.Sound.{IsSound}
+use Rattle.dmr_link.specs.Sound.{IsConnectionSound}
 
 -- the connection of a session, if there is a session
 abbrev pub connection_in : Option CarrierSession → Connection
@@ -23,7 +23,7 @@ carrier_in (Some session) = Some session.who
 pub record AreSessions (plan : Settings) (sessions : List (Option CarrierSession)) : Type 0 where
   pub sixteen : length sessions ≡ 16
   pub own : (carrier : ℕ) → carrier < 16 → carrier_in (slice_index_or sessions carrier None) ≡ who_of plan carrier
-  pub sound : (carrier : ℕ) → IsSound (connection_in (slice_index_or sessions carrier None))
+  pub sound : (carrier : ℕ) → IsConnectionSound (connection_in (slice_index_or sessions carrier None))
 
 -- none of them has a connection
 abbrev pub AreUnconnected : List (Option CarrierSession) → Type 0

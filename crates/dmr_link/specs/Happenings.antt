@@ -86,9 +86,9 @@ stage_then Within x = within_then x
 stage_then Answering x = answering_then x
 stage_then other x = Disordered
 
-abbrev pub all_staged : Stage → List Happening → Stage
-all_staged stage [] = stage
-all_staged stage (x ∷ xs) = all_staged (stage_then stage x) xs
+abbrev pub stage_after_all : Stage → List Happening → Stage
+stage_after_all stage [] = stage
+stage_after_all stage (x ∷ xs) = stage_after_all (stage_then stage x) xs
 
 -- where a call stands when it ends so
 abbrev pub stage_at : Ended → Stage

@@ -3,8 +3,8 @@ use Rattle.std.specs.Prelude.{ℕ, Bool, true, false, List, [], ◌∷◌, ◌++
 use Rattle.dmr_console.specs.declared.line_cutter.LineStep.{LineStep}
 use Rattle.dmr_console.specs.declared.line_cutter.LineStep.TheVariants as step
 use Rattle.dmr_console.specs.Commands.{command_of}
-use Rattle.dmr_console.specs.Lines.{open_in, kept}
-use Rattle.dmr_console.specs.Steps.{left_by, step_at}
+use Rattle.dmr_console.specs.Lines.{open_in, first_octets_of_line}
+use Rattle.dmr_console.specs.Steps.{open_line_after_octet, line_step_at}
 use Rattle.dmr_frames.specs.declared.frame.FrameOut.TheVariants as out
 use Rattle.dmr_frames.specs.Frames.{spelling_out}
 use Rattle.dmr_core.specs.declared.act.Acts.{Acts}
@@ -22,10 +22,10 @@ use Rattle.dmr_link.specs.declared.stream.Stream.{Stream}
 use Rattle.dmr_link.specs.declared.stream.Stream.TheVariants as stream
 use Rattle.dmr_link.specs.CarrierSessions.{session_on, is_open, up_by}
 use Rattle.dmr_link.specs.Closing.{closing_of_octets, closes}
-use Rattle.dmr_link.specs.Console.{asked, said_in, console_text, fault_text, reply_text}
-use Rattle.dmr_link.specs.Meaning.{meaning_of_octets, left_by_octets, told}
-use Rattle.dmr_link.specs.Session.{said, session_text}
-use Rattle.dmr_link.specs.Steps.{opened, brought, taken}
+use Rattle.dmr_link.specs.Console.{notice_of_command, meaning_of_text, console_text, fault_text, reply_text}
+use Rattle.dmr_link.specs.Meaning.{meaning_of_octets, left_by_octets, list_of_notice}
+use Rattle.dmr_link.specs.Session.{session_answer_text, session_text}
+use Rattle.dmr_link.specs.Steps.{new_connection, notice_of_octet, connection_after_octet}
 
 -- ---- what octets mean
 
@@ -33,12 +33,12 @@ use Rattle.dmr_link.specs.Steps.{opened, brought, taken}
 -- operator's means nothing, nor does the line that it leaves open
 abbrev pub meaning_from : Peer → List ℕ → Bool → List Notice
 meaning_from (Carrier who) octets has_ended = meaning_of_octets who octets has_ended
-meaning_from Operator octets has_ended = said_in octets
+meaning_from Operator octets has_ended = meaning_of_text octets
 
 -- a connection on which these octets came; of an operator's open line the first 81 octets are kept
 abbrev pub left_from : Peer → List ℕ → Stream
 left_from (Carrier who) octets = stream.Frames (session_on who (left_by_octets who octets))
-left_from Operator octets = stream.Lines (kept (open_in octets))
+left_from Operator octets = stream.Lines (first_octets_of_line (open_in octets))
 
 -- HOW OCTETS CLOSE a connection, if they do. An operator's never do
 abbrev pub closing_from : Peer → List ℕ → Option Closing
@@ -52,14 +52,14 @@ abbrev pub entry_of_deposit : Deposit → Entry
 entry_of_deposit d = record { actor = 0; event = d.event; acts = d.acts }
 
 -- TEXT to a peer, of notices and of what a desk took: a carrier's session text, or the console text
-abbrev pub text_of : Peer → List Notice → List Deposit → List ℕ
-text_of (Carrier who) notices calls = session_text who.carrier notices (map entry_of_deposit calls)
-text_of Operator notices calls = console_text notices (map entry_of_deposit calls)
+abbrev pub text_to_peer : Peer → List Notice → List Deposit → List ℕ
+text_to_peer (Carrier who) notices calls = session_text who.carrier notices (map entry_of_deposit calls)
+text_to_peer Operator notices calls = console_text notices (map entry_of_deposit calls)
 
 -- what answers an event: a command's reply, or what the event and its answer say to their carrier
 abbrev pub answer_text : Event → Acts → List ℕ
 answer_text (Say command) acts = reply_text acts.said
-answer_text event acts = said event acts.list
+answer_text event acts = session_answer_text event acts.list
 
 -- what is told of a notice that the site doesn't learn of
 abbrev pub aside_text : Notice → List ℕ
@@ -71,7 +71,7 @@ aside_text (Unheeded fault) = fault_text fault
 
 -- a connection that has just begun
 abbrev pub opened_for : Peer → Stream
-opened_for (Carrier who) = stream.Frames (session_on who opened)
+opened_for (Carrier who) = stream.Frames (session_on who new_connection)
 opened_for Operator = stream.Lines []
 
 -- whether a connection is open
@@ -89,19 +89,19 @@ up_of other = None
 abbrev pub line_brings : LineStep → Option Notice
 line_brings step.Need = None
 line_brings step.TooLong = Some (Unheeded TooLong)
-line_brings (step.Line line) = Some (asked (command_of line.items))
+line_brings (step.Line line) = Some (notice_of_command (command_of line.items))
 
 -- what an octet brings
 abbrev pub brings : Stream → ℕ → Option Notice
 brings stream.Closed x = None
-brings (stream.Frames session) x = brought session.who session.connection x
-brings (stream.Lines begun) x = line_brings (step_at begun x)
+brings (stream.Frames session) x = notice_of_octet session.who session.connection x
+brings (stream.Lines begun) x = line_brings (line_step_at begun x)
 
 -- the connection after it
 abbrev pub left_after : Stream → ℕ → Stream
 left_after stream.Closed x = stream.Closed
-left_after (stream.Frames session) x = stream.Frames (session_on session.who (taken session.who session.connection x))
-left_after (stream.Lines begun) x = stream.Lines (left_by begun x)
+left_after (stream.Frames session) x = stream.Frames (session_on session.who (connection_after_octet session.who session.connection x))
+left_after (stream.Lines begun) x = stream.Lines (open_line_after_octet begun x)
 
 -- how it closes the connection, if it does
 abbrev pub closes_by : Stream → ℕ → Option Closing
@@ -112,4 +112,4 @@ closes_by (stream.Lines begun) x = None
 -- what octets bring
 abbrev pub all_brings : Stream → List ℕ → List Notice
 all_brings k [] = []
-all_brings k (x ∷ xs) = told (brings k x) ++ all_brings (left_after k x) xs
+all_brings k (x ∷ xs) = list_of_notice (brings k x) ++ all_brings (left_after k x) xs

@@ -1,6 +1,6 @@
 -- What an octet completes on a connection. Contracts of functions within name these alone: nothing above rests on them.
 use Rattle.std.specs.Prelude.{ℕ, Option, None}
-use Rattle.dmr_frames.specs.Reading.{fed}
+use Rattle.dmr_frames.specs.Reading.{step_from}
 use Rattle.dmr_link.specs.declared.connection.CarrierIdentity.{CarrierIdentity}
 use Rattle.dmr_link.specs.Notices.{Notice}
 use Rattle.dmr_link.specs.declared.connection.Connection.{Connection}
@@ -14,8 +14,8 @@ use Rattle.dmr_link.specs.Steps.{waiting_brings, running_brings}
 -- a step of the cutter, where there is a connection
 abbrev pub turn_at : Connection → ℕ → Turn
 turn_at Closed x = turn.Closed
-turn_at (Waiting rest) x = turn.Waiting (fed rest x)
-turn_at (Running rest) x = turn.Running (fed rest x)
+turn_at (Waiting rest) x = turn.Waiting (step_from rest x)
+turn_at (Running rest) x = turn.Running (step_from rest x)
 
 -- what it brings
 abbrev pub brings_on : CarrierIdentity → Turn → Option Notice

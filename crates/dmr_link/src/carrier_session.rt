@@ -4,8 +4,8 @@ ghost use Rattle.std.specs.Prelude.{◌≡◌, option_map};
 ghost use Rattle.dmr_link.specs.CarrierSessions.{session_on, is_open, up_by};
 ghost use Rattle.dmr_link.specs.Closing.{closes};
 ghost use Rattle.dmr_link.specs.Notices.{carrier_notice};
-ghost use Rattle.dmr_link.specs.Sound.{IsSound};
-ghost use Rattle.dmr_link.specs.Steps.{opened, brought, taken};
+ghost use Rattle.dmr_link.specs.Sound.{IsConnectionSound};
+ghost use Rattle.dmr_link.specs.Steps.{new_connection, notice_of_octet, connection_after_octet};
 ghost use Rattle.dmr_link.specs.declared.connection.Connection.TheVariants.{Closed as closed};
 
 use crate::connection::{CarrierIdentity, Connection, Received};
@@ -33,7 +33,7 @@ impl CarrierSession {
 
     /// A session whose connection has just begun.
     pub fn open(who: CarrierIdentity) -> CarrierSession
-        ensures { result ≡ session_on who opened }
+        ensures { result ≡ session_on who new_connection }
     {
         CarrierSession {
             who,
@@ -64,10 +64,10 @@ impl CarrierSession {
     /// Takes the next octet, and says what it brings, and how it closes the connection, if it does. A frame is taken at its last
     /// octet; a fault, and a frame that ends the connection, close it, and from then on octets bring nothing.
     pub fn receive(&mut self, octet: u8) -> Received
-        ensures notice { option_map carrier_notice result.notice ≡ brought self.old.who self.old.connection octet }
+        ensures notice { option_map carrier_notice result.notice ≡ notice_of_octet self.old.who self.old.connection octet }
         ensures closing { result.closing ≡ closes self.old.who self.old.connection octet }
-        ensures session { self.new ≡ session_on self.old.who (taken self.old.who self.old.connection octet) }
-        ensures sound { IsSound self.old.connection → IsSound self.new.connection }
+        ensures session { self.new ≡ session_on self.old.who (connection_after_octet self.old.who self.old.connection octet) }
+        ensures sound { IsConnectionSound self.old.connection → IsConnectionSound self.new.connection }
     {
         let who = self.who;
         self.connection.receive(&who, octet)

@@ -2,11 +2,11 @@
 
 ghost use Rattle.std.specs.Prelude.{◌≡◌, option_map};
 ghost use Rattle.dmr_burst.specs.Functions.{meaning_of};
-ghost use Rattle.dmr_link.specs.Meaning.{heard as event_heard, is_accepted, refused as notice_refused, first_brings, is_last, event_of as event_of_frame};
+ghost use Rattle.dmr_link.specs.Meaning.{event_of_burst as event_heard, is_accepted, refusal_of_first as notice_refused, first_brings, is_last, event_of as event_of_frame};
 ghost use Rattle.dmr_link.specs.Closing.{closes, wrong_first as the_wrong_first, first_closes, frame_closes};
 ghost use Rattle.dmr_link.specs.Notices.{carrier_notice};
-ghost use Rattle.dmr_link.specs.Sound.{IsSound};
-ghost use Rattle.dmr_link.specs.Steps.{opened, brought, taken};
+ghost use Rattle.dmr_link.specs.Sound.{IsConnectionSound};
+ghost use Rattle.dmr_link.specs.Steps.{new_connection, notice_of_octet, connection_after_octet};
 ghost use Rattle.dmr_link.specs.Turns.{turn_at, brings_on, closes_on};
 
 use crate::ended::Closing;
@@ -221,7 +221,7 @@ impl Turn {
 impl Connection {
     /// A connection that has just begun.
     pub fn open() -> Connection
-        ensures { result ≡ opened }
+        ensures { result ≡ new_connection }
     {
         Connection::Waiting(Cutter::new())
     }
@@ -241,8 +241,8 @@ impl Connection {
     /// and from then on octets complete nothing.
     pub fn advance(&mut self, who: &CarrierIdentity, octet: u8) -> Turn
         ensures turn { result ≡ turn_at self.old octet }
-        ensures connection { self.new ≡ taken who.now self.old octet }
-        ensures sound { IsSound self.old → IsSound self.new }
+        ensures connection { self.new ≡ connection_after_octet who.now self.old octet }
+        ensures sound { IsConnectionSound self.old → IsConnectionSound self.new }
     {
         match self {
             Connection::Closed => Turn::Closed,
@@ -279,10 +279,10 @@ impl Connection {
 
     /// Takes the next octet, and says what it brings, and how it closes the connection, if it does.
     pub fn receive(&mut self, who: &CarrierIdentity, octet: u8) -> Received
-        ensures notice { option_map carrier_notice result.notice ≡ brought who.now self.old octet }
+        ensures notice { option_map carrier_notice result.notice ≡ notice_of_octet who.now self.old octet }
         ensures closing { result.closing ≡ closes who.now self.old octet }
-        ensures connection { self.new ≡ taken who.now self.old octet }
-        ensures sound { IsSound self.old → IsSound self.new }
+        ensures connection { self.new ≡ connection_after_octet who.now self.old octet }
+        ensures sound { IsConnectionSound self.old → IsConnectionSound self.new }
     {
         let turn = self.advance(who, octet);
         Received {

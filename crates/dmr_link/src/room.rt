@@ -1,9 +1,9 @@
 //! How much a carrier's octets can put out, found out before anything is done with them.
 
 ghost use Rattle.std.specs.Prelude.{◌≡◌, ◌^◌, ◌-◌, min};
-ghost use Rattle.dmr_link.specs.Meaning.{told};
+ghost use Rattle.dmr_link.specs.Meaning.{list_of_notice};
 ghost use Rattle.dmr_link.specs.Room.{most_in};
-ghost use Rattle.dmr_link.specs.Steps.{all_brought};
+ghost use Rattle.dmr_link.specs.Steps.{notices_of_octets};
 ghost use Rattle.dmr_link.specs.Turns.{brings_on};
 
 use crate::connection::{CarrierIdentity, Connection, Turn};
@@ -17,7 +17,7 @@ pub const ANSWER_TO_POLL: usize = 2 * LONGEST_FRAME + 2;
 
 /// The most octets that are put out for what an octet completes.
 fn most(turn: &Turn, who: &CarrierIdentity) -> usize
-    ensures { result ≡ most_in (told (brings_on who.now turn.now)) }
+    ensures { result ≡ most_in (list_of_notice (brings_on who.now turn.now)) }
 {
     match turn {
         Turn::Waiting(Step::Frame(FrameIn::Hello { .. })) => ANSWER_TO_HELLO,
@@ -29,7 +29,7 @@ fn most(turn: &Turn, who: &CarrierIdentity) -> usize
 /// The most octets that are put out for octets of a connection: what each frame that they complete can put out, and nothing
 /// where no connection is open. A number of octets that is too large for a `usize` is its greatest value.
 pub fn room_for(who: &CarrierIdentity, connection: &Connection, octets: &[u8]) -> usize
-    ensures { result ≡ min (most_in (all_brought who.now connection.now octets.now)) (2 ^ 64 - 1) }
+    ensures { result ≡ min (most_in (notices_of_octets who.now connection.now octets.now)) (2 ^ 64 - 1) }
 {
     let mut trial = connection.fork();
     let mut room: usize = 0;

@@ -5,14 +5,14 @@ use Rattle.std.specs.List.{range_with_len}
 use Rattle.std.proofs.lemmas.Bool.{cases_lt, cases_Bool, lt-ltb, le-ltb, leb-true, eqb-true, eq-eqb, and_from, and_parts, false≢true}
 use Rattle.std.proofs.lemmas.List.{get_or_past}
 use Rattle.std.proofs.lemmas.List.FromFn.{length-map-range_with_len, get_or-map-range_with_len}
-use Rattle.dmr_bits.specs.Bits.{octet_bit, spelled, field_of, IsOctets}
-use Rattle.dmr_bits.proofs.BitLemmas.{octets-same, spelled-lt, spelled-bit}
+use Rattle.dmr_bits.specs.Bits.{octet_bit, bits_value, field_of, IsOctets}
+use Rattle.dmr_bits.proofs.BitLemmas.{octets-same, bits_value-lt, bits_value-bit}
 use Rattle.dmr_pdu.specs.Channels.{IsChannel}
 use Rattle.dmr_pdu.specs.declared.pdu.Pdu.{Pdu}
 use Rattle.dmr_pdu.specs.declared.pdu.Pdu.TheVariants.{Other}
-use Rattle.dmr_pdu.specs.Layout.{Row, layout, Holds, HasChannel, IsListed, IsLaidOut, Spells, Agrees, fills}
+use Rattle.dmr_pdu.specs.Layout.{Row, layout, Holds, HasChannel, IsListed, IsLaidOut, SpellsPdu, Agrees, fills}
 use Rattle.dmr_pdu.specs.Reading.{channel, read_as}
-use Rattle.dmr_pdu.specs.Functions.{row_bit, octets_of, do_hold, confirmed, pdu_of}
+use Rattle.dmr_pdu.specs.Functions.{row_bit, octets_of, do_hold, pdu_or_other, pdu_of}
 use Rattle.dmr_pdu.proofs.RowLemmas.{follows}
 use Rattle.dmr_pdu.proofs.LayoutLemmas.{layout-fills, laid_out-read, agrees-laid_out, agrees-same, agrees-other, agrees-other_same}
 
@@ -30,28 +30,28 @@ row_bit-is first (r ∷ rows) octets e holds q low high =
     rw (lt-ltb q (r.0.first + r.0.width) inside)
     (ap (λ k. r.1 / 2 ^ k % 2 == 1) place
     ∙ ap (λ n. n / 2 ^ (r.0.width - 1 - (q - first)) % 2 == 1) (sym holds.0)
-    ∙ spelled-bit (octet_bit octets) r.0.first r.0.width (q - first) (omega (arith, here.starts))
+    ∙ bits_value-bit (octet_bit octets) r.0.first r.0.width (q - first) (omega (arith, here.starts))
     ∙ ap (octet_bit octets) at))
     (λ (behind : r.0.first + r.0.width ≤ q).
     rw (le-ltb q (r.0.first + r.0.width) behind) (row_bit-is (first + r.0.width) rows octets here.rest holds.1 q (omega (arith, here.starts)) high))
     (cases_lt q (r.0.first + r.0.width))
 
 written : List Row → List ℕ
-written rows = map (λ k. spelled (row_bit rows) (8 * k) 8) (range_with_len 0 10)
+written rows = map (λ k. bits_value (row_bit rows) (8 * k) 8) (range_with_len 0 10)
 
 length-written : (rows : List Row) → length (written rows) ≡ 10
 unfolding written
-length-written rows = length-map-range_with_len (λ k. spelled (row_bit rows) (8 * k) 8) 0 10
+length-written rows = length-map-range_with_len (λ k. bits_value (row_bit rows) (8 * k) 8) 0 10
 
-octet-written : (rows : List Row) (k : ℕ) → k < 10 → get_or (written rows) k 0 ≡ spelled (row_bit rows) (8 * k) 8
+octet-written : (rows : List Row) (k : ℕ) → k < 10 → get_or (written rows) k 0 ≡ bits_value (row_bit rows) (8 * k) 8
 unfolding written
-octet-written rows k lt = get_or-map-range_with_len (λ k. spelled (row_bit rows) (8 * k) 8) 0 10 k k 0 lt (zero-add k)
+octet-written rows k lt = get_or-map-range_with_len (λ k. bits_value (row_bit rows) (8 * k) 8) 0 10 k k 0 lt (zero-add k)
 
 written-octets : (rows : List Row) → IsOctets 10 (written rows)
 written-octets rows = record {
   len = length-written rows;
   small = λ k. ⊎_elim
-      (λ (lt : k < 10). omega (arith, octet-written rows k lt, spelled-lt (row_bit rows) (8 * k) 8))
+      (λ (lt : k < 10). omega (arith, octet-written rows k lt, bits_value-lt (row_bit rows) (8 * k) 8))
       (λ (le : 10 ≤ k). omega (arith, get_or_past (written rows) k 0 (omega (arith, length-written rows))))
       (cases_lt k 10);
 }
@@ -59,7 +59,7 @@ written-octets rows = record {
 written-bit : (rows : List Row) (q : ℕ) → q < 80 → octet_bit (written rows) q ≡ row_bit rows q
 written-bit rows q lt =
     let at : 8 * (q / 8) + q % 8 ≡ q = omega arith in
-    rw (octet-written rows (q / 8) (omega arith)) (spelled-bit (row_bit rows) (8 * (q / 8)) 8 (q % 8) (omega arith) ∙ ap (row_bit rows) at)
+    rw (octet-written rows (q / 8) (omega arith)) (bits_value-bit (row_bit rows) (8 * (q / 8)) 8 (q % 8) (omega arith) ∙ ap (row_bit rows) at)
 
 written-is : (pdu : Pdu) (octets : List ℕ) → IsOctets 10 octets → IsLaidOut pdu octets → written (layout pdu) ≡ octets
 written-is pdu octets is_octets is =
@@ -67,8 +67,8 @@ written-is pdu octets is_octets is =
     written-bit (layout pdu) q (omega arith) ∙ row_bit-is 0 (layout pdu) octets (layout-fills pdu is.listed) is.rows q (omega arith) (omega arith))
 
 -- octets that a PDU is written as are its octets
-pub octets_of-spells : (pdu : Pdu) (octets : List ℕ) → IsOctets 10 octets → Spells pdu octets → octets_of pdu ≡ octets
-unfolding octets_of Spells written
+pub octets_of-spells : (pdu : Pdu) (octets : List ℕ) → IsOctets 10 octets → SpellsPdu pdu octets → octets_of pdu ≡ octets
+unfolding octets_of SpellsPdu written
 octets_of-spells (Other carried) octets is_octets is = is
 octets_of-spells pdu octets is_octets is = written-is pdu octets is_octets is
 
@@ -118,9 +118,9 @@ read_as-formed opcode o =
 none-unread : (octets : List ℕ) → read_as (field_of octets 0 8) octets ≡ None → (pdu : Pdu) → ¬ IsLaidOut pdu octets
 none-unread octets e pdu is = let read : read_as (field_of octets 0 8) octets ≡ Some pdu = laid_out-read pdu octets is in let both : None ≡ Some pdu = sym e ∙ read in cc
 
-confirmed-agrees : (octets : List ℕ) (found : Option Pdu) → read_as (field_of octets 0 8) octets ≡ found → IfSome found IsFormed → Agrees (confirmed octets found) octets
-confirmed-agrees octets None e formed = agrees-other octets (none-unread octets e)
-confirmed-agrees octets (Some pdu) e formed =
+pdu_or_other-agrees : (octets : List ℕ) (found : Option Pdu) → read_as (field_of octets 0 8) octets ≡ found → IfSome found IsFormed → Agrees (pdu_or_other octets found) octets
+pdu_or_other-agrees octets None e formed = agrees-other octets (none-unread octets e)
+pdu_or_other-agrees octets (Some pdu) e formed =
     ⊎_elim
     (λ (yes : do_hold octets (layout pdu) ≡ true).
     rw yes (agrees-laid_out pdu octets (record { listed = formed.listed; rows = do_hold-true octets (layout pdu) yes; channel = formed.channel_is })))
@@ -135,7 +135,7 @@ confirmed-agrees octets (Some pdu) e formed =
 
 pub pdu_of-agrees : (octets : List ℕ) → Agrees (pdu_of octets) octets
 unfolding pdu_of
-pdu_of-agrees octets = confirmed-agrees octets (read_as (field_of octets 0 8) octets) refl (read_as-formed (field_of octets 0 8) octets)
+pdu_of-agrees octets = pdu_or_other-agrees octets (read_as (field_of octets 0 8) octets) refl (read_as-formed (field_of octets 0 8) octets)
 
 -- at most one PDU agrees with octets
 pub agrees_once : (p q : Pdu) (octets : List ℕ) → Agrees p octets → Agrees q octets → p ≡ q

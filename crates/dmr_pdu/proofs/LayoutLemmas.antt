@@ -6,7 +6,7 @@ use Rattle.dmr_bits.specs.Bits.{field_of, IsOctets}
 use Rattle.dmr_pdu.specs.declared.pdu.Pdu.{Pdu}
 use Rattle.dmr_pdu.specs.declared.pdu.Pdu.TheVariants.{Aloha, Ahoy, Random, Ackd, Acku, Clear, PvGrant, TvGrant, Move, Other}
 use Rattle.dmr_pdu.specs.Channels.{IsChannel}
-use Rattle.dmr_pdu.specs.Layout.{Row, bit, layout, Holds, fills, HasChannel, IsListed, IsLaidOut, Spells, Agrees, IsReadable}
+use Rattle.dmr_pdu.specs.Layout.{Row, bit, layout, Holds, fills, HasChannel, IsListed, IsLaidOut, SpellsPdu, Agrees, IsReadable}
 use Rattle.dmr_pdu.specs.Reading.{channel, bit_of, read_as}
 use Rattle.dmr_pdu.proofs.RowLemmas.{rows_determine}
 
@@ -78,20 +78,20 @@ pub laid_out_same : (p q : Pdu) (o : List ℕ) → IsLaidOut p o → IsLaidOut q
 laid_out_same p q o p_is q_is = sym (laid_out-read p o p_is) ∙ laid_out-read q o q_is
 
 -- no two lists of octets spell the same PDU
-pub spells_alone : (pdu : Pdu) (a b : List ℕ) → IsOctets 10 a → IsOctets 10 b → Spells pdu a → Spells pdu b → a ≡ b
-unfolding Spells
+pub spells_alone : (pdu : Pdu) (a b : List ℕ) → IsOctets 10 a → IsOctets 10 b → SpellsPdu pdu a → SpellsPdu pdu b → a ≡ b
+unfolding SpellsPdu
 spells_alone (Other octets) a b a_octets b_octets a_is b_is = sym a_is ∙ b_is
 spells_alone pdu a b a_octets b_octets a_is b_is = laid_out_alone pdu a b a_octets b_octets a_is b_is
 
 -- ---- agreement
 
-pub laid_out-spells : (pdu : Pdu) (o : List ℕ) → IsListed pdu → Spells pdu o → IsLaidOut pdu o
-unfolding Spells IsListed
+pub laid_out-spells : (pdu : Pdu) (o : List ℕ) → IsListed pdu → SpellsPdu pdu o → IsLaidOut pdu o
+unfolding SpellsPdu IsListed
 laid_out-spells (Other carried) o listed is = absurd listed
 laid_out-spells pdu o listed is = is
 
-pub spells-laid_out : (pdu : Pdu) (o : List ℕ) → IsLaidOut pdu o → Spells pdu o
-unfolding Spells IsListed
+pub spells-laid_out : (pdu : Pdu) (o : List ℕ) → IsLaidOut pdu o → SpellsPdu pdu o
+unfolding SpellsPdu IsListed
 spells-laid_out (Other carried) o is = absurd is.listed
 spells-laid_out pdu o is = is
 
@@ -119,7 +119,7 @@ agrees-other_same (Other carried) o none is = ap Other is.0
 agrees-other_same q o none is = absurd (none q is)
 
 -- what a PDU is written as agrees with it
-pub spells-agrees : (pdu : Pdu) (octets : List ℕ) → IsReadable pdu → Spells pdu octets → Agrees pdu octets
-unfolding IsReadable Spells Agrees
+pub spells-agrees : (pdu : Pdu) (octets : List ℕ) → IsReadable pdu → SpellsPdu pdu octets → Agrees pdu octets
+unfolding IsReadable SpellsPdu Agrees
 spells-agrees (Other carried) octets readable is = (is, λ pdu laid_out. readable pdu (subst (IsLaidOut pdu) (sym is) laid_out))
 spells-agrees pdu octets readable is = is

@@ -6,7 +6,7 @@ use Rattle.std.proofs.lemmas.List.{drop_all}
 use Rattle.std.specs.Cmp.Lexicographic.{pointwise}
 use Rattle.std.proofs.lemmas.Bool.{eq-eqb, and_from}
 use Rattle.dmr_bits.specs.Bits.{octet_bit, field_of, IsOctets}
-use Rattle.dmr_bits.proofs.BitLemmas.{spelled-same, spelled-injective, octets-same, zeros-octets}
+use Rattle.dmr_bits.proofs.BitLemmas.{bits_value-same, bits_value-injective, octets-same, zeros-octets}
 use Rattle.dmr_pdu.specs.Layout.{Row, Holds, fills, AllFit}
 
 pub left : (a b : Bool) → (a && b) ≡ true → a ≡ true
@@ -44,7 +44,7 @@ rows_bits first (r ∷ rows) a b e a_holds b_holds q low high =
     ⊎_elim
     (λ (inside : q < first + r.0.width).
     let at : r.0.first + (q - first) ≡ q = omega (arith, here.starts) in
-    let same : octet_bit a (r.0.first + (q - first)) ≡ octet_bit b (r.0.first + (q - first)) = spelled-injective (octet_bit a) (octet_bit b) r.0.first r.0.width (a_holds.0 ∙ sym b_holds.0) (q - first) (omega arith) in
+    let same : octet_bit a (r.0.first + (q - first)) ≡ octet_bit b (r.0.first + (q - first)) = bits_value-injective (octet_bit a) (octet_bit b) r.0.first r.0.width (a_holds.0 ∙ sym b_holds.0) (q - first) (omega arith) in
     ap (octet_bit a) (sym at) ∙ same ∙ ap (octet_bit b) at)
     (λ (behind : first + r.0.width ≤ q). rows_bits (first + r.0.width) rows a b here.rest a_holds.1 b_holds.1 q behind high)
     (cases_lt q (first + r.0.width))
@@ -92,7 +92,7 @@ is_written-more rows i octets made r is e made_octets value before =
       rest = here.rest;
       fit = fit.1;
       keeps = λ o same holds.
-          let here_holds : field_of o r.0.first r.0.width ≡ r.1 = spelled-same (octet_bit o) (octet_bit made) r.0.first r.0.width (λ k lt. same (r.0.first + k) (omega (arith, here.starts))) ∙ value in
+          let here_holds : field_of o r.0.first r.0.width ≡ r.1 = bits_value-same (octet_bit o) (octet_bit made) r.0.first r.0.width (λ k lt. same (r.0.first + k) (omega (arith, here.starts))) ∙ value in
           let rest_holds : Holds o (r ∷ drop (i + 1) rows) = (here_holds, holds) in
           is.keeps o (λ q lt. same q (omega arith) ∙ before q (omega (arith, here.starts))) (subst (Holds o) (sym e) rest_holds);
     }

@@ -2,7 +2,7 @@
 -- else, is proved in proofs/FunctionLemmas; the crates above rest on that alone.
 use Rattle.std.specs.Prelude.{◌==◌, ℕ, ◌+◌, ◌-◌, ◌*◌, ◌/◌, ◌%◌, ◌^◌, Bool, true, false, ◌&&◌, nat_lt, List, [], ◌∷◌, Option, Some, None, if◌then◌else◌, map}
 use Rattle.std.specs.List.{range_with_len}
-use Rattle.dmr_bits.specs.Bits.{spelled, field_of}
+use Rattle.dmr_bits.specs.Bits.{bits_value, field_of}
 use Rattle.dmr_pdu.specs.declared.pdu.Pdu.{Pdu}
 use Rattle.dmr_pdu.specs.declared.pdu.Pdu.TheVariants.{Other}
 use Rattle.dmr_pdu.specs.Layout.{Row, layout}
@@ -16,7 +16,7 @@ row_bit (r ∷ rows) place = if nat_lt place (r.0.first + r.0.width) then r.1 / 
 -- the ten octets that a PDU is written as
 unfoldable pub octets_of : Pdu → List ℕ
 octets_of (Other carried) = carried
-octets_of pdu = map (λ k. spelled (row_bit (layout pdu)) (8 * k) 8) (range_with_len 0 10)
+octets_of pdu = map (λ k. bits_value (row_bit (layout pdu)) (8 * k) 8) (range_with_len 0 10)
 
 -- every row holds, as a test
 abbrev pub do_hold : List ℕ → List Row → Bool
@@ -24,10 +24,10 @@ do_hold octets [] = true
 do_hold octets (r ∷ rows) = (field_of octets r.0.first r.0.width == r.1) && do_hold octets rows
 
 -- the PDU that was read, where all of its layout holds
-abbrev pub confirmed : List ℕ → Option Pdu → Pdu
-confirmed octets None = Other octets
-confirmed octets (Some pdu) = if do_hold octets (layout pdu) then pdu else Other octets
+abbrev pub pdu_or_other : List ℕ → Option Pdu → Pdu
+pdu_or_other octets None = Other octets
+pdu_or_other octets (Some pdu) = if do_hold octets (layout pdu) then pdu else Other octets
 
 -- the one PDU that agrees with ten octets
 unfoldable pub pdu_of : List ℕ → Pdu
-pdu_of octets = confirmed octets (read_as (field_of octets 0 8) octets)
+pdu_of octets = pdu_or_other octets (read_as (field_of octets 0 8) octets)

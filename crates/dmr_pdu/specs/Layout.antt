@@ -10,8 +10,8 @@ use Rattle.dmr_pdu.specs.declared.pdu.Pdu.TheVariants.{Aloha, Ahoy, Random, Ackd
 abbrev pub Row : Type 0
 Row = Place × ℕ
 
-abbrev pub row : ℕ → ℕ → ℕ → Row
-row first width number = (record { first = first; width = width }, number)
+abbrev pub layout_row : ℕ → ℕ → ℕ → Row
+layout_row first width number = (record { first = first; width = width }, number)
 
 -- the number of a bit
 abbrev pub bit : Bool → ℕ
@@ -20,24 +20,24 @@ bit b = if b then 1 else 0
 -- the rows of each PDU: octet 0 is LB, PF and the opcode, octet 1 the feature set, and what no field fills is 0
 unfoldable pub layout : Pdu → List Row
 layout (Aloha sync version offset active mask function nrand_wait register backoff system address) =
-    row 0 8 0x99 ∷ row 8 8 0 ∷ row 16 2 0 ∷ row 18 1 (bit sync) ∷ row 19 3 version ∷ row 22 1 (bit offset) ∷ row 23 1 (bit active)
-    ∷ row 24 5 mask ∷ row 29 2 function ∷ row 31 4 nrand_wait ∷ row 35 1 (bit register) ∷ row 36 4 backoff ∷ row 40 16 system ∷ row 56 24 address ∷ []
+    layout_row 0 8 0x99 ∷ layout_row 8 8 0 ∷ layout_row 16 2 0 ∷ layout_row 18 1 (bit sync) ∷ layout_row 19 3 version ∷ layout_row 22 1 (bit offset) ∷ layout_row 23 1 (bit active)
+    ∷ layout_row 24 5 mask ∷ layout_row 29 2 function ∷ layout_row 31 4 nrand_wait ∷ layout_row 35 1 (bit register) ∷ layout_row 36 4 backoff ∷ layout_row 40 16 system ∷ layout_row 56 24 address ∷ []
 layout (Ahoy options group kind called calling) =
-    row 0 8 0x9C ∷ row 8 8 0 ∷ row 16 7 options ∷ row 23 2 0 ∷ row 25 1 (bit group) ∷ row 26 2 0 ∷ row 28 4 kind ∷ row 32 24 called ∷ row 56 24 calling ∷ []
+    layout_row 0 8 0x9C ∷ layout_row 8 8 0 ∷ layout_row 16 7 options ∷ layout_row 23 2 0 ∷ layout_row 25 1 (bit group) ∷ layout_row 26 2 0 ∷ layout_row 28 4 kind ∷ layout_row 32 24 called ∷ layout_row 56 24 calling ∷ []
 layout (Random options flags kind target source) =
-    row 0 8 0x9F ∷ row 8 8 0 ∷ row 16 7 options ∷ row 23 5 flags ∷ row 28 4 kind ∷ row 32 24 target ∷ row 56 24 source ∷ []
+    layout_row 0 8 0x9F ∷ layout_row 8 8 0 ∷ layout_row 16 7 options ∷ layout_row 23 5 flags ∷ layout_row 28 4 kind ∷ layout_row 32 24 target ∷ layout_row 56 24 source ∷ []
 layout (Ackd info reason spare target additional) =
-    row 0 8 0xA0 ∷ row 8 8 0 ∷ row 16 7 info ∷ row 23 8 reason ∷ row 31 1 (bit spare) ∷ row 32 24 target ∷ row 56 24 additional ∷ []
+    layout_row 0 8 0xA0 ∷ layout_row 8 8 0 ∷ layout_row 16 7 info ∷ layout_row 23 8 reason ∷ layout_row 31 1 (bit spare) ∷ layout_row 32 24 target ∷ layout_row 56 24 additional ∷ []
 layout (Acku info reason spare target additional) =
-    row 0 8 0xA1 ∷ row 8 8 0 ∷ row 16 7 info ∷ row 23 8 reason ∷ row 31 1 (bit spare) ∷ row 32 24 target ∷ row 56 24 additional ∷ []
+    layout_row 0 8 0xA1 ∷ layout_row 8 8 0 ∷ layout_row 16 7 info ∷ layout_row 23 8 reason ∷ layout_row 31 1 (bit spare) ∷ layout_row 32 24 target ∷ layout_row 56 24 additional ∷ []
 layout (Clear lpcn group target source) =
-    row 0 8 0xAE ∷ row 8 8 0 ∷ row 16 12 lpcn ∷ row 28 3 0 ∷ row 31 1 (bit group) ∷ row 32 24 target ∷ row 56 24 source ∷ []
+    layout_row 0 8 0xAE ∷ layout_row 8 8 0 ∷ layout_row 16 12 lpcn ∷ layout_row 28 3 0 ∷ layout_row 31 1 (bit group) ∷ layout_row 32 24 target ∷ layout_row 56 24 source ∷ []
 layout (PvGrant lpcn slot target source) =
-    row 0 8 0xB0 ∷ row 8 8 0 ∷ row 16 12 lpcn ∷ row 28 1 slot ∷ row 29 3 0 ∷ row 32 24 target ∷ row 56 24 source ∷ []
+    layout_row 0 8 0xB0 ∷ layout_row 8 8 0 ∷ layout_row 16 12 lpcn ∷ layout_row 28 1 slot ∷ layout_row 29 3 0 ∷ layout_row 32 24 target ∷ layout_row 56 24 source ∷ []
 layout (TvGrant lpcn slot late target source) =
-    row 0 8 0xB1 ∷ row 8 8 0 ∷ row 16 12 lpcn ∷ row 28 1 slot ∷ row 29 1 (bit late) ∷ row 30 2 0 ∷ row 32 24 target ∷ row 56 24 source ∷ []
+    layout_row 0 8 0xB1 ∷ layout_row 8 8 0 ∷ layout_row 16 12 lpcn ∷ layout_row 28 1 slot ∷ layout_row 29 1 (bit late) ∷ layout_row 30 2 0 ∷ layout_row 32 24 target ∷ layout_row 56 24 source ∷ []
 layout (Move register backoff lpcn) =
-    row 0 8 0xB9 ∷ row 8 8 0 ∷ row 16 19 0 ∷ row 35 1 (bit register) ∷ row 36 4 backoff ∷ row 40 4 0 ∷ row 44 12 lpcn ∷ row 56 24 0 ∷ []
+    layout_row 0 8 0xB9 ∷ layout_row 8 8 0 ∷ layout_row 16 19 0 ∷ layout_row 35 1 (bit register) ∷ layout_row 36 4 backoff ∷ layout_row 40 4 0 ∷ layout_row 44 12 lpcn ∷ layout_row 56 24 0 ∷ []
 layout (Other octets) = []
 
 -- every row holds
@@ -65,9 +65,9 @@ pub record IsLaidOut (pdu : Pdu) (octets : List ℕ) : Type 0 where
   pub channel : HasChannel pdu
 
 -- the octets that a PDU is written as: those of its layout, and those that `Other` carries
-unfoldable pub Spells : Pdu → List ℕ → Type 0
-Spells (Other carried) octets = carried ≡ octets
-Spells pdu octets = IsLaidOut pdu octets
+unfoldable pub SpellsPdu : Pdu → List ℕ → Type 0
+SpellsPdu (Other carried) octets = carried ≡ octets
+SpellsPdu pdu octets = IsLaidOut pdu octets
 
 -- a PDU and ten octets agree
 unfoldable pub Agrees : Pdu → List ℕ → Type 0

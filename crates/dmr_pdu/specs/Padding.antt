@@ -3,11 +3,11 @@ use Rattle.std.specs.Prelude.{◌≡◌, ℕ, ◌-◌, ◌≤◌, List, ◌++◌
 use Rattle.std.proofs.Common.{arith, take-append-drop, length-take-le}
 
 -- so many cells, whose first hold the entries, and whose others are blank
-abbrev pub padded : {X : Type 0} → ℕ → X → List X → List X
-padded cells blank entries = entries ++ replicate (cells - length entries) blank
+abbrev pub with_padding : {X : Type 0} → ℕ → X → List X → List X
+with_padding cells blank entries = entries ++ replicate (cells - length entries) blank
 
 -- cells that are blank behind the first few are those few, padded
-pub padded-take : {X : Type 0} (n : ℕ) (blank : X) (count : ℕ) (cells : List X) → count ≤ n → length cells ≡ n → drop count cells ≡ replicate (n - count) blank → padded n blank (take count cells) ≡ cells
-padded-take n blank count cells within len rest =
+pub with_padding-take : {X : Type 0} (n : ℕ) (blank : X) (count : ℕ) (cells : List X) → count ≤ n → length cells ≡ n → drop count cells ≡ replicate (n - count) blank → with_padding n blank (take count cells) ≡ cells
+with_padding-take n blank count cells within len rest =
     let taken : length (take count cells) ≡ count = length-take-le count cells (omega (arith, within, len)) in
     rw (taken, ← rest) (take-append-drop count cells)

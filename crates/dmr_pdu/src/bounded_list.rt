@@ -25,7 +25,7 @@ pub struct BoundedList<T: Blank, const N: usize> {
 
 impl<T: Blank, const N: usize> Model for BoundedList<T, N> {
     ghost use Rattle.std.specs.Prelude.{◌≡◌, ◌≤◌, ◌-◌, List, length, take, drop, replicate};
-    ghost use Rattle.dmr_pdu.specs.Padding.{padded, padded-take};
+    ghost use Rattle.dmr_pdu.specs.Padding.{with_padding, with_padding-take};
 
     ghost Value = { List T };
 
@@ -33,11 +33,11 @@ impl<T: Blank, const N: usize> Model for BoundedList<T, N> {
 
     ghost invariant = { λ list. (list.count ≤ N) × (length list.cells ≡ N) × (drop list.count list.cells ≡ replicate (N - list.count) T.blank) };
 
-    ghost inverse = { λ entries. record { cells = padded N T.blank entries; count = length entries } };
+    ghost inverse = { λ entries. record { cells = with_padding N T.blank entries; count = length entries } };
 
     ghost use Rattle.std.proofs.Common.{arith, length-take-le};
 
-    ghost inverse_ok = { λ list is i. record { cells = padded-take N T.blank list.count list.cells is.0 is.1 is.2 i; count = length-take-le list.count list.cells (Prim.omega (arith, is.0, is.1)) i } };
+    ghost inverse_ok = { λ list is i. record { cells = with_padding-take N T.blank list.count list.cells is.0 is.1 is.2 i; count = length-take-le list.count list.cells (Prim.omega (arith, is.0, is.1)) i } };
 }
 
 /// The same list. It never fails.

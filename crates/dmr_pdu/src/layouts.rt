@@ -3,7 +3,7 @@
 
 ghost use Rattle.std.specs.Prelude.{◌≡◌, ◌+◌, ◌<◌, ◌≤◌, ◌^◌, ℕ, IsTrue, IfSome, if◌then◌else◌};
 ghost use Rattle.dmr_bits.specs.Bits.{field_of, IsOctets};
-ghost use Rattle.dmr_pdu.specs.Layout.{Holds, IsListed, Spells, fills, AllFit};
+ghost use Rattle.dmr_pdu.specs.Layout.{Holds, IsListed, SpellsPdu, fills, AllFit};
 ghost use Rattle.dmr_pdu.specs.Reading.{read_as, bit_of, channel};
 
 use crate::display::{Shown, show_all, show_octets};
@@ -189,10 +189,10 @@ pub(crate) fn show_fields<W: fmt::Write>(pdu: &Pdu, f: &mut fmt::Formatter<W>) -
 }
 
 /// The octets that a PDU is written as: those of its layout, and those that `Other` carries.
-#[tactic(auto, unfolding(crate::specs::Layout::Spells, crate::specs::Layout::layout, crate::specs::Layout::IsListed, crate::specs::Layout::HasChannel))]
+#[tactic(auto, unfolding(crate::specs::Layout::SpellsPdu, crate::specs::Layout::layout, crate::specs::Layout::IsListed, crate::specs::Layout::HasChannel))]
 pub(crate) fn written(pdu: &Pdu) -> Octets10
     ensures octets { IsOctets 10 result }
-    ensures is { Spells pdu.now result }
+    ensures is { SpellsPdu pdu.now result }
 {
     layouts!(octets_of, *pdu)
 }

@@ -3,7 +3,7 @@
 ghost use Rattle.std.specs.Prelude.{◌≡◌, ◌↔◌, ℕ, List, IsTrue, IfSome};
 ghost use Rattle.dmr_bits.specs.Bits.{IsOctets};
 ghost use Rattle.dmr_pdu.specs.declared.pdu.Pdu.{Pdu as APdu};
-ghost use Rattle.dmr_pdu.specs.Layout.{IsLaidOut, Spells, Agrees};
+ghost use Rattle.dmr_pdu.specs.Layout.{IsLaidOut, SpellsPdu, Agrees};
 
 use crate::layouts::{read, written};
 use crate::numbers::{Address, Kind, Number, Options, Reason};
@@ -144,9 +144,9 @@ impl Pdu {
     /// The octets that the PDU is written as: those of its layout, and those that `Other` carries.
     pub fn to_octets(&self) -> Octets10
         ensures octets { IsOctets 10 result }
-        ensures is { Spells self.now result }
+        ensures is { SpellsPdu self.now result }
         // There are no others.
-        ensures alone { (octets : List ℕ) → IsOctets 10 octets → Spells self.now octets → octets ≡ result }
+        ensures alone { (octets : List ℕ) → IsOctets 10 octets → SpellsPdu self.now octets → octets ≡ result }
     {
         written(self)
     }

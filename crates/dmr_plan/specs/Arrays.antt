@@ -15,8 +15,8 @@ count_of no_items = 0
 count_of (item d ds) = suc (count_of ds)
 
 -- a whole number
-abbrev pub is_number : Data → Bool
-is_number d = is_some (as_integer d)
+abbrev pub is_whole_number : Data → Bool
+is_whole_number d = is_some (as_integer d)
 
 -- the two items, where there are two
 abbrev pub two_of : Items → Option (Data × Data)
@@ -25,7 +25,7 @@ two_of _ = None
 
 -- two whole numbers
 abbrev pub are_numbers : Option (Data × Data) → Bool
-are_numbers (Some p) = is_number p.0 && is_number p.1
+are_numbers (Some p) = is_whole_number p.0 && is_whole_number p.1
 are_numbers None = false
 
 -- an array of two whole numbers
@@ -35,8 +35,8 @@ is_pair _ = false
 
 -- what may be an item of such an array
 abbrev pub is_item : Content → Data → Bool
-is_item OneNumber d = is_number d
-is_item Numbers d = is_number d
+is_item OneNumber d = is_whole_number d
+is_item Numbers d = is_whole_number d
 is_item Pairs d = is_pair d
 is_item Tables d = is_some (as_table d)
 

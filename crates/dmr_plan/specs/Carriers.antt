@@ -7,7 +7,7 @@ use Rattle.dmr_plan.specs.declared.fault.PlanFault.{PlanFault}
 use Rattle.dmr_plan.specs.declared.fault.PlanFault.TheVariants.{WrongType, OutOfRange, Repeated}
 use Rattle.dmr_plan.specs.declared.carriers.CarrierRow.{CarrierRow}
 use Rattle.dmr_plan.specs.Steps.{◌>>=◌}
-use Rattle.dmr_plan.specs.Numbers.{number_in}
+use Rattle.dmr_plan.specs.Numbers.{number_at_key}
 use Rattle.dmr_plan.specs.Arrays.{array_in, is_count, in_turn}
 
 -- the row of an unused cell
@@ -33,23 +33,23 @@ has_port_in rows n = list_any (λ (row : CarrierRow). row.port == n) rows
 -- the carrier of a table, beside the console's port and the carriers before it
 unfoldable pub carrier_of_table : ℕ → List CarrierRow → Members → Result CarrierRow PlanFault
 carrier_of_table console_port earlier ms = do
-  number ← number_in ms Number
-  lpcn ← (if has_number_in earlier number then Err (Repeated Number) else number_in ms Lpcn)
-  port ← (if has_lpcn_in earlier lpcn then Err (Repeated Lpcn) else number_in ms Port)
+  number ← number_at_key ms Number
+  lpcn ← (if has_number_in earlier number then Err (Repeated Number) else number_at_key ms Lpcn)
+  port ← (if has_lpcn_in earlier lpcn then Err (Repeated Lpcn) else number_at_key ms Port)
   if (port == console_port) || has_port_in earlier port then Err (Repeated Port) else Ok (record { number = number; lpcn = lpcn; port = port })
 
 -- the carrier that an item spells
-abbrev pub carrier_of : ℕ → List CarrierRow → Data → Result CarrierRow PlanFault
-carrier_of console_port earlier (table ms) = carrier_of_table console_port earlier ms
-carrier_of console_port earlier _ = Err (WrongType Carrier)
+abbrev pub carrier_of_item : ℕ → List CarrierRow → Data → Result CarrierRow PlanFault
+carrier_of_item console_port earlier (table ms) = carrier_of_table console_port earlier ms
+carrier_of_item console_port earlier _ = Err (WrongType Carrier)
 
 -- as many carriers as there may be
 abbrev pub carriers_of_items : ℕ → Items → Result (List CarrierRow) PlanFault
-carriers_of_items console_port ds = if is_count Carrier ds then in_turn (carrier_of console_port) [] ds else Err (OutOfRange Carrier)
+carriers_of_items console_port ds = if is_count Carrier ds then in_turn (carrier_of_item console_port) [] ds else Err (OutOfRange Carrier)
 
 -- the carriers, table by table, beside the console's port
 unfoldable pub carriers_of : Members → Result (List CarrierRow) PlanFault
 carriers_of ms = do
-  console_port ← number_in ms ConsolePort
+  console_port ← number_at_key ms ConsolePort
   ds ← array_in ms Carrier
   carriers_of_items console_port ds

@@ -15,10 +15,10 @@ use Rattle.dmr_plan.specs.contracts.settings.SettingsPartialEq.TheImpl as settin
 use Rattle.dmr_plan.specs.contracts.settings.SettingsEq.TheImpl.Laws as laws
 
 -- tests, joined
-abbrev joined : List Bool → Bool
-joined [] = true
-joined (b ∷ []) = b
-joined (b ∷ c ∷ bs) = b && joined (c ∷ bs)
+abbrev all_tests : List Bool → Bool
+all_tests [] = true
+all_tests (b ∷ []) = b
+all_tests (b ∷ c ∷ bs) = b && all_tests (c ∷ bs)
 
 abbrev EachHolds : List Bool → Type 0
 EachHolds [] = Unit {0}
@@ -28,10 +28,10 @@ both : (a b : Bool) → (a && b) ≡ true → (a ≡ true) × (b ≡ true)
 both true b h = (refl, h)
 both false b h = absurd (false≢true h)
 
-each : (bs : List Bool) → joined bs ≡ true → EachHolds bs
+each : (bs : List Bool) → all_tests bs ≡ true → EachHolds bs
 each [] h = tt
 each (b ∷ []) h = (h, tt)
-each (b ∷ c ∷ bs) h = let p = both b (joined (c ∷ bs)) h in (p.0, each (c ∷ bs) p.1)
+each (b ∷ c ∷ bs) h = let p = both b (all_tests (c ∷ bs)) h in (p.0, each (c ∷ bs) p.1)
 
 same_bit : (a b : Bool) → beq a b ≡ true → a ≡ b
 same_bit true true h = refl

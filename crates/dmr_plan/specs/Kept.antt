@@ -28,7 +28,7 @@ pub record AreGroups (gs : List ℕ) : Type 0 where
   pub once : has_repeat gs ≡ false
 
 -- each number is in its range
-pub record IsRow (row : CarrierRow) : Type 0 where
+pub record IsCarrierRow (row : CarrierRow) : Type 0 where
   pub number : IsNumberOf Number row.number
   pub lpcn : IsNumberOf Lpcn row.lpcn
   pub port : IsNumberOf Port row.port
@@ -44,5 +44,5 @@ pub record AreApart (console_port : ℕ) (rows : List CarrierRow) : Type 0 where
 pub record AreCarriers (console_port : ℕ) (rows : List CarrierRow) : Type 0 where
   pub some : 1 ≤ length rows
   pub few : length rows ≤ MOST_CARRIERS
-  pub each : All IsRow rows
+  pub each : All IsCarrierRow rows
   pub apart : AreApart console_port rows

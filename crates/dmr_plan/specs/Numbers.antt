@@ -34,12 +34,12 @@ number_or key (Some d) = number key d
 number_or key None = number_if_missing key (limits_of key).fallback
 
 -- the number at a key, or what holds where it is missing
-unfoldable pub number_in : Members → Key → Result ℕ PlanFault
-number_in ms key = number_or key (get_member (name_of key) ms)
+unfoldable pub number_at_key : Members → Key → Result ℕ PlanFault
+number_at_key ms key = number_or key (get_member (name_of key) ms)
 
 -- the bit at a key: whether it is 1
 unfoldable pub bit_in : Members → Key → Result Bool PlanFault
-bit_in ms key = number_in ms key >>= λ n. Ok (n == 1)
+bit_in ms key = number_at_key ms key >>= λ n. Ok (n == 1)
 
 -- nothing, where that is what holds for the missing key
 abbrev pub optional_if_missing : Key → Fallback → Result (Option ℕ) PlanFault
@@ -62,11 +62,11 @@ number_from key least None = Err (Missing key)
 
 -- the number at a key whose least is the number at another key
 unfoldable pub number_from_in : Members → Key → Key → Result ℕ PlanFault
-number_from_in ms key other = number_in ms other >>= λ least. number_from key least (get_member (name_of key) ms)
+number_from_in ms key other = number_at_key ms other >>= λ least. number_from key least (get_member (name_of key) ms)
 
 -- the number at a key that must not be that at another key
 unfoldable pub number_unlike_in : Members → Key → Key → Result ℕ PlanFault
 number_unlike_in ms key other = do
-  n ← number_in ms key
-  m ← number_in ms other
+  n ← number_at_key ms key
+  m ← number_at_key ms other
   if n == m then Err (Repeated key) else Ok n

@@ -4,10 +4,10 @@ ghost use Rattle.std.specs.Prelude.{◌≡◌, ◌≤◌, ◌==◌, ℕ, length,
 ghost use Rattle.std.specs.List.{All, Contains};
 ghost use Rattle.toml.specs.View.{view, items_view, table_view};
 ghost use Rattle.dmr_plan.specs.Steps.{IsOfKey};
-ghost use Rattle.dmr_plan.specs.Numbers.{number_in};
+ghost use Rattle.dmr_plan.specs.Numbers.{number_at_key};
 ghost use Rattle.dmr_plan.specs.Arrays.{in_turn};
-ghost use Rattle.dmr_plan.specs.Carriers.{row_with, has_number_in, has_lpcn_in, has_port_in, carrier_of_table, carrier_of, carriers_of, carriers_of_items};
-ghost use Rattle.dmr_plan.specs.Kept.{IsRow, AreApart, AreCarriers};
+ghost use Rattle.dmr_plan.specs.Carriers.{row_with, has_number_in, has_lpcn_in, has_port_in, carrier_of_table, carrier_of_item, carriers_of, carriers_of_items};
+ghost use Rattle.dmr_plan.specs.Kept.{IsCarrierRow, AreApart, AreCarriers};
 
 use crate::arrays::{array_at, has_count};
 use crate::fault::PlanFault;
@@ -74,7 +74,7 @@ pub fn row_numbered(rows: &[CarrierRow], number: CarrierNo) -> Option<CarrierRow
 #[tactic(auto, unfolding(crate::specs::Carriers::carrier_of_table))]
 fn row_in(console_port: u16, earlier: &[CarrierRow], table: &Table) -> Result<CarrierRow, PlanFault>
     ensures gives { result ≡ carrier_of_table console_port earlier.now (table_view table.now) }
-    ensures limits { IfOk result IsRow }
+    ensures limits { IfOk result IsCarrierRow }
     ensures number { IfOk result (λ row. has_number_in earlier.now row.number ≡ false) }
     ensures lpcn { IfOk result (λ row. has_lpcn_in earlier.now row.lpcn ≡ false) }
     ensures port { IfOk result (λ row. has_port_in earlier.now row.port ≡ false) }
@@ -105,8 +105,8 @@ fn row_from(
     earlier: &[CarrierRow],
     value: &Value,
 ) -> Result<CarrierRow, PlanFault>
-    ensures gives { result ≡ carrier_of console_port earlier.now (view value.now) }
-    ensures limits { IfOk result IsRow }
+    ensures gives { result ≡ carrier_of_item console_port earlier.now (view value.now) }
+    ensures limits { IfOk result IsCarrierRow }
     ensures number { IfOk result (λ row. has_number_in earlier.now row.number ≡ false) }
     ensures lpcn { IfOk result (λ row. has_lpcn_in earlier.now row.lpcn ≡ false) }
     ensures port { IfOk result (λ row. has_port_in earlier.now row.port ≡ false) }
@@ -125,9 +125,9 @@ fn row_list(
     values: &[Value],
 ) -> Result<BoundedList<CarrierRow, MOST_CARRIERS>, PlanFault>
     requires { length values.now ≤ MOST_CARRIERS }
-    ensures gives { result ≡ in_turn (carrier_of console_port) [] (items_view values.now) }
+    ensures gives { result ≡ in_turn (carrier_of_item console_port) [] (items_view values.now) }
     ensures count { IfOk result (λ rows. length rows ≡ length values.now) }
-    ensures each { IfOk result (All IsRow) }
+    ensures each { IfOk result (All IsCarrierRow) }
     ensures apart { IfOk result (AreApart console_port) }
     ensures of_key { IfErr result IsOfKey }
 {
@@ -158,7 +158,7 @@ fn carriers_from(
 #[tactic(auto, unfolding(crate::specs::Carriers::carriers_of))]
 pub fn carriers_in(table: &Table) -> Result<BoundedList<CarrierRow, MOST_CARRIERS>, PlanFault>
     ensures gives { result ≡ carriers_of (table_view table.now) }
-    ensures limits { (port : ℕ) → Ok port ≡ number_in (table_view table.now) Key.ConsolePort → IfOk result (AreCarriers port) }
+    ensures limits { (port : ℕ) → Ok port ≡ number_at_key (table_view table.now) Key.ConsolePort → IfOk result (AreCarriers port) }
     ensures of_key { IfErr result IsOfKey }
 {
     let console_port = number_at(table, Key::ConsolePort)? as u16;

@@ -5,7 +5,7 @@ ghost use Rattle.toml.specs.Data.{get_member};
 ghost use Rattle.toml.specs.View.{view, table_view};
 ghost use Rattle.dmr_plan.specs.Keys.{name_of, limits_of, IsNumberOf};
 ghost use Rattle.dmr_plan.specs.Steps.{IsOfKey};
-ghost use Rattle.dmr_plan.specs.Numbers.{number_within, number_in, number_if_missing, bit_in, optional_in, optional_if_missing, number_from_in, number_unlike_in};
+ghost use Rattle.dmr_plan.specs.Numbers.{number_within, number_at_key, number_if_missing, bit_in, optional_in, optional_if_missing, number_from_in, number_unlike_in};
 
 use crate::fault::PlanFault;
 use crate::key::{Fallback, Key};
@@ -48,9 +48,9 @@ fn number_for_missing(key: Key) -> Result<u32, PlanFault>
 }
 
 /// The number at a key, or what holds where the key is missing.
-#[tactic(auto, unfolding(crate::specs::Numbers::number_in))]
+#[tactic(auto, unfolding(crate::specs::Numbers::number_at_key))]
 pub fn number(table: &Table, key: Key) -> Result<u32, PlanFault>
-    ensures gives { result ≡ number_in (table_view table.now) key }
+    ensures gives { result ≡ number_at_key (table_view table.now) key }
     ensures within { IfOk result (IsNumberOf key) }
     ensures of_key { IfErr result IsOfKey }
 {
@@ -99,7 +99,7 @@ pub fn optional_number(table: &Table, key: Key) -> Result<Option<u32>, PlanFault
 /// The number at a key, in a field that holds each number of the key's range.
 pub fn field<const WIDTH: u32>(table: &Table, key: Key) -> Result<Number<WIDTH>, PlanFault>
     requires { (limits_of key).range.most < 2 ^ WIDTH }
-    ensures gives { result ≡ number_in (table_view table.now) key }
+    ensures gives { result ≡ number_at_key (table_view table.now) key }
     ensures within { IfOk result (IsNumberOf key) }
     ensures of_key { IfErr result IsOfKey }
 {
@@ -109,7 +109,7 @@ pub fn field<const WIDTH: u32>(table: &Table, key: Key) -> Result<Number<WIDTH>,
 /// The address at a key whose range is one of addresses.
 pub fn address(table: &Table, key: Key) -> Result<Address, PlanFault>
     requires { (limits_of key).range.most < 2 ^ 24 }
-    ensures gives { result ≡ number_in (table_view table.now) key }
+    ensures gives { result ≡ number_at_key (table_view table.now) key }
     ensures within { IfOk result (IsNumberOf key) }
     ensures of_key { IfErr result IsOfKey }
 {
@@ -122,7 +122,7 @@ pub fn address_unlike(table: &Table, key: Key, other: Key) -> Result<Address, Pl
     requires { (limits_of key).range.most < 2 ^ 24 }
     ensures gives { result ≡ number_unlike_in (table_view table.now) key other }
     ensures within { IfOk result (IsNumberOf key) }
-    ensures unlike { (m : ℕ) → Ok m ≡ number_in (table_view table.now) other → IfOk result (λ n. n ≢ m) }
+    ensures unlike { (m : ℕ) → Ok m ≡ number_at_key (table_view table.now) other → IfOk result (λ n. n ≢ m) }
     ensures of_key { IfErr result IsOfKey }
 {
     let found = number(table, key)?;
@@ -136,7 +136,7 @@ pub fn address_unlike(table: &Table, key: Key, other: Key) -> Result<Address, Pl
 #[tactic(auto, unfolding(crate::specs::Numbers::number_from_in))]
 pub fn number_from(table: &Table, key: Key, other: Key) -> Result<u32, PlanFault>
     ensures gives { result ≡ number_from_in (table_view table.now) key other }
-    ensures low { (m : ℕ) → Ok m ≡ number_in (table_view table.now) other → IfOk result (λ n. m ≤ n) }
+    ensures low { (m : ℕ) → Ok m ≡ number_at_key (table_view table.now) other → IfOk result (λ n. m ≤ n) }
     ensures high { IfOk result (λ n. n ≤ (limits_of key).range.most) }
     ensures of_key { IfErr result IsOfKey }
 {

@@ -16,7 +16,7 @@ use Rattle.dmr_plan.specs.declared.carriers.CarrierRow.{CarrierRow}
 use Rattle.dmr_plan.specs.Carriers.{row_with}
 use Rattle.dmr_plan.specs.Lists.{has_repeat}
 use Rattle.dmr_plan.specs.IsPlan.{IsPlan}
-use Rattle.dmr_pool.specs.Slots.{IsSlot, box, emptied, place, queued, sent, slot_at}
+use Rattle.dmr_pool.specs.Slots.{IsSlot, box, outboxes_without_carrier, place, outboxes_with_pdu, outboxes_after_send, slot_at}
 use Rattle.dmr_pool.specs.Free.{control_slot, is_control, is_granted, names}
 use Rattle.dmr_pool.specs.Grants.{AreCounted, AreOutboxes, grants_of, slot_counted, slot_granted, slot_tuned}
 use Rattle.dmr_pool.proofs.FreeLemmas.{slot_at-place}
@@ -205,10 +205,10 @@ named_counted plan slot s pdu is = either (is_control plan slot)
 
 -- how many grants of each slot wait once a PDU is put into an outbox
 pub grants_queued : (plan : Settings) (outboxes : List (List Pdu)) (slot s : Slot) (pdu : Pdu) → IsPlan plan → IsSlot slot → place slot < length outboxes
-    → grants_of plan (queued outboxes slot pdu) s ≡ grants_of plan outboxes s + cond (is_this (slot_counted plan slot pdu) s) 1 0
+    → grants_of plan (outboxes_with_pdu outboxes slot pdu) s ≡ grants_of plan outboxes s + cond (is_this (slot_counted plan slot pdu) s) 1 0
 grants_queued plan outboxes slot s pdu is_plan is within = either (is_control plan slot) refl ∙ ap (λ b. grants_of plan outboxes s + cond b 1 0) (named_counted plan slot s pdu is_plan)
   where
-    either : (b : Bool) → is_control plan slot ≡ b → grants_of plan (queued outboxes slot pdu) s ≡ grants_of plan outboxes s + cond (b && names_slot plan s pdu) 1 0
+    either : (b : Bool) → is_control plan slot ≡ b → grants_of plan (outboxes_with_pdu outboxes slot pdu) s ≡ grants_of plan outboxes s + cond (b && names_slot plan s pdu) 1 0
     either true e =
         ap (λ (xs : List Pdu). grants_in plan xs s) (control_box plan outboxes slot (box outboxes slot ++ pdu ∷ []) e within ∙ ap (λ (t : Slot). box outboxes t ++ pdu ∷ []) (control_is plan slot e))
         ∙ in_more plan (box outboxes (control_slot plan)) pdu s
@@ -216,12 +216,12 @@ grants_queued plan outboxes slot s pdu is_plan is within = either (is_control pl
 
 -- the same once one is taken out
 pub grants_sent : (plan : Settings) (outboxes : List (List Pdu)) (slot s : Slot) (pdu : Pdu) → IsPlan plan → IsSlot slot → place slot < length outboxes → slice_get (box outboxes slot) 0 ≡ Some pdu
-    → grants_of plan outboxes s ≡ grants_of plan (sent outboxes slot) s + cond (is_this (slot_counted plan slot pdu) s) 1 0
-grants_sent plan outboxes slot s pdu is_plan is within first = either (is_control plan slot) refl ∙ ap (λ b. grants_of plan (sent outboxes slot) s + cond b 1 0) (named_counted plan slot s pdu is_plan)
+    → grants_of plan outboxes s ≡ grants_of plan (outboxes_after_send outboxes slot) s + cond (is_this (slot_counted plan slot pdu) s) 1 0
+grants_sent plan outboxes slot s pdu is_plan is within first = either (is_control plan slot) refl ∙ ap (λ b. grants_of plan (outboxes_after_send outboxes slot) s + cond b 1 0) (named_counted plan slot s pdu is_plan)
   where
-    either : (b : Bool) → is_control plan slot ≡ b → grants_of plan outboxes s ≡ grants_of plan (sent outboxes slot) s + cond (b && names_slot plan s pdu) 1 0
+    either : (b : Bool) → is_control plan slot ≡ b → grants_of plan outboxes s ≡ grants_of plan (outboxes_after_send outboxes slot) s + cond (b && names_slot plan s pdu) 1 0
     either true e =
-        let there : box (sent outboxes slot) (control_slot plan) ≡ drop 1 (box outboxes (control_slot plan)) =
+        let there : box (outboxes_after_send outboxes slot) (control_slot plan) ≡ drop 1 (box outboxes (control_slot plan)) =
         control_box plan outboxes slot (drop 1 (box outboxes slot)) e within ∙ ap (λ (t : Slot). drop 1 (box outboxes t)) (control_is plan slot e) in
         in_less plan (box outboxes (control_slot plan)) pdu s (subst (λ (t : Slot). slice_get (box outboxes t) 0 ≡ Some pdu) (control_is plan slot e) first)
         ∙ ap (λ (xs : List Pdu). grants_in plan xs s + cond (names_slot plan s pdu) 1 0) (sym there)
@@ -261,13 +261,13 @@ lowered counts at k within some = either (k == at) refl
 
 -- the counts where no grant of the site's is put
 pub queued_uncounted : (plan : Settings) (outboxes : List (List Pdu)) (counts : List ℕ) (slot : Slot) (pdu : Pdu) → IsPlan plan → IsSlot slot → place slot < length outboxes → slot_counted plan slot pdu ≡ None
-    → AreCounted plan outboxes counts → AreCounted plan (queued outboxes slot pdu) counts
+    → AreCounted plan outboxes counts → AreCounted plan (outboxes_with_pdu outboxes slot pdu) counts
 queued_uncounted plan outboxes counts slot pdu is_plan is within none counted k below =
     counted k below ∙ sym (grants_queued plan outboxes slot (slot_at k) pdu is_plan is within ∙ ap (λ (t : Option Slot). grants_of plan outboxes (slot_at k) + cond (is_this t (slot_at k)) 1 0) none ∙ omega arith)
 
 -- where one is
 pub queued_counted : (plan : Settings) (outboxes : List (List Pdu)) (counts : List ℕ) (slot granted : Slot) (pdu : Pdu) → IsPlan plan → IsSlot slot → place slot < length outboxes → slot_counted plan slot pdu ≡ Some granted → IsSlot granted → length counts ≡ 32
-    → AreCounted plan outboxes counts → AreCounted plan (queued outboxes slot pdu) (slice_set counts (place granted) (slice_index_or counts (place granted) 0 + 1))
+    → AreCounted plan outboxes counts → AreCounted plan (outboxes_with_pdu outboxes slot pdu) (slice_set counts (place granted) (slice_index_or counts (place granted) 0 + 1))
 queued_counted plan outboxes counts slot granted pdu is_plan is within one is_granted size counted k below =
     raised counts (place granted) k (omega (arith, is_granted.0, is_granted.1, size))
     ∙ ap (λ n. n + cond (k == place granted) 1 0) (counted k below)
@@ -277,19 +277,19 @@ queued_counted plan outboxes counts slot granted pdu is_plan is within one is_gr
 
 -- where none is taken out
 pub sent_uncounted : (plan : Settings) (outboxes : List (List Pdu)) (counts : List ℕ) (slot : Slot) (pdu : Pdu) → IsPlan plan → IsSlot slot → place slot < length outboxes → slice_get (box outboxes slot) 0 ≡ Some pdu → slot_counted plan slot pdu ≡ None
-    → AreCounted plan outboxes counts → AreCounted plan (sent outboxes slot) counts
+    → AreCounted plan outboxes counts → AreCounted plan (outboxes_after_send outboxes slot) counts
 sent_uncounted plan outboxes counts slot pdu is_plan is within first none counted k below =
-    counted k below ∙ grants_sent plan outboxes slot (slot_at k) pdu is_plan is within first ∙ ap (λ (t : Option Slot). grants_of plan (sent outboxes slot) (slot_at k) + cond (is_this t (slot_at k)) 1 0) none ∙ omega arith
+    counted k below ∙ grants_sent plan outboxes slot (slot_at k) pdu is_plan is within first ∙ ap (λ (t : Option Slot). grants_of plan (outboxes_after_send outboxes slot) (slot_at k) + cond (is_this t (slot_at k)) 1 0) none ∙ omega arith
 
 -- where one is, at least one waited
 pub some_waited : (plan : Settings) (outboxes : List (List Pdu)) (counts : List ℕ) (slot granted : Slot) (pdu : Pdu) → IsPlan plan → IsSlot slot → place slot < length outboxes → slice_get (box outboxes slot) 0 ≡ Some pdu → slot_counted plan slot pdu ≡ Some granted → IsSlot granted
     → AreCounted plan outboxes counts → 1 ≤ slice_index_or counts (place granted) 0
 some_waited plan outboxes counts slot granted pdu is_plan is within first one is_granted counted =
     let here : is_this (Some granted) (slot_at (place granted)) ≡ true = this_at granted (place granted) is_granted.1 ∙ itself (place granted) in
-    let more : grants_of plan outboxes (slot_at (place granted)) ≡ grants_of plan (sent outboxes slot) (slot_at (place granted)) + 1 =
+    let more : grants_of plan outboxes (slot_at (place granted)) ≡ grants_of plan (outboxes_after_send outboxes slot) (slot_at (place granted)) + 1 =
     grants_sent plan outboxes slot (slot_at (place granted)) pdu is_plan is within first
-    ∙ ap (λ (t : Option Slot). grants_of plan (sent outboxes slot) (slot_at (place granted)) + cond (is_this t (slot_at (place granted))) 1 0) one
-    ∙ ap (λ b. grants_of plan (sent outboxes slot) (slot_at (place granted)) + cond b 1 0) here in
+    ∙ ap (λ (t : Option Slot). grants_of plan (outboxes_after_send outboxes slot) (slot_at (place granted)) + cond (is_this t (slot_at (place granted))) 1 0) one
+    ∙ ap (λ b. grants_of plan (outboxes_after_send outboxes slot) (slot_at (place granted)) + cond b 1 0) here in
     at_least (slice_index_or counts (place granted) 0) _ (counted (place granted) (omega (arith, is_granted.0, is_granted.1)) ∙ more)
   where
     itself : (n : ℕ) → (n == n) ≡ true
@@ -299,14 +299,14 @@ some_waited plan outboxes counts slot granted pdu is_plan is within first one is
     at_least m n e = omega arith
 
 pub sent_counted : (plan : Settings) (outboxes : List (List Pdu)) (counts : List ℕ) (slot granted : Slot) (pdu : Pdu) → IsPlan plan → IsSlot slot → place slot < length outboxes → slice_get (box outboxes slot) 0 ≡ Some pdu → slot_counted plan slot pdu ≡ Some granted → IsSlot granted → length counts ≡ 32
-    → AreCounted plan outboxes counts → AreCounted plan (sent outboxes slot) (slice_set counts (place granted) (slice_index_or counts (place granted) 0 - 1))
+    → AreCounted plan outboxes counts → AreCounted plan (outboxes_after_send outboxes slot) (slice_set counts (place granted) (slice_index_or counts (place granted) 0 - 1))
 sent_counted plan outboxes counts slot granted pdu is_plan is within first one is_granted size counted k below =
     cancelled _ _ (cond (k == place granted) 1 0) (
     sym (lowered counts (place granted) k (omega (arith, is_granted.0, is_granted.1, size)) (some_waited plan outboxes counts slot granted pdu is_plan is within first one is_granted counted))
     ∙ counted k below
     ∙ grants_sent plan outboxes slot (slot_at k) pdu is_plan is within first
-    ∙ ap (λ (t : Option Slot). grants_of plan (sent outboxes slot) (slot_at k) + cond (is_this t (slot_at k)) 1 0) one
-    ∙ ap (λ b. grants_of plan (sent outboxes slot) (slot_at k) + cond b 1 0) (this_at granted k is_granted.1)
+    ∙ ap (λ (t : Option Slot). grants_of plan (outboxes_after_send outboxes slot) (slot_at k) + cond (is_this t (slot_at k)) 1 0) one
+    ∙ ap (λ b. grants_of plan (outboxes_after_send outboxes slot) (slot_at k) + cond b 1 0) (this_at granted k is_granted.1)
     )
   where
     cancelled : (m n d : ℕ) → m + d ≡ n + d → m ≡ n
@@ -339,13 +339,13 @@ zeros zero k = refl
 zeros (suc n) zero = refl
 zeros (suc n) (suc k) = zeros n k
 
-pub emptied_control : (plan : Settings) (outboxes : List (List Pdu)) (c : ℕ) → c ≡ plan.control → 2 * c + 1 < length outboxes → AreCounted plan (emptied outboxes c) (replicate 32 0)
+pub emptied_control : (plan : Settings) (outboxes : List (List Pdu)) (c : ℕ) → c ≡ plan.control → 2 * c + 1 < length outboxes → AreCounted plan (outboxes_without_carrier outboxes c) (replicate 32 0)
 emptied_control plan outboxes c is within k below = zeros 32 k ∙ sym (ap (λ (xs : List Pdu). grants_in plan xs (slot_at k)) gone ∙ none (row_with plan.carriers ((slot_at k).carrier)))
   where
     first : 2 * c ≡ place (control_slot plan)
     first = omega (arith, is)
 
-    gone : box (emptied outboxes c) (control_slot plan) ≡ []
+    gone : box (outboxes_without_carrier outboxes c) (control_slot plan) ≡ []
     gone =
         get_or-set_other (slice_set outboxes (2 * c) []) (2 * c + 1) (place (control_slot plan)) [] [] (λ same. absurd (omega (arith, same)))
         ∙ subst (λ n. slice_index_or (slice_set outboxes (2 * c) []) n [] ≡ []) first (get_or-set_same outboxes (2 * c) [] [] (omega arith))
@@ -354,10 +354,10 @@ emptied_control plan outboxes c is within k below = zeros 32 k ∙ sym (ap (λ (
     none None = refl
     none (Some row) = refl
 
-pub emptied_other : (plan : Settings) (outboxes : List (List Pdu)) (counts : List ℕ) (c : ℕ) → c ≢ plan.control → AreCounted plan outboxes counts → AreCounted plan (emptied outboxes c) counts
+pub emptied_other : (plan : Settings) (outboxes : List (List Pdu)) (counts : List ℕ) (c : ℕ) → c ≢ plan.control → AreCounted plan outboxes counts → AreCounted plan (outboxes_without_carrier outboxes c) counts
 emptied_other plan outboxes counts c apart counted k below = counted k below ∙ sym (ap (λ (xs : List Pdu). grants_in plan xs (slot_at k)) stays)
   where
-    stays : box (emptied outboxes c) (control_slot plan) ≡ box outboxes (control_slot plan)
+    stays : box (outboxes_without_carrier outboxes c) (control_slot plan) ≡ box outboxes (control_slot plan)
     stays =
         get_or-set_other (slice_set outboxes (2 * c) []) (2 * c + 1) (place (control_slot plan)) [] [] (λ same. absurd (omega (arith, same)))
         ∙ get_or-set_other outboxes (2 * c) (place (control_slot plan)) [] [] (λ same. apart (omega (arith, same)))
@@ -382,7 +382,7 @@ module _ (plan : Settings) (outboxes : List (List Pdu)) (counts : List ℕ) (slo
       let within : i < length outboxes = omega (arith, within_outboxes outboxes slot is kept, at) in
       read_there outboxes i now [] within there ∙ ap (λ n. slice_index_or outboxes n []) at
 
-  after_push : (new : List Pdu) → new ≡ now ++ pdu ∷ [] → slice_set outboxes i new ≡ queued outboxes slot pdu
+  after_push : (new : List Pdu) → new ≡ now ++ pdu ∷ [] → slice_set outboxes i new ≡ outboxes_with_pdu outboxes slot pdu
   after_push new e = λ k. slice_set outboxes (at k) ((e ∙ ap (λ (xs : List Pdu). xs ++ pdu ∷ []) box_is) k)
 
   pub pushed_kept : (new : List Pdu) → new ≡ now ++ pdu ∷ [] → length (box outboxes slot) < 64 → AreOutboxes (slice_set outboxes i new)
@@ -398,7 +398,7 @@ module _ (plan : Settings) (outboxes : List (List Pdu)) (counts : List ℕ) (slo
       (subst (λ (bs : List (List Pdu)). AreCounted plan bs (slice_set counts (place granted) (slice_index_or counts (place granted) 0 + 1))) (sym (after_push new e))
       (queued_counted plan outboxes counts slot granted pdu is_plan is (within_outboxes outboxes slot is kept) one is_granted size counted))
 
-  after_take : (new : List Pdu) → new ≡ drop 1 now → slice_set outboxes i new ≡ sent outboxes slot
+  after_take : (new : List Pdu) → new ≡ drop 1 now → slice_set outboxes i new ≡ outboxes_after_send outboxes slot
   after_take new e = λ k. slice_set outboxes (at k) ((e ∙ ap (drop 1) box_is) k)
 
   pub taken_kept : (new : List Pdu) → new ≡ drop 1 now → AreOutboxes (slice_set outboxes i new)
@@ -420,7 +420,7 @@ empty_few xs e = omega (arith, ap length e)
 
 -- the outboxes of a carrier's slots are emptied
 module _ (plan : Settings) (outboxes : List (List Pdu)) (counts : List ℕ) (i c : ℕ) (first second : List Pdu) (at : i ≡ c) (none : first ≡ []) (no_more : second ≡ []) (within : c < 16) (kept : AreOutboxes outboxes) where
-  emptied_as : slice_set (slice_set outboxes (2 * i) first) (2 * i + 1) second ≡ emptied outboxes c
+  emptied_as : slice_set (slice_set outboxes (2 * i) first) (2 * i + 1) second ≡ outboxes_without_carrier outboxes c
   emptied_as = λ k. slice_set (slice_set outboxes (2 * at k) (none k)) (2 * at k + 1) (no_more k)
 
   pub cleared_kept : AreOutboxes (slice_set (slice_set outboxes (2 * i) first) (2 * i + 1) second)
@@ -433,7 +433,7 @@ module _ (plan : Settings) (outboxes : List (List Pdu)) (counts : List ℕ) (i c
   cleared_other apart counted = subst (λ (bs : List (List Pdu)). AreCounted plan bs counts) (sym emptied_as) (emptied_other plan outboxes counts c apart counted)
 
 -- nothing is taken where nothing waits
-pub sent_nothing : (outboxes : List (List Pdu)) (slot : Slot) → slice_get (box outboxes slot) 0 ≡ None → sent outboxes slot ≡ outboxes
+pub sent_nothing : (outboxes : List (List Pdu)) (slot : Slot) → slice_get (box outboxes slot) 0 ≡ None → outboxes_after_send outboxes slot ≡ outboxes
 sent_nothing outboxes slot none = ap (λ (xs : List Pdu). slice_set outboxes (place slot) xs) (dropped (box outboxes slot) none) ∙ set-get_or outboxes (place slot) []
   where
     dropped : (xs : List Pdu) → slice_get xs 0 ≡ None → drop 1 xs ≡ xs

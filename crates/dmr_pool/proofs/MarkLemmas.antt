@@ -9,7 +9,7 @@ use Rattle.dmr_pdu.specs.declared.pdu.Pdu.{Pdu}
 use Rattle.dmr_plan.specs.declared.settings.Settings.{Settings}
 use Rattle.dmr_plan.specs.Carriers.{has_number_in}
 use Rattle.dmr_plan.specs.IsPlan.{IsPlan}
-use Rattle.dmr_pool.specs.Slots.{Slots, IsSlot, place, slot_at, box, is_up, is_held, queued, sent}
+use Rattle.dmr_pool.specs.Slots.{Slots, IsSlot, place, slot_at, box, is_up, is_slot_held, outboxes_with_pdu, outboxes_after_send}
 use Rattle.dmr_pool.specs.Free.{is_control, is_empty, is_free, is_free_by, is_granted, HasNoFreeSlot, IsLowestFree}
 use Rattle.dmr_pool.specs.Marks.{AreMarked, HasNoBit, IsLowestBit, IsPut, has_bit}
 use Rattle.dmr_pool.specs.Grants.{AreOutboxes, grants_of, slot_counted}
@@ -87,10 +87,10 @@ free_as_before plan up old new holds holding slot held boxes granted =
     λ i. has_number_in plan.carriers slot.carrier && is_up up slot.carrier && not (is_control plan slot) && not (held i) && is_empty (boxes i) && not (granted i)
 
 -- a held slot among others
-pub held_there : (held : List Bool) (slot : Slot) (b : Bool) → IsSlot slot → length held ≡ 32 → is_held (slice_set held (place slot) b) slot ≡ b
+pub held_there : (held : List Bool) (slot : Slot) (b : Bool) → IsSlot slot → length held ≡ 32 → is_slot_held (slice_set held (place slot) b) slot ≡ b
 held_there held slot b is size = get_or-set_same held (place slot) b false (omega (arith, is.0, is.1))
 
-pub held_beside : (held : List Bool) (slot : Slot) (b : Bool) (k : ℕ) → k ≢ place slot → is_held held (slot_at k) ≡ is_held (slice_set held (place slot) b) (slot_at k)
+pub held_beside : (held : List Bool) (slot : Slot) (b : Bool) (k : ℕ) → k ≢ place slot → is_slot_held held (slot_at k) ≡ is_slot_held (slice_set held (place slot) b) (slot_at k)
 held_beside held slot b k apart = sym (get_or-set_other held (place slot) (place (slot_at k)) b false (λ e. apart (omega (arith, e))))
 
 -- nothing is up at first
@@ -100,7 +100,7 @@ down (suc n) zero = refl
 down (suc n) (suc c) = down n c
 
 pub none_free : (bits : ℕ) (plan : Settings) (held : List Bool) (outboxes : List (List Pdu)) → HasNoBit bits → AreMarked bits (record { plan = plan; up = replicate 16 false; held = held; outboxes = outboxes })
-none_free bits plan held outboxes none k below = none k below ∙ sym (down_not_free plan (replicate 16 false) outboxes (is_held held) (slot_at k) (down 16 ((slot_at k).carrier)))
+none_free bits plan held outboxes none k below = none k below ∙ sym (down_not_free plan (replicate 16 false) outboxes (is_slot_held held) (slot_at k) (down 16 ((slot_at k).carrier)))
 
 -- one place more is as it must be
 pub one_more : (before after : ℕ) (slots : Slots) (slot : Slot) (b : Bool) (n : ℕ) → slot ≡ slot_at n → n < 32 → IsPut before after (place slot) b → b ≡ is_free slots slot
@@ -122,12 +122,12 @@ pub reheld : (before after : ℕ) (plan : Settings) (up held : List Bool) (outbo
     → AreMarked after (record { plan = plan; up = up; held = slice_set held i holds; outboxes = outboxes })
 reheld before after plan up held outboxes slot i holds b at is marked put told =
     one_put before after (record { plan = plan; up = up; held = held; outboxes = outboxes }) (record { plan = plan; up = up; held = slice_set held i holds; outboxes = outboxes }) slot b is marked put told
-    (λ k below apart. free_as_before plan up outboxes outboxes (is_held held) (is_held (slice_set held i holds)) (slot_at k)
-    (subst (λ n. is_held held (slot_at k) ≡ is_held (slice_set held n holds) (slot_at k)) (sym at) (held_beside held slot holds k apart)) refl refl)
+    (λ k below apart. free_as_before plan up outboxes outboxes (is_slot_held held) (is_slot_held (slice_set held i holds)) (slot_at k)
+    (subst (λ n. is_slot_held held (slot_at k) ≡ is_slot_held (slice_set held n holds) (slot_at k)) (sym at) (held_beside held slot holds k apart)) refl refl)
 
 pub now_held : (plan : Settings) (up held : List Bool) (outboxes : List (List Pdu)) (slot : Slot) (i : ℕ) → i ≡ place slot → IsSlot slot → length held ≡ 32 → false ≡ is_free (record { plan = plan; up = up; held = slice_set held i true; outboxes = outboxes }) slot
 now_held plan up held outboxes slot i at is size =
-    sym (held_not_free plan up outboxes (is_held (slice_set held i true)) slot (subst (λ n. is_held (slice_set held n true) slot ≡ true) (sym at) (held_there held slot true is size)))
+    sym (held_not_free plan up outboxes (is_slot_held (slice_set held i true)) slot (subst (λ n. is_slot_held (slice_set held n true) slot ≡ true) (sym at) (held_there held slot true is size)))
 
 -- a grant waits as one did, where as many do
 granted_same : (plan : Settings) (old new : List (List Pdu)) (slot : Slot) → grants_of plan old slot ≡ grants_of plan new slot → is_granted plan old slot ≡ is_granted plan new slot
@@ -148,15 +148,15 @@ module _ (plan : Settings) (up held : List Bool) (old : List (List Pdu)) (slot :
   elsewhere : (k : ℕ) (xs : List Pdu) → k ≢ place slot → box old (slot_at k) ≡ box (slice_set old (place slot) xs) (slot_at k)
   elsewhere k xs apart = sym (get_or-set_other old (place slot) (place (slot_at k)) xs [] (λ e. apart (sym (place-slot_at k) ∙ e)))
 
-  queued_same : (k : ℕ) → k ≢ place slot → is_this (slot_counted plan slot pdu) (slot_at k) ≡ false → is_free (stands old) (slot_at k) ≡ is_free (stands (queued old slot pdu)) (slot_at k)
+  queued_same : (k : ℕ) → k ≢ place slot → is_this (slot_counted plan slot pdu) (slot_at k) ≡ false → is_free (stands old) (slot_at k) ≡ is_free (stands (outboxes_with_pdu old slot pdu)) (slot_at k)
   queued_same k apart none =
-      free_as_before plan up old (queued old slot pdu) (is_held held) (is_held held) (slot_at k) refl (elsewhere k _ apart)
-      (granted_same plan old (queued old slot pdu) (slot_at k) (sym (grants_queued plan old slot (slot_at k) pdu is_plan is within ∙ ap (λ b. grants_of plan old (slot_at k) + cond b 1 0) none ∙ omega arith)))
+      free_as_before plan up old (outboxes_with_pdu old slot pdu) (is_slot_held held) (is_slot_held held) (slot_at k) refl (elsewhere k _ apart)
+      (granted_same plan old (outboxes_with_pdu old slot pdu) (slot_at k) (sym (grants_queued plan old slot (slot_at k) pdu is_plan is within ∙ ap (λ b. grants_of plan old (slot_at k) + cond b 1 0) none ∙ omega arith)))
 
-  sent_same : (k : ℕ) → k ≢ place slot → slice_get (box old slot) 0 ≡ Some pdu → is_this (slot_counted plan slot pdu) (slot_at k) ≡ false → is_free (stands old) (slot_at k) ≡ is_free (stands (sent old slot)) (slot_at k)
+  sent_same : (k : ℕ) → k ≢ place slot → slice_get (box old slot) 0 ≡ Some pdu → is_this (slot_counted plan slot pdu) (slot_at k) ≡ false → is_free (stands old) (slot_at k) ≡ is_free (stands (outboxes_after_send old slot)) (slot_at k)
   sent_same k apart first none =
-      free_as_before plan up old (sent old slot) (is_held held) (is_held held) (slot_at k) refl (elsewhere k _ apart)
-      (granted_same plan old (sent old slot) (slot_at k) (grants_sent plan old slot (slot_at k) pdu is_plan is within first ∙ ap (λ b. grants_of plan (sent old slot) (slot_at k) + cond b 1 0) none ∙ omega arith))
+      free_as_before plan up old (outboxes_after_send old slot) (is_slot_held held) (is_slot_held held) (slot_at k) refl (elsewhere k _ apart)
+      (granted_same plan old (outboxes_after_send old slot) (slot_at k) (grants_sent plan old slot (slot_at k) pdu is_plan is within first ∙ ap (λ b. grants_of plan (outboxes_after_send old slot) (slot_at k) + cond b 1 0) none ∙ omega arith))
 
   other_this : (granted : Slot) (k : ℕ) → slot_counted plan slot pdu ≡ Some granted → IsSlot granted → k ≢ place granted → is_this (slot_counted plan slot pdu) (slot_at k) ≡ false
   other_this granted k one is_granted apart = ap (λ (t : Option Slot). is_this t (slot_at k)) one ∙ this_at granted k is_granted.1 ∙ ne_eqb k (place granted) apart
@@ -164,34 +164,34 @@ module _ (plan : Settings) (up held : List Bool) (old : List (List Pdu)) (slot :
   no_this : (k : ℕ) → slot_counted plan slot pdu ≡ None → is_this (slot_counted plan slot pdu) (slot_at k) ≡ false
   no_this k none = ap (λ (t : Option Slot). is_this t (slot_at k)) none
 
-  waits_now : false ≡ is_free (stands (queued old slot pdu)) slot
-  waits_now = sym (waiting_not_free plan up (queued old slot pdu) (is_held held) slot (ap is_empty (get_or-set_same old (place slot) (box old slot ++ pdu ∷ []) [] within) ∙ more_wait (box old slot) pdu))
+  waits_now : false ≡ is_free (stands (outboxes_with_pdu old slot pdu)) slot
+  waits_now = sym (waiting_not_free plan up (outboxes_with_pdu old slot pdu) (is_slot_held held) slot (ap is_empty (get_or-set_same old (place slot) (box old slot ++ pdu ∷ []) [] within) ∙ more_wait (box old slot) pdu))
 
-  granted_now : (granted : Slot) → slot_counted plan slot pdu ≡ Some granted → false ≡ is_free (stands (queued old slot pdu)) granted
+  granted_now : (granted : Slot) → slot_counted plan slot pdu ≡ Some granted → false ≡ is_free (stands (outboxes_with_pdu old slot pdu)) granted
   granted_now granted one =
-      let more : grants_of plan (queued old slot pdu) granted ≡ grants_of plan old granted + 1 =
+      let more : grants_of plan (outboxes_with_pdu old slot pdu) granted ≡ grants_of plan old granted + 1 =
       grants_queued plan old slot granted pdu is_plan is within ∙ ap (λ (t : Option Slot). grants_of plan old granted + cond (is_this t granted) 1 0) one ∙ ap (λ b. grants_of plan old granted + cond b 1 0) (this_itself granted) in
-      sym (granted_not_free plan up (queued old slot pdu) (is_held held) granted (granted_count plan (queued old slot pdu) granted ∙ ap (nat_lt 0) more ∙ positive (grants_of plan old granted)))
+      sym (granted_not_free plan up (outboxes_with_pdu old slot pdu) (is_slot_held held) granted (granted_count plan (outboxes_with_pdu old slot pdu) granted ∙ ap (nat_lt 0) more ∙ positive (grants_of plan old granted)))
     where
       positive : (n : ℕ) → nat_lt 0 (n + 1) ≡ true
       positive n = grind (arith, nat_tests)
 
-  pub put_none : (before after : ℕ) → AreMarked before (stands old) → IsPut before after (place slot) false → slot_counted plan slot pdu ≡ None → AreMarked after (stands (queued old slot pdu))
+  pub put_none : (before after : ℕ) → AreMarked before (stands old) → IsPut before after (place slot) false → slot_counted plan slot pdu ≡ None → AreMarked after (stands (outboxes_with_pdu old slot pdu))
   put_none before after marked put none =
-      one_put before after (stands old) (stands (queued old slot pdu)) slot false is marked put waits_now (λ k below apart. queued_same k apart (no_this k none))
+      one_put before after (stands old) (stands (outboxes_with_pdu old slot pdu)) slot false is marked put waits_now (λ k below apart. queued_same k apart (no_this k none))
 
   pub put_one : (before between after : ℕ) (granted : Slot) → IsSlot granted → AreMarked before (stands old) → IsPut before between (place slot) false → IsPut between after (place granted) false → slot_counted plan slot pdu ≡ Some granted
-      → AreMarked after (stands (queued old slot pdu))
+      → AreMarked after (stands (outboxes_with_pdu old slot pdu))
   put_one before between after granted is_granted marked first second one =
-      two_puts before between after (stands old) (stands (queued old slot pdu)) slot granted false false is is_granted marked first second waits_now (granted_now granted one)
+      two_puts before between after (stands old) (stands (outboxes_with_pdu old slot pdu)) slot granted false false is is_granted marked first second waits_now (granted_now granted one)
       (λ k below apart there. queued_same k apart (other_this granted k one is_granted there))
 
-  pub took_none : (before after : ℕ) (b : Bool) → slice_get (box old slot) 0 ≡ Some pdu → AreMarked before (stands old) → IsPut before after (place slot) b → b ≡ is_free (stands (sent old slot)) slot → slot_counted plan slot pdu ≡ None
-      → AreMarked after (stands (sent old slot))
+  pub took_none : (before after : ℕ) (b : Bool) → slice_get (box old slot) 0 ≡ Some pdu → AreMarked before (stands old) → IsPut before after (place slot) b → b ≡ is_free (stands (outboxes_after_send old slot)) slot → slot_counted plan slot pdu ≡ None
+      → AreMarked after (stands (outboxes_after_send old slot))
   took_none before after b first marked put told none =
-      one_put before after (stands old) (stands (sent old slot)) slot b is marked put told (λ k below apart. sent_same k apart first (no_this k none))
+      one_put before after (stands old) (stands (outboxes_after_send old slot)) slot b is marked put told (λ k below apart. sent_same k apart first (no_this k none))
 
   pub took_one : (before between after : ℕ) (granted : Slot) (u v : Bool) → slice_get (box old slot) 0 ≡ Some pdu → IsSlot granted → AreMarked before (stands old) → IsPut before between (place slot) u → IsPut between after (place granted) v
-      → u ≡ is_free (stands (sent old slot)) slot → v ≡ is_free (stands (sent old slot)) granted → slot_counted plan slot pdu ≡ Some granted → AreMarked after (stands (sent old slot))
+      → u ≡ is_free (stands (outboxes_after_send old slot)) slot → v ≡ is_free (stands (outboxes_after_send old slot)) granted → slot_counted plan slot pdu ≡ Some granted → AreMarked after (stands (outboxes_after_send old slot))
   took_one before between after granted u v head is_granted marked first second told there_told one =
-      two_puts before between after (stands old) (stands (sent old slot)) slot granted u v is is_granted marked first second told there_told (λ k below apart there. sent_same k apart head (other_this granted k one is_granted there))
+      two_puts before between after (stands old) (stands (outboxes_after_send old slot)) slot granted u v is is_granted marked first second told there_told (λ k below apart there. sent_same k apart head (other_this granted k one is_granted there))

@@ -8,7 +8,7 @@ use Rattle.dmr_pdu.specs.declared.pdu.Pdu.TheVariants.{PvGrant, TvGrant}
 use Rattle.dmr_plan.specs.declared.settings.Settings.{Settings}
 use Rattle.dmr_plan.specs.declared.carriers.CarrierRow.{CarrierRow}
 use Rattle.dmr_plan.specs.Carriers.{has_number_in, row_with}
-use Rattle.dmr_pool.specs.Slots.{Slots, IsSlot, place, slot_at, is_up, is_held, box}
+use Rattle.dmr_pool.specs.Slots.{Slots, IsSlot, place, slot_at, is_up, is_slot_held, box}
 
 -- slot 0 of the control carrier
 abbrev pub control_slot : Settings → Slot
@@ -42,7 +42,7 @@ is_free_by plan up outboxes holds slot =
 
 -- the same of the slots that are held
 abbrev pub is_free : Slots → Slot → Bool
-is_free slots slot = is_free_by slots.plan slots.up slots.outboxes (is_held slots.held) slot
+is_free slots slot = is_free_by slots.plan slots.up slots.outboxes (is_slot_held slots.held) slot
 
 -- by carrier, then by slot
 abbrev pub all_slots : List Slot
@@ -54,7 +54,7 @@ lowest_free_by plan up outboxes holds = find (is_free_by plan up outboxes holds)
 
 -- the same of the slots that are held
 abbrev pub lowest_free : Slots → Option Slot
-lowest_free slots = lowest_free_by slots.plan slots.up slots.outboxes (is_held slots.held)
+lowest_free slots = lowest_free_by slots.plan slots.up slots.outboxes (is_slot_held slots.held)
 
 -- no slot of the site is free
 abbrev pub HasNoFreeSlot : Slots → Type 0

@@ -13,7 +13,7 @@ use Rattle.dmr_pool.specs.Slots.{box, slot_at}
 use Rattle.dmr_pool.specs.Free.{control_slot, is_control, names}
 
 -- the plan, and what waits for each slot, at its place, the oldest first
-pub record Waiting : Type 0 where
+pub record WaitingPdus : Type 0 where
   pub plan : Settings
   pub outboxes : List (List Pdu)
 

@@ -17,28 +17,28 @@ abbrev pub is_up : List Bool → ℕ → Bool
 is_up up carrier = slice_index_or up carrier false
 
 -- a call holds a slot
-abbrev pub is_held : List Bool → Slot → Bool
-is_held held slot = slice_index_or held (place slot) false
+abbrev pub is_slot_held : List Bool → Slot → Bool
+is_slot_held held slot = slice_index_or held (place slot) false
 
 -- what waits for a slot
 abbrev pub box : List (List Pdu) → Slot → List Pdu
 box boxes slot = slice_index_or boxes (place slot) []
 
 -- the held slots after those of a carrier are released
-abbrev pub released : List Bool → ℕ → List Bool
-released held carrier = slice_set (slice_set held (2 * carrier) false) (2 * carrier + 1) false
+abbrev pub held_without_carrier : List Bool → ℕ → List Bool
+held_without_carrier held carrier = slice_set (slice_set held (2 * carrier) false) (2 * carrier + 1) false
 
 -- the outboxes after those of a carrier's slots are emptied
-abbrev pub emptied : List (List Pdu) → ℕ → List (List Pdu)
-emptied boxes carrier = slice_set (slice_set boxes (2 * carrier) []) (2 * carrier + 1) []
+abbrev pub outboxes_without_carrier : List (List Pdu) → ℕ → List (List Pdu)
+outboxes_without_carrier boxes carrier = slice_set (slice_set boxes (2 * carrier) []) (2 * carrier + 1) []
 
 -- the outboxes after a PDU is put behind those that wait for a slot
-abbrev pub queued : List (List Pdu) → Slot → Pdu → List (List Pdu)
-queued boxes slot pdu = slice_set boxes (place slot) (box boxes slot ++ pdu ∷ [])
+abbrev pub outboxes_with_pdu : List (List Pdu) → Slot → Pdu → List (List Pdu)
+outboxes_with_pdu boxes slot pdu = slice_set boxes (place slot) (box boxes slot ++ pdu ∷ [])
 
 -- the outboxes after the PDU that has waited longest for a slot is taken out
-abbrev pub sent : List (List Pdu) → Slot → List (List Pdu)
-sent boxes slot = slice_set boxes (place slot) (drop 1 (box boxes slot))
+abbrev pub outboxes_after_send : List (List Pdu) → Slot → List (List Pdu)
+outboxes_after_send boxes slot = slice_set boxes (place slot) (drop 1 (box boxes slot))
 
 -- nothing is up, held or waiting
 abbrev pub nothing_on : Settings → Slots

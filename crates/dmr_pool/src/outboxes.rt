@@ -4,7 +4,7 @@ ghost use Rattle.std.specs.Prelude.{◌≡◌, ◌<◌, [], ◌≤◌, length, r
 ghost use Rattle.std.specs.Cmp.Lexicographic.{pointwise};
 ghost use Rattle.dmr_plan.specs.IsPlan.{IsPlan};
 ghost use Rattle.dmr_pool.specs.declared.outbox.TheConstants.{MOST_PDUS_OF_A_SLOT};
-ghost use Rattle.dmr_pool.specs.Slots.{box, emptied, queued, sent};
+ghost use Rattle.dmr_pool.specs.Slots.{box, outboxes_without_carrier, outboxes_with_pdu, outboxes_after_send};
 ghost use Rattle.dmr_pool.specs.Free.{control_slot, is_control, is_granted};
 ghost use Rattle.dmr_pool.specs.Grants.{AreOutboxes, slot_counted, slot_granted, slot_tuned};
 ghost use Rattle.dmr_pool.specs.Same.{are_same_pdus};
@@ -28,9 +28,9 @@ pub struct Outboxes {
 }
 
 impl Model for Outboxes {
-    ghost use Rattle.dmr_pool.specs.Grants.{AreCounted, AreOutboxes, Waiting};
+    ghost use Rattle.dmr_pool.specs.Grants.{AreCounted, AreOutboxes, WaitingPdus};
 
-    ghost Value = { Waiting };
+    ghost Value = { WaitingPdus };
 
     ghost view = { λ o. record { plan = o.plan; outboxes = o.outboxes.items } };
 
@@ -146,7 +146,7 @@ impl Outboxes {
     /// Puts a PDU behind those that wait for a slot. There must be a place for it.
     pub fn push(&mut self, slot: &Slot, pdu: &Pdu)
         requires { length (box self.old.outboxes slot.now) < MOST_PDUS_OF_A_SLOT }
-        ensures { self.new ≡ record { plan = self.old.plan; outboxes = queued self.old.outboxes slot.now pdu.now } }
+        ensures { self.new ≡ record { plan = self.old.plan; outboxes = outboxes_with_pdu self.old.outboxes slot.now pdu.now } }
     {
         let granted = self.slot_counted(slot, pdu);
         self.plan.keeps();
@@ -159,7 +159,7 @@ impl Outboxes {
     /// Takes out the PDU that has waited longest for a slot.
     pub fn take(&mut self, slot: &Slot, pdu: &Pdu)
         requires { slice_get (box self.old.outboxes slot.now) 0 ≡ Some pdu.now }
-        ensures { self.new ≡ record { plan = self.old.plan; outboxes = sent self.old.outboxes slot.now } }
+        ensures { self.new ≡ record { plan = self.old.plan; outboxes = outboxes_after_send self.old.outboxes slot.now } }
     {
         let granted = self.slot_counted(slot, pdu);
         self.plan.keeps();
@@ -171,7 +171,7 @@ impl Outboxes {
 
     /// Takes out all PDUs that wait for the slots of a carrier.
     pub fn clear(&mut self, carrier: CarrierNo)
-        ensures { self.new ≡ record { plan = self.old.plan; outboxes = emptied self.old.outboxes carrier } }
+        ensures { self.new ≡ record { plan = self.old.plan; outboxes = outboxes_without_carrier self.old.outboxes carrier } }
     {
         let first = 2 * carrier.get() as usize;
         self.outboxes[first].clear();

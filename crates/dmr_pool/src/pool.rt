@@ -3,10 +3,10 @@
 ghost use Rattle.std.specs.Prelude.{◌≡◌, ◌<◌, ◌≤◌, ◌↔◌, length, filter, slice_get, slice_set, true, false, IsTrue, IsErr, IfOk, OnOk, OnErr, MatchOption};
 ghost use Rattle.dmr_plan.specs.Carriers.{has_number_in};
 ghost use Rattle.dmr_pool.specs.declared.outbox.TheConstants.{MOST_PDUS_OF_A_SLOT};
-ghost use Rattle.dmr_pool.specs.Slots.{box, is_up, emptied, released, queued, sent, place, nothing_on};
+ghost use Rattle.dmr_pool.specs.Slots.{box, is_up, outboxes_without_carrier, held_without_carrier, outboxes_with_pdu, outboxes_after_send, place, nothing_on};
 ghost use Rattle.dmr_pool.specs.Free.{control_slot, is_control, is_free, lowest_free, HasNoFreeSlot, IsLowestFree};
 ghost use Rattle.dmr_pool.specs.Marks.{AreMarked};
-ghost use Rattle.dmr_pool.specs.Kept.{AreKept};
+ghost use Rattle.dmr_pool.specs.Kept.{AreSlotsOfSite};
 ghost use Rattle.dmr_pool.specs.Same.{are_alike, are_same};
 
 use crate::marks::Marks;
@@ -133,8 +133,8 @@ impl Pool {
         requires { IsTrue (has_number_in self.old.plan.carriers carrier) }
         ensures { self.new ≡ record self.old {
           up = slice_set self.old.up carrier true;
-          held = released self.old.held carrier;
-          outboxes = emptied self.old.outboxes carrier;
+          held = held_without_carrier self.old.held carrier;
+          outboxes = outboxes_without_carrier self.old.outboxes carrier;
         } }
     {
         self.turn(carrier, true);
@@ -144,8 +144,8 @@ impl Pool {
     pub fn lost(&mut self, carrier: CarrierNo)
         ensures { self.new ≡ record self.old {
           up = slice_set self.old.up carrier false;
-          held = released self.old.held carrier;
-          outboxes = emptied self.old.outboxes carrier;
+          held = held_without_carrier self.old.held carrier;
+          outboxes = outboxes_without_carrier self.old.outboxes carrier;
         } }
     {
         self.turn(carrier, false);
@@ -154,8 +154,8 @@ impl Pool {
     /// Releases the slots of a carrier, and takes out all that waits for them. It stays up, or not, as it was.
     pub fn empty(&mut self, carrier: CarrierNo)
         ensures { self.new ≡ record self.old {
-          held = released self.old.held carrier;
-          outboxes = emptied self.old.outboxes carrier;
+          held = held_without_carrier self.old.held carrier;
+          outboxes = outboxes_without_carrier self.old.outboxes carrier;
         } }
     {
         let is_up = self.is_up(carrier);
@@ -166,8 +166,8 @@ impl Pool {
     fn turn(&mut self, carrier: CarrierNo, is_up: bool)
         ensures { self.new ≡ record self.old {
           up = slice_set self.old.up carrier is_up;
-          held = released self.old.held carrier;
-          outboxes = emptied self.old.outboxes carrier;
+          held = held_without_carrier self.old.held carrier;
+          outboxes = outboxes_without_carrier self.old.outboxes carrier;
         } }
     {
         let first = 2 * carrier.get() as usize;
@@ -232,7 +232,7 @@ impl Pool {
     pub fn push(&mut self, slot: Slot, pdu: Pdu) -> Result<(), Full>
         requires { IsTrue (is_up self.old.up slot.carrier) }
         ensures full { IsErr result ↔ (length (box self.old.outboxes slot) ≡ MOST_PDUS_OF_A_SLOT) }
-        ensures ok { OnOk result (self.new ≡ record self.old { outboxes = queued self.old.outboxes slot pdu }) }
+        ensures ok { OnOk result (self.new ≡ record self.old { outboxes = outboxes_with_pdu self.old.outboxes slot pdu }) }
         ensures err { OnErr result (self.new ≡ self.old) }
     {
         if self.waiting(slot) >= MOST_PDUS_OF_A_SLOT {
@@ -245,7 +245,7 @@ impl Pool {
     /// Puts a PDU behind those that wait for a slot. There must be a place for it.
     pub fn put(&mut self, slot: &Slot, pdu: &Pdu)
         requires { length (box self.old.outboxes slot.now) < MOST_PDUS_OF_A_SLOT }
-        ensures { self.new ≡ record self.old { outboxes = queued self.old.outboxes slot.now pdu.now } }
+        ensures { self.new ≡ record self.old { outboxes = outboxes_with_pdu self.old.outboxes slot.now pdu.now } }
     {
         self.outboxes.keeps();
         self.outboxes.push(slot, pdu);
@@ -258,7 +258,7 @@ impl Pool {
     /// Takes out the PDU that has waited longest for a slot, if one waits.
     pub fn take(&mut self, slot: Slot) -> Option<Pdu>
         ensures first { result ≡ slice_get (box self.old.outboxes slot) 0 }
-        ensures rest { self.new ≡ record self.old { outboxes = sent self.old.outboxes slot } }
+        ensures rest { self.new ≡ record self.old { outboxes = outboxes_after_send self.old.outboxes slot } }
     {
         let pdu = self.first(slot)?;
         self.take_first(&slot, &pdu);
@@ -268,7 +268,7 @@ impl Pool {
     /// Takes out the PDU that has waited longest for a slot, which must be this one.
     pub fn take_first(&mut self, slot: &Slot, pdu: &Pdu)
         requires { slice_get (box self.old.outboxes slot.now) 0 ≡ Some pdu.now }
-        ensures { self.new ≡ record self.old { outboxes = sent self.old.outboxes slot.now } }
+        ensures { self.new ≡ record self.old { outboxes = outboxes_after_send self.old.outboxes slot.now } }
     {
         self.outboxes.keeps();
         self.outboxes.take(slot, pdu);
@@ -314,7 +314,7 @@ impl Pool {
 
     /// Does nothing. A proof learns from it what the slots of every site keep.
     pub fn keeps(&self)
-        ensures { AreKept self.now }
+        ensures { AreSlotsOfSite self.now }
     {
         self.outboxes.keeps();
         are_sized(&self.up, &self.held);

@@ -5,26 +5,26 @@ use mathlib.Core.Bool.{false≢true}
 use Rattle.std.specs.List.{All, Contains}
 use Rattle.std.proofs.lemmas.List.Elements.{All-contains, Contains-get_or}
 use Rattle.dmr_table.specs.Entries.{IsLeastFrom}
-use Rattle.dmr_registry.specs.Radios.{is_held}
+use Rattle.dmr_registry.specs.Radios.{is_registered_in}
 use Rattle.dmr_registry.specs.Least.{held_from}
 use Rattle.dmr_registry.proofs.LeastLemmas.{held_from-contains, held_from-held}
 
 -- a radio that is registered is among the radios
-pub held_contains : (radios : List ℕ) (radio : ℕ) → is_held radios radio ≡ true → Contains radios radio
+pub held_contains : (radios : List ℕ) (radio : ℕ) → is_registered_in radios radio ≡ true → Contains radios radio
 held_contains [] radio held = absurd (false≢true held)
 held_contains (r ∷ radios) radio held = by_first (r == radio) refl (held_contains radios radio) held
   where
-    by_first : (b : Bool) → (r == radio) ≡ b → (is_held radios radio ≡ true → Contains radios radio) → (b || is_held radios radio) ≡ true → Contains (r ∷ radios) radio
+    by_first : (b : Bool) → (r == radio) ≡ b → (is_registered_in radios radio ≡ true → Contains radios radio) → (b || is_registered_in radios radio) ≡ true → Contains (r ∷ radios) radio
     by_first true same more held = (0, omega arith, eqb-true r radio same)
     by_first false other more held = let there = more held in (suc there.0, omega (arith, there.1), there.2)
 
 -- and the other way round
-pub contains_held : (radios : List ℕ) (radio : ℕ) → Contains radios radio → is_held radios radio ≡ true
+pub contains_held : (radios : List ℕ) (radio : ℕ) → Contains radios radio → is_registered_in radios radio ≡ true
 contains_held [] radio there = absurd (omega (arith, there.1))
-contains_held (r ∷ radios) radio (zero, within, same) = ap (λ b. b || is_held radios radio) (eq-eqb r radio same)
+contains_held (r ∷ radios) radio (zero, within, same) = ap (λ b. b || is_registered_in radios radio) (eq-eqb r radio same)
 contains_held (r ∷ radios) radio (suc k, within, same) = either (r == radio) (contains_held radios radio (k, omega (arith, within), same))
   where
-    either : (b : Bool) → is_held radios radio ≡ true → (b || is_held radios radio) ≡ true
+    either : (b : Bool) → is_registered_in radios radio ≡ true → (b || is_registered_in radios radio) ≡ true
     either true held = refl
     either false held = held
 

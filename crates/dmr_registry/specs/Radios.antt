@@ -9,8 +9,8 @@ abbrev pub AreDistinct : List ℕ → Type 0
 AreDistinct radios = AllPairs (λ a b. a ≢ b) radios
 
 -- whether a radio is registered
-abbrev pub is_held : List ℕ → ℕ → Bool
-is_held radios radio = list_any (λ r. r == radio) radios
+abbrev pub is_registered_in : List ℕ → ℕ → Bool
+is_registered_in radios radio = list_any (λ r. r == radio) radios
 
 -- whether no more may join
 abbrev pub is_full : List ℕ → Bool
@@ -18,11 +18,11 @@ is_full radios = nat_le MOST_RADIOS (length radios)
 
 -- what a radio that joins is told: whether it is new, or that there is no place
 abbrev pub answer_to_join : List ℕ → ℕ → Result Bool Full
-answer_to_join radios radio = if is_held radios radio then Ok false else if is_full radios then Err (record {}) else Ok true
+answer_to_join radios radio = if is_registered_in radios radio then Ok false else if is_full radios then Err (record {}) else Ok true
 
 -- the radios after one joined: it goes to the end, where it is new and there is a place
-abbrev pub joined : List ℕ → ℕ → List ℕ
-joined radios radio = if is_held radios radio then radios else if is_full radios then radios else radios ++ radio ∷ []
+abbrev pub radios_after_join : List ℕ → ℕ → List ℕ
+radios_after_join radios radio = if is_registered_in radios radio then radios else if is_full radios then radios else radios ++ radio ∷ []
 
 -- the radios after one left: the others, in their order
 abbrev pub without : List ℕ → ℕ → List ℕ

@@ -3,7 +3,7 @@
 ghost use Rattle.std.specs.Prelude.{◌≡◌, ℕ, ◌≤◌, ◌<◌, ◌↔◌, [], ◌∷◌, ◌++◌, length, false, IsTrue, IfOk, MatchOption, nat_eq};
 ghost use Rattle.std.specs.List.{All, Contains};
 ghost use Rattle.dmr_registry.specs.declared.registry.TheConstants.{MOST_RADIOS};
-ghost use Rattle.dmr_registry.specs.Radios.{AreDistinct, is_held, answer_to_join, joined, without};
+ghost use Rattle.dmr_registry.specs.Radios.{AreDistinct, is_registered_in, answer_to_join, radios_after_join, without};
 ghost use Rattle.dmr_registry.specs.Least.{held_from, least_from, AreLeast};
 
 use arrayvec::ArrayVec;
@@ -83,7 +83,7 @@ impl Registry {
 
     /// Whether a radio is registered.
     pub fn has(&self, radio: Address) -> bool
-        ensures gives { result ≡ is_held self.now radio }
+        ensures gives { result ≡ is_registered_in self.now radio }
         ensures member { IsTrue result ↔ Contains self.now radio }
     {
         self.radios.has(radio.get())
@@ -93,7 +93,7 @@ impl Registry {
     /// place: `Ok(false)`. `Err` says that it isn't, and that 4,096 others are. Only `Ok(true)` changes anything.
     pub fn join(&mut self, radio: Address) -> Result<bool, Full>
         ensures answer { result ≡ answer_to_join self.old radio }
-        ensures radios { self.new ≡ joined self.old radio }
+        ensures radios { self.new ≡ radios_after_join self.old radio }
     {
         if self.has(radio) {
             return Ok(false);
@@ -107,7 +107,7 @@ impl Registry {
 
     /// Registers a radio that isn't registered, behind those that are. There must be a place for it.
     pub fn add(&mut self, radio: Address)
-        requires fresh { is_held self.old radio ≡ false }
+        requires fresh { is_registered_in self.old radio ≡ false }
         requires room { length self.old < MOST_RADIOS }
         ensures { self.new ≡ self.old ++ radio ∷ [] }
     {
@@ -116,7 +116,7 @@ impl Registry {
 
     /// Takes a radio out, and answers whether it was registered. The others keep their order.
     pub fn leave(&mut self, radio: Address) -> bool
-        ensures answer { result ≡ is_held self.old radio }
+        ensures answer { result ≡ is_registered_in self.old radio }
         ensures radios { self.new ≡ without self.old radio }
     {
         let was_held = self.has(radio);

@@ -8,19 +8,19 @@ use Rattle.std.proofs.lemmas.List.Edits.{length-remove, get_or-remove_below, get
 use Rattle.std.proofs.lemmas.List.Quantifiers.{all_pairs_remove}
 use Rattle.std.proofs.lemmas.List.Elements.{All-map}
 use Rattle.dmr_table.specs.declared.places.Place.{Place}
-use Rattle.dmr_table.specs.Places.{rank_of, lowered, IsPlaceIn, ArePlaces}
+use Rattle.dmr_table.specs.Places.{rank_of, place_after_removal, IsPlaceIn, ArePlaces}
 use Rattle.dmr_table.proofs.PlacesLemmas.{one_place}
 
 -- a place before the removed one stays
-lowered_before : (n : ℕ) (p : Place) → p.index < n → (lowered n p).index ≡ p.index
+lowered_before : (n : ℕ) (p : Place) → p.index < n → (place_after_removal n p).index ≡ p.index
 lowered_before n p before = grind (arith, nat_tests)
 
 -- one behind it comes one to the front
-lowered_behind : (n : ℕ) (p : Place) → n < p.index → (lowered n p).index + 1 ≡ p.index
+lowered_behind : (n : ℕ) (p : Place) → n < p.index → (place_after_removal n p).index + 1 ≡ p.index
 lowered_behind n p behind = grind (arith, nat_tests)
 
 -- two places keep their order
-lowered_order : (n : ℕ) (p q : Place) → p.index ≢ n → q.index ≢ n → p.index < 65536 → q.index < 65536 → rank_of p < rank_of q → rank_of (lowered n p) < rank_of (lowered n q)
+lowered_order : (n : ℕ) (p q : Place) → p.index ≢ n → q.index ≢ n → p.index < 65536 → q.index < 65536 → rank_of p < rank_of q → rank_of (place_after_removal n p) < rank_of (place_after_removal n q)
 lowered_order n p q p_other q_other p_small q_small up = elim (cases_lt p.index n) [
   | inl p_before ↦ elim (cases_lt q.index n) [
     | inl q_before ↦ omega (arith, lowered_before n p p_before, lowered_before n q q_before, up)
@@ -68,18 +68,18 @@ module _ {X : Type 0} (f : X → ℕ) (xs : List X) (ps : List Place) (few : len
       rw (old.3 d) (λ same. old.2 (one_place f xs ps few are old.0 i d old.1 within (same ∙ sym (is d)) some), are.each old.0 d old.1)
 
   -- they are ascending still
-  ascending_still : AllPairs (λ p q. rank_of p < rank_of q) (map (lowered n) (remove ps i))
+  ascending_still : AllPairs (λ p q. rank_of p < rank_of q) (map (place_after_removal n) (remove ps i))
   ascending_still a b d before in_range =
-      let long = length_mapped (lowered n) (remove ps i) in
+      let long = length_mapped (place_after_removal n) (remove ps i) in
       let b_in : b < length (remove ps i) = omega (arith, in_range, long) in
       let a_in : a < length (remove ps i) = omega (arith, before, b_in) in
       let p = others a d a_in in
       let q = others b d b_in in
-      rw (read_mapped (lowered n) (remove ps i) a d d a_in, read_mapped (lowered n) (remove ps i) b d d b_in)
+      rw (read_mapped (place_after_removal n) (remove ps i) a d d a_in, read_mapped (place_after_removal n) (remove ps i) b d d b_in)
       (lowered_order n _ _ p.0 q.0 (omega (arith, p.1.within, few)) (omega (arith, q.1.within, few)) (all_pairs_remove (λ p q. rank_of p < rank_of q) ps i within are.ascending a b d before b_in))
 
   -- the place of an entry that stays, among those that are left
-  lowered_place : (p : Place) → IsOther p → IsPlaceIn f (remove xs n) (lowered n p)
+  lowered_place : (p : Place) → IsOther p → IsPlaceIn f (remove xs n) (place_after_removal n p)
   lowered_place p other =
       let there : n < length xs = removed_within p in
       let long = length-remove xs n there in
@@ -89,7 +89,7 @@ module _ {X : Type 0} (f : X → ℕ) (xs : List X) (ps : List Place) (few : len
             record { within = omega (arith, same, before, there, long); same = λ d. ap (λ m. f (get_or (remove xs n) m d)) same ∙ ap f (get_or-remove_below xs n d p.index before there) ∙ other.1.same d }
         | inr from ↦
             let moved = lowered_behind n p (omega (arith, from, other.0)) in
-            record { within = omega (arith, moved, other.1.within, long); same = λ d. ap f (get_or-remove_above xs n d (lowered n p).index (omega (arith, moved, from, other.0)) there) ∙ ap (λ m. f (get_or xs m d)) moved ∙ other.1.same d }
+            record { within = omega (arith, moved, other.1.within, long); same = λ d. ap f (get_or-remove_above xs n d (place_after_removal n p).index (omega (arith, moved, from, other.0)) there) ∙ ap (λ m. f (get_or xs m d)) moved ∙ other.1.same d }
       ]
 
   -- where the place of an entry stands that was at m before
@@ -115,38 +115,38 @@ module _ {X : Type 0} (f : X → ℕ) (xs : List X) (ps : List Place) (few : len
       ]
 
   -- what is left are the places of the entries that are left
-  pub places_without : ArePlaces f (remove xs n) (map (lowered n) (remove ps i))
+  pub places_without : ArePlaces f (remove xs n) (map (place_after_removal n) (remove ps i))
   places_without = record {
-    as_many = omega (arith, length_mapped (lowered n) (remove ps i), length-remove ps i within, length-remove xs n (removed_within blank), are.as_many);
+    as_many = omega (arith, length_mapped (place_after_removal n) (remove ps i), length-remove ps i within, length-remove xs n (removed_within blank), are.as_many);
     ascending = ascending_still;
-    each = All-map (IsPlaceIn f (remove xs n)) (lowered n) (remove ps i) (λ k d in_range. lowered_place _ (others k d in_range));
+    each = All-map (IsPlaceIn f (remove xs n)) (place_after_removal n) (remove ps i) (λ k d in_range. lowered_place _ (others k d in_range));
     all = λ m in_range. elim (cases_lt m n) [ inl before ↦ at_front m before | inr from ↦ at_back m from (omega (arith, in_range, length-remove xs n (removed_within blank))) ];
   }
     where
       blank : Place
       blank = record { key = 0; index = 0 }
 
-      at_front : (m : ℕ) → m < n → (k : ℕ) × (k < length (map (lowered n) (remove ps i))) × ((d : Place) → (get_or (map (lowered n) (remove ps i)) k d).index ≡ m)
+      at_front : (m : ℕ) → m < n → (k : ℕ) × (k < length (map (place_after_removal n) (remove ps i))) × ((d : Place) → (get_or (map (place_after_removal n) (remove ps i)) k d).index ≡ m)
       at_front m before =
           let left = left_at m (omega (arith, before, removed_within blank)) (λ same. omega (arith, same, before)) in (
             left.0,
-            omega (arith, left.1, length_mapped (lowered n) (remove ps i)),
+            omega (arith, left.1, length_mapped (place_after_removal n) (remove ps i)),
             λ d.
-                ap (λ (p : Place). p.index) (read_mapped (lowered n) (remove ps i) left.0 d d left.1) ∙ lowered_before n (get_or (remove ps i) left.0 d) (omega (arith, left.2 d, before)) ∙ left.2 d,
+                ap (λ (p : Place). p.index) (read_mapped (place_after_removal n) (remove ps i) left.0 d d left.1) ∙ lowered_before n (get_or (remove ps i) left.0 d) (omega (arith, left.2 d, before)) ∙ left.2 d,
           )
 
-      at_back : (m : ℕ) → n ≤ m → m + 1 < length xs → (k : ℕ) × (k < length (map (lowered n) (remove ps i))) × ((d : Place) → (get_or (map (lowered n) (remove ps i)) k d).index ≡ m)
+      at_back : (m : ℕ) → n ≤ m → m + 1 < length xs → (k : ℕ) × (k < length (map (place_after_removal n) (remove ps i))) × ((d : Place) → (get_or (map (place_after_removal n) (remove ps i)) k d).index ≡ m)
       at_back m from in_range =
           let left = left_at (m + 1) in_range (λ same. omega (arith, same, from)) in (
             left.0,
-            omega (arith, left.1, length_mapped (lowered n) (remove ps i)),
+            omega (arith, left.1, length_mapped (place_after_removal n) (remove ps i)),
             λ d.
                 let moved = lowered_behind n (get_or (remove ps i) left.0 d) (omega (arith, left.2 d, from)) in
-                let index : (lowered n (get_or (remove ps i) left.0 d)).index ≡ m = omega (arith, moved, left.2 d) in
-                ap (λ (p : Place). p.index) (read_mapped (lowered n) (remove ps i) left.0 d d left.1) ∙ index,
+                let index : (place_after_removal n (get_or (remove ps i) left.0 d)).index ≡ m = omega (arith, moved, left.2 d) in
+                ap (λ (p : Place). p.index) (read_mapped (place_after_removal n) (remove ps i) left.0 d d left.1) ∙ index,
           )
 
 -- the same, for a place that was read
-pub places_left : {X : Type 0} (f : X → ℕ) (xs : List X) (ps : List Place) → length xs ≤ 65536 → ArePlaces f xs ps → (i : ℕ) → i < length ps → (p : Place) → p ≡ get_or ps i p → X → ArePlaces f (remove xs p.index) (map (lowered p.index) (remove ps i))
+pub places_left : {X : Type 0} (f : X → ℕ) (xs : List X) (ps : List Place) → length xs ≤ 65536 → ArePlaces f xs ps → (i : ℕ) → i < length ps → (p : Place) → p ≡ get_or ps i p → X → ArePlaces f (remove xs p.index) (map (place_after_removal p.index) (remove ps i))
 places_left f xs ps few are i within p read some =
     places_without f xs ps few are i p.index within (λ d. ap (λ (q : Place). q.index) (get_or_default ps i d p within ∙ sym read)) some

@@ -23,8 +23,8 @@ pub record HasFirst (places : List Place) (key first : ℕ) : Type 0 where
   pub gap : IsGap places (key * 65536) first
 
 -- a place after the entry at another was taken out
-abbrev pub lowered : ℕ → Place → Place
-lowered removed p = record { key = p.key; index = if nat_lt removed p.index then p.index - 1 else p.index }
+abbrev pub place_after_removal : ℕ → Place → Place
+place_after_removal removed p = record { key = p.key; index = if nat_lt removed p.index then p.index - 1 else p.index }
 
 -- it is the place of an entry with its key
 pub record IsPlaceIn {X : Type 0} (key_of : X → ℕ) (entries : List X) (p : Place) : Type 0 where
@@ -39,7 +39,7 @@ pub record ArePlaces {X : Type 0} (key_of : X → ℕ) (entries : List X) (place
   pub all : (n : ℕ) → n < length entries → (i : ℕ) × (i < length places) × ((d : Place) → (slice_index_or places i d).index ≡ n)
 
 -- what a table keeps: its room, and its places
-pub record IsKept (most entry_count entry_room place_count place_room : ℕ) {X : Type 0} (key_of : X → ℕ) (entries : List X) (of_them : List Place) : Type 0 where
+pub record IsTable (most entry_count entry_room place_count place_room : ℕ) {X : Type 0} (key_of : X → ℕ) (entries : List X) (of_them : List Place) : Type 0 where
   pub small : most ≤ 65536
   pub few : entry_count ≤ most
   pub room : most ≤ entry_room

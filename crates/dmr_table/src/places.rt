@@ -1,7 +1,7 @@
 //! The places of entries, in the order of their keys.
 
 ghost use Rattle.std.specs.Prelude.{◌≡◌, ◌*◌, MatchOption, length, map};
-ghost use Rattle.dmr_table.specs.Places.{AreAscending, IsGap, HasFirst, rank_of, lowered as lowered_of};
+ghost use Rattle.dmr_table.specs.Places.{AreAscending, IsGap, HasFirst, rank_of, place_after_removal as lowered_of};
 
 /// An entry's key, and its place among the entries.
 #[derive(Clone, Copy, Debug)]

@@ -19,13 +19,13 @@ pub struct KeyedTable<V: Keyed, const MOST: usize> {
 
 impl<V: Keyed, const MOST: usize> Model for KeyedTable<V, MOST> {
     ghost use Rattle.std.specs.Prelude.{◌≤◌, List, vec_len, vec_capacity};
-    ghost use Rattle.dmr_table.specs.Places.{IsKept};
+    ghost use Rattle.dmr_table.specs.Places.{IsTable};
 
     ghost Value = { List V };
 
     ghost view = { λ table. table.entries.items };
 
-    ghost invariant = { λ table. IsKept MOST (vec_len table.entries) (vec_capacity table.entries) (vec_len table.places) (vec_capacity table.places) V.key_of table.entries.items table.places.items };
+    ghost invariant = { λ table. IsTable MOST (vec_len table.entries) (vec_capacity table.entries) (vec_len table.places) (vec_capacity table.places) V.key_of table.entries.items table.places.items };
 }
 
 impl<V: Keyed, const MOST: usize> KeyedTable<V, MOST> {

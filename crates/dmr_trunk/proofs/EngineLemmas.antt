@@ -4,7 +4,7 @@ use Rattle.std.proofs.lemmas.List.{reverse-reverse}
 use Rattle.dmr_plan.specs.declared.settings.Settings.{Settings}
 use Rattle.dmr_core.specs.declared.entry.Entry.{Entry}
 use Rattle.dmr_core.specs.declared.event.Event.{Event}
-use Rattle.dmr_core.specs.Facts.{Facts, nothing}
+use Rattle.dmr_core.specs.Facts.{Facts, no_facts}
 use Rattle.dmr_core.specs.Journal.{IsLegal, events_of, journal_of}
 use Rattle.dmr_link.specs.Console.{console_text}
 use Rattle.dmr_link.specs.Input.{Input}
@@ -13,7 +13,7 @@ use Rattle.dmr_link.specs.Runs.{IsAnswered, IsRun}
 use Rattle.dmr_link.specs.Session.{events_in, session_text}
 use Rattle.dmr_link.specs.State.{State}
 use Rattle.dmr_link.specs.Texts.{Texts}
-use Rattle.dmr_trunk.specs.Inputs.{put_out, told}
+use Rattle.dmr_trunk.specs.Inputs.{put_out, operators_text}
 
 -- the journal of some events has these events
 its_events : (plan : Settings) (facts : Facts) (events : List Event) → events_of (journal_of plan facts events) ≡ events
@@ -28,7 +28,7 @@ events plan inputs = reverse (events_in (all_mean plan no_past inputs))
 abbrev told_by : Settings → Facts → List Input → List Entry
 told_by plan facts inputs = reverse (journal_of plan facts (events plan inputs))
 
-module _ (plan : Settings) (s new : State) (outputs : Texts) (inputs : List Input) (plan_is : s.plan ≡ plan) (facts_are : s.facts ≡ nothing) (stands : StandsFor s no_past)
+module _ (plan : Settings) (s new : State) (outputs : Texts) (inputs : List Input) (plan_is : s.plan ≡ plan) (facts_are : s.facts ≡ no_facts) (stands : StandsFor s no_past)
     (legal : (facts : Facts) (events : List Event) → IsLegal s.plan facts (journal_of s.plan facts events)) (run : IsRun s new outputs inputs) where
   answered : IsAnswered s new outputs (all_mean s.plan no_past inputs) (journal_of s.plan s.facts (events s.plan inputs))
   answered =
@@ -40,6 +40,6 @@ module _ (plan : Settings) (s new : State) (outputs : Texts) (inputs : List Inpu
   unfolding put_out
   run_text carrier = answered.texts carrier ∙ (λ i. session_text carrier (all_mean (plan_is i) no_past inputs) (told_by (plan_is i) (facts_are i) inputs))
 
-  pub run_told : outputs.console ≡ told plan inputs
-  unfolding told
+  pub run_told : outputs.console ≡ operators_text plan inputs
+  unfolding operators_text
   run_told = answered.console ∙ (λ i. console_text (all_mean (plan_is i) no_past inputs) (told_by (plan_is i) (facts_are i) inputs))

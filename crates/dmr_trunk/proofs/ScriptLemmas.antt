@@ -4,12 +4,12 @@ use Rattle.std.specs.Prelude.{find}
 use Rattle.std.specs.List.{enumerate_from, filter_map}
 use Rattle.std.proofs.lemmas.List.FromFn.{length-enumerate_from, get_or-enumerate_from}
 use Rattle.std.proofs.lemmas.List.{append-nil, drop_more, drop_all}
-use Rattle.dmr_trunk.specs.Script.{Given, given_at, given_by_line, is_fault, is_skipped, unless_fault}
+use Rattle.dmr_trunk.specs.Script.{Given, given_at, given_by_line, is_faulty_line, is_skipped, unless_fault}
 
 -- what a script gives of which the last lines, from number n on, are still to be read, and the earlier ones gave these
 abbrev pub answer : List Given → ℕ → List (List ℕ) → Result (List Given) ℕ
 answer given n lines =
-    unless_fault (find (λ line. is_fault line.1) (enumerate_from n lines)) (given ++ filter_map given_at (enumerate_from n lines))
+    unless_fault (find (λ line. is_faulty_line line.1) (enumerate_from n lines)) (given ++ filter_map given_at (enumerate_from n lines))
 
 skipped-cons : (given : List Given) (n : ℕ) (line : List ℕ) (lines : List (List ℕ)) → is_skipped line ≡ true → answer given n (line ∷ lines) ≡ answer given (n + 1) lines
 skipped-cons given n line lines skipped = rw skipped refl

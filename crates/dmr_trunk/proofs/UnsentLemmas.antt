@@ -2,21 +2,21 @@
 use Rattle.std.proofs.Common.{◌≡◌, ◌≤◌, ℕ, ◌-◌, List, [], ◌++◌, Option, Some, None, length, take, drop, arith, sym, ap, ◌∙◌}
 use Rattle.std.specs.Io.KnownBytes.{Appends, Keeps}
 use Rattle.std.proofs.lemmas.List.{append-nil, append_assoc, length-append, take-append-drop, take-append-le}
-use Rattle.dmr_trunk.specs.Unsent.{Passes}
+use Rattle.dmr_trunk.specs.Unsent.{PassesOctets}
 
 -- where nothing happens
-pub passes_nothing : (taken : Option (List ℕ)) (waiting : List ℕ) → Passes taken waiting [] taken waiting
+pub passes_nothing : (taken : Option (List ℕ)) (waiting : List ℕ) → PassesOctets taken waiting [] taken waiting
 passes_nothing None waiting = tt
 passes_nothing (Some taken) waiting = sym (append-nil (taken ++ waiting))
 
 -- where a writer takes nothing
-pub passes_kept : (taken taken' : Option (List ℕ)) (waiting : List ℕ) → Keeps taken taken' → Passes taken waiting [] taken' waiting
+pub passes_kept : (taken taken' : Option (List ℕ)) (waiting : List ℕ) → Keeps taken taken' → PassesOctets taken waiting [] taken' waiting
 passes_kept None taken' waiting keeps = tt
 passes_kept (Some taken) None waiting keeps = absurd keeps
 passes_kept (Some taken) (Some taken') waiting keeps = ap (λ octets. octets ++ waiting) keeps ∙ sym (append-nil (taken ++ waiting))
 
 -- one step after another
-pub passes_on : (first second third : Option (List ℕ)) (one two three : List ℕ) → Passes first one [] second two → Passes second two [] third three → Passes first one [] third three
+pub passes_on : (first second third : Option (List ℕ)) (one two three : List ℕ) → PassesOctets first one [] second two → PassesOctets second two [] third three → PassesOctets first one [] third three
 passes_on None second third one two three before after = tt
 passes_on (Some first) None third one two three before after = absurd before
 passes_on (Some first) (Some second) None one two three before after = absurd after
@@ -24,7 +24,7 @@ passes_on (Some first) (Some second) (Some third) one two three before after = a
 
 -- where a writer takes the oldest that wait
 pub passes_sent : (taken taken' : Option (List ℕ)) (items oldest rest : List ℕ) (count : ℕ) → oldest ++ rest ≡ items → count ≤ length oldest
-    → Appends taken taken' (take count oldest) → Passes taken items [] taken' (drop (length items - (length items - count)) items)
+    → Appends taken taken' (take count oldest) → PassesOctets taken items [] taken' (drop (length items - (length items - count)) items)
 passes_sent None taken' items oldest rest count whole within appends = tt
 passes_sent (Some taken) None items oldest rest count whole within appends = absurd appends
 passes_sent (Some taken) (Some taken') items oldest rest count whole within appends =

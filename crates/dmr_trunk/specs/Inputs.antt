@@ -2,7 +2,7 @@
 use Rattle.std.specs.Prelude.{ℕ, List, reverse}
 use Rattle.dmr_plan.specs.declared.settings.Settings.{Settings}
 use Rattle.dmr_core.specs.declared.entry.Entry.{Entry}
-use Rattle.dmr_core.specs.Facts.{nothing}
+use Rattle.dmr_core.specs.Facts.{no_facts}
 use Rattle.dmr_core.specs.Journal.{journal_of}
 use Rattle.dmr_link.specs.Notices.{Notice}
 use Rattle.dmr_link.specs.Input.{Input}
@@ -11,17 +11,17 @@ use Rattle.dmr_link.specs.Records.{all_mean, no_past}
 use Rattle.dmr_link.specs.Session.{events_in, session_text}
 
 -- what inputs mean where nothing came before them
-abbrev pub meant : Settings → List Input → List Notice
-meant plan inputs = all_mean plan no_past inputs
+abbrev pub meaning_of_inputs : Settings → List Input → List Notice
+meaning_of_inputs plan inputs = all_mean plan no_past inputs
 
 -- the one legal journal, from a site on which nothing stands, of the events among what the inputs mean; the newest entry first
 abbrev pub journal : Settings → List Input → List Entry
-journal plan inputs = journal_of plan nothing (reverse (events_in (meant plan inputs)))
+journal plan inputs = journal_of plan no_facts (reverse (events_in (meaning_of_inputs plan inputs)))
 
 -- what is put out for a carrier: its session text
 unfoldable pub put_out : Settings → List Input → ℕ → List ℕ
-put_out plan inputs carrier = session_text carrier (meant plan inputs) (reverse (journal plan inputs))
+put_out plan inputs carrier = session_text carrier (meaning_of_inputs plan inputs) (reverse (journal plan inputs))
 
 -- what is put out for operators: the console text
-unfoldable pub told : Settings → List Input → List ℕ
-told plan inputs = console_text (meant plan inputs) (reverse (journal plan inputs))
+unfoldable pub operators_text : Settings → List Input → List ℕ
+operators_text plan inputs = console_text (meaning_of_inputs plan inputs) (reverse (journal plan inputs))

@@ -12,8 +12,8 @@ use Rattle.dmr_plan.specs.Carriers.{has_number_in}
 use Rattle.dmr_plan.specs.Plan.{plan_of_text}
 use Rattle.dmr_trunk.specs.declared.replay.ReplayFault.{ReplayFault}
 use Rattle.dmr_trunk.specs.declared.replay.ReplayFault.TheVariants as fault
-use Rattle.dmr_trunk.specs.Inputs.{put_out, told}
-use Rattle.dmr_trunk.specs.Script.{Given, inputs_of, script_of}
+use Rattle.dmr_trunk.specs.Inputs.{put_out, operators_text}
+use Rattle.dmr_trunk.specs.Script.{Given, inputs_of_script, script_of}
 use Rattle.dmr_trunk.specs.declared.words.Job.{Job}
 use Rattle.dmr_trunk.specs.declared.words.Job.TheVariants.{Script, Serve}
 use Rattle.dmr_trunk.specs.Words.{AskFor}
@@ -39,8 +39,8 @@ abbrev pub lines_to : Settings → (ℕ → List ℕ) → ℕ → List ℕ
 lines_to plan put_out numbers = flat_map (line_of_number plan put_out) (range_with_len 0 numbers)
 
 -- behind them the operators' text as it is
-abbrev pub printed : Settings → (ℕ → List ℕ) → List ℕ → List ℕ
-printed plan put_out told = lines_to plan put_out 16 ++ told
+abbrev pub printed_text : Settings → (ℕ → List ℕ) → List ℕ → List ℕ
+printed_text plan put_out operators_text = lines_to plan put_out 16 ++ operators_text
 
 -- ---- what the files give
 
@@ -59,7 +59,7 @@ plan_in site = if is_utf8 site then plan_of_text site else Err NotToml
 -- what the lines of a script put out, or the number of the one that is none
 abbrev pub of_lines : Settings → Result (List Given) ℕ → Outcome
 of_lines plan (Err number) = NoLine number
-of_lines plan (Ok given) = Prints (printed plan (put_out plan (inputs_of given)) (told plan (inputs_of given)))
+of_lines plan (Ok given) = Prints (printed_text plan (put_out plan (inputs_of_script given)) (operators_text plan (inputs_of_script given)))
 
 -- what a script gives, if it could be read
 abbrev pub of_script : Settings → Option (List ℕ) → Outcome
@@ -88,13 +88,13 @@ IsPrinted (Prints text) old new = Appends old new text
 IsPrinted other old new = ⊥
 
 -- the fault that is told is the first one, with the name of the file that could not be read; want of memory may be told always
-abbrev pub Tells : List ℕ → List ℕ → Outcome → ReplayFault → Type 0
-Tells site script SiteNotRead (fault.CannotRead name) = name.now ≡ site
-Tells site script ScriptNotRead (fault.CannotRead name) = name.now ≡ script
-Tells site script (NoPlan what) (fault.SiteFile told) = told ≡ what
-Tells site script (NoLine number) (fault.ScriptLine told) = told ≡ number
-Tells site script outcome fault.OutOfMemory = ⊤
-Tells site script outcome fault = ⊥
+abbrev pub TellsFault : List ℕ → List ℕ → Outcome → ReplayFault → Type 0
+TellsFault site script SiteNotRead (fault.CannotRead name) = name.now ≡ site
+TellsFault site script ScriptNotRead (fault.CannotRead name) = name.now ≡ script
+TellsFault site script (NoPlan what) (fault.SiteFile operators_text) = operators_text ≡ what
+TellsFault site script (NoLine number) (fault.ScriptLine operators_text) = operators_text ≡ number
+TellsFault site script outcome fault.OutOfMemory = ⊤
+TellsFault site script outcome fault = ⊥
 
 -- the exit status of a fault: 4 for want of memory, else 1
 abbrev pub status_of : ReplayFault → ℕ
@@ -112,7 +112,7 @@ pub record AreReplayed (gave : Text → Option (List ℕ) → Type 0) (site_path
   pub script : Option (List ℕ)
   pub site_given : gave site_path site
   pub script_given : gave script_path script
-  pub printed : IsPrinted (outcome site script) old new
+  pub printed_text : IsPrinted (outcome site script) old new
 
 -- a site file that could be read has a plan
 abbrev pub IsPlanned : Option (List ℕ) → Type 0
@@ -127,15 +127,15 @@ pub record HasPlan (gave : Text → Option (List ℕ) → Type 0) (site_path : T
 
 -- a job was done: its two files were replayed, or its site file had a plan, whose site was
 -- served, and nothing was printed
-abbrev pub IsDone : (Text → Option (List ℕ) → Type 0) → Job → Option (List ℕ) → Option (List ℕ) → Type 0
-IsDone gave (Script site script) old new = AreReplayed gave site.now script.now old new
-IsDone gave (Serve site terms) old new = HasPlan gave site.now × (new ≡ old)
+abbrev pub IsJobDone : (Text → Option (List ℕ) → Type 0) → Job → Option (List ℕ) → Option (List ℕ) → Type 0
+IsJobDone gave (Script site script) old new = AreReplayed gave site.now script.now old new
+IsJobDone gave (Serve site terms) old new = HasPlan gave site.now × (new ≡ old)
 
 -- the words are taken, and what they ask for was done
 pub record IsReplayed (gave : Text → Option (List ℕ) → Type 0) (words : List Text) (old new : Option (List ℕ)) : Type 0 where
   pub job : Job
   pub asked : AskFor words job
-  pub done : IsDone gave job old new
+  pub done : IsJobDone gave job old new
 
 -- the same, of some words
 abbrev pub IsReplayedBySome : (Text → Option (List ℕ) → Type 0) → Option (List ℕ) → Option (List ℕ) → Type 0

@@ -13,8 +13,8 @@ status_of_term (Open OutOfMemory) = 4
 status_of_term other = 3
 
 -- the exit status of a fault: 1 where a port or a poll was wanting, 4 where memory was
-abbrev pub status_of : ServeFault → ℕ
-status_of (fault.CannotListen port) = 1
-status_of fault.NoPoll = 1
-status_of (fault.Term term) = status_of_term term
-status_of fault.OutOfMemory = 4
+abbrev pub status_of_fault : ServeFault → ℕ
+status_of_fault (fault.CannotListen port) = 1
+status_of_fault fault.NoPoll = 1
+status_of_fault (fault.Term term) = status_of_term term
+status_of_fault fault.OutOfMemory = 4

@@ -5,10 +5,10 @@ use Rattle.dmr_wire.specs.declared.wire.Put.TheVariants as put
 
 -- what a connection had taken, where that is known, and what waited to be sent; then these octets were written: what it has taken since
 -- and what waits now are the same octets and these, in order
-abbrev pub Passes : Option (List ℕ) → List ℕ → List ℕ → Option (List ℕ) → List ℕ → Type 0
-Passes None waiting octets taken' waiting' = ⊤
-Passes (Some taken) waiting octets None waiting' = ⊥
-Passes (Some taken) waiting octets (Some taken') waiting' = taken' ++ waiting' ≡ taken ++ waiting ++ octets
+abbrev pub PassesOctets : Option (List ℕ) → List ℕ → List ℕ → Option (List ℕ) → List ℕ → Type 0
+PassesOctets None waiting octets taken' waiting' = ⊤
+PassesOctets (Some taken) waiting octets None waiting' = ⊥
+PassesOctets (Some taken) waiting octets (Some taken') waiting' = taken' ++ waiting' ≡ taken ++ waiting ++ octets
 
 -- the octets that a write took, of these
 abbrev pub taken_by : Put → List ℕ → List ℕ

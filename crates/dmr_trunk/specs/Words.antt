@@ -65,13 +65,13 @@ abbrev pub IsUnset : Option Text → Type 0
 IsUnset text = text ≢ Some (codes "true")
 
 -- a text spells a number in decimal
-abbrev pub Spells : Text → ℕ → Type 0
-Spells text number = IsNumeral 10 (without_leading_plus text) × (digits_value 10 (without_leading_plus text) ≡ number) × (number < 2 ^ 32)
+abbrev pub SpellsNumber : Text → ℕ → Type 0
+SpellsNumber text number = IsNumeral 10 (without_leading_plus text) × (digits_value 10 (without_leading_plus text) ≡ number) × (number < 2 ^ 32)
 
 -- the number that a text spells; 0 where there is no text, or it spells none
 abbrev pub AreTerms : Option Text → ℕ → Type 0
 AreTerms None terms = terms ≡ 0
-AreTerms (Some text) terms = Spells text terms ⊎ ((terms ≡ 0) × ((number : ℕ) → Spells text number → ⊥))
+AreTerms (Some text) terms = SpellsNumber text terms ⊎ ((terms ≡ 0) × ((number : ℕ) → SpellsNumber text number → ⊥))
 
 -- options of these values ask for this
 abbrev pub IsAsked : (Text → Option Text) → (Text → Option Text) → Job → Type 0

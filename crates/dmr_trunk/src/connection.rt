@@ -2,7 +2,7 @@
 
 ghost use Rattle.std.specs.Prelude.{◌≡◌, ◌≢◌, ℕ, ◌+◌, ◌*◌, ◌-◌, ◌^◌, [], length, min, nat_le, true, Some};
 ghost use Rattle.dmr_wire.specs.Told.{GotWithin, PutWithin};
-ghost use Rattle.dmr_trunk.specs.Unsent.{Passes, taken_by};
+ghost use Rattle.dmr_trunk.specs.Unsent.{PassesOctets, taken_by};
 
 use crate::notes::Cause;
 use crate::unsent::Unsent;
@@ -62,7 +62,7 @@ impl<S: Read + Write + Drop> Connection<S> {
     /// Sends what waits, as much of it as the other side takes, without waiting. Whether the connection goes on.
     #[tactic(auto, using(crate::proofs::UnsentLemmas::passes_nothing, crate::proofs::UnsentLemmas::passes_on))]
     pub fn send(&mut self, unsent: &mut Unsent) -> bool
-        ensures { Passes (S.contents self.old.stream) unsent.old [] (S.contents self.new.stream) unsent.new }
+        ensures { PassesOctets (S.contents self.old.stream) unsent.old [] (S.contents self.new.stream) unsent.new }
     {
         while !unsent.is_empty() {
             match unsent.send(&mut self.stream) {
@@ -110,7 +110,7 @@ impl<S: Read + Write + Drop> Connection<S> {
     /// Writes once, without waiting. What is not taken at once waits, as far as there is room.
     pub fn write(&mut self, unsent: &mut Unsent, octets: &[u8]) -> Put
         ensures within { PutWithin result (length octets.now) }
-        ensures passes { Passes (S.contents self.old.stream) unsent.old (taken_by result octets.now) (S.contents self.new.stream) unsent.new }
+        ensures passes { PassesOctets (S.contents self.old.stream) unsent.old (taken_by result octets.now) (S.contents self.new.stream) unsent.new }
     {
         match unsent.write(&mut self.stream, octets) {
             Ok(0) => {

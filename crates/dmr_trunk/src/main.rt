@@ -23,7 +23,7 @@ mod unsent;
 mod words;
 
 ghost use Rattle.std.specs.Prelude.{◌≡◌, IfOk, map, string_bytes};
-ghost use Rattle.dmr_trunk.specs.Replay.{AreReplayed, HasPlan, IsDone, IsReplayed, IsReplayedBySome, IsStatus};
+ghost use Rattle.dmr_trunk.specs.Replay.{AreReplayed, HasPlan, IsJobDone, IsReplayed, IsReplayedBySome, IsStatus};
 
 use crate::files::{FileSource, SystemFiles, slice_of};
 use crate::replay::replay;
@@ -106,7 +106,7 @@ fn do_job<R: Net + Log + Clock + Wait + Threads + Sync, S: FileSource, W: Write,
     err: &mut E,
 ) -> Result<u8, OutOfMemory>
     ensures status { IfOk result IsStatus }
-    ensures ok { IfOk result (λ status. status ≡ 0 → IsDone (S.gave files.now) job.entry (W.contents out.old) (W.contents out.new)) }
+    ensures ok { IfOk result (λ status. status ≡ 0 → IsJobDone (S.gave files.now) job.entry (W.contents out.old) (W.contents out.new)) }
 {
     match job {
         Job::Script { site, script } => replay_files(alloc, files, site, script, out, err),

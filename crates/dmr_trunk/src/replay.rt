@@ -3,9 +3,9 @@
 ghost use Rattle.std.specs.Prelude.{◌≡◌, ◌⊎◌, ℕ, [], IfErr, IfOk, IsErrAnd, MatchResult, Ok, OnOk, false, map, option_map, slice_index_or, string_bytes};
 ghost use Rattle.std.specs.Io.KnownBytes.{Appends};
 ghost use Rattle.dmr_link.specs.Input.{input_of};
-ghost use Rattle.dmr_trunk.specs.Inputs.{put_out, told};
-ghost use Rattle.dmr_trunk.specs.Script.{given_as, inputs_of, script_of};
-ghost use Rattle.dmr_trunk.specs.Replay.{IsPrinted, Prints, Tells, carrier_line, digits_or_dash, is_printed, outcome, plan_in, printed, status_of};
+ghost use Rattle.dmr_trunk.specs.Inputs.{put_out, operators_text};
+ghost use Rattle.dmr_trunk.specs.Script.{given_as, inputs_of_script, script_of};
+ghost use Rattle.dmr_trunk.specs.Replay.{IsPrinted, Prints, TellsFault, carrier_line, digits_or_dash, is_printed, outcome, plan_in, printed_text, status_of};
 
 use crate::script::{ScriptFault, ScriptInput, read_script};
 use crate::status::{FAULT, MEMORY, OK};
@@ -108,7 +108,7 @@ fn text_of_replay<'a>(
 ) -> Result<Vec<u8>, ReplayFault<'a>>
     ensures { MatchResult result
         (λ text. outcome (option_map (λ o. o.now) site.entry) (option_map (λ o. o.now) script.entry) ≡ Prints text.items)
-        (Tells site_name.now script_name.now (outcome (option_map (λ o. o.now) site.entry) (option_map (λ o. o.now) script.entry))) }
+        (TellsFault site_name.now script_name.now (outcome (option_map (λ o. o.now) site.entry) (option_map (λ o. o.now) script.entry))) }
 {
     let plan = plan_of(alloc, site.ok_or(ReplayFault::CannotRead(site_name))?)?;
     let given = given_by(alloc, script.ok_or(ReplayFault::CannotRead(script_name))?)?;
@@ -123,7 +123,7 @@ fn text_of_replay<'a>(
 pub fn plan_of<'a>(alloc: Global, site: &[u8]) -> Result<Plan, ReplayFault<'a>>
     ensures { MatchResult result
         (λ plan. plan_in site.now ≡ Ok plan)
-        (λ fault. (fault ≡ ReplayFault.OutOfMemory) ⊎ IsErrAnd (plan_in site.now) (λ told. fault ≡ ReplayFault.SiteFile told)) }
+        (λ fault. (fault ≡ ReplayFault.OutOfMemory) ⊎ IsErrAnd (plan_in site.now) (λ operators_text. fault ≡ ReplayFault.SiteFile operators_text)) }
 {
     let Ok(text) = str::from_utf8(site) else {
         return Err(ReplayFault::SiteFile(PlanFault::NotToml));
@@ -160,7 +160,7 @@ fn inputs_in(given: &[ScriptInput]) -> Option<usize> {
 /// The inputs that lines give. Their room is taken at once, so that a script of more ticks than memory holds is refused
 /// before the first of them is stored.
 fn inputs_of<'a>(alloc: Global, given: &'a [ScriptInput]) -> Result<Vec<Input<'a>>, OutOfMemory>
-    ensures { IfOk result (λ inputs. map input_of inputs.items ≡ inputs_of (map given_as given.entry.now)) }
+    ensures { IfOk result (λ inputs. map input_of inputs.items ≡ inputs_of_script (map given_as given.entry.now)) }
 {
     let count = inputs_in(given).ok_or(OutOfMemory)?;
     let mut inputs = Vec::with_capacity(alloc, count)?;
@@ -178,7 +178,7 @@ fn inputs_of<'a>(alloc: Global, given: &'a [ScriptInput]) -> Result<Vec<Input<'a
 #[tactic(auto, using(crate::proofs::EngineLemmas::run_text, crate::proofs::EngineLemmas::run_told))]
 fn outputs_of(alloc: Global, plan: &Plan, inputs: &[Input<'_>]) -> Result<Outputs, OutOfMemory>
     ensures carriers { IfOk result (λ outputs. (c : ℕ) → slice_index_or outputs.carriers c [] ≡ put_out plan.now (map input_of inputs.now) c) }
-    ensures console { IfOk result (λ outputs. outputs.console ≡ told plan.now (map input_of inputs.now)) }
+    ensures console { IfOk result (λ outputs. outputs.console ≡ operators_text plan.now (map input_of inputs.now)) }
 {
     one_legal_journal();
     let mut engine = Engine::new(alloc, *plan)?;
@@ -190,7 +190,7 @@ fn outputs_of(alloc: Global, plan: &Plan, inputs: &[Input<'_>]) -> Result<Output
 
 /// What is printed for what lines give.
 fn text_of_inputs(alloc: Global, plan: &Plan, given: &[ScriptInput]) -> Result<Vec<u8>, OutOfMemory>
-    ensures { IfOk result (λ text. text.items ≡ printed plan.now (put_out plan.now (inputs_of (map given_as given.now))) (told plan.now (inputs_of (map given_as given.now)))) }
+    ensures { IfOk result (λ text. text.items ≡ printed_text plan.now (put_out plan.now (inputs_of_script (map given_as given.now))) (operators_text plan.now (inputs_of_script (map given_as given.now)))) }
 {
     let inputs = inputs_of(alloc, given)?;
     let outputs = outputs_of(alloc, plan, inputs.as_slice())?;
@@ -199,7 +199,7 @@ fn text_of_inputs(alloc: Global, plan: &Plan, given: &[ScriptInput]) -> Result<V
 
 /// A line per carrier of the plan, by number, and what operators were told.
 fn outputs_text(alloc: Global, plan: &Plan, outputs: &Outputs) -> Result<Vec<u8>, OutOfMemory>
-    ensures { IfOk result (λ text. text.items ≡ printed plan.now (λ c. slice_index_or outputs.now.carriers c []) outputs.now.console) }
+    ensures { IfOk result (λ text. text.items ≡ printed_text plan.now (λ c. slice_index_or outputs.now.carriers c []) outputs.now.console) }
 {
     let mut text = Vec::new(alloc);
     for number in 0..16u32 {

@@ -6,7 +6,7 @@
 
 ghost use Rattle.std.specs.Prelude.{◌≡◌, ◌≤◌, ◌++◌, ◌∷◌, [], ℕ, Ok, Err, IfOk, IfSome, map, option_map};
 ghost use Rattle.dmr_link.specs.Input.{input_of};
-ghost use Rattle.dmr_trunk.specs.Script.{arrival, carrier_of as carrier_of_word, cutting, given_as, given_by, given_by_line, is_skipped, number_of, octets_of as octets_of_word, opening, script_of, telling, ticking, times_of as times_of_word, words_of};
+ghost use Rattle.dmr_trunk.specs.Script.{arrival, carrier_of_word, input_of_cut, given_as, given_by, given_by_line, is_skipped, number_of_word, octets_of_word, input_of_open, script_of, input_of_text, input_of_tick, count_of_ticks as times_of_word, words_of_script_line};
 
 use dmr_console::number_in;
 use dmr_link::Input;
@@ -124,7 +124,7 @@ fn ended(alloc: Global, text: &[u8]) -> Result<Vec<u8>, OutOfMemory>
 
 /// The words of a line.
 fn words_of(alloc: Global, line: &[u8]) -> Result<Vec<&[u8]>, OutOfMemory>
-    ensures { IfOk result (λ words. map (λ word. word.now) words.items ≡ words_of line.now) }
+    ensures { IfOk result (λ words. map (λ word. word.now) words.items ≡ words_of_script_line line.now) }
 {
     line.split(|octet| *octet == b' ').collect(alloc)
 }
@@ -153,7 +153,7 @@ fn given_by(alloc: Global, words: &[&[u8]]) -> Result<Option<ScriptInput>, OutOf
 
 /// What the words behind `open` give: one word, C.
 fn opening(words: &[&[u8]]) -> Option<ScriptInput>
-    ensures { option_map given_as result ≡ opening (map (λ word. word.now) words.now) }
+    ensures { option_map given_as result ≡ input_of_open (map (λ word. word.now) words.now) }
 {
     match words {
         [carrier] => carrier_of(carrier).map(|carrier| ScriptInput::Open(carrier)),
@@ -163,7 +163,7 @@ fn opening(words: &[&[u8]]) -> Option<ScriptInput>
 
 /// What the words behind `cut` give: one word, C.
 fn cutting(words: &[&[u8]]) -> Option<ScriptInput>
-    ensures { option_map given_as result ≡ cutting (map (λ word. word.now) words.now) }
+    ensures { option_map given_as result ≡ input_of_cut (map (λ word. word.now) words.now) }
 {
     match words {
         [carrier] => carrier_of(carrier).map(|carrier| ScriptInput::Cut(carrier)),
@@ -173,7 +173,7 @@ fn cutting(words: &[&[u8]]) -> Option<ScriptInput>
 
 /// What the words behind `tick` give: none, or one, N.
 fn ticking(words: &[&[u8]]) -> Option<ScriptInput>
-    ensures { option_map given_as result ≡ ticking (map (λ word. word.now) words.now) }
+    ensures { option_map given_as result ≡ input_of_tick (map (λ word. word.now) words.now) }
 {
     match words {
         [] => Some(ScriptInput::Tick(1)),
@@ -198,7 +198,7 @@ fn arrival(alloc: Global, words: &[&[u8]]) -> Result<Option<ScriptInput>, OutOfM
 
 /// What the words behind `text` give: one word, HEX.
 fn telling(alloc: Global, words: &[&[u8]]) -> Result<Option<ScriptInput>, OutOfMemory>
-    ensures { IfOk result (λ input. option_map given_as input ≡ telling (map (λ word. word.now) words.now)) }
+    ensures { IfOk result (λ input. option_map given_as input ≡ input_of_text (map (λ word. word.now) words.now)) }
 {
     let [digits] = words else {
         return Ok(None);
@@ -209,7 +209,7 @@ fn telling(alloc: Global, words: &[&[u8]]) -> Result<Option<ScriptInput>, OutOfM
 
 /// A number from `least` to `most` in decimal digits, with no leading zero.
 fn number_of(least: u32, most: u32, word: &[u8]) -> Option<u32>
-    ensures value { result ≡ number_of least most word.now }
+    ensures value { result ≡ number_of_word least most word.now }
     ensures most { IfSome result (λ number. number ≤ most) }
 {
     match word {

@@ -2,7 +2,7 @@
 
 ghost use Rattle.std.specs.Prelude.{◌≡◌, ◌⊎◌, IfOk, option_map};
 ghost use Rattle.dmr_trunk.specs.Replay.{IsPlanned, IsStatus};
-ghost use Rattle.dmr_trunk.specs.Serving.{status_of};
+ghost use Rattle.dmr_trunk.specs.Serving.{status_of_fault};
 
 use crate::replay::{ReplayFault, plan_of};
 use crate::serve::{ServeFault, serve};
@@ -21,7 +21,7 @@ use std::time::Clock;
 impl ServeFault {
     /// The exit status.
     pub fn status(&self) -> u8
-        ensures is { result ≡ status_of self.now }
+        ensures is { result ≡ status_of_fault self.now }
         ensures one { (result ≡ FAULT) ⊎ (result ≡ AUDIT) ⊎ (result ≡ MEMORY) }
     {
         match self {

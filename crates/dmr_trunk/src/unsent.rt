@@ -1,7 +1,7 @@
 //! Octets that were written to a connection and wait until its other side takes them.
 
 ghost use Rattle.std.specs.Prelude.{◌≡◌, ◌-◌, ◌≤◌, [], ◌++◌, length, take, min, nat_eq, IfOk, OnErr};
-ghost use Rattle.dmr_trunk.specs.Unsent.{Passes};
+ghost use Rattle.dmr_trunk.specs.Unsent.{PassesOctets};
 
 use circular_buffer::HeapCircularBuffer;
 use dmr_pdu::OutOfMemory;
@@ -65,8 +65,8 @@ impl Unsent {
     /// are written at once. At an error nothing was taken, and what waits has not changed.
     pub fn write<W: Write>(&mut self, out: &mut W, octets: &[u8]) -> io::Result<usize>
         ensures count { IfOk result (λ count. count ≤ length octets.now) }
-        ensures ok { IfOk result (λ count. Passes (W.contents out.old) self.old (take count octets.now) (W.contents out.new) self.new) }
-        ensures err { OnErr result (Passes (W.contents out.old) self.old [] (W.contents out.new) self.new) }
+        ensures ok { IfOk result (λ count. PassesOctets (W.contents out.old) self.old (take count octets.now) (W.contents out.new) self.new) }
+        ensures err { OnErr result (PassesOctets (W.contents out.old) self.old [] (W.contents out.new) self.new) }
     {
         if self.is_empty() {
             match out.write(octets) {
@@ -83,7 +83,7 @@ impl Unsent {
 
     /// Writes once what waits, and says how many octets, the oldest ones, were taken. At an error none was.
     pub fn send<W: Write>(&mut self, out: &mut W) -> io::Result<usize>
-        ensures passes { Passes (W.contents out.old) self.old [] (W.contents out.new) self.new }
+        ensures passes { PassesOctets (W.contents out.old) self.old [] (W.contents out.new) self.new }
         ensures count { IfOk result (λ count. length self.new ≡ length self.old - count) }
         ensures err { OnErr result (self.new ≡ self.old) }
     {

@@ -8,8 +8,8 @@ use Rattle.dmr_wire.specs.declared.script.Reading.TheVariants.{Feed, Says}
 use Rattle.dmr_wire.specs.declared.step.Step.TheVariants as step
 use Rattle.dmr_wire.specs.declared.recording.Entry.TheVariants as entry
 use Rattle.dmr_wire.specs.Told.{Opened, Came, InputEnded, ReadInterrupted, Took, WriteBlocked, Again, Silent, of_read, of_write}
-use Rattle.dmr_wire.specs.Recording.{taken_in, empty_recording, noted, told_by}
-use Rattle.dmr_wire.specs.Entries.{entry_of, answers_of}
+use Rattle.dmr_wire.specs.Recording.{taken_in, empty_recording, recording_with, told_by}
+use Rattle.dmr_wire.specs.Entries.{entry_of_answer, answers_of_entries}
 use Rattle.dmr_wire.specs.Memory.{next_got, next_octets, reads_left, next_put}
 use Rattle.dmr_wire.specs.Script.{feed_of, memory_of}
 
@@ -81,28 +81,28 @@ empty_feed = refl
 nothing_yet : told_by (empty_recording 2) ≡ Some []
 nothing_yet = refl
 
-two_answers : told_by (noted (noted (empty_recording 2) Opened) (Came (5 ∷ 6 ∷ []))) ≡ Some (Opened ∷ Came (5 ∷ 6 ∷ []) ∷ [])
+two_answers : told_by (recording_with (recording_with (empty_recording 2) Opened) (Came (5 ∷ 6 ∷ []))) ≡ Some (Opened ∷ Came (5 ∷ 6 ∷ []) ∷ [])
 two_answers = refl
 
-three_answers : told_by (noted (noted (noted (empty_recording 2) Opened) InputEnded) Again) ≡ None
+three_answers : told_by (recording_with (recording_with (recording_with (empty_recording 2) Opened) InputEnded) Again) ≡ None
 three_answers = refl
 
-three_octets : told_by (noted (noted (empty_recording 2) (Came (5 ∷ 6 ∷ []))) (Took (7 ∷ []))) ≡ None
+three_octets : told_by (recording_with (recording_with (empty_recording 2) (Came (5 ∷ 6 ∷ []))) (Took (7 ∷ []))) ≡ None
 three_octets = refl
 
 -- an answer that would fit is told no more, once one did not
-never_again : told_by (noted (noted (empty_recording 2) (Took (5 ∷ 6 ∷ 7 ∷ []))) WriteBlocked) ≡ None
+never_again : told_by (recording_with (recording_with (empty_recording 2) (Took (5 ∷ 6 ∷ 7 ∷ []))) WriteBlocked) ≡ None
 never_again = refl
 
 -- what was taken till then stays
-taken_till_then : taken_in (noted (noted (empty_recording 2) (Took (5 ∷ []))) (Took (6 ∷ 7 ∷ []))).answers ≡ 5 ∷ []
+taken_till_then : taken_in (recording_with (recording_with (empty_recording 2) (Took (5 ∷ []))) (Took (6 ∷ 7 ∷ []))).answers ≡ 5 ∷ []
 taken_till_then = refl
 
 -- ---- entries
 
-stored : answers_of (entry.Read (got.Octets 2) ∷ entry.Write (put.Octets 1) ∷ entry.Read got.End ∷ entry.Write (put.Octets 2) ∷ []) (1 ∷ 2 ∷ []) (7 ∷ 8 ∷ 9 ∷ [])
+stored : answers_of_entries (entry.Read (got.Octets 2) ∷ entry.Write (put.Octets 1) ∷ entry.Read got.End ∷ entry.Write (put.Octets 2) ∷ []) (1 ∷ 2 ∷ []) (7 ∷ 8 ∷ 9 ∷ [])
     ≡ Came (1 ∷ 2 ∷ []) ∷ Took (7 ∷ []) ∷ InputEnded ∷ Took (8 ∷ 9 ∷ []) ∷ []
 stored = refl
 
-without_octets : map entry_of (Came (1 ∷ 2 ∷ []) ∷ Took [] ∷ Opened ∷ []) ≡ entry.Read (got.Octets 2) ∷ entry.Write (put.Octets 0) ∷ entry.Connect connect.Ready ∷ []
+without_octets : map entry_of_answer (Came (1 ∷ 2 ∷ []) ∷ Took [] ∷ Opened ∷ []) ≡ entry.Read (got.Octets 2) ∷ entry.Write (put.Octets 0) ∷ entry.Connect connect.Ready ∷ []
 without_octets = refl

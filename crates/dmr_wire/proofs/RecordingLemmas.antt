@@ -10,8 +10,8 @@ use Rattle.dmr_wire.specs.declared.recording.Entry.{Entry}
 use Rattle.dmr_wire.specs.declared.recording.Entry.TheVariants as entry
 use Rattle.dmr_wire.specs.declared.recording.Recording.TheInside.{Inside}
 use Rattle.dmr_wire.specs.Told.{Answer, Came, Took}
-use Rattle.dmr_wire.specs.Recording.{Recording, octets_of, count_in, octets_taken, taken_in, has_room, noted}
-use Rattle.dmr_wire.specs.Entries.{entry_of, came_with, taken_with, answer_of, answers_of, IsStored}
+use Rattle.dmr_wire.specs.Recording.{Recording, octets_of_answer, count_in, octets_taken, taken_in, has_room_for, recording_with}
+use Rattle.dmr_wire.specs.Entries.{entry_of_answer, came_with, taken_with, answer_of, answers_of_entries, IsStored}
 
 -- ---- one entry
 
@@ -30,20 +30,20 @@ answer_of-take other octets = refl
 -- In the lemmas below the cases of a connect and of a wait are named so that the last line is one for each of the others.
 
 -- the entry of its answer is the entry itself
-entry_of-answer_of : (e : Entry) (c t : List ℕ) → came_with e ≤ length c → taken_with e ≤ length t → entry_of (answer_of e c t) ≡ e
-entry_of-answer_of (entry.Read (got.Octets n)) c t h k = ap (λ m. entry.Read (got.Octets m)) (length-take-le n c h)
-entry_of-answer_of (entry.Write (put.Octets n)) c t h k = ap (λ m. entry.Write (put.Octets m)) (length-take-le n t k)
-entry_of-answer_of (entry.Connect connect.Ready) c t h k = refl
-entry_of-answer_of (entry.Wait waited.Again) c t h k = refl
-entry_of-answer_of other c t h k = refl
+entry_of_answer-answer_of : (e : Entry) (c t : List ℕ) → came_with e ≤ length c → taken_with e ≤ length t → entry_of_answer (answer_of e c t) ≡ e
+entry_of_answer-answer_of (entry.Read (got.Octets n)) c t h k = ap (λ m. entry.Read (got.Octets m)) (length-take-le n c h)
+entry_of_answer-answer_of (entry.Write (put.Octets n)) c t h k = ap (λ m. entry.Write (put.Octets m)) (length-take-le n t k)
+entry_of_answer-answer_of (entry.Connect connect.Ready) c t h k = refl
+entry_of_answer-answer_of (entry.Wait waited.Again) c t h k = refl
+entry_of_answer-answer_of other c t h k = refl
 
 -- how many octets its answer has
-pub octets_of-answer_of : (e : Entry) (c t : List ℕ) → came_with e ≤ length c → taken_with e ≤ length t → length (octets_of (answer_of e c t)) ≡ came_with e + taken_with e
-octets_of-answer_of (entry.Read (got.Octets n)) c t h k = let e = length-take-le n c h in omega (arith, e)
-octets_of-answer_of (entry.Write (put.Octets n)) c t h k = let e = length-take-le n t k in omega (arith, e)
-octets_of-answer_of (entry.Connect connect.Ready) c t h k = refl
-octets_of-answer_of (entry.Wait waited.Again) c t h k = refl
-octets_of-answer_of other c t h k = refl
+pub octets_of_answer-answer_of : (e : Entry) (c t : List ℕ) → came_with e ≤ length c → taken_with e ≤ length t → length (octets_of_answer (answer_of e c t)) ≡ came_with e + taken_with e
+octets_of_answer-answer_of (entry.Read (got.Octets n)) c t h k = let e = length-take-le n c h in omega (arith, e)
+octets_of_answer-answer_of (entry.Write (put.Octets n)) c t h k = let e = length-take-le n t k in omega (arith, e)
+octets_of_answer-answer_of (entry.Connect connect.Ready) c t h k = refl
+octets_of_answer-answer_of (entry.Wait waited.Again) c t h k = refl
+octets_of_answer-answer_of other c t h k = refl
 
 -- the octets that were taken with it
 octets_taken-answer_of : (e : Entry) (c t : List ℕ) → octets_taken (answer_of e c t) ≡ take (taken_with e) t
@@ -71,58 +71,58 @@ stored_rest e es c t s =
 
 -- ---- all answers
 
-pub length-answers_of : (es : List Entry) (c t : List ℕ) → length (answers_of es c t) ≡ length es
+pub length-answers_of : (es : List Entry) (c t : List ℕ) → length (answers_of_entries es c t) ≡ length es
 length-answers_of [] c t = refl
 length-answers_of (e ∷ es) c t = ap suc (length-answers_of es (drop (came_with e) c) (drop (taken_with e) t))
 
-pub count_in-answers_of : (es : List Entry) (c t : List ℕ) → IsStored es c t → count_in (answers_of es c t) ≡ length c + length t
+pub count_in-answers_of : (es : List Entry) (c t : List ℕ) → IsStored es c t → count_in (answers_of_entries es c t) ≡ length c + length t
 count_in-answers_of [] c t s = omega (arith, s.came_all, s.taken_all)
 count_in-answers_of (e ∷ es) c t s =
     let rest = count_in-answers_of es (drop (came_with e) c) (drop (taken_with e) t) (stored_rest e es c t s) in
     let came = came_first e es c t s in
     let taken = taken_first e es c t s in
-    let one = octets_of-answer_of e c t came taken in
-    let all = sum_by-cons (λ a. length (octets_of a)) (answer_of e c t) (answers_of es (drop (came_with e) c) (drop (taken_with e) t)) in
+    let one = octets_of_answer-answer_of e c t came taken in
+    let all = sum_by-cons (λ a. length (octets_of_answer a)) (answer_of e c t) (answers_of_entries es (drop (came_with e) c) (drop (taken_with e) t)) in
     omega (arith, all, one, rest, came, taken, length-drop (came_with e) c, length-drop (taken_with e) t)
 
-pub taken_in-answers_of : (es : List Entry) (c t : List ℕ) → IsStored es c t → taken_in (answers_of es c t) ≡ t
+pub taken_in-answers_of : (es : List Entry) (c t : List ℕ) → IsStored es c t → taken_in (answers_of_entries es c t) ≡ t
 taken_in-answers_of [] c [] s = refl
 taken_in-answers_of [] c (x ∷ t) s = absurd (omega (arith, s.taken_all))
 taken_in-answers_of (e ∷ es) c t s =
     let rest = taken_in-answers_of es (drop (came_with e) c) (drop (taken_with e) t) (stored_rest e es c t s) in
-    ap (λ xs. xs ++ taken_in (answers_of es (drop (came_with e) c) (drop (taken_with e) t))) (octets_taken-answer_of e c t)
+    ap (λ xs. xs ++ taken_in (answers_of_entries es (drop (came_with e) c) (drop (taken_with e) t))) (octets_taken-answer_of e c t)
     ∙ ap (λ xs. take (taken_with e) t ++ xs) rest
     ∙ take-append-drop (taken_with e) t
 
-pub entries-answers_of : (es : List Entry) (c t : List ℕ) → IsStored es c t → map entry_of (answers_of es c t) ≡ es
+pub entries-answers_of : (es : List Entry) (c t : List ℕ) → IsStored es c t → map entry_of_answer (answers_of_entries es c t) ≡ es
 entries-answers_of [] c t s = refl
 entries-answers_of (e ∷ es) c t s =
     let rest = entries-answers_of es (drop (came_with e) c) (drop (taken_with e) t) (stored_rest e es c t s) in
-    let one = entry_of-answer_of e c t (came_first e es c t s) (taken_first e es c t s) in
-    ap (λ d. d ∷ map entry_of (answers_of es (drop (came_with e) c) (drop (taken_with e) t))) one ∙ ap (λ ds. e ∷ ds) rest
+    let one = entry_of_answer-answer_of e c t (came_first e es c t s) (taken_first e es c t s) in
+    ap (λ d. d ∷ map entry_of_answer (answers_of_entries es (drop (came_with e) c) (drop (taken_with e) t))) one ∙ ap (λ ds. e ∷ ds) rest
 
 -- ---- one entry more, with its octets behind the others
 
-answers_of-append : (es ds : List Entry) (c cs t ts : List ℕ) → IsStored es c t → answers_of (es ++ ds) (c ++ cs) (t ++ ts) ≡ answers_of es c t ++ answers_of ds cs ts
-answers_of-append [] ds [] cs [] ts s = refl
-answers_of-append [] ds (x ∷ c) cs t ts s = absurd (omega (arith, s.came_all))
-answers_of-append [] ds [] cs (x ∷ t) ts s = absurd (omega (arith, s.taken_all))
-answers_of-append (e ∷ es) ds c cs t ts s =
+answers_of_entries-append : (es ds : List Entry) (c cs t ts : List ℕ) → IsStored es c t → answers_of_entries (es ++ ds) (c ++ cs) (t ++ ts) ≡ answers_of_entries es c t ++ answers_of_entries ds cs ts
+answers_of_entries-append [] ds [] cs [] ts s = refl
+answers_of_entries-append [] ds (x ∷ c) cs t ts s = absurd (omega (arith, s.came_all))
+answers_of_entries-append [] ds [] cs (x ∷ t) ts s = absurd (omega (arith, s.taken_all))
+answers_of_entries-append (e ∷ es) ds c cs t ts s =
     let n = came_with e in
     let m = taken_with e in
     let came : n ≤ length c = came_first e es c t s in
     let taken : m ≤ length t = taken_first e es c t s in
-    let rest = answers_of-append es ds (drop n c) cs (drop m t) ts (stored_rest e es c t s) in
-    ap (λ a. a ∷ answers_of (es ++ ds) (drop n (c ++ cs)) (drop m (t ++ ts))) (answer_of-behind e c cs t ts came taken)
-    ∙ ap (λ xs. answer_of e c t ∷ answers_of (es ++ ds) xs (drop m (t ++ ts))) (drop-append-le n c cs came)
-    ∙ ap (λ xs. answer_of e c t ∷ answers_of (es ++ ds) (drop n c ++ cs) xs) (drop-append-le m t ts taken)
+    let rest = answers_of_entries-append es ds (drop n c) cs (drop m t) ts (stored_rest e es c t s) in
+    ap (λ a. a ∷ answers_of_entries (es ++ ds) (drop n (c ++ cs)) (drop m (t ++ ts))) (answer_of-behind e c cs t ts came taken)
+    ∙ ap (λ xs. answer_of e c t ∷ answers_of_entries (es ++ ds) xs (drop m (t ++ ts))) (drop-append-le n c cs came)
+    ∙ ap (λ xs. answer_of e c t ∷ answers_of_entries (es ++ ds) (drop n c ++ cs) xs) (drop-append-le m t ts taken)
     ∙ ap (λ answers. answer_of e c t ∷ answers) rest
 
-pub answers_of-push : (es : List Entry) (e : Entry) (c t octets : List ℕ) → IsStored es c t
-    → answers_of (es ++ e ∷ []) (c ++ take (came_with e) octets) (t ++ take (taken_with e) octets) ≡ answers_of es c t ++ answer_of e octets octets ∷ []
-answers_of-push es e c t octets s =
-    answers_of-append es (e ∷ []) c (take (came_with e) octets) t (take (taken_with e) octets) s
-    ∙ ap (λ a. answers_of es c t ++ a ∷ []) (answer_of-take e octets)
+pub answers_of_entries-push : (es : List Entry) (e : Entry) (c t octets : List ℕ) → IsStored es c t
+    → answers_of_entries (es ++ e ∷ []) (c ++ take (came_with e) octets) (t ++ take (taken_with e) octets) ≡ answers_of_entries es c t ++ answer_of e octets octets ∷ []
+answers_of_entries-push es e c t octets s =
+    answers_of_entries-append es (e ∷ []) c (take (came_with e) octets) t (take (taken_with e) octets) s
+    ∙ ap (λ a. answers_of_entries es c t ++ a ∷ []) (answer_of-take e octets)
 
 pub stored_push : (es : List Entry) (e : Entry) (c t octets : List ℕ) → IsStored es c t → came_with e + taken_with e ≤ length octets
     → IsStored (es ++ e ∷ []) (c ++ take (came_with e) octets) (t ++ take (taken_with e) octets)
@@ -136,20 +136,20 @@ stored_push es e c t octets s h =
 -- ---- a record with what is stored
 
 -- the room that is left
-pub has_room-stored : (room : ℕ) (es : List Entry) (c t : List ℕ) (is_over : Bool) (n : ℕ) → IsStored es c t → length c + length t ≤ room
-    → has_room (record { room = room; answers = answers_of es c t; is_over = is_over }) n ≡ nat_lt (length es) room && nat_le n (room - length c - length t)
-has_room-stored room es c t is_over n s h = grind (arith, h, length-answers_of es c t, count_in-answers_of es c t s)
+pub has_room_for-stored : (room : ℕ) (es : List Entry) (c t : List ℕ) (is_over : Bool) (n : ℕ) → IsStored es c t → length c + length t ≤ room
+    → has_room_for (record { room = room; answers = answers_of_entries es c t; is_over = is_over }) n ≡ nat_lt (length es) room && nat_le n (room - length c - length t)
+has_room_for-stored room es c t is_over n s h = grind (arith, h, length-answers_of es c t, count_in-answers_of es c t s)
 
 -- with room for an answer more there is room for its entry and its octets
 pub room_for_an_answer : (a : Inside) (r : Recording) (n : ℕ) → IsStored a.entries.items a.came.items a.taken.items
-    → record { room = a.room; answers = answers_of a.entries.items a.came.items a.taken.items; is_over = a.is_over } ≡ r → true ≡ has_room r n
+    → record { room = a.room; answers = answers_of_entries a.entries.items a.came.items a.taken.items; is_over = a.is_over } ≡ r → true ≡ has_room_for r n
     → (length a.entries.items < a.room) × (length a.came.items + length a.taken.items + n ≤ a.room)
 room_for_an_answer a r n s v h =
     let entries = length-answers_of a.entries.items a.came.items a.taken.items in
     let octets = count_in-answers_of a.entries.items a.came.items a.taken.items s in
-    let room : true ≡ has_room (record { room = a.room; answers = answers_of a.entries.items a.came.items a.taken.items; is_over = a.is_over }) n = h ∙ ap (λ q. has_room q n) (sym v) in
+    let room : true ≡ has_room_for (record { room = a.room; answers = answers_of_entries a.entries.items a.came.items a.taken.items; is_over = a.is_over }) n = h ∙ ap (λ q. has_room_for q n) (sym v) in
     (grind (arith, entries, room), grind (arith, octets, room))
 
 -- where the record is not over and has room for the answer, it is kept
-pub noted-kept : (r : Recording) (a : Answer) → r.is_over ≡ false → has_room r (length (octets_of a)) ≡ true → record r { answers = r.answers ++ a ∷ [] } ≡ noted r a
-noted-kept r a h k = grind (arith, h, k)
+pub recording_with-kept : (r : Recording) (a : Answer) → r.is_over ≡ false → has_room_for r (length (octets_of_answer a)) ≡ true → record r { answers = r.answers ++ a ∷ [] } ≡ recording_with r a
+recording_with-kept r a h k = grind (arith, h, k)

@@ -9,21 +9,21 @@ use Rattle.dmr_wire.specs.declared.recording.Entry.TheVariants as entry
 use Rattle.dmr_wire.specs.Told.{Answer, Opened, NotYet, Finished, Came, InputEnded, ReadInterrupted, ReadBlocked, ReadFailed, Took, WriteInterrupted, WriteBlocked, WriteFailed, Again, Silent, of_read, of_write, of_connect, of_wait}
 
 -- the entry of an answer: how many octets it has stands in their place
-abbrev pub entry_of : Answer → Entry
-entry_of Opened = entry.Connect connect.Ready
-entry_of NotYet = entry.Connect connect.NotYet
-entry_of Finished = entry.Connect connect.Finished
-entry_of (Came octets) = entry.Read (got.Octets (length octets))
-entry_of InputEnded = entry.Read got.End
-entry_of ReadInterrupted = entry.Read got.Interrupted
-entry_of ReadBlocked = entry.Read got.Block
-entry_of ReadFailed = entry.Read got.Fault
-entry_of (Took octets) = entry.Write (put.Octets (length octets))
-entry_of WriteInterrupted = entry.Write put.Interrupted
-entry_of WriteBlocked = entry.Write put.Block
-entry_of WriteFailed = entry.Write put.Fault
-entry_of Again = entry.Wait waited.Again
-entry_of Silent = entry.Wait waited.Silent
+abbrev pub entry_of_answer : Answer → Entry
+entry_of_answer Opened = entry.Connect connect.Ready
+entry_of_answer NotYet = entry.Connect connect.NotYet
+entry_of_answer Finished = entry.Connect connect.Finished
+entry_of_answer (Came octets) = entry.Read (got.Octets (length octets))
+entry_of_answer InputEnded = entry.Read got.End
+entry_of_answer ReadInterrupted = entry.Read got.Interrupted
+entry_of_answer ReadBlocked = entry.Read got.Block
+entry_of_answer ReadFailed = entry.Read got.Fault
+entry_of_answer (Took octets) = entry.Write (put.Octets (length octets))
+entry_of_answer WriteInterrupted = entry.Write put.Interrupted
+entry_of_answer WriteBlocked = entry.Write put.Block
+entry_of_answer WriteFailed = entry.Write put.Fault
+entry_of_answer Again = entry.Wait waited.Again
+entry_of_answer Silent = entry.Wait waited.Silent
 
 -- how many octets came with an entry
 abbrev pub came_with : Entry → ℕ
@@ -43,9 +43,9 @@ answer_of (entry.Write answer) came taken = of_write answer taken
 answer_of (entry.Wait answer) came taken = of_wait answer
 
 -- the answers of entries, each with its octets
-abbrev pub answers_of : List Entry → List ℕ → List ℕ → List Answer
-answers_of [] came taken = []
-answers_of (e ∷ entries) came taken = answer_of e came taken ∷ answers_of entries (drop (came_with e) came) (drop (taken_with e) taken)
+abbrev pub answers_of_entries : List Entry → List ℕ → List ℕ → List Answer
+answers_of_entries [] came taken = []
+answers_of_entries (e ∷ entries) came taken = answer_of e came taken ∷ answers_of_entries entries (drop (came_with e) came) (drop (taken_with e) taken)
 
 -- the octets are those of the entries, no more and no fewer
 pub record IsStored (entries : List Entry) (came taken : List ℕ) : Type 0 where

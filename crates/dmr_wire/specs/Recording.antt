@@ -4,14 +4,14 @@ use Rattle.std.specs.List.{flat_map}
 use Rattle.dmr_wire.specs.Told.{Answer, Came, Took}
 
 -- the octets that came or were taken with an answer
-abbrev pub octets_of : Answer → List ℕ
-octets_of (Came octets) = octets
-octets_of (Took octets) = octets
-octets_of other = []
+abbrev pub octets_of_answer : Answer → List ℕ
+octets_of_answer (Came octets) = octets
+octets_of_answer (Took octets) = octets
+octets_of_answer other = []
 
 -- how many octets came and were taken with answers, in all
 abbrev pub count_in : List Answer → ℕ
-count_in answers = sum_by (λ a. length (octets_of a)) answers
+count_in answers = sum_by (λ a. length (octets_of_answer a)) answers
 
 -- the octets that were taken with an answer
 abbrev pub octets_taken : Answer → List ℕ
@@ -37,12 +37,12 @@ abbrev pub told_by : Recording → Option (List Answer)
 told_by recording = if recording.is_over then None else Some recording.answers
 
 -- whether there is room for one answer more, with so many octets
-abbrev pub has_room : Recording → ℕ → Bool
-has_room recording count = nat_lt (length recording.answers) recording.room && nat_le (count_in recording.answers + count) recording.room
+abbrev pub has_room_for : Recording → ℕ → Bool
+has_room_for recording count = nat_lt (length recording.answers) recording.room && nat_le (count_in recording.answers + count) recording.room
 
 -- the record after one answer more
-abbrev pub noted : Recording → Answer → Recording
-noted recording answer =
-    if not recording.is_over && has_room recording (length (octets_of answer))
+abbrev pub recording_with : Recording → Answer → Recording
+recording_with recording answer =
+    if not recording.is_over && has_room_for recording (length (octets_of_answer answer))
     then record recording { answers = recording.answers ++ answer ∷ [] }
     else record recording { is_over = true }

@@ -2,8 +2,8 @@
 
 ghost use Rattle.std.specs.Prelude.{◌≡◌, ◌+◌, ◌<◌, ◌≤◌, ◌++◌, ◌∷◌, [], length, drop, map, option_map, slice_index_or, IfOk, IfErr};
 ghost use Rattle.dmr_wire.specs.Told.{Tells, GotWithin, PutWithin, of_read, of_write, of_connect, of_wait};
-ghost use Rattle.dmr_wire.specs.Recording.{empty_recording, noted, told_by, taken_in};
-ghost use Rattle.dmr_wire.specs.Entries.{entry_of};
+ghost use Rattle.dmr_wire.specs.Recording.{empty_recording, recording_with, told_by, taken_in};
+ghost use Rattle.dmr_wire.specs.Entries.{entry_of_answer};
 ghost use Rattle.dmr_wire.specs.Memory.{next_got, next_octets, reads_left, next_put};
 ghost use Rattle.dmr_wire.specs.Script.{memory_of};
 ghost use Rattle.dmr_wire.specs.Sorting.{HasRoom, IsEmpty};
@@ -76,7 +76,7 @@ impl MemoryPort {
     /// The entries of the record, the oldest first: each call and what it answered, without its octets. `None` where the port
     /// tells no record any more.
     pub fn entries(&self) -> Option<&[Entry]>
-        ensures { option_map (λ entries. entries.now) result ≡ option_map (map entry_of) (told_by self.now.recording) }
+        ensures { option_map (λ entries. entries.now) result ≡ option_map (map entry_of_answer) (told_by self.now.recording) }
     {
         self.recording.entries()
     }
@@ -92,7 +92,7 @@ impl Wire for MemoryPort {
         ensures told { Tells (told_by self.old.recording) (of_read result octets.new ∷ []) (told_by self.new.recording) }
         ensures got { result ≡ next_got self.old.reads (length octets.old) }
         ensures octets { let given = next_octets self.old.reads (length octets.old) in octets.new ≡ given ++ drop (length given) octets.old }
-        ensures port { self.new ≡ record self.old { reads = reads_left self.old.reads (length octets.old); recording = noted self.old.recording (of_read result octets.new) } }
+        ensures port { self.new ≡ record self.old { reads = reads_left self.old.reads (length octets.old); recording = recording_with self.old.recording (of_read result octets.new) } }
     {
         let got = read_next(&mut self.script.reads, octets);
         self.recording.note(Entry::Read(got), octets);
@@ -105,7 +105,7 @@ impl Wire for MemoryPort {
         ensures within { PutWithin result (length octets.now) }
         ensures told { Tells (told_by self.old.recording) (of_write result octets.now ∷ []) (told_by self.new.recording) }
         ensures put { result ≡ next_put self.old.writes (length octets.now) }
-        ensures port { self.new ≡ record self.old { writes = drop 1 self.old.writes; recording = noted self.old.recording (of_write result octets.now) } }
+        ensures port { self.new ≡ record self.old { writes = drop 1 self.old.writes; recording = recording_with self.old.recording (of_write result octets.now) } }
     {
         let put = match self.script.writes.pop_front() {
             None => Put::Octets(octets.len()),
@@ -122,7 +122,7 @@ impl Port for MemoryPort {
     fn connect(&mut self) -> Connect
         ensures told { Tells (told_by self.old.recording) (of_connect result ∷ []) (told_by self.new.recording) }
         ensures connect { result ≡ slice_index_or self.old.connects 0 Connect.Finished }
-        ensures port { self.new ≡ record self.old { connects = drop 1 self.old.connects; recording = noted self.old.recording (of_connect result) } }
+        ensures port { self.new ≡ record self.old { connects = drop 1 self.old.connects; recording = recording_with self.old.recording (of_connect result) } }
     {
         let connects = &mut self.script.connects;
         let connect = connects.pop_front().unwrap_or(Connect::Finished);
@@ -134,7 +134,7 @@ impl Port for MemoryPort {
     fn wait(&mut self) -> Waited
         ensures told { Tells (told_by self.old.recording) (of_wait result ∷ []) (told_by self.new.recording) }
         ensures waited { result ≡ slice_index_or self.old.waits 0 Waited.Silent }
-        ensures port { self.new ≡ record self.old { waits = drop 1 self.old.waits; recording = noted self.old.recording (of_wait result) } }
+        ensures port { self.new ≡ record self.old { waits = drop 1 self.old.waits; recording = recording_with self.old.recording (of_wait result) } }
     {
         let waits = &mut self.script.waits;
         let waited = waits.pop_front().unwrap_or(Waited::Silent);

@@ -1,8 +1,8 @@
 //! The record of a port in memory, in room that is taken when it is made.
 
 ghost use Rattle.std.specs.Prelude.{◌≡◌, ◌+◌, ◌≤◌, length, map, option_map, IfOk};
-ghost use Rattle.dmr_wire.specs.Recording.{empty_recording, has_room, noted, told_by, taken_in};
-ghost use Rattle.dmr_wire.specs.Entries.{answer_of, entry_of, came_with, taken_with};
+ghost use Rattle.dmr_wire.specs.Recording.{empty_recording, has_room_for, recording_with, told_by, taken_in};
+ghost use Rattle.dmr_wire.specs.Entries.{answer_of, entry_of_answer, came_with, taken_with};
 
 use crate::port::{Connect, Waited};
 use crate::wire::{Got, Put};
@@ -59,12 +59,12 @@ pub struct Recording {
 
 impl Model for Recording {
     ghost use Rattle.std.specs.Prelude.{◌≤◌, ◌+◌, vec_len, vec_capacity};
-    ghost use Rattle.dmr_wire.specs.Entries.{IsStored, answers_of};
+    ghost use Rattle.dmr_wire.specs.Entries.{IsStored, answers_of_entries};
     ghost use Rattle.dmr_wire.specs.Recording.{Recording};
 
     ghost Value = { Recording };
 
-    ghost view = { λ r. record { room = r.room; answers = answers_of r.entries.items r.came.items r.taken.items; is_over = r.is_over } };
+    ghost view = { λ r. record { room = r.room; answers = answers_of_entries r.entries.items r.came.items r.taken.items; is_over = r.is_over } };
 
     ghost invariant = { λ r. IsStored r.entries.items r.came.items r.taken.items
         × (vec_len r.entries ≤ r.room) × (vec_len r.came + vec_len r.taken ≤ r.room)
@@ -89,7 +89,7 @@ impl Recording {
     /// Notes what a call answered. Its octets, if it has any, are the first of the slice.
     pub fn note(&mut self, entry: Entry, octets: &[u8])
         requires { came_with entry + taken_with entry ≤ length octets.now }
-        ensures { self.new ≡ noted self.old (answer_of entry octets.now octets.now) }
+        ensures { self.new ≡ recording_with self.old (answer_of entry octets.now octets.now) }
     {
         let came = &octets[..entry.count_came()];
         let taken = &octets[..entry.count_taken()];
@@ -104,7 +104,7 @@ impl Recording {
 
     /// Whether there is room for one answer more, with so many octets.
     fn has_room(&self, octets: usize) -> bool
-        ensures { result ≡ has_room self.now octets }
+        ensures { result ≡ has_room_for self.now octets }
     {
         self.entries.len() < self.room && octets <= self.room - self.came.len() - self.taken.len()
     }
@@ -118,7 +118,7 @@ impl Recording {
 
     /// The entries of the answers, the oldest first; `None` where the record is over.
     pub fn entries(&self) -> Option<&[Entry]>
-        ensures { option_map (λ entries. entries.now) result ≡ option_map (map entry_of) (told_by self.now) }
+        ensures { option_map (λ entries. entries.now) result ≡ option_map (map entry_of_answer) (told_by self.now) }
     {
         if self.is_over {
             return None;

@@ -1,6 +1,6 @@
 use Rattle.std.proofs.Common.{◌≡◌, List, ℕ, ap, ◌∙◌, sym, subst, Some}
 use Rattle.dmr_csbk.specs.Check.{with_check}
-use Rattle.dmr_csbk.proofs.Sealed.{with_check-octets}
+use Rattle.dmr_csbk.proofs.SealLemmas.{with_check-octets}
 use Rattle.dmr_pdu.specs.Layout.{Agrees}
 use Rattle.dmr_burst.proofs.opened.Goals as goal
 

@@ -2,7 +2,7 @@
 
 ghost use Rattle.std.specs.Prelude.{◌≡◌, ◌<◌, [], ◌∷◌, ◌++◌, length, is_err};
 ghost use Rattle.dmr_calls.specs.declared.calls.TheConstants.{MOST_ASKS};
-ghost use Rattle.dmr_calls.specs.Asks.{just_asked, others_than, has_no_place, with_ask, ask_of, ask_to, has_own_ask, without_ask_to};
+ghost use Rattle.dmr_calls.specs.Asks.{new_asking, others_than, has_no_place, with_ask, ask_of, ask_to, has_own_ask, without_ask_to};
 ghost use Rattle.dmr_calls.specs.Engaged.{ask_with};
 ghost use Rattle.dmr_calls.specs.Due.{due_ask};
 
@@ -30,7 +30,7 @@ impl Calls {
     /// same source, if there is one. There must be a place for it: fewer than 32 asks of other sources stand.
     pub fn add_ask(&mut self, ask: &Ask)
         requires { length (others_than ask.now.source self.old.asks) < MOST_ASKS }
-        ensures { self.new ≡ record self.old { asks = others_than ask.now.source self.old.asks ++ just_asked ask.now ∷ [] } }
+        ensures { self.new ≡ record self.old { asks = others_than ask.now.source self.old.asks ++ new_asking ask.now ∷ [] } }
     {
         self.ask_over(ask.source);
         self.asks.push(Asking {

@@ -2,7 +2,7 @@
 
 ghost use Rattle.std.specs.Prelude.{◌≡◌, ◌≤◌, ◌<◌, [], ◌∷◌, ◌++◌, nat_le, length, is_err};
 ghost use Rattle.dmr_calls.specs.declared.calls.TheConstants.{MOST_LINES};
-ghost use Rattle.dmr_calls.specs.Lines.{with_line, without_line, first_line, lines_from, has_lines, line_of, line_to, has_group_line, has_own_group_line, has_own_line};
+ghost use Rattle.dmr_calls.specs.Lines.{with_line, without_line, first_line, page_of_lines, has_lines, line_of, line_to, has_group_line, has_own_group_line, has_own_line};
 ghost use Rattle.dmr_calls.specs.Engaged.{line_with};
 
 use super::{Calls, MOST_LINES};
@@ -14,7 +14,7 @@ use dmr_pdu::Address;
 
 /// At most 16 of the lines, from a place on.
 fn from_place(lines: &[Line], place: usize) -> &[Line]
-    ensures rows { result.now ≡ lines_from lines.now place }
+    ensures rows { result.now ≡ page_of_lines lines.now place }
     ensures few { length result.now ≤ 16 }
 {
     let rest = lines.get(place..).unwrap_or_default();
@@ -58,7 +58,7 @@ impl Calls {
 
     /// The lines from a place on, 16 at most, in their order. Places are counted from 0.
     pub fn lines_from(&self, place: usize) -> ArrayVec<Line, 16>
-        ensures rows { result.items ≡ lines_from self.now.lines place }
+        ensures rows { result.items ≡ page_of_lines self.now.lines place }
         ensures few { length result.items ≤ 16 }
     {
         let mut rows = ArrayVec::new();

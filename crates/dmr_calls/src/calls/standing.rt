@@ -2,7 +2,7 @@
 
 ghost use Rattle.std.specs.Prelude.{◌≡◌, ◌<◌, [], ◌∷◌, ◌++◌, nat_le, length, map, is_err};
 ghost use Rattle.dmr_calls.specs.declared.calls.TheConstants.{MOST_CALLS};
-ghost use Rattle.dmr_calls.specs.Calls.{just_begun, marked, with_call, on_other_slots, on_other_carriers, call_on, group_call, own_group_call, own_call};
+ghost use Rattle.dmr_calls.specs.Calls.{just_begun, with_activity, with_call, on_other_slots, on_other_carriers, call_on, group_call, own_group_call, own_call};
 ghost use Rattle.dmr_calls.specs.Engaged.{call_of};
 ghost use Rattle.dmr_calls.specs.Due.{due_call};
 
@@ -67,7 +67,7 @@ impl Calls {
 
     /// Marks the calls on a slot as active: no tick since then.
     pub fn active(&mut self, slot: Slot)
-        ensures { self.new ≡ record self.old { calls = map (marked slot) self.old.calls } }
+        ensures { self.new ≡ record self.old { calls = map (with_activity slot) self.old.calls } }
     {
         mark(&mut self.calls, &slot);
     }

@@ -2,10 +2,10 @@
 
 ghost use Rattle.std.specs.Prelude.{◌≡◌, ◌≤◌, ◌<◌, ◌+◌, ◌++◌, length, filter, if◌then◌else◌};
 ghost use Rattle.dmr_core.specs.declared.reply.Reply.TheVariants.{Calls, NoCarrier, Status};
-ghost use Rattle.dmr_core.specs.Rules.{acts_and_done, commanded, drop_radio, end_call, reply_alone};
+ghost use Rattle.dmr_core.specs.Rules.{acts_and_done, answer_to_command, drop_radio, end_call, reply_alone};
 ghost use Rattle.dmr_calls.specs.Calls.{call_on};
 ghost use Rattle.dmr_core.specs.Facts.{has_carrier};
-ghost use Rattle.dmr_core.specs.Shown.{all_shown, at_most_one, calls_of, shown, state_of};
+ghost use Rattle.dmr_core.specs.Shown.{all_slot_states, at_most_one, calls_on_carrier, slot_states, state_of};
 
 use super::Machine;
 use crate::act::{Act, ActList, Acts};
@@ -36,9 +36,9 @@ fn acts_and_done(list: ActList) -> Acts
 
 impl Machine {
     /// What answers a command.
-    #[tactic(auto, unfolding(crate::specs::Rules::commanded))]
+    #[tactic(auto, unfolding(crate::specs::Rules::answer_to_command))]
     pub(super) fn commanded(&self, command: &Command) -> Acts
-        ensures { result ≡ commanded self.now.plan self.now.facts command.now }
+        ensures { result ≡ answer_to_command self.now.plan self.now.facts command.now }
     {
         match command {
             Command::Status => reply_alone(self.status()),
@@ -95,7 +95,7 @@ impl Machine {
 
     /// The calls on a carrier, or that the plan has none of this number.
     fn calls_or_no_carrier(&self, carrier: CarrierNo) -> Reply
-        ensures { result ≡ (if has_carrier self.now.plan carrier then Calls (calls_of self.now.facts.calls carrier) else NoCarrier) }
+        ensures { result ≡ (if has_carrier self.now.plan carrier then Calls (calls_on_carrier self.now.facts.calls carrier) else NoCarrier) }
     {
         if self.plan.carrier_with(carrier).is_some() {
             Reply::Calls(self.calls_of(carrier))
@@ -121,7 +121,7 @@ impl Machine {
 
     /// The calls on a carrier, by slot.
     fn calls_of(&self, carrier: CarrierNo) -> BoundedList<Call, 2>
-        ensures { result ≡ calls_of self.now.facts.calls carrier }
+        ensures { result ≡ calls_on_carrier self.now.facts.calls carrier }
     {
         let mut calls = BoundedList::new();
         self.add_call(&mut calls, carrier, SlotNo::new(0));
@@ -159,7 +159,7 @@ impl Machine {
 
     /// Each slot of the plan, by carrier number, then slot, and how it stands.
     fn slots(&self) -> BoundedList<SlotState, 32>
-        ensures { result ≡ all_shown self.now.plan self.now.facts }
+        ensures { result ≡ all_slot_states self.now.plan self.now.facts }
     {
         let mut slots = BoundedList::new();
         for place in 0..32usize {
@@ -171,7 +171,7 @@ impl Machine {
     /// Adds a slot, and how it stands, if the plan has its carrier.
     fn add_slot(&self, slots: &mut BoundedList<SlotState, 32>, slot: &Slot)
         requires { length slots.old < 32 }
-        ensures slots { slots.new ≡ slots.old ++ shown self.now.plan self.now.facts slot.now }
+        ensures slots { slots.new ≡ slots.old ++ slot_states self.now.plan self.now.facts slot.now }
         ensures few { length slots.new ≤ length slots.old + 1 }
     {
         if self.plan.carrier_with(slot.carrier).is_some() {

@@ -2,7 +2,7 @@
 
 ghost use Rattle.std.specs.Prelude.{◌≡◌, ◌≤◌, ◌+◌, ◌++◌, length};
 ghost use Rattle.dmr_core.specs.Words.{is_engaged};
-ghost use Rattle.dmr_core.specs.Rules.{answered, cancel, heard, individual, is_leaving, leaving, new_call, option_bit, registration, request, talkgroup};
+ghost use Rattle.dmr_core.specs.Rules.{acts_for_called_radio, acts_for_cancel, acts_for_pdu, acts_for_individual_request, is_leaving, acts_for_leaving, acts_for_new_call, option_bit, acts_for_registration, acts_for_request, acts_for_talkgroup_request};
 
 use super::Machine;
 use crate::act::{Act, ActList};
@@ -20,9 +20,9 @@ fn has_option(options: Options, bit: u8) -> bool
 
 impl Machine {
     /// What answers a PDU.
-    #[tactic(auto, unfolding(crate::specs::Rules::heard))]
+    #[tactic(auto, unfolding(crate::specs::Rules::acts_for_pdu))]
     pub(super) fn heard(&self, pdu: &Pdu) -> ActList
-        ensures { result ≡ heard self.now.plan self.now.facts pdu.now }
+        ensures { result ≡ acts_for_pdu self.now.plan self.now.facts pdu.now }
     {
         match *pdu {
             Pdu::Random {
@@ -50,9 +50,9 @@ impl Machine {
     }
 
     /// What answers a request.
-    #[tactic(auto, unfolding(crate::specs::Rules::request))]
+    #[tactic(auto, unfolding(crate::specs::Rules::acts_for_request))]
     fn request(&self, asked: &Request, flags: Number<5>, kind: Kind) -> ActList
-        ensures { result ≡ request self.now.plan self.now.facts asked.now flags kind }
+        ensures { result ≡ acts_for_request self.now.plan self.now.facts asked.now flags kind }
     {
         let mut acts = BoundedList::new();
         if flags.get() != 0 {
@@ -92,9 +92,9 @@ impl Machine {
     }
 
     /// What answers a radio that leaves.
-    #[tactic(auto, unfolding(crate::specs::Rules::leaving))]
+    #[tactic(auto, unfolding(crate::specs::Rules::acts_for_leaving))]
     fn leaving(&self, request: &Request) -> ActList
-        ensures { result ≡ leaving self.now.plan self.now.facts request.now }
+        ensures { result ≡ acts_for_leaving self.now.plan self.now.facts request.now }
     {
         let mut acts = BoundedList::new();
         self.add_close(&mut acts, request.source);
@@ -111,9 +111,9 @@ impl Machine {
     }
 
     /// What answers a registration or a leaving.
-    #[tactic(auto, unfolding(crate::specs::Rules::registration))]
+    #[tactic(auto, unfolding(crate::specs::Rules::acts_for_registration))]
     fn registration(&self, request: &Request) -> ActList
-        ensures { result ≡ registration self.now.plan self.now.facts request.now }
+        ensures { result ≡ acts_for_registration self.now.plan self.now.facts request.now }
     {
         if self.is_leaving(request.options) {
             return self.leaving(request);
@@ -160,10 +160,10 @@ impl Machine {
     }
 
     /// A call where a slot is free and no line stands, else a line, else neither.
-    #[tactic(auto, unfolding(crate::specs::Rules::new_call))]
+    #[tactic(auto, unfolding(crate::specs::Rules::acts_for_new_call))]
     fn add_new_call(&self, acts: &mut ActList, line: &Line)
         requires { length acts.old + 5 ≤ 16 }
-        ensures acts { acts.new ≡ acts.old ++ new_call self.now.plan self.now.facts line.now }
+        ensures acts { acts.new ≡ acts.old ++ acts_for_new_call self.now.plan self.now.facts line.now }
     {
         if let Some(slot) = self.slot_for_new() {
             self.add_begin(acts, &line.on(slot));
@@ -176,9 +176,9 @@ impl Machine {
     }
 
     /// What answers a talkgroup request.
-    #[tactic(auto, unfolding(crate::specs::Rules::talkgroup))]
+    #[tactic(auto, unfolding(crate::specs::Rules::acts_for_talkgroup_request))]
     fn talkgroup(&self, asked: &Request) -> ActList
-        ensures { result ≡ talkgroup self.now.plan self.now.facts asked.now }
+        ensures { result ≡ acts_for_talkgroup_request self.now.plan self.now.facts asked.now }
     {
         let mut acts = BoundedList::new();
         let group = asked.target;
@@ -213,9 +213,9 @@ impl Machine {
     }
 
     /// What answers an individual request.
-    #[tactic(auto, unfolding(crate::specs::Rules::individual))]
+    #[tactic(auto, unfolding(crate::specs::Rules::acts_for_individual_request))]
     fn individual(&self, asked: &Request) -> ActList
-        ensures { result ≡ individual self.now.plan self.now.facts asked.now }
+        ensures { result ≡ acts_for_individual_request self.now.plan self.now.facts asked.now }
     {
         let mut acts = BoundedList::new();
         let source = asked.source;
@@ -251,9 +251,9 @@ impl Machine {
     }
 
     /// What answers the called radio's own answer.
-    #[tactic(auto, unfolding(crate::specs::Rules::answered))]
+    #[tactic(auto, unfolding(crate::specs::Rules::acts_for_called_radio))]
     fn answered(&self, reason: Reason, called: Address) -> ActList
-        ensures { result ≡ answered self.now.plan self.now.facts reason called }
+        ensures { result ≡ acts_for_called_radio self.now.plan self.now.facts reason called }
     {
         let mut acts = BoundedList::new();
         if let Some(ask) = self.calls.ask_to(called) {
@@ -273,9 +273,9 @@ impl Machine {
     }
 
     /// What answers a radio that calls its request off.
-    #[tactic(auto, unfolding(crate::specs::Rules::cancel))]
+    #[tactic(auto, unfolding(crate::specs::Rules::acts_for_cancel))]
     fn cancel(&self, asked: &Request) -> ActList
-        ensures { result ≡ cancel self.now.plan self.now.facts asked.now }
+        ensures { result ≡ acts_for_cancel self.now.plan self.now.facts asked.now }
     {
         let mut acts = BoundedList::new();
         if let Some(ask) = self.calls.ask_of(asked.source) {

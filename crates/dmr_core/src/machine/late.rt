@@ -2,7 +2,7 @@
 
 ghost use Rattle.std.specs.Prelude.{◌≡◌};
 ghost use Rattle.dmr_core.specs.declared.act.Act.TheVariants.{Fill};
-ghost use Rattle.dmr_core.specs.Facts.{done};
+ghost use Rattle.dmr_core.specs.Facts.{facts_after_act};
 ghost use Rattle.dmr_core.specs.Late.{carrier_on, last_slot, next_call};
 ghost use Rattle.dmr_core.specs.Rules.{late_entry};
 
@@ -55,7 +55,7 @@ impl Machine {
 
     /// The control slot is filled: that is counted, and the slot that a late entry names is the last.
     pub(super) fn fill(&mut self, slot: &Slot, pdu: &Pdu)
-        ensures { self.new ≡ record { plan = self.old.plan; facts = done self.old.facts (Fill slot.now pdu.now) } }
+        ensures { self.new ≡ record { plan = self.old.plan; facts = facts_after_act self.old.facts (Fill slot.now pdu.now) } }
     {
         let _ = slot;
         self.access.filled();

@@ -2,7 +2,7 @@
 
 ghost use Rattle.std.specs.Prelude.{◌≡◌, ◌≤◌, ◌<◌, ◌+◌, ◌++◌, length};
 ghost use Rattle.dmr_core.specs.declared.event.Event.TheVariants.{Poll};
-ghost use Rattle.dmr_core.specs.Rules.{acts_of, poll};
+ghost use Rattle.dmr_core.specs.Rules.{acts_of, acts_for_slot};
 
 use super::Machine;
 use crate::act::{Act, ActList};
@@ -22,10 +22,10 @@ impl Machine {
     }
 
     /// The first PDU that waits for a slot, or what fills the control slot.
-    #[tactic(auto, unfolding(crate::specs::Rules::poll))]
+    #[tactic(auto, unfolding(crate::specs::Rules::acts_for_slot))]
     fn add_poll(&self, acts: &mut ActList, slot: &Slot)
         requires { length acts.old < 16 }
-        ensures acts { acts.new ≡ acts.old ++ poll self.now.plan self.now.facts slot.now }
+        ensures acts { acts.new ≡ acts.old ++ acts_for_slot self.now.plan self.now.facts slot.now }
         ensures few { length acts.new ≤ length acts.old + 1 }
     {
         if let Some(pdu) = self.pool.first(*slot) {

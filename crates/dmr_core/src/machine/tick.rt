@@ -3,7 +3,7 @@
 ghost use Rattle.std.specs.Prelude.{◌≡◌, ◌≤◌, ◌+◌, ◌++◌, length};
 ghost use Rattle.dmr_calls.specs.Due.{due_of};
 ghost use Rattle.dmr_core.specs.Words.{standings};
-ghost use Rattle.dmr_core.specs.Rules.{ended, repeat, serve, tick};
+ghost use Rattle.dmr_core.specs.Rules.{acts_for_due_call, acts_for_due_ask, acts_for_first_line, acts_for_tick};
 
 use super::Machine;
 use crate::act::{Act, ActList};
@@ -12,9 +12,9 @@ use dmr_pdu::{BoundedList, Reason};
 
 impl Machine {
     /// What a tick brings about, after it was counted.
-    #[tactic(auto, unfolding(crate::specs::Rules::tick))]
+    #[tactic(auto, unfolding(crate::specs::Rules::acts_for_tick))]
     pub(super) fn tick(&self) -> ActList
-        ensures { result ≡ tick self.now.plan self.now.facts }
+        ensures { result ≡ acts_for_tick self.now.plan self.now.facts }
     {
         let mut acts = BoundedList::new();
         self.add_ended(&mut acts);
@@ -35,10 +35,10 @@ impl Machine {
     }
 
     /// The first call that is over ends.
-    #[tactic(auto, unfolding(crate::specs::Rules::ended))]
+    #[tactic(auto, unfolding(crate::specs::Rules::acts_for_due_call))]
     fn add_ended(&self, acts: &mut ActList)
         requires { length acts.old + 5 ≤ 16 }
-        ensures acts { acts.new ≡ acts.old ++ ended self.now.plan self.now.facts.calls }
+        ensures acts { acts.new ≡ acts.old ++ acts_for_due_call self.now.plan self.now.facts.calls }
         ensures few { length acts.new ≤ length acts.old + 5 }
     {
         if let Some(slot) = self.due().call {
@@ -49,10 +49,10 @@ impl Machine {
     }
 
     /// The ask with the oldest C_AHOY, once more or given up.
-    #[tactic(auto, unfolding(crate::specs::Rules::repeat))]
+    #[tactic(auto, unfolding(crate::specs::Rules::acts_for_due_ask))]
     fn add_repeat(&self, acts: &mut ActList)
         requires { length acts.old + 2 ≤ 16 }
-        ensures acts { acts.new ≡ acts.old ++ repeat self.now.plan self.now.facts }
+        ensures acts { acts.new ≡ acts.old ++ acts_for_due_ask self.now.plan self.now.facts }
         ensures few { length acts.new ≤ length acts.old + 2 }
     {
         if let Some(ask) = self.due().ask {
@@ -70,10 +70,10 @@ impl Machine {
     }
 
     /// A slot for the first line.
-    #[tactic(auto, unfolding(crate::specs::Rules::serve))]
+    #[tactic(auto, unfolding(crate::specs::Rules::acts_for_first_line))]
     fn add_serve(&self, acts: &mut ActList)
         requires { length acts.old + 6 ≤ 16 }
-        ensures acts { acts.new ≡ acts.old ++ serve self.now.plan self.now.facts }
+        ensures acts { acts.new ≡ acts.old ++ acts_for_first_line self.now.plan self.now.facts }
         ensures few { length acts.new ≤ length acts.old + 6 }
     {
         if let Some(line) = self.calls.first_line() {

@@ -1,9 +1,9 @@
 use Rattle.std.proofs.Common.{◌≡◌, ℕ, ◌+◌, ◌-◌, ◌*◌, ◌/◌, ◌%◌, ◌^◌, ◌<◌, [], ◌∷◌, List, Bool, refl, bit_and, bit_xor, ap, sym, subst, ◌∙◌, arith}
 use Rattle.std.proofs.lemmas.Nat.{and_mask}
-use Rattle.dmr_bits.specs.Bits.{spelled}
+use Rattle.dmr_bits.specs.Bits.{bits_value}
 use Rattle.dmr_bits.specs.Words.{word_bit}
 use Rattle.dmr_bits.specs.Packed.{packed_bit}
-use Rattle.dmr_bits.proofs.BitLemmas.{spelled-lt, spelled-field}
+use Rattle.dmr_bits.proofs.BitLemmas.{bits_value-lt, bits_value-field}
 use Rattle.dmr_bptc.proofs.OddSumLemmas.{added, added_by, added-four}
 use Rattle.dmr_bptc.proofs.SumTableLemmas.{sum_number, sum_entry, sum_entry-is, columns-are, rows-are, columns-lt, rows-lt, information-is}
 use Rattle.dmr_bptc.proofs.sums.sums_of.Goals as goal
@@ -13,23 +13,23 @@ unfolding added
 loop-k-init c = record { columns = refl; rows = refl; high = refl; low = refl }
 
 -- four bits in a word of 64
-four_of_part : (bit : ℕ → Bool) (k j part : ℕ) → j < 16 → part ≡ spelled bit (64 * k) 64 → bit_and (part / 2 ^ (60 - 4 * j)) 15 ≡ spelled bit (4 * (16 * k + j)) 4
+four_of_part : (bit : ℕ → Bool) (k j part : ℕ) → j < 16 → part ≡ bits_value bit (64 * k) 64 → bit_and (part / 2 ^ (60 - 4 * j)) 15 ≡ bits_value bit (4 * (16 * k + j)) 4
 four_of_part bit k j part lt is =
     and_mask (part / 2 ^ (60 - 4 * j)) 4
     ∙ ap (λ n. n / 2 ^ (60 - 4 * j) % 2 ^ 4) is
-    ∙ spelled-field bit (64 * k) 64 (4 * (16 * k + j)) 4 (60 - 4 * j) (omega arith) (omega arith)
+    ∙ bits_value-field bit (64 * k) 64 (4 * (16 * k + j)) 4 (60 - 4 * j) (omega arith) (omega arith)
 
-step : (word : List Bool) (number k j part sum : ℕ) → number < 4 → 16 * k + j < 49 → j < 16 → part ≡ spelled (word_bit word) (64 * k) 64
+step : (word : List Bool) (number k j part sum : ℕ) → number < 4 → 16 * k + j < 49 → j < 16 → part ≡ bits_value (word_bit word) (64 * k) 64
     → sum ≡ added (word_bit word) (sum_number number) (4 * (16 * k + j))
     → bit_xor sum (sum_entry number (16 * k + j) (bit_and (part / 2 ^ (60 - 4 * j)) 15)) ≡ added (word_bit word) (sum_number number) (4 * (16 * k + j + 1))
 step word number k j part sum number_lt group_lt lt is so_far =
-    let value : bit_and (part / 2 ^ (60 - 4 * j)) 15 ≡ spelled (word_bit word) (4 * (16 * k + j)) 4 = four_of_part (word_bit word) k j part lt is in
-    let small : bit_and (part / 2 ^ (60 - 4 * j)) 15 < 16 = omega (arith, value, spelled-lt (word_bit word) (4 * (16 * k + j)) 4) in
+    let value : bit_and (part / 2 ^ (60 - 4 * j)) 15 ≡ bits_value (word_bit word) (4 * (16 * k + j)) 4 = four_of_part (word_bit word) k j part lt is in
+    let small : bit_and (part / 2 ^ (60 - 4 * j)) 15 < 16 = omega (arith, value, bits_value-lt (word_bit word) (4 * (16 * k + j)) 4) in
     ap (λ x. bit_xor x (sum_entry number (16 * k + j) (bit_and (part / 2 ^ (60 - 4 * j)) 15))) so_far
     ∙ added-four (word_bit word) (sum_number number) (16 * k + j) (sum_entry number (16 * k + j) (bit_and (part / 2 ^ (60 - 4 * j)) 15))
     (sum_entry-is number (16 * k + j) (bit_and (part / 2 ^ (60 - 4 * j)) 15) number_lt group_lt small ∙ ap (added_by (sum_number number) (16 * k + j)) value)
 
-next : (word : List Bool) (number k j part sum : ℕ) → number < 4 → k < 3 → j < 16 → part ≡ spelled (word_bit word) (64 * k) 64
+next : (word : List Bool) (number k j part sum : ℕ) → number < 4 → k < 3 → j < 16 → part ≡ bits_value (word_bit word) (64 * k) 64
     → sum ≡ added (word_bit word) (sum_number number) (4 * (16 * k + j))
     → bit_xor sum (sum_entry number (16 * k + j) (bit_and (part / 2 ^ (60 - 4 * j)) 15)) ≡ added (word_bit word) (sum_number number) (4 * (16 * k + (j + 1)))
 next word number k j part sum number_lt k_lt lt is so_far =
@@ -37,7 +37,7 @@ next word number k j part sum number_lt k_lt lt is so_far =
     step word number k j part sum number_lt (omega arith) lt is so_far ∙ ap (λ n. added (word_bit word) (sum_number number) (4 * n)) e
 
 -- the places behind the third word
-last : (word : List Bool) (number k part sum : ℕ) → number < 4 → k ≡ 3 → part ≡ spelled (word_bit word) (64 * 3) 64
+last : (word : List Bool) (number k part sum : ℕ) → number < 4 → k ≡ 3 → part ≡ bits_value (word_bit word) (64 * 3) 64
     → sum ≡ added (word_bit word) (sum_number number) (64 * k)
     → bit_xor sum (sum_entry number 48 (bit_and (part / 2 ^ 60) 15)) ≡ added (word_bit word) (sum_number number) 196
 last word number k part sum number_lt at_end is so_far =

@@ -1,7 +1,7 @@
 use Rattle.std.proofs.Common.{ℕ, ◌<◌, subst, sym}
 use Rattle.std.specs.Prelude.{All}
 use Rattle.dmr_core.specs.declared.entry.Entry.{Entry}
-use Rattle.dmr_desk.proofs.Closing.{seat_has_view}
+use Rattle.dmr_desk.proofs.ClosingLemmas.{seat_has_view}
 use Rattle.dmr_desk.proofs.laws.reports_account.Goals as goal
 
 pub returns-clause-legal : goal.returns-clause-legal

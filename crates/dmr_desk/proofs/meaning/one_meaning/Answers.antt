@@ -1,5 +1,5 @@
 use Rattle.dmr_desk.specs.Work.{past_after}
-use Rattle.dmr_desk.proofs.OneMeaning.{one_meaning}
+use Rattle.dmr_desk.proofs.MeaningsAddUp.{one_meaning}
 use Rattle.dmr_desk.proofs.meaning.one_meaning.Goals as goal
 
 pub returns-clause-stands : goal.returns-clause-stands

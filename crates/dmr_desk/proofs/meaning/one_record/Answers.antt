@@ -1,5 +1,5 @@
 use Rattle.std.proofs.Common.{[]}
-use Rattle.dmr_desk.proofs.OneRecord.{one_record, record_since, whole_record}
+use Rattle.dmr_desk.proofs.RecordReadsAsOne.{one_record, record_since, whole_record}
 use Rattle.dmr_desk.proofs.meaning.one_record.Goals as goal
 
 pub returns-clause-steps : goal.returns-clause-steps

@@ -1,4 +1,4 @@
-use Rattle.dmr_desk.proofs.Ticking.{one_tick}
+use Rattle.dmr_desk.proofs.TickerLemmas.{one_tick}
 use Rattle.dmr_desk.proofs.pace.tick_once.Goals as goal
 
 pub returns-in-Ok-clause-ticks : goal.returns-in-Ok-clause-ticks

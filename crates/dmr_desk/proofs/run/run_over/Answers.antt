@@ -1,6 +1,6 @@
 use Rattle.std.proofs.Common.{◌≡◌, map, length, vec_len, ◌∙◌, sym}
 use Rattle.std.proofs.lemmas.List.{length-map}
-use Rattle.dmr_desk.proofs.Refusals.{if_ok_map, if_err_map, late_fault, on_ok}
+use Rattle.dmr_desk.proofs.RefusalLemmas.{if_ok_map, if_err_map, late_fault, on_ok}
 use Rattle.dmr_desk.proofs.run.run_over.Goals as goal
 
 pub returns-in-Some-clause-term : goal.returns-in-Some-clause-term

@@ -1,19 +1,19 @@
 use Rattle.std.proofs.Common.{arith, ◌≡◌, ◌+◌, List, [], ◌∷◌, ◌++◌, map, length, Some, None, ap, ◌∙◌, sym, refl}
 use Rattle.std.proofs.lemmas.List.{length-map}
 use Rattle.dmr_desk.specs.Refusing.{early_actor}
-use Rattle.dmr_desk.specs.Term.{Done, done}
-use Rattle.dmr_desk.proofs.Terms.{has_run, is_term, is_early, is_unaudited, map_same, map_parts, shut_at, last_shut}
+use Rattle.dmr_desk.specs.Term.{Done, work_done}
+use Rattle.dmr_desk.proofs.WorkersMakeATerm.{has_run, is_term, is_early, is_unaudited, map_same, map_parts, shut_at, last_shut}
 use Rattle.dmr_desk.proofs.term.finish.Goals as goal
 
 pub returns-in-None-clause-term : goal.returns-in-None-clause-term
 returns-in-None-clause-term g c = λ stations pacer console all ticked worked.
     let ws = c.args.all.carriers.items in
-    let ds : List Done = map (λ w. done (g.S.Serving.stand w.station) w.seat w.ending) ws in
+    let ds : List Done = map (λ w. work_done (g.S.Serving.stand w.station) w.seat w.ending) ws in
     let last_tick = c.args.all.ticker in
     let last = c.args.all.console in
     let back = c.gather_all-back.ensures in
     let told : early_actor (length c.in-Ok.report.journal) c.args.desk.limit c.gather_all-back.result.0.ends.items ≡ None = rw c.requires.limit (sym c.early.ensures ∙ c.in-None.is) in
-    rw (back.pacer, back.console) (is_term _ _ (has_run c.args.desk _ c.in-Ok.report _ _ stations ds pacer _ last_tick.seat last_tick.ending console (done (g.C.Serving.stand last.station) last.seat last.ending)
+    rw (back.pacer, back.console) (is_term _ _ (has_run c.args.desk _ c.in-Ok.report _ _ stations ds pacer _ last_tick.seat last_tick.ending console (work_done (g.C.Serving.stand last.station) last.seat last.ending)
     c.in-Ok.ensures.ok
     (back.seats ∙ ap (λ x. x ++ last_tick.seat ∷ last.seat ∷ []) (map_parts _ _ _ ws (λ w. refl)))
     (back.ends ∙ ap (λ x. x ++ last_tick.ending ∷ last.ending ∷ []) (map_parts _ _ _ ws (λ w. refl)))
@@ -23,12 +23,12 @@ returns-in-None-clause-term g c = λ stations pacer console all ticked worked.
 pub returns-in-Some-clause-late : goal.returns-in-Some-clause-late
 returns-in-Some-clause-late g c = λ stations pacer console all ticked worked.
     let ws = c.args.all.carriers.items in
-    let ds : List Done = map (λ w. done (g.S.Serving.stand w.station) w.seat w.ending) ws in
+    let ds : List Done = map (λ w. work_done (g.S.Serving.stand w.station) w.seat w.ending) ws in
     let last_tick = c.args.all.ticker in
     let last = c.args.all.console in
     let back = c.gather_all-back.ensures in
     let told : early_actor (length c.in-Ok.report.journal) c.args.desk.limit c.gather_all-back.result.0.ends.items ≡ Some c.in-Some.actor = rw c.requires.limit (sym c.early.ensures ∙ c.in-Some.is) in
-    is_early _ _ _ (has_run c.args.desk _ c.in-Ok.report _ _ stations ds pacer _ last_tick.seat last_tick.ending console (done (g.C.Serving.stand last.station) last.seat last.ending)
+    is_early _ _ _ (has_run c.args.desk _ c.in-Ok.report _ _ stations ds pacer _ last_tick.seat last_tick.ending console (work_done (g.C.Serving.stand last.station) last.seat last.ending)
     c.in-Ok.ensures.ok
     (back.seats ∙ ap (λ x. x ++ last_tick.seat ∷ last.seat ∷ []) (map_parts _ _ _ ws (λ w. refl)))
     (back.ends ∙ ap (λ x. x ++ last_tick.ending ∷ last.ending ∷ []) (map_parts _ _ _ ws (λ w. refl)))
@@ -38,13 +38,13 @@ returns-in-Some-clause-late g c = λ stations pacer console all ticked worked.
 pub returns-in-Err-clause-late : goal.returns-in-Err-clause-late
 returns-in-Err-clause-late g c = λ stations pacer console all ticked worked.
     let ws = c.args.all.carriers.items in
-    let ds : List Done = map (λ w. done (g.S.Serving.stand w.station) w.seat w.ending) ws in
+    let ds : List Done = map (λ w. work_done (g.S.Serving.stand w.station) w.seat w.ending) ws in
     let last_tick = c.args.all.ticker in
     let last = c.args.all.console in
     let back = c.gather_all-back.ensures in
     let refused = c.in-Err.ensures.fault in
-    let many : c.args.desk.actors ≡ length ds + 2 = let n = length-map ws (λ w. done (g.S.Serving.stand w.station) w.seat w.ending) in let r = c.requires.actors in omega arith in
-    is_unaudited c.args.desk _ refused.0 refused.1 _ stations ds pacer _ last_tick.seat last_tick.ending console (done (g.C.Serving.stand last.station) last.seat last.ending)
+    let many : c.args.desk.actors ≡ length ds + 2 = let n = length-map ws (λ w. work_done (g.S.Serving.stand w.station) w.seat w.ending) in let r = c.requires.actors in omega arith in
+    is_unaudited c.args.desk _ refused.0 refused.1 _ stations ds pacer _ last_tick.seat last_tick.ending console (work_done (g.C.Serving.stand last.station) last.seat last.ending)
     many refused.2 refused.3
     (back.seats ∙ ap (λ x. x ++ last_tick.seat ∷ last.seat ∷ []) (map_parts _ _ _ ws (λ w. refl)))
     all ticked worked

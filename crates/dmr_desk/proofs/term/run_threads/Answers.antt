@@ -1,5 +1,5 @@
 use Rattle.std.proofs.Common.{rules, ◌∙◌}
-use Rattle.dmr_desk.proofs.Crews.{new_then, all_new_then, crew_of}
+use Rattle.dmr_desk.proofs.CrewLemmas.{new_then, all_new_then, crew_of}
 use Rattle.dmr_desk.proofs.term.run_threads.Goals as goal
 
 pub invariant_of-crew : goal.invariant_of-crew

@@ -2,7 +2,7 @@ use Rattle.std.proofs.Common.{◌≡◌, length, ◌∙◌, sym}
 use Rattle.std.proofs.lemmas.List.{map-append}
 use Rattle.std.proofs.lemmas.List.Elements.{All-push}
 use Rattle.dmr_desk.specs.declared.ending.Ending.TheVariants.{GateShut}
-use Rattle.dmr_desk.proofs.Crews.{all_done_snoc, new_but_last, last_number}
+use Rattle.dmr_desk.proofs.CrewLemmas.{all_done_snoc, new_but_last, last_number}
 use Rattle.dmr_desk.proofs.threads.+run_all.Goals as goal
 
 pub spawn_with-requires-clause-runs : goal.spawn_with-requires-clause-runs

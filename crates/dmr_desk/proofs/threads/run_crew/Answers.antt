@@ -1,4 +1,4 @@
-use Rattle.dmr_desk.proofs.Crews.{all_new_if}
+use Rattle.dmr_desk.proofs.CrewLemmas.{all_new_if}
 use Rattle.dmr_desk.proofs.threads.run_crew.Goals as goal
 
 pub run_all-requires-clause-new : goal.run_all-requires-clause-new

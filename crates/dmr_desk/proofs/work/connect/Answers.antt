@@ -1,5 +1,5 @@
 use Rattle.dmr_desk.specs.Work.{Stand, moment, Going}
-use Rattle.dmr_desk.proofs.Working.{same_calls, went_ready, went_not_yet, went_finished}
+use Rattle.dmr_desk.proofs.WorkerLemmas.{same_calls, went_ready, went_not_yet, went_finished}
 use Rattle.dmr_desk.proofs.work.connect.Goals as goal
 
 pub returns-in-Ready-clause-goes : goal.returns-in-Ready-clause-goes

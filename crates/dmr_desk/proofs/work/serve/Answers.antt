@@ -1,5 +1,5 @@
 use Rattle.dmr_desk.specs.Work.{Moment, Stand, moment, Going}
-use Rattle.dmr_desk.proofs.Working.{same_calls, went_idle, went_paused, went_refused, went_shut, went_closed}
+use Rattle.dmr_desk.proofs.WorkerLemmas.{same_calls, went_idle, went_paused, went_refused, went_shut, went_closed}
 use Rattle.dmr_desk.proofs.work.serve.Goals as goal
 
 pub returns-in-Idle-clause-goes : goal.returns-in-Idle-clause-goes

@@ -1,6 +1,6 @@
 use Rattle.std.proofs.Common.{refl}
 use Rattle.dmr_desk.specs.Work.{moment}
-use Rattle.dmr_desk.proofs.Working.{going_from}
+use Rattle.dmr_desk.proofs.WorkerLemmas.{going_from}
 use Rattle.dmr_desk.proofs.work.work.Goals as goal
 
 pub loop-init : goal.loop-init

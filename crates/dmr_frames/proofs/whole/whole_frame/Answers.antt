@@ -4,7 +4,7 @@ use Rattle.std.proofs.lemmas.List.{take_more}
 use Rattle.dmr_frames.specs.declared.cutter.Step.TheVariants.{Need, Frame}
 use Rattle.dmr_frames.specs.Rest.{Rest, Open}
 use Rattle.dmr_frames.specs.Stream.{IsOpen}
-use Rattle.dmr_frames.specs.Reading.{step_at, fed, left_by, rest_after}
+use Rattle.dmr_frames.specs.Reading.{step_at, step_from, rest_after_octet, rest_after}
 use Rattle.dmr_frames.proofs.ReadingLemmas.{open_nothing}
 use Rattle.dmr_frames.proofs.OneFrameLemmas.{front_of, last_of, front-last, small-front_of, step-in_front, step-after_front, open-after_need, spelled-at_frame}
 use Rattle.dmr_frames.proofs.whole.whole_frame.Goals as goal
@@ -19,7 +19,7 @@ returns-in_default-feed_byte c =
     let i = c.loop-octet.octet-index in
     record {
       found = tt;
-      only = λ f hf e. absurd (c.in_default-feed_byte.not-Need (c.feed_byte.ensures.step ∙ ap (λ (r : Rest). fed r (get_or (front_of octets) i 0)) c.loop-octet.invariant.rest
+      only = λ f hf e. absurd (c.in_default-feed_byte.not-Need (c.feed_byte.ensures.step ∙ ap (λ (r : Rest). step_from r (get_or (front_of octets) i 0)) c.loop-octet.invariant.rest
           ∙ step-in_front octets i f (λ k. omega (arith, c.type_inv.octets k)) (omega arith) (omega arith) hf e));
     }
 
@@ -30,11 +30,11 @@ loop-octet-preserved c =
     let q : List ℕ = take i front in
     let x : ℕ = get_or front i 0 in
     let small : x < 256 = small-front_of c.args.octets.now i (λ k. omega (arith, c.type_inv.octets k)) (omega arith) in
-    let need : step_at q x ≡ Need = sym (c.in-Need.ensures.step ∙ ap (λ (r : Rest). fed r x) c.loop-octet.invariant.rest) in
+    let need : step_at q x ≡ Need = sym (c.in-Need.ensures.step ∙ ap (λ (r : Rest). step_from r x) c.loop-octet.invariant.rest) in
     let longer : take (i + 1) front ≡ q ++ x ∷ [] = take_more front i 0 (omega arith) in
     let P : List ℕ → Type 0 = λ xs. IsOpen xs in
     record {
-      rest = c.feed_byte.ensures.rest ∙ ap (λ (r : Rest). left_by r x) c.loop-octet.invariant.rest ∙ ap (rest_after q x) need ∙ ap Open (sym longer);
+      rest = c.feed_byte.ensures.rest ∙ ap (λ (r : Rest). rest_after_octet r x) c.loop-octet.invariant.rest ∙ ap (rest_after q x) need ∙ ap Open (sym longer);
       begun = subst P (sym longer) (open-after_need q x small c.loop-octet.invariant.begun need);
     }
 
@@ -42,8 +42,8 @@ loop-octet-preserved c =
 open_at_end : (xs : List ℕ) (i : ℕ) → IsOpen (take i xs) → i ≡ length xs → IsOpen xs
 open_at_end xs i h e = let P : List ℕ → Type 0 = λ ys. IsOpen ys in subst P (ap (λ (n : ℕ). take n xs) e ∙ take-length xs) h
 
-fed_at_end : (xs : List ℕ) (i x : ℕ) (r : Rest) → r ≡ Open (take i xs) → i ≡ length xs → fed r x ≡ step_at xs x
-fed_at_end xs i x r h e = ap (λ (s : Rest). fed s x) (h ∙ ap Open (ap (λ (n : ℕ). take n xs) e ∙ take-length xs))
+fed_at_end : (xs : List ℕ) (i x : ℕ) (r : Rest) → r ≡ Open (take i xs) → i ≡ length xs → step_from r x ≡ step_at xs x
+fed_at_end xs i x r h e = ap (λ (s : Rest). step_from s x) (h ∙ ap Open (ap (λ (n : ℕ). take n xs) e ∙ take-length xs))
 
 pub returns-in-Frame-clause-found : goal.returns-in-Frame-clause-found
 returns-in-Frame-clause-found c =

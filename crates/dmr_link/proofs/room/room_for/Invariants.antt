@@ -1,10 +1,10 @@
 use Rattle.std.proofs.Common.{◌≡◌, ◌^◌, ◌-◌, ◌+◌, ◌≤◌, min, drop}
 use Rattle.dmr_link.specs.Room.{most_in}
-use Rattle.dmr_link.specs.Steps.{all_brought}
+use Rattle.dmr_link.specs.Steps.{notices_of_octets}
 use Rattle.dmr_link.proofs.room.room_for.Given as goal
 
 abbrev pub invariant-loop-octet : goal.invariant-loop-octet
 invariant-loop-octet l = record {
-  room : min (l.room + most_in (all_brought l.who l.trial (drop l.octet-index l.octets))) (2 ^ 64 - 1) ≡ min (most_in (all_brought l.who l.connection l.octets)) (2 ^ 64 - 1);
+  room : min (l.room + most_in (notices_of_octets l.who l.trial (drop l.octet-index l.octets))) (2 ^ 64 - 1) ≡ min (most_in (notices_of_octets l.who l.connection l.octets)) (2 ^ 64 - 1);
   fits : l.room ≤ 2 ^ 64 - 1;
 }

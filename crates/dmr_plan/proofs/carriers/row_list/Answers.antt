@@ -1,7 +1,7 @@
 use Rattle.std.proofs.Common.{arith, ap, length, length-append}
 use Rattle.std.proofs.lemmas.List.Elements.{All-push}
-use Rattle.dmr_plan.specs.Kept.{IsRow}
-use Rattle.dmr_plan.specs.Carriers.{carrier_of}
+use Rattle.dmr_plan.specs.Kept.{IsCarrierRow}
+use Rattle.dmr_plan.specs.Carriers.{carrier_of_item}
 use Rattle.dmr_plan.proofs.Apart.{AreApart-grown}
 use Rattle.dmr_plan.proofs.Turns.{in_turn-step}
 use Rattle.dmr_plan.proofs.carriers.row_list.Goals as goal
@@ -14,7 +14,7 @@ loop-value-preserved c =
     let more = c.push.ensures in
     record {
       count = omega (arith, simp length-append at (ap length more), old.count);
-      each = rw more (All-push IsRow _ row old.each new.limits);
+      each = rw more (All-push IsCarrierRow _ row old.each new.limits);
       apart = AreApart-grown c.args.console_port _ _ _ row c.as_slice.ensures.value more old.apart new.number new.lpcn new.port new.console;
-      same = in_turn-step (carrier_of c.args.console_port) _ _ _ row _ _ _ _ c.as_slice.ensures.value more c.loop-value-test.true c.value-item.is new.gives old.same;
+      same = in_turn-step (carrier_of_item c.args.console_port) _ _ _ row _ _ _ _ c.as_slice.ensures.value more c.loop-value-test.true c.value-item.is new.gives old.same;
     }

@@ -1,8 +1,8 @@
 use Rattle.std.proofs.Common.{sym, subst, ap, ◌∙◌, refl}
 use Rattle.dmr_calls.specs.Standings.{Standings}
-use Rattle.dmr_pool.specs.Slots.{Slots, is_held}
+use Rattle.dmr_pool.specs.Slots.{Slots, is_slot_held}
 use Rattle.dmr_core.specs.Facts.{Facts}
-use Rattle.dmr_core.specs.State.{State}
+use Rattle.dmr_core.specs.State.{SiteState}
 use Rattle.dmr_core.specs.Words.{stands_on}
 use Rattle.dmr_core.specs.May.{MayBegin}
 use Rattle.dmr_core.proofs.FreeLemmas.{pool_free}
@@ -11,7 +11,7 @@ use Rattle.dmr_core.proofs.machine.Machine.begin.Goals as goal
 
 pub hold-requires : goal.hold-requires
 hold-requires c =
-    let may = subst (λ (s : State). MayBegin s.plan s.facts c.args.call.now) (sym c.self.view_is) c.requires in
+    let may = subst (λ (s : SiteState). MayBegin s.plan s.facts c.args.call.now) (sym c.self.view_is) c.requires in
     let facts : Facts = record {
       up = c.self.inside.pool.up;
       registered = c.self.inside.registry;
@@ -34,10 +34,10 @@ invariant_of-self c =
       c.self.invariant.0,
       ap (λ (p : Slots). p.plan) c.hold.ensures ∙ c.self.invariant.1,
       λ s is.
-          ap (λ (p : Slots). is_held p.held s) c.hold.ensures
+          ap (λ (p : Slots). is_slot_held p.held s) c.hold.ensures
           ∙ begun held calls call c.keeps.ensures.held c.numbers_of.ensures c.self.invariant.2 s is
           ∙ sym (ap (λ (n : Standings). stands_on n.calls s) c.add_call.ensures),
     )
 
 pub add_call-requires : goal.add_call-requires
-add_call-requires c = let may = subst (λ (s : State). MayBegin s.plan s.facts c.args.call.now) (sym c.self.view_is) c.requires in may.few
+add_call-requires c = let may = subst (λ (s : SiteState). MayBegin s.plan s.facts c.args.call.now) (sym c.self.view_is) c.requires in may.few

@@ -1,5 +1,5 @@
 use Rattle.std.proofs.Common.{arith, ◌++◌, ◌∙◌, sym}
-use Rattle.dmr_core.specs.Shown.{shown}
+use Rattle.dmr_core.specs.Shown.{slot_states}
 use Rattle.dmr_core.proofs.ConsoleLemmas.{all_are_shown, shown_more}
 use Rattle.dmr_core.proofs.machine.Machine.slots.Goals as goal
 
@@ -7,7 +7,7 @@ pub loop-place-preserved : goal.loop-place-preserved
 loop-place-preserved c = record {
   slots =
       c.add_slot.ensures.slots
-      ∙ (λ i. c.loop-place.invariant.slots i ++ shown c.args.self.now.plan c.args.self.now.facts (c.at.ensures i))
+      ∙ (λ i. c.loop-place.invariant.slots i ++ slot_states c.args.self.now.plan c.args.self.now.facts (c.at.ensures i))
       ∙ sym (shown_more c.args.self.now.plan c.args.self.now.facts c.loop-place.place);
   few = omega (arith, c.add_slot.ensures.few, c.loop-place.invariant.few);
 }

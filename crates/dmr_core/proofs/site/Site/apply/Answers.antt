@@ -1,6 +1,6 @@
 use Rattle.std.proofs.Common.{[], ◌∷◌, sym, subst}
 use Rattle.dmr_core.specs.Journal.{entry_by_nobody}
-use Rattle.dmr_core.specs.State.{State, IsSite}
+use Rattle.dmr_core.specs.State.{SiteState, IsSite}
 use Rattle.dmr_core.proofs.ActsAreSafe.{sound_after}
 use Rattle.dmr_core.proofs.PlansAreKnown.{plan_known}
 use Rattle.dmr_core.proofs.AnswersMayBeDone.{acts_may}
@@ -8,7 +8,7 @@ use Rattle.dmr_core.proofs.site.Site.apply.Goals as goal
 
 pub invariant_of-self : goal.invariant_of-self
 invariant_of-self c =
-    let P : State → Type 0 = λ s. IsSite s in
+    let P : SiteState → Type 0 = λ s. IsSite s in
     subst P (sym c.apply.ensures.facts)
     (record {
       plan = c.self.invariant.plan;

@@ -2,12 +2,12 @@ use Rattle.std.proofs.Common.{◌∷◌, [], ◌++◌, arith, sym, subst}
 use Rattle.dmr_frames.specs.declared.cutter.Step.{Step}
 use Rattle.dmr_frames.specs.Rest.{Rest}
 use Rattle.dmr_frames.specs.Stream.{Reads}
-use Rattle.dmr_frames.specs.Reading.{fed, frame_of}
+use Rattle.dmr_frames.specs.Reading.{step_from, frame_of}
 use Rattle.dmr_frames.proofs.ReadingLemmas.{reads_on}
 use Rattle.dmr_frames.proofs.cutter.Cutter.feed_byte.Goals as goal
 
 pub returns-clause-stream : goal.returns-clause-stream
 returns-clause-stream c = λ octets frames h.
     let P : Step → Type 0 = λ s. Reads (octets ++ c.args.octet ∷ []) (frames ++ frame_of s) c.take.new.self in
-    let Q : Rest → Type 0 = λ r. Reads (octets ++ c.args.octet ∷ []) (frames ++ frame_of (fed c.args.self.now c.args.octet)) r in
+    let Q : Rest → Type 0 = λ r. Reads (octets ++ c.args.octet ∷ []) (frames ++ frame_of (step_from c.args.self.now c.args.octet)) r in
     subst P (sym c.take.ensures.step) (subst Q (sym c.take.ensures.rest) (reads_on octets frames c.args.self.now c.args.octet (omega arith) h))

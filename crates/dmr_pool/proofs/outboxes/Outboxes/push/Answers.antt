@@ -1,6 +1,6 @@
 use Rattle.std.proofs.Common.{arith, rules, length, ap, sym, ◌∙◌}
 use Rattle.dmr_pool.specs.Slots.{box}
-use Rattle.dmr_pool.specs.Grants.{Waiting, slot_counted}
+use Rattle.dmr_pool.specs.Grants.{WaitingPdus, slot_counted}
 use Rattle.dmr_pool.proofs.GrantLemmas.{few_counted, pushed_kept, pushed_none, pushed_one}
 use Rattle.dmr_pool.proofs.outboxes.Outboxes.push.Goals as goal
 
@@ -11,10 +11,10 @@ pub invariant_of-self : goal.invariant_of-self
 invariant_of-self c = (
   pushed_kept c.self.inside.plan c.self.inside.outboxes.items c.self.inside.grants c.args.slot.now c.args.pdu.now c.index.result c.index_mut.result.now c.keeps.ensures c.index.ensures.numbers c.index.ensures.value c.index_mut.ensures.value
       c.self.invariant.0 c.self.invariant.1 c.push.new.self c.push.ensures
-      (omega (arith, c.requires, ap (λ (w : Waiting). length (box w.outboxes c.args.slot.now)) c.self.view_is)),
+      (omega (arith, c.requires, ap (λ (w : WaitingPdus). length (box w.outboxes c.args.slot.now)) c.self.view_is)),
   pushed_one c.self.inside.plan c.self.inside.outboxes.items c.self.inside.grants c.args.slot.now c.args.pdu.now c.index.result c.index_mut.result.now c.keeps.ensures c.index.ensures.numbers c.index.ensures.value c.index_mut.ensures.value
       c.self.invariant.0 c.self.invariant.1 c.push.new.self c.in-Some.granted c.index-in-Some.result c.push.ensures
-      (ap (λ (w : Waiting). slot_counted w.plan c.args.slot.now c.args.pdu.now) c.self.view_is ∙ sym c.slot_counted-granted.ensures ∙ c.in-Some.is)
+      (ap (λ (w : WaitingPdus). slot_counted w.plan c.args.slot.now c.args.pdu.now) c.self.view_is ∙ sym c.slot_counted-granted.ensures ∙ c.in-Some.is)
       c.index-in-Some.ensures.numbers c.index-in-Some.ensures.value (search rules),
 )
 
@@ -22,7 +22,7 @@ pub invariant_of-self-in_default : goal.invariant_of-self-in_default
 invariant_of-self-in_default c = (
   pushed_kept c.self.inside.plan c.self.inside.outboxes.items c.self.inside.grants c.args.slot.now c.args.pdu.now c.index.result c.index_mut.result.now c.keeps.ensures c.index.ensures.numbers c.index.ensures.value c.index_mut.ensures.value
       c.self.invariant.0 c.self.invariant.1 c.push.new.self c.push.ensures
-      (omega (arith, c.requires, ap (λ (w : Waiting). length (box w.outboxes c.args.slot.now)) c.self.view_is)),
+      (omega (arith, c.requires, ap (λ (w : WaitingPdus). length (box w.outboxes c.args.slot.now)) c.self.view_is)),
   pushed_none c.self.inside.plan c.self.inside.outboxes.items c.self.inside.grants c.args.slot.now c.args.pdu.now c.index.result c.index_mut.result.now c.keeps.ensures c.index.ensures.numbers c.index.ensures.value c.index_mut.ensures.value
-      c.self.invariant.0 c.self.invariant.1 c.push.new.self c.push.ensures (ap (λ (w : Waiting). slot_counted w.plan c.args.slot.now c.args.pdu.now) c.self.view_is ∙ sym c.slot_counted-granted.ensures ∙ c.in_default.is),
+      c.self.invariant.0 c.self.invariant.1 c.push.new.self c.push.ensures (ap (λ (w : WaitingPdus). slot_counted w.plan c.args.slot.now c.args.pdu.now) c.self.view_is ∙ sym c.slot_counted-granted.ensures ∙ c.in_default.is),
 )

@@ -1,5 +1,5 @@
 use Rattle.std.proofs.Common.{ap, sym, subst, ◌∙◌}
-use Rattle.dmr_pool.specs.Grants.{Waiting, slot_counted}
+use Rattle.dmr_pool.specs.Grants.{WaitingPdus, slot_counted}
 use Rattle.dmr_pool.specs.Marks.{AreMarked}
 use Rattle.dmr_pool.proofs.MarkLemmas.{put_none, put_one}
 use Rattle.dmr_pool.proofs.pool.Pool.put.Goals as goal
@@ -7,14 +7,14 @@ use Rattle.dmr_pool.proofs.pool.Pool.put.Goals as goal
 pub invariant_of-self : goal.invariant_of-self
 invariant_of-self c =
     let inside = c.self.inside in
-    subst (λ (w : Waiting). AreMarked c.put-in-Some.new.self.bits (record { plan = w.plan; up = inside.up; held = inside.held; outboxes = w.outboxes })) (sym c.push.ensures)
+    subst (λ (w : WaitingPdus). AreMarked c.put-in-Some.new.self.bits (record { plan = w.plan; up = inside.up; held = inside.held; outboxes = w.outboxes })) (sym c.push.ensures)
     (put_one inside.outboxes.plan inside.up inside.held inside.outboxes.outboxes c.args.slot.now c.args.pdu.now c.keeps.ensures.plan c.keeps.ensures.outboxes c.put.ensures.numbers inside.free.bits c.put.new.self.bits c.put-in-Some.new.self.bits
     c.in-Some.granted c.put-in-Some.ensures.numbers c.self.invariant c.put.ensures.bits c.put-in-Some.ensures.bits
-    (ap (λ (w : Waiting). slot_counted w.plan c.args.slot.now c.args.pdu.now) (sym c.push.ensures) ∙ sym c.slot_counted.ensures ∙ c.in-Some.is))
+    (ap (λ (w : WaitingPdus). slot_counted w.plan c.args.slot.now c.args.pdu.now) (sym c.push.ensures) ∙ sym c.slot_counted.ensures ∙ c.in-Some.is))
 
 pub invariant_of-self-in_default : goal.invariant_of-self-in_default
 invariant_of-self-in_default c =
     let inside = c.self.inside in
-    subst (λ (w : Waiting). AreMarked c.put.new.self.bits (record { plan = w.plan; up = inside.up; held = inside.held; outboxes = w.outboxes })) (sym c.push.ensures)
+    subst (λ (w : WaitingPdus). AreMarked c.put.new.self.bits (record { plan = w.plan; up = inside.up; held = inside.held; outboxes = w.outboxes })) (sym c.push.ensures)
     (put_none inside.outboxes.plan inside.up inside.held inside.outboxes.outboxes c.args.slot.now c.args.pdu.now c.keeps.ensures.plan c.keeps.ensures.outboxes c.put.ensures.numbers inside.free.bits c.put.new.self.bits
-    c.self.invariant c.put.ensures.bits (ap (λ (w : Waiting). slot_counted w.plan c.args.slot.now c.args.pdu.now) (sym c.push.ensures) ∙ sym c.slot_counted.ensures ∙ c.in_default.is))
+    c.self.invariant c.put.ensures.bits (ap (λ (w : WaitingPdus). slot_counted w.plan c.args.slot.now c.args.pdu.now) (sym c.push.ensures) ∙ sym c.slot_counted.ensures ∙ c.in_default.is))

@@ -1,7 +1,7 @@
 use Rattle.std.proofs.Common.{rules, arith, ◌≡◌, ◌≤◌, ◌+◌, ◌++◌, length, sym, ◌∙◌, map, take, drop}
 use Rattle.std.proofs.lemmas.Grind.{common_steps}
 use Rattle.std.specs.List.{remove}
-use Rattle.dmr_table.specs.Places.{HasFirst, lowered, ArePlaces}
+use Rattle.dmr_table.specs.Places.{HasFirst, place_after_removal, ArePlaces}
 use Rattle.dmr_table.proofs.FoundLemmas.{past_all, other_key, first_entry}
 use Rattle.dmr_table.proofs.RemovalLemmas.{places_left}
 use Rattle.dmr_table.proofs.table.KeyedTable.remove_first.Goals as goal
@@ -37,9 +37,9 @@ invariant_of-self g c =
     let few : length c.self.inside.entries.items ≤ 65536 = omega (arith, c.self.invariant.few, c.self.invariant.small) in
     let first : HasFirst c.self.inside.places.items c.args.key c.in_ok-first.first = rw c.deref.ensures.value at c.in_ok-first.ensures in
     let n = c.index-place.result.now.index in
-    let left : ArePlaces g.V.Keyed.key_of (remove c.self.inside.entries.items n) (map (lowered n) (remove c.self.inside.places.items c.in_ok-first.first)) = places_left g.V.Keyed.key_of _ _ few c.self.invariant.places _ first.within c.index-place.result.now c.index-place.ensures c.remove-2.result in
-    let lower : c.lower.new.places ≡ map (lowered n) (remove c.self.inside.places.items c.in_ok-first.first) = rw (c.deref_mut.ensures.value, c.remove.ensures.items) at c.lower.ensures in
-    let written : take c.remove.new.self.len (c.lower.new.places ++ drop (length c.lower.new.places) c.remove.new.self.items) ≡ map (lowered n) (remove c.self.inside.places.items c.in_ok-first.first) = grind (arith, common_steps, lower) in
+    let left : ArePlaces g.V.Keyed.key_of (remove c.self.inside.entries.items n) (map (place_after_removal n) (remove c.self.inside.places.items c.in_ok-first.first)) = places_left g.V.Keyed.key_of _ _ few c.self.invariant.places _ first.within c.index-place.result.now c.index-place.ensures c.remove-2.result in
+    let lower : c.lower.new.places ≡ map (place_after_removal n) (remove c.self.inside.places.items c.in_ok-first.first) = rw (c.deref_mut.ensures.value, c.remove.ensures.items) at c.lower.ensures in
+    let written : take c.remove.new.self.len (c.lower.new.places ++ drop (length c.lower.new.places) c.remove.new.self.items) ≡ map (place_after_removal n) (remove c.self.inside.places.items c.in_ok-first.first) = grind (arith, common_steps, lower) in
     let items : c.remove-2.new.self.items ≡ remove c.self.inside.entries.items n = rw c.from.ensures at c.remove-2.ensures.items in
     record {
       small = c.self.invariant.small;

@@ -1,9 +1,9 @@
 use Rattle.std.proofs.Common.{◌≡◌, ◌+◌, ◌≤◌, List, ◌∷◌, [], ◌++◌, false, length, take, arith, sym, ◌∙◌, ap, length-append, length-take-le}
 use Rattle.std.proofs.lemmas.Grind.{common_steps}
 use Rattle.dmr_wire.specs.Told.{Answer}
-use Rattle.dmr_wire.specs.Recording.{Recording, octets_of, has_room}
-use Rattle.dmr_wire.specs.Entries.{IsStored, came_with, taken_with, answer_of, answers_of}
-use Rattle.dmr_wire.proofs.RecordingLemmas.{room_for_an_answer, octets_of-answer_of, answers_of-push, stored_push, noted-kept}
+use Rattle.dmr_wire.specs.Recording.{Recording, octets_of_answer, has_room_for}
+use Rattle.dmr_wire.specs.Entries.{IsStored, came_with, taken_with, answer_of, answers_of_entries}
+use Rattle.dmr_wire.proofs.RecordingLemmas.{room_for_an_answer, octets_of_answer-answer_of, answers_of_entries-push, stored_push, recording_with-kept}
 use Rattle.dmr_wire.proofs.recording.Recording.note.Goals as goal
 
 pub unwrap-requires : goal.unwrap-requires
@@ -57,15 +57,15 @@ returns c =
     let e = c.args.entry in
     let octets = c.args.octets.now in
     let answer = answer_of e octets octets in
-    let answers = answers_of a.entries.items a.came.items a.taken.items in
-    let kept : answers_of c.push_reserved.new.self.items c.extend_from_slice.new.self.items c.extend_from_slice-2.new.self.items ≡ answers ++ answer ∷ [] =
-    rw (c.push_reserved.ensures.items, came_stored c, taken_stored c) (answers_of-push a.entries.items e a.came.items a.taken.items octets c.self.invariant.0) in
+    let answers = answers_of_entries a.entries.items a.came.items a.taken.items in
+    let kept : answers_of_entries c.push_reserved.new.self.items c.extend_from_slice.new.self.items c.extend_from_slice-2.new.self.items ≡ answers ++ answer ∷ [] =
+    rw (c.push_reserved.ensures.items, came_stored c, taken_stored c) (answers_of_entries-push a.entries.items e a.came.items a.taken.items octets c.self.invariant.0) in
     let not_over : c.args.self.now.is_over ≡ false = sym (ap (λ (r : Recording). r.is_over) c.self.view_is) ∙ c.if-self.false in
-    let count : length (take c.count_came.result octets) + length (take c.count_taken.result octets) ≡ length (octets_of answer) =
+    let count : length (take c.count_came.result octets) + length (take c.count_taken.result octets) ≡ length (octets_of_answer answer) =
     let came : came_with e ≤ length octets = omega (arith, c.requires) in
     let taken : taken_with e ≤ length octets = omega (arith, c.requires) in
-    omega (arith, octets_of-answer_of e octets octets came taken, length-take-le (came_with e) octets came, length-take-le (taken_with e) octets taken, ap (λ n. length (take n octets)) c.count_came.ensures, ap (λ n. length (take n octets)) c.count_taken.ensures) in
-    let room = sym (c.if-not-has_room.ensures ∙ ap (has_room c.args.self.now) count) in
+    omega (arith, octets_of_answer-answer_of e octets octets came taken, length-take-le (came_with e) octets came, length-take-le (taken_with e) octets taken, ap (λ n. length (take n octets)) c.count_came.ensures, ap (λ n. length (take n octets)) c.count_taken.ensures) in
+    let room = sym (c.if-not-has_room.ensures ∙ ap (has_room_for c.args.self.now) count) in
     ap (λ (xs : List Answer). let r : Recording = record { room = a.room; answers = xs; is_over = a.is_over } in r) kept
     ∙ ap (λ (r : Recording). let q : Recording = record r { answers = r.answers ++ answer ∷ [] } in q) c.self.view_is
-    ∙ noted-kept c.args.self.now answer not_over room
+    ∙ recording_with-kept c.args.self.now answer not_over room

@@ -13,13 +13,13 @@ use Rattle.dmr_link.specs.declared.stream.Peer.{Peer}
 use Rattle.dmr_link.specs.declared.stream.Stream.{Stream}
 use Rattle.dmr_link.specs.declared.stream.Stream.TheVariants as stream
 use Rattle.dmr_link.specs.declared.talk.Talk.{Talk}
-use Rattle.dmr_link.specs.Owed.{Accounts, owed}
+use Rattle.dmr_link.specs.Owed.{Accounts, notices_owed}
 use Rattle.dmr_link.specs.Peers.{all_brings}
 use Rattle.dmr_link.specs.Session.{events_in}
 use Rattle.dmr_link.specs.Sessions.{Session, IsClosed, IsOver, Stands, StandsFor, WasServed, kept_of, lost_of}
 use Rattle.dmr_link.proofs.TextsGrow.{events-append}
 use Rattle.dmr_desk.specs.Meaning.{AllMean, AreAccounted, IsAccounted, IsOneMeaning}
-use Rattle.dmr_desk.specs.Work.{calls_of}
+use Rattle.dmr_desk.specs.Work.{deposits_of_sessions}
 
 -- ---- a link that is over owes nothing
 
@@ -35,13 +35,13 @@ closed_brings stream.Closed (x ∷ xs) at = closed_brings stream.Closed xs refl
 closed_brings (stream.Frames session) (x ∷ xs) at = frames_bring session.who session.connection (x ∷ xs) at
 closed_brings (stream.Lines begun) (x ∷ xs) at = cc
 
-over_owes : (l : Talk) → IsOver l → owed l ≡ []
+over_owes : (l : Talk) → IsOver l → notices_owed l ≡ []
 over_owes l over = (λ i. (kept_of (over.kept i) ++ lost_of (over.lost i)) ++ closed_brings l.connection l.unread over.connection i)
 
 -- ---- each connection
 
 module _ (laws : (l : Talk) (s : Session) → Stands l s → Accounts l s) where
-  newest : (l : Talk) (s : Session) (h : Stands l s) → IsAccounted l.who s (laws l s h).done (owed l)
+  newest : (l : Talk) (s : Session) (h : Stands l s) → IsAccounted l.who s (laws l s h).done (notices_owed l)
   newest l s h = let a = laws l s h in record { means = a.means; events = a.events; taken = a.taken }
 
   older : (who : Peer) (s : Session) → WasServed who s → (done : List Notice) × IsAccounted who s done []
@@ -58,7 +58,7 @@ module _ (laws : (l : Talk) (s : Session) → Stands l s → Accounts l s) where
       let earlier = all_older who ss (All-tail (WasServed who) s ss all) in
       (earlier.0 ++ own.0, (earlier.0, own.0, refl, earlier.1, own.1))
 
-  accounted : (l : Talk) (past : List Session) → StandsFor l past → (done : List Notice) × AreAccounted l.who past done (owed l)
+  accounted : (l : Talk) (past : List Session) → StandsFor l past → (done : List Notice) × AreAccounted l.who past done (notices_owed l)
   accounted l [] h = ([], (refl, over_owes l h.0))
   accounted l (s ∷ ss) h =
       let earlier = all_older l.who ss h.1 in
@@ -78,14 +78,14 @@ all_mean who (s ∷ ss) done owing are =
       are.4.means,
     )
 
-all_events : (who : Peer) (past : List Session) (done owing : List Notice) → AreAccounted who past done owing → events_in done ≡ map (λ (d : Deposit). d.event) (calls_of past)
+all_events : (who : Peer) (past : List Session) (done owing : List Notice) → AreAccounted who past done owing → events_in done ≡ map (λ (d : Deposit). d.event) (deposits_of_sessions past)
 all_events who [] done owing are = ap events_in are.0
 all_events who (s ∷ ss) done owing are =
     ap events_in are.2 ∙ events-append are.0 are.1
     ∙ (λ i. all_events who ss are.0 [] are.3 i ++ are.4.events i)
-    ∙ sym (map-append (λ (d : Deposit). d.event) (calls_of ss) s.calls)
+    ∙ sym (map-append (λ (d : Deposit). d.event) (deposits_of_sessions ss) s.calls)
 
 pub one_meaning : ((l : Talk) (s : Session) → Stands l s → Accounts l s) → (l : Talk) (past : List Session) → StandsFor l past → IsOneMeaning l past
 one_meaning laws l past h =
     let a = accounted laws l past h in
-    record { done = a.0; means = all_mean l.who past a.0 (owed l) a.1; events = all_events l.who past a.0 (owed l) a.1; connections = a.1 }
+    record { done = a.0; means = all_mean l.who past a.0 (notices_owed l) a.1; events = all_events l.who past a.0 (notices_owed l) a.1; connections = a.1 }

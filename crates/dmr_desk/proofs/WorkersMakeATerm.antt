@@ -12,14 +12,14 @@ use Rattle.dmr_desk.specs.declared.report.Report.{Report}
 use Rattle.dmr_desk.specs.declared.fault.CloseFault.{CloseFault}
 use Rattle.dmr_desk.specs.Audited.{IsAudited, IsFault}
 use Rattle.dmr_desk.specs.Pace.{Paced}
-use Rattle.dmr_desk.specs.Pages.{Pages, AreKept}
+use Rattle.dmr_desk.specs.Pages.{Pages, AreSoundPages}
 use Rattle.dmr_desk.specs.Refusing.{IsEarly, IsUnaudited, first_over, early_actor}
 use Rattle.dmr_desk.specs.Sitting.{Sitting, Opened, HasSeat}
 use Rattle.dmr_desk.specs.Views.{view_of}
 use Rattle.dmr_desk.specs.Work.{Stand}
-use Rattle.dmr_desk.specs.Term.{HasWorked, HasTicked, Start, End, started, ended, HasRun, IsTerm, Done, IsDone, AllDone, IsTicked}
-use Rattle.dmr_desk.proofs.Closing.{seat_has_view}
-use Rattle.dmr_desk.proofs.Crews.{all_done_length}
+use Rattle.dmr_desk.specs.Term.{HasWorked, HasTicked, Start, End, start_of_term, end_of_term, HasRun, IsTerm, Done, IsWorkDone, AllDone, IsTicked}
+use Rattle.dmr_desk.proofs.ClosingLemmas.{seat_has_view}
+use Rattle.dmr_desk.proofs.CrewLemmas.{all_done_length}
 
 -- ---- each seat has the view of its actor
 
@@ -144,8 +144,8 @@ last_shut ending_of ws first last n count g =
 
 pub has_run : (desk : Opened) (seats : List Sitting) (report : Report) (ends : List Ending) (stations ss : List Stand) (ds : List Done) (before after : Option Paced) (ts : Sitting) (te : Ending) (s : Stand) (d : Done)
     → IsAudited desk seats report → seats ≡ map (λ d. d.seat) ds ++ ts ∷ d.seat ∷ [] → ends ≡ map (λ d. d.ending) ds ++ te ∷ d.ending ∷ [] → stations ≡ map (λ d. d.at) ds
-    → AllDone 0 ss ds → IsTicked (length ss) before after ts te → IsDone (length ss + 1) s d
-    → HasRun (started desk.site desk.limit ss before s) (ended report ends stations after d.at)
+    → AllDone 0 ss ds → IsTicked (length ss) before after ts te → IsWorkDone (length ss + 1) s d
+    → HasRun (start_of_term desk.site desk.limit ss before s) (end_of_term report ends stations after d.at)
 has_run desk seats report ends stations ss ds before after ts te s d is es ee et all ticked worked =
     let journal : List Entry = report.journal in
     let n : length ds ≡ length ss = all_done_length 0 ss ds all in
@@ -218,8 +218,8 @@ has_seat n (suc i) (x ∷ xs) of low =
     let P : ℕ → Type 0 = HasSeat (x ∷ xs) in subst P m (seat_behind x xs (n + 1 + i) (has_seat (n + 1) i xs of.1 (omega arith)))
 
 pub is_unaudited : (desk : Opened) (seats : List Sitting) (pages : Pages) (held : ℕ) (fault : CloseFault) (ss : List Stand) (ds : List Done) (before after : Option Paced) (ts : Sitting) (te : Ending) (s : Stand) (d : Done)
-    → desk.actors ≡ length ds + 2 → AreKept pages → IsFault desk seats pages held fault → seats ≡ map (λ d. d.seat) ds ++ ts ∷ d.seat ∷ []
-    → AllDone 0 ss ds → IsTicked (length ss) before after ts te → IsDone (length ss + 1) s d → IsUnaudited (started desk.site desk.limit ss before s) fault
+    → desk.actors ≡ length ds + 2 → AreSoundPages pages → IsFault desk seats pages held fault → seats ≡ map (λ d. d.seat) ds ++ ts ∷ d.seat ∷ []
+    → AllDone 0 ss ds → IsTicked (length ss) before after ts te → IsWorkDone (length ss + 1) s d → IsUnaudited (start_of_term desk.site desk.limit ss before s) fault
 is_unaudited desk seats pages held fault ss ds before after ts te s d actors kept refused es all ticked worked =
     let all_of : AreOf 0 (map (λ x. x.seat) ds ++ ts ∷ d.seat ∷ []) = of_all 0 ss ds ts d.seat all (let e = ticked.0 in omega arith) (let e = worked.0 in omega arith) in
     let A : List Sitting → Type 0 = AreOf 0 in

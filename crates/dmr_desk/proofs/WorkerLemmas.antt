@@ -11,13 +11,13 @@ use Rattle.dmr_link.specs.declared.talk.Talk.{Talk}
 use Rattle.dmr_link.specs.Happenings.{Happening, Answered, Handed, Passed, answers_in, deposits_in, passages_in}
 use Rattle.dmr_link.specs.Passages.{Passage, Passes}
 use Rattle.dmr_link.specs.Peers.{is_going}
-use Rattle.dmr_link.specs.Recorded.{silenced}
-use Rattle.dmr_link.specs.Sessions.{How, Going, InputOver, ReadFaulty, WriteFaulty, CutAfter, how_then, Session, new_session, with_how, with_calls, Hearing, hearing, in_writing, took, heard, all_heard, IsQuiet, IsOver, StandsFor, served, is_kept, is_lost, how_cut, cut_past, EndsAs, Happens, Serves, Cuts}
+use Rattle.dmr_link.specs.Recorded.{sessions_after_silence}
+use Rattle.dmr_link.specs.Sessions.{How, Going, InputOver, ReadFaulty, WriteFaulty, CutAfter, how_then, Session, new_session, with_how, with_calls, Hearing, hearing_at, in_writing, took, hearing_after_answer, hearing_after_answers, IsQuiet, IsOver, StandsFor, sessions_after, is_kept, is_lost, how_cut, cut_past, EndsAs, Happens, Serves, Cuts}
 use Rattle.dmr_link.specs.Talks.{is_live}
 use Rattle.dmr_link.proofs.LinksStandForPasts.{dead_over, over_dead}
 use Rattle.dmr_link.proofs.StepsFollow.{happens_more, happens_none}
 use Rattle.dmr_desk.specs.declared.ending.Ending.TheVariants as ending
-use Rattle.dmr_desk.specs.Work.{Stand, Moment, moment, sides_at, Answers, Turns, Doing, Asked, Served, Waited, happened_in, happened_of, handing, past_then, past_after, calls_of, IsAsk, StopsAt, IsCall, IsOrderly, Went, Works, Waiting as IsWaiting, Going as IsGoing}
+use Rattle.dmr_desk.specs.Work.{Stand, Moment, moment, sides_at, Answers, Turns, Doing, Asked, Served, Waited, happened_in, happened_of, with_newest_deposits, past_then, past_after, deposits_of_sessions, IsAsk, StopsAt, IsCall, IsOrderly, Went, WorksUntil, IsAboutToWait as IsWaiting, Going as IsGoing}
 
 -- ---- one step more
 
@@ -26,7 +26,7 @@ went_nowhere m = record {
   who = refl;
   happens = happens_none (sides_at m.at m.calls);
   stands = λ past h. h;
-  view = λ past h. sym (append-nil (calls_of past));
+  view = λ past h. sym (append-nil (deposits_of_sessions past));
   orderly = λ past h. tt;
 }
 
@@ -42,7 +42,7 @@ deposits_both (Passed p ∷ xs) ys = deposits_both xs ys
 -- one more step
 went_on : (m n o : Moment) (ds : List Doing) (d : Doing) → Went m n ds → o.at.talk.who ≡ n.at.talk.who → Happens (sides_at n.at n.calls) (happened_in d) (sides_at o.at o.calls)
     → ((past : List Session) → StandsFor n.at.talk past → StandsFor o.at.talk (past_then past d))
-    → ((past : List Session) → StandsFor n.at.talk past → calls_of (past_then past d) ≡ calls_of past ++ deposits_in (happened_in d))
+    → ((past : List Session) → StandsFor n.at.talk past → deposits_of_sessions (past_then past d) ≡ deposits_of_sessions past ++ deposits_in (happened_in d))
     → ((past : List Session) → StandsFor n.at.talk (past_after past ds) → IsOrderly m.at.talk.who past ds → IsOrderly m.at.talk.who past (d ∷ ds))
     → Went m o (d ∷ ds)
 went_on m n o ds d w who happens stands view orderly = record {
@@ -52,8 +52,8 @@ went_on m n o ds d w who happens stands view orderly = record {
   view = λ past h.
       view (past_after past ds) (w.stands past h)
       ∙ ap (λ (c : List Deposit). c ++ deposits_in (happened_in d)) (w.view past h)
-      ∙ append_assoc (calls_of past) (deposits_in (happened_of ds)) (deposits_in (happened_in d))
-      ∙ ap (λ (c : List Deposit). calls_of past ++ c) (sym (deposits_both (happened_of ds) (happened_in d)));
+      ∙ append_assoc (deposits_of_sessions past) (deposits_in (happened_of ds)) (deposits_in (happened_in d))
+      ∙ ap (λ (c : List Deposit). deposits_of_sessions past ++ c) (sym (deposits_both (happened_of ds) (happened_in d)));
   orderly = λ past h. orderly past (w.stands past h) (w.orderly past h);
 }
 
@@ -96,42 +96,42 @@ took_calls : (s : Session) (octets : List ℕ) → (took s octets).session.calls
 took_calls s [] = refl
 took_calls s (x ∷ octets) = refl
 
-heard_calls : (h : Hearing) (a : Answer) → (heard h a).session.calls ≡ h.session.calls
+heard_calls : (h : Hearing) (a : Answer) → (hearing_after_answer h a).session.calls ≡ h.session.calls
 heard_calls h Opened = refl
 heard_calls h NotYet = refl
 heard_calls h Finished = refl
 heard_calls h (Came octets) = refl
 heard_calls h InputEnded = refl
-heard_calls h ReadInterrupted = either (nat_lt h.row 16) (hearing h.session (h.row + 1)) (hearing (with_how h.session ReadFaulty) 0) h.session.calls refl refl
+heard_calls h ReadInterrupted = either (nat_lt h.row 16) (hearing_at h.session (h.row + 1)) (hearing_at (with_how h.session ReadFaulty) 0) h.session.calls refl refl
 heard_calls h ReadBlocked = refl
 heard_calls h ReadFailed = refl
 heard_calls h (Took octets) = took_calls h.session octets
-heard_calls h WriteInterrupted = either (nat_lt h.writing 16) (in_writing h.session (h.writing + 1)) (hearing (with_how h.session WriteFaulty) 0) h.session.calls refl refl
+heard_calls h WriteInterrupted = either (nat_lt h.writing 16) (in_writing h.session (h.writing + 1)) (hearing_at (with_how h.session WriteFaulty) 0) h.session.calls refl refl
 heard_calls h WriteBlocked = refl
 heard_calls h WriteFailed = refl
 heard_calls h Again = refl
 heard_calls h Silent = refl
 
-all_calls : (h : Hearing) (answers : List Answer) → (all_heard h answers).session.calls ≡ h.session.calls
+all_calls : (h : Hearing) (answers : List Answer) → (hearing_after_answers h answers).session.calls ≡ h.session.calls
 all_calls h [] = refl
-all_calls h (a ∷ answers) = all_calls (heard h a) answers ∙ heard_calls h a
+all_calls h (a ∷ answers) = all_calls (hearing_after_answer h a) answers ∙ heard_calls h a
 
-ask_view : (past : List Session) (x : Answer) → IsAsk x → calls_of (past_then past (Asked x)) ≡ calls_of past ++ []
+ask_view : (past : List Session) (x : Answer) → IsAsk x → deposits_of_sessions (past_then past (Asked x)) ≡ deposits_of_sessions past ++ []
 ask_view past Opened is = refl
-ask_view past NotYet is = sym (append-nil (calls_of past))
-ask_view past Finished is = sym (append-nil (calls_of past))
+ask_view past NotYet is = sym (append-nil (deposits_of_sessions past))
+ask_view past Finished is = sym (append-nil (deposits_of_sessions past))
 ask_view past x is = absurd is
 
 -- a live link has a connection
 serve_view : (l : Talk) (past : List Session) (answers : List Answer) (deposits : List Deposit) → is_live l ≡ true → StandsFor l past
-    → calls_of (served past answers deposits) ≡ calls_of past ++ deposits
+    → deposits_of_sessions (sessions_after past answers deposits) ≡ deposits_of_sessions past ++ deposits
 serve_view l [] answers deposits live h = let dead : is_live l ≡ false = over_dead l h.0 in absurd (cc (dead, live))
 serve_view l (s ∷ ss) answers deposits live h =
-    ap (λ (c : List Deposit). calls_of ss ++ (c ++ deposits)) (all_calls (hearing s 0) answers) ∙ sym (append_assoc (calls_of ss) s.calls deposits)
+    ap (λ (c : List Deposit). deposits_of_sessions ss ++ (c ++ deposits)) (all_calls (hearing_at s 0) answers) ∙ sym (append_assoc (deposits_of_sessions ss) s.calls deposits)
 
-silent_view : (l : Talk) (past : List Session) (deposits : List Deposit) → is_live l ≡ true → StandsFor l past → calls_of (handing (silenced past) deposits) ≡ calls_of past ++ deposits
+silent_view : (l : Talk) (past : List Session) (deposits : List Deposit) → is_live l ≡ true → StandsFor l past → deposits_of_sessions (with_newest_deposits (sessions_after_silence past) deposits) ≡ deposits_of_sessions past ++ deposits
 silent_view l [] deposits live h = let dead : is_live l ≡ false = over_dead l h.0 in absurd (cc (dead, live))
-silent_view l (s ∷ ss) deposits live h = sym (append_assoc (calls_of ss) s.calls deposits)
+silent_view l (s ∷ ss) deposits live h = sym (append_assoc (deposits_of_sessions ss) s.calls deposits)
 
 -- ---- an ask
 
@@ -162,7 +162,7 @@ went_not_yet m n o g dead answers = (
   λ live. let e : is_live o.talk ≡ false = ap is_live answers.talk ∙ dead in absurd (cc (e, live)),
 )
 
-pub went_finished : (m n : Moment) (o : Stand) → IsGoing m n → is_live n.at.talk ≡ false → Answers n.at Finished o → Works m (moment o n.calls) ending.Finished
+pub went_finished : (m n : Moment) (o : Stand) → IsGoing m n → is_live n.at.talk ≡ false → Answers n.at Finished o → WorksUntil m (moment o n.calls) ending.Finished
 went_finished m n o g dead answers = (
   Asked Finished ∷ g.0,
   went_asking m n (moment o n.calls) g Finished dead tt (ap (λ (l : Talk). l.who) answers.talk) answers.told answers.passed refl (λ past h. still_stands n.at.talk o.talk past answers.talk h),
@@ -207,10 +207,10 @@ went_idle m n o g live s = (Served s.happened ended.Idle ∷ g.0, went_serving m
 pub went_paused : (m n o : Moment) → IsGoing m n → is_live n.at.talk ≡ true → Serves n.at.talk o.at.talk (sides_at n.at n.calls) (sides_at o.at o.calls) ended.Paused → IsGoing m o
 went_paused m n o g live s = (Served s.happened ended.Paused ∷ g.0, went_serving m n o ended.Paused g live s, λ alive. tt)
 
-pub went_refused : (m n o : Moment) → IsGoing m n → is_live n.at.talk ≡ true → Serves n.at.talk o.at.talk (sides_at n.at n.calls) (sides_at o.at o.calls) ended.TermOver → Works m o ending.TermOver
+pub went_refused : (m n o : Moment) → IsGoing m n → is_live n.at.talk ≡ true → Serves n.at.talk o.at.talk (sides_at n.at n.calls) (sides_at o.at o.calls) ended.TermOver → WorksUntil m o ending.TermOver
 went_refused m n o g live s = (Served s.happened ended.TermOver ∷ g.0, went_serving m n o ended.TermOver g live s, tt)
 
-pub went_shut : (m n o : Moment) → IsGoing m n → is_live n.at.talk ≡ true → Serves n.at.talk o.at.talk (sides_at n.at n.calls) (sides_at o.at o.calls) ended.GateShut → Works m o ending.GateShut
+pub went_shut : (m n o : Moment) → IsGoing m n → is_live n.at.talk ≡ true → Serves n.at.talk o.at.talk (sides_at n.at n.calls) (sides_at o.at o.calls) ended.GateShut → WorksUntil m o ending.GateShut
 went_shut m n o g live s = (Served s.happened ended.GateShut ∷ g.0, went_serving m n o ended.GateShut g live s, tt)
 
 -- the endings of a connection, and no other
@@ -246,7 +246,7 @@ went_again m n o g answers = (
   Waited Again [] ∷ g.0,
   went_on m n (moment o n.calls) g.0 (Waited Again []) g.1 (ap (λ (l : Talk). l.who) answers.talk) (answered n (moment o n.calls) Again [] answers.told answers.passed (sym (append-nil n.calls)))
       (λ past h. still_stands n.at.talk o.talk past answers.talk h)
-      (λ past h. sym (append-nil (calls_of past)))
+      (λ past h. sym (append-nil (deposits_of_sessions past)))
       (λ past h orderly. (refl, g.2, orderly)),
   λ live. tt,
 )
@@ -261,7 +261,7 @@ cut_how l s WriteFaulty kept unread = refl
 cut_how l s (CutAfter n b) kept unread = refl
 
 -- a cut of a link that keeps nothing and has nothing unread is what silence does
-silent_cut : (l : Talk) (past : List Session) (deposits : List Deposit) → l.kept ≡ None → l.unread ≡ [] → cut_past l past deposits ≡ handing (silenced past) deposits
+silent_cut : (l : Talk) (past : List Session) (deposits : List Deposit) → l.kept ≡ None → l.unread ≡ [] → cut_past l past deposits ≡ with_newest_deposits (sessions_after_silence past) deposits
 silent_cut l [] deposits kept unread = refl
 silent_cut l (s ∷ ss) deposits kept unread =
     (λ i. with_calls (record { came = s.came; taken = s.taken; how = cut_how l s s.how kept unread i; is_cut = true; calls = s.calls }) deposits ∷ ss)
@@ -275,7 +275,7 @@ went_cutting m n o later g mid answers turns k =
     went_on m n (moment o later) g.0 (Waited Silent k.deposits) g.1 (k.same ∙ ap (λ (l : Talk). l.who) answers.talk)
     (answered n (moment o later) Silent k.deposits told (turns.passed ∙ answers.passed) k.desk)
     (λ past h. let P : List Session → Type 0 = StandsFor o.talk in subst P (silent_cut mid.talk past k.deposits kept unread) (k.stands past (still_stands n.at.talk mid.talk past answers.talk h)))
-    (λ past h. silent_view n.at.talk past k.deposits (quiet_live n.at.talk g.3) h ∙ ap (λ (c : List Deposit). calls_of past ++ c) (sym (all_deposits k.deposits)))
+    (λ past h. silent_view n.at.talk past k.deposits (quiet_live n.at.talk g.3) h ∙ ap (λ (c : List Deposit). deposits_of_sessions past ++ c) (sym (all_deposits k.deposits)))
     (λ past h orderly. (tt, g.2, orderly))
 
 pub went_cut : (m n : Moment) (o : Stand) (later : List Deposit) (mid : Stand) → IsWaiting m n → Answers n.at Silent mid → Turns mid o → Cuts mid.talk o.talk n.calls later → IsOver o.talk → IsGoing m (moment o later)
@@ -285,7 +285,7 @@ went_cut m n o later mid g answers turns k over = (
   λ live. let dead : is_live o.talk ≡ false = over_dead o.talk over in absurd (cc (dead, live)),
 )
 
-pub went_cut_over : (m n : Moment) (o : Stand) (later : List Deposit) (mid : Stand) → IsWaiting m n → Answers n.at Silent mid → Turns mid o → Cuts mid.talk o.talk n.calls later → Works m (moment o later) ending.TermOver
+pub went_cut_over : (m n : Moment) (o : Stand) (later : List Deposit) (mid : Stand) → IsWaiting m n → Answers n.at Silent mid → Turns mid o → Cuts mid.talk o.talk n.calls later → WorksUntil m (moment o later) ending.TermOver
 went_cut_over m n o later mid g answers turns k = (Waited Silent k.deposits ∷ g.0, went_cutting m n o later g mid answers turns k, tt)
 
 -- ---- the desk was asked whether the term is over
@@ -293,8 +293,8 @@ went_cut_over m n o later mid g answers turns k = (Waited Silent k.deposits ∷ 
 pub same_calls : (M : Moment → Moment → Type 0) (m : Moment) (at : Stand) (calls later : List Deposit) → later ≡ calls → M m (moment at calls) → M m (moment at later)
 same_calls M m at calls later e h = let P : List Deposit → Type 0 = λ c. M m (moment at c) in subst P (sym e) h
 
-pub going_over : (m n : Moment) → IsGoing m n → Works m n ending.TermOver
+pub going_over : (m n : Moment) → IsGoing m n → WorksUntil m n ending.TermOver
 going_over m n g = (g.0, g.1, tt)
 
-pub waiting_over : (m n : Moment) → IsWaiting m n → Works m n ending.TermOver
+pub waiting_over : (m n : Moment) → IsWaiting m n → WorksUntil m n ending.TermOver
 waiting_over m n g = (g.0, g.1, tt)

@@ -9,10 +9,10 @@ use Rattle.dmr_link.specs.declared.ended.Ended.{Ended}
 use Rattle.dmr_link.specs.declared.ended.Ended.TheVariants as ended
 use Rattle.dmr_link.specs.declared.stream.Peer.{Peer}
 use Rattle.dmr_link.specs.Happenings.{Happening, Answered, Handed, Passed, answers_in, deposits_in, is_read}
-use Rattle.dmr_link.specs.Recorded.{Reading, reading, of_hearing, recorded, all_recorded, silenced}
-use Rattle.dmr_link.specs.Sessions.{Session, new_session, Hearing, ReadFaulty, WriteFaulty, hearing, in_writing, with_how, took, heard, all_heard, is_wire, reads_in, AreOfWire, served}
+use Rattle.dmr_link.specs.Recorded.{Reading, reading_at, of_hearing, reading_after_any, reading_after_all, sessions_after_silence}
+use Rattle.dmr_link.specs.Sessions.{Session, new_session, Hearing, ReadFaulty, WriteFaulty, hearing_at, in_writing, with_how, took, hearing_after_answer, hearing_after_answers, is_wire, reads_in, AreOfWire, sessions_after}
 use Rattle.dmr_desk.specs.Meaning.{in_record, read_on, IsOneRecord}
-use Rattle.dmr_desk.specs.Work.{Doing, Asked, Served, Waited, happened_in, happened_of, handing, past_after, IsAsk, IsWait, MayBegin, StopsAt, IsCall, IsOrderly}
+use Rattle.dmr_desk.specs.Work.{Doing, Asked, Served, Waited, happened_in, happened_of, with_newest_deposits, past_after, IsAsk, IsWait, MayBeginServe, StopsAt, IsCall, IsOrderly}
 
 -- ---- lists
 
@@ -26,9 +26,9 @@ no_answers : (deposits : List Deposit) → answers_in (map Handed deposits) ≡ 
 no_answers [] = refl
 no_answers (d ∷ deposits) = no_answers deposits
 
-recorded_both : (r : Reading) (xs ys : List Answer) → all_recorded r (xs ++ ys) ≡ all_recorded (all_recorded r xs) ys
+recorded_both : (r : Reading) (xs ys : List Answer) → reading_after_all r (xs ++ ys) ≡ reading_after_all (reading_after_all r xs) ys
 recorded_both r [] ys = refl
-recorded_both r (x ∷ xs) ys = recorded_both (recorded r x) xs ys
+recorded_both r (x ∷ xs) ys = recorded_both (reading_after_any r x) xs ys
 
 -- ---- what a desk took, aside
 
@@ -43,25 +43,25 @@ bare_took : (s : Session) (octets : List ℕ) → took (in_record s) octets ≡ 
 bare_took s [] = refl
 bare_took s (x ∷ octets) = refl
 
-bare_heard : (h : Hearing) (a : Answer) → heard (bare h) a ≡ bare (heard h a)
+bare_heard : (h : Hearing) (a : Answer) → hearing_after_answer (bare h) a ≡ bare (hearing_after_answer h a)
 bare_heard h Opened = refl
 bare_heard h NotYet = refl
 bare_heard h Finished = refl
 bare_heard h (Came octets) = refl
 bare_heard h InputEnded = refl
-bare_heard h ReadInterrupted = bare_cond (nat_lt h.row 16) (hearing h.session (h.row + 1)) (hearing (with_how h.session ReadFaulty) 0)
+bare_heard h ReadInterrupted = bare_cond (nat_lt h.row 16) (hearing_at h.session (h.row + 1)) (hearing_at (with_how h.session ReadFaulty) 0)
 bare_heard h ReadBlocked = refl
 bare_heard h ReadFailed = refl
 bare_heard h (Took octets) = bare_took h.session octets
-bare_heard h WriteInterrupted = bare_cond (nat_lt h.writing 16) (in_writing h.session (h.writing + 1)) (hearing (with_how h.session WriteFaulty) 0)
+bare_heard h WriteInterrupted = bare_cond (nat_lt h.writing 16) (in_writing h.session (h.writing + 1)) (hearing_at (with_how h.session WriteFaulty) 0)
 bare_heard h WriteBlocked = refl
 bare_heard h WriteFailed = refl
 bare_heard h Again = refl
 bare_heard h Silent = refl
 
-bare_all : (h : Hearing) (answers : List Answer) → all_heard (bare h) answers ≡ bare (all_heard h answers)
+bare_all : (h : Hearing) (answers : List Answer) → hearing_after_answers (bare h) answers ≡ bare (hearing_after_answers h answers)
 bare_all h [] = refl
-bare_all h (a ∷ answers) = ap (λ (k : Hearing). all_heard k answers) (bare_heard h a) ∙ bare_all (heard h a) answers
+bare_all h (a ∷ answers) = ap (λ (k : Hearing). hearing_after_answers k answers) (bare_heard h a) ∙ bare_all (hearing_after_answer h a) answers
 
 -- ---- a call of serve
 
@@ -73,13 +73,13 @@ not_yet reads few = ne_eqb reads 64 (λ e. omega arith)
 
 module _ (s : Session) (ss : List Session) (row writing reads : ℕ) where
   a_read : (a : Answer) → reads + 1 ≤ 64 →
-      of_hearing ss (if reads == 64 then 1 else reads + 1) (heard (at s (if reads == 64 then 0 else row) writing) a) ≡ of_hearing ss (reads + 1) (heard (at s row writing) a)
-  a_read a few = (λ i. of_hearing ss (cond (not_yet reads few i) 1 (reads + 1)) (heard (at s (cond (not_yet reads few i) 0 row) writing) a))
+      of_hearing ss (if reads == 64 then 1 else reads + 1) (hearing_after_answer (at s (if reads == 64 then 0 else row) writing) a) ≡ of_hearing ss (reads + 1) (hearing_after_answer (at s row writing) a)
+  a_read a few = (λ i. of_hearing ss (cond (not_yet reads few i) 1 (reads + 1)) (hearing_after_answer (at s (cond (not_yet reads few i) 0 row) writing) a))
 
-  a_write : (a : Answer) → of_hearing ss reads (heard (at s row writing) a) ≡ of_hearing ss (reads + 0) (heard (at s row writing) a)
-  a_write a = let e : reads ≡ reads + 0 = omega arith in ap (λ (n : ℕ). of_hearing ss n (heard (at s row writing) a)) e
+  a_write : (a : Answer) → of_hearing ss reads (hearing_after_answer (at s row writing) a) ≡ of_hearing ss (reads + 0) (hearing_after_answer (at s row writing) a)
+  a_write a = let e : reads ≡ reads + 0 = omega arith in ap (λ (n : ℕ). of_hearing ss n (hearing_after_answer (at s row writing) a)) e
 
-  one_more : (a : Answer) → is_wire a ≡ true → reads + is_read a ≤ 64 → recorded (reading (s ∷ ss) row writing reads) a ≡ of_hearing ss (reads + is_read a) (heard (at s row writing) a)
+  one_more : (a : Answer) → is_wire a ≡ true → reads + is_read a ≤ 64 → reading_after_any (reading_at (s ∷ ss) row writing reads) a ≡ of_hearing ss (reads + is_read a) (hearing_after_answer (at s row writing) a)
   one_more Opened wire few = cc
   one_more NotYet wire few = cc
   one_more Finished wire few = cc
@@ -97,15 +97,15 @@ module _ (s : Session) (ss : List Session) (row writing reads : ℕ) where
 
 -- within the reads of a call
 within : (ss : List Session) (answers : List Answer) (h : Hearing) (reads : ℕ) → AreOfWire answers → reads + reads_in answers ≤ 64 →
-    all_recorded (of_hearing ss reads h) answers ≡ of_hearing ss (reads + reads_in answers) (all_heard h answers)
+    reading_after_all (of_hearing ss reads h) answers ≡ of_hearing ss (reads + reads_in answers) (hearing_after_answers h answers)
 within ss [] h reads wire few = let e : reads ≡ reads + 0 = omega arith in ap (λ (n : ℕ). of_hearing ss n h) e
 within ss (a ∷ answers) h reads wire few =
     let this : reads + is_read a ≤ 64 = omega arith in
     let later : (reads + is_read a) + reads_in answers ≤ 64 = omega arith in
     let sum : (reads + is_read a) + reads_in answers ≡ reads + (is_read a + reads_in answers) = omega arith in
-    ap (λ (r : Reading). all_recorded r answers) (one_more h.session ss h.row h.writing reads a wire.0 this)
-    ∙ within ss answers (heard h a) (reads + is_read a) wire.1 later
-    ∙ ap (λ (n : ℕ). of_hearing ss n (all_heard (heard h a) answers)) sum
+    ap (λ (r : Reading). reading_after_all r answers) (one_more h.session ss h.row h.writing reads a wire.0 this)
+    ∙ within ss answers (hearing_after_answer h a) (reads + is_read a) wire.1 later
+    ∙ ap (λ (n : ℕ). of_hearing ss n (hearing_after_answers (hearing_after_answer h a) answers)) sum
 
 -- a reading is where a call is: after so many reads of it, or behind the reads of the call before, and before its first
 record Matches (ss : List Session) (r : Reading) (k : Hearing) (reads : ℕ) : Type 0 where
@@ -121,30 +121,30 @@ matches_same ss r k reads same = record {
 }
 
 abbrev Behind : List Session → List Answer → Type 0
-Behind ss answers = (h : Hearing) → AreOfWire answers → reads_in answers ≤ 64 → Matches ss (all_recorded (of_hearing ss 64 h) answers) (all_heard (at h.session 0 h.writing) answers) (reads_in answers)
+Behind ss answers = (h : Hearing) → AreOfWire answers → reads_in answers ≤ 64 → Matches ss (reading_after_all (of_hearing ss 64 h) answers) (hearing_after_answers (at h.session 0 h.writing) answers) (reads_in answers)
 
 -- a write there
 written : (ss : List Session) (answers : List Answer) (k : Hearing) → Behind ss answers → k.row ≡ 0 → AreOfWire answers → 0 + reads_in answers ≤ 64 →
-    Matches ss (all_recorded (of_hearing ss 64 k) answers) (all_heard k answers) (0 + reads_in answers)
+    Matches ss (reading_after_all (of_hearing ss 64 k) answers) (hearing_after_answers k answers) (0 + reads_in answers)
 written ss answers k behind none wire few =
-    let P : ℕ → Type 0 = λ n. Matches ss (all_recorded (of_hearing ss 64 k) answers) (all_heard (at k.session n k.writing) answers) (reads_in answers) in
-    let Q : ℕ → Type 0 = λ n. Matches ss (all_recorded (of_hearing ss 64 k) answers) (all_heard k answers) n in
+    let P : ℕ → Type 0 = λ n. Matches ss (reading_after_all (of_hearing ss 64 k) answers) (hearing_after_answers (at k.session n k.writing) answers) (reads_in answers) in
+    let Q : ℕ → Type 0 = λ n. Matches ss (reading_after_all (of_hearing ss 64 k) answers) (hearing_after_answers k answers) n in
     let same : reads_in answers ≡ 0 + reads_in answers = omega arith in
     let later : reads_in answers ≤ 64 = omega arith in
     subst Q same (subst P (sym none) (behind k wire later))
 
-row_interrupted : (b : Bool) (s : Session) (n : ℕ) → (cond b (in_writing s n) (hearing (with_how s WriteFaulty) 0)).row ≡ 0
+row_interrupted : (b : Bool) (s : Session) (n : ℕ) → (cond b (in_writing s n) (hearing_at (with_how s WriteFaulty) 0)).row ≡ 0
 row_interrupted true s n = refl
 row_interrupted false s n = refl
 
-row_taken : (s : Session) (row writing : ℕ) (octets : List ℕ) → (heard (at s row writing) (Took octets)).row ≡ 0
+row_taken : (s : Session) (row writing : ℕ) (octets : List ℕ) → (hearing_after_answer (at s row writing) (Took octets)).row ≡ 0
 row_taken s row writing [] = refl
 row_taken s row writing (x ∷ octets) = refl
 
 -- the first read there
 first_read : (ss : List Session) (answers : List Answer) (k : Hearing) → AreOfWire answers → 1 + reads_in answers ≤ 64 →
-    Matches ss (all_recorded (of_hearing ss 1 k) answers) (all_heard k answers) (1 + reads_in answers)
-first_read ss answers k wire few = matches_same ss (all_recorded (of_hearing ss 1 k) answers) (all_heard k answers) (1 + reads_in answers) (within ss answers k 1 wire few)
+    Matches ss (reading_after_all (of_hearing ss 1 k) answers) (hearing_after_answers k answers) (1 + reads_in answers)
+first_read ss answers k wire few = matches_same ss (reading_after_all (of_hearing ss 1 k) answers) (hearing_after_answers k answers) (1 + reads_in answers) (within ss answers k 1 wire few)
 
 -- behind the 64 reads of the call before
 behind : (ss : List Session) (answers : List Answer) → Behind ss answers
@@ -154,19 +154,19 @@ behind ss (NotYet ∷ answers) h wire few = let e = wire.0 in absurd (cc e)
 behind ss (Finished ∷ answers) h wire few = let e = wire.0 in absurd (cc e)
 behind ss (Again ∷ answers) h wire few = let e = wire.0 in absurd (cc e)
 behind ss (Silent ∷ answers) h wire few = let e = wire.0 in absurd (cc e)
-behind ss (Came octets ∷ answers) h wire few = first_read ss answers (heard (at h.session 0 h.writing) (Came octets)) wire.1 few
-behind ss (InputEnded ∷ answers) h wire few = first_read ss answers (heard (at h.session 0 h.writing) InputEnded) wire.1 few
-behind ss (ReadInterrupted ∷ answers) h wire few = first_read ss answers (heard (at h.session 0 h.writing) ReadInterrupted) wire.1 few
-behind ss (ReadBlocked ∷ answers) h wire few = first_read ss answers (heard (at h.session 0 h.writing) ReadBlocked) wire.1 few
-behind ss (ReadFailed ∷ answers) h wire few = first_read ss answers (heard (at h.session 0 h.writing) ReadFailed) wire.1 few
-behind ss (Took octets ∷ answers) h wire few = written ss answers (heard (at h.session 0 h.writing) (Took octets)) (behind ss answers) (row_taken h.session 0 h.writing octets) wire.1 few
+behind ss (Came octets ∷ answers) h wire few = first_read ss answers (hearing_after_answer (at h.session 0 h.writing) (Came octets)) wire.1 few
+behind ss (InputEnded ∷ answers) h wire few = first_read ss answers (hearing_after_answer (at h.session 0 h.writing) InputEnded) wire.1 few
+behind ss (ReadInterrupted ∷ answers) h wire few = first_read ss answers (hearing_after_answer (at h.session 0 h.writing) ReadInterrupted) wire.1 few
+behind ss (ReadBlocked ∷ answers) h wire few = first_read ss answers (hearing_after_answer (at h.session 0 h.writing) ReadBlocked) wire.1 few
+behind ss (ReadFailed ∷ answers) h wire few = first_read ss answers (hearing_after_answer (at h.session 0 h.writing) ReadFailed) wire.1 few
+behind ss (Took octets ∷ answers) h wire few = written ss answers (hearing_after_answer (at h.session 0 h.writing) (Took octets)) (behind ss answers) (row_taken h.session 0 h.writing octets) wire.1 few
 behind ss (WriteInterrupted ∷ answers) h wire few =
-    written ss answers (heard (at h.session 0 h.writing) WriteInterrupted) (behind ss answers) (row_interrupted (nat_lt h.writing 16) h.session (h.writing + 1)) wire.1 few
-behind ss (WriteBlocked ∷ answers) h wire few = written ss answers (heard (at h.session 0 h.writing) WriteBlocked) (behind ss answers) refl wire.1 few
-behind ss (WriteFailed ∷ answers) h wire few = written ss answers (heard (at h.session 0 h.writing) WriteFailed) (behind ss answers) refl wire.1 few
+    written ss answers (hearing_after_answer (at h.session 0 h.writing) WriteInterrupted) (behind ss answers) (row_interrupted (nat_lt h.writing 16) h.session (h.writing + 1)) wire.1 few
+behind ss (WriteBlocked ∷ answers) h wire few = written ss answers (hearing_after_answer (at h.session 0 h.writing) WriteBlocked) (behind ss answers) refl wire.1 few
+behind ss (WriteFailed ∷ answers) h wire few = written ss answers (hearing_after_answer (at h.session 0 h.writing) WriteFailed) (behind ss answers) refl wire.1 few
 
 -- where there is no connection nothing is heard
-unheard : (row writing reads : ℕ) (a : Answer) → is_wire a ≡ true → recorded (reading [] row writing reads) a ≡ reading [] row writing reads
+unheard : (row writing reads : ℕ) (a : Answer) → is_wire a ≡ true → reading_after_any (reading_at [] row writing reads) a ≡ reading_at [] row writing reads
 unheard row writing reads Opened wire = cc
 unheard row writing reads NotYet wire = cc
 unheard row writing reads Finished wire = cc
@@ -182,10 +182,10 @@ unheard row writing reads WriteFailed wire = refl
 unheard row writing reads Again wire = cc
 unheard row writing reads Silent wire = cc
 
-none_heard : (row writing reads : ℕ) (answers : List Answer) → AreOfWire answers → all_recorded (reading [] row writing reads) answers ≡ reading [] row writing reads
+none_heard : (row writing reads : ℕ) (answers : List Answer) → AreOfWire answers → reading_after_all (reading_at [] row writing reads) answers ≡ reading_at [] row writing reads
 none_heard row writing reads [] wire = refl
 none_heard row writing reads (a ∷ answers) wire =
-    ap (λ (r : Reading). all_recorded r answers) (unheard row writing reads a wire.0) ∙ none_heard row writing reads answers wire.1
+    ap (λ (r : Reading). reading_after_all r answers) (unheard row writing reads a wire.0) ∙ none_heard row writing reads answers wire.1
 
 -- ---- steps
 
@@ -194,18 +194,18 @@ abbrev Begins : Reading → Type 0
 Begins r = (r.writing ≡ 0) × (((r.reads ≡ 0) × (r.row ≡ 0)) ⊎ (r.reads ≡ 64))
 
 -- a call, from its beginning
-matched : (s : Session) (ss : List Session) (row writing reads : ℕ) (answers : List Answer) → Begins (reading (s ∷ ss) row writing reads) → AreOfWire answers → reads_in answers ≤ 64 →
-    Matches ss (all_recorded (reading (s ∷ ss) row writing reads) answers) (all_heard (hearing s 0) answers) (reads_in answers)
+matched : (s : Session) (ss : List Session) (row writing reads : ℕ) (answers : List Answer) → Begins (reading_at (s ∷ ss) row writing reads) → AreOfWire answers → reads_in answers ≤ 64 →
+    Matches ss (reading_after_all (reading_at (s ∷ ss) row writing reads) answers) (hearing_after_answers (hearing_at s 0) answers) (reads_in answers)
 matched s ss row writing reads answers begins wire few = elim begins.1 [
   | inl start ↦
       let few0 : 0 + reads_in answers ≤ 64 = omega arith in
       let same : 0 + reads_in answers ≡ reads_in answers = omega arith in
-      let here : reading (s ∷ ss) row writing reads ≡ of_hearing ss 0 (hearing s 0) = (λ i. reading (s ∷ ss) (start.1 i) (begins.0 i) (start.0 i)) in
-      matches_same ss (all_recorded (reading (s ∷ ss) row writing reads) answers) (all_heard (hearing s 0) answers) (reads_in answers)
-      (ap (λ (r : Reading). all_recorded r answers) here ∙ within ss answers (hearing s 0) 0 wire few0 ∙ ap (λ (n : ℕ). of_hearing ss n (all_heard (hearing s 0) answers)) same)
+      let here : reading_at (s ∷ ss) row writing reads ≡ of_hearing ss 0 (hearing_at s 0) = (λ i. reading_at (s ∷ ss) (start.1 i) (begins.0 i) (start.0 i)) in
+      matches_same ss (reading_after_all (reading_at (s ∷ ss) row writing reads) answers) (hearing_after_answers (hearing_at s 0) answers) (reads_in answers)
+      (ap (λ (r : Reading). reading_after_all r answers) here ∙ within ss answers (hearing_at s 0) 0 wire few0 ∙ ap (λ (n : ℕ). of_hearing ss n (hearing_after_answers (hearing_at s 0) answers)) same)
   | inr full ↦
-      let P : Reading → Type 0 = λ r. Matches ss (all_recorded r answers) (all_heard (hearing s 0) answers) (reads_in answers) in
-      let here : of_hearing ss 64 (at s row 0) ≡ reading (s ∷ ss) row writing reads = (λ i. reading (s ∷ ss) row (sym begins.0 i) (sym full i)) in
+      let P : Reading → Type 0 = λ r. Matches ss (reading_after_all r answers) (hearing_after_answers (hearing_at s 0) answers) (reads_in answers) in
+      let here : of_hearing ss 64 (at s row 0) ≡ reading_at (s ∷ ss) row writing reads = (λ i. reading_at (s ∷ ss) row (sym begins.0 i) (sym full i)) in
       subst P here (behind ss answers (at s row 0) wire few)
 ]
 
@@ -214,9 +214,9 @@ abbrev Has : Reading → List Session → Type 0
 Has r past = r.past ≡ map in_record past
 
 -- a call adds to the reading what it does to the connections; where it made its 64 reads, another may begin
-after_call : (who : Peer) (now : List Session) (row writing reads : ℕ) (happened : List Happening) (stop : Ended) → Begins (reading (map in_record now) row writing reads) → IsCall who now happened stop →
-    Has (all_recorded (reading (map in_record now) row writing reads) (answers_in happened)) (served now (answers_in happened) (deposits_in happened))
-    × (reads_in (answers_in happened) ≡ 64 → Begins (all_recorded (reading (map in_record now) row writing reads) (answers_in happened)))
+after_call : (who : Peer) (now : List Session) (row writing reads : ℕ) (happened : List Happening) (stop : Ended) → Begins (reading_at (map in_record now) row writing reads) → IsCall who now happened stop →
+    Has (reading_after_all (reading_at (map in_record now) row writing reads) (answers_in happened)) (sessions_after now (answers_in happened) (deposits_in happened))
+    × (reads_in (answers_in happened) ≡ 64 → Begins (reading_after_all (reading_at (map in_record now) row writing reads) (answers_in happened)))
 after_call who [] row writing reads happened stop begins call =
     let same = none_heard row writing reads (answers_in happened) call.wire in (
       ap (λ (r : Reading). r.past) same,
@@ -225,7 +225,7 @@ after_call who [] row writing reads happened stop begins call =
 after_call who (s ∷ ss) row writing reads happened stop begins call =
     let answers = answers_in happened in
     let m = matched (in_record s) (map in_record ss) row writing reads answers begins call.wire call.few in
-    let aside : all_heard (hearing (in_record s) 0) answers ≡ bare (all_heard (hearing s 0) answers) = bare_all (hearing s 0) answers in (
+    let aside : hearing_after_answers (hearing_at (in_record s) 0) answers ≡ bare (hearing_after_answers (hearing_at s 0) answers) = bare_all (hearing_at s 0) answers in (
       m.past ∙ ap (λ (k : Hearing). k.session ∷ map in_record ss) aside,
       λ full. (
         m.writing ∙ ap (λ (k : Hearing). k.writing) aside ∙ call.rested s ss refl,
@@ -234,7 +234,7 @@ after_call who (s ∷ ss) row writing reads happened stop begins call =
     )
 
 -- a call behind which another may begin made its 64 reads
-paused_full : (happened : List Happening) (stop : Ended) (earlier : List Doing) → MayBegin (Served happened stop ∷ earlier) → StopsAt stop (answers_in happened) → reads_in (answers_in happened) ≡ 64
+paused_full : (happened : List Happening) (stop : Ended) (earlier : List Doing) → MayBeginServe (Served happened stop ∷ earlier) → StopsAt stop (answers_in happened) → reads_in (answers_in happened) ≡ 64
 paused_full happened ended.Paused earlier may stops = stops
 paused_full happened ended.Idle earlier may stops = absurd may
 paused_full happened ended.TermOver earlier may stops = absurd may
@@ -244,59 +244,59 @@ paused_full happened ended.ReadFault earlier may stops = absurd may
 paused_full happened ended.WriteFault earlier may stops = absurd may
 paused_full happened (ended.BadFrame why) earlier may stops = absurd may
 
-silent_bare : (past : List Session) (deposits : List Deposit) → silenced (map in_record past) ≡ map in_record (handing (silenced past) deposits)
+silent_bare : (past : List Session) (deposits : List Deposit) → sessions_after_silence (map in_record past) ≡ map in_record (with_newest_deposits (sessions_after_silence past) deposits)
 silent_bare [] deposits = refl
 silent_bare (s ∷ ss) deposits = refl
 
 -- a reading of all answers of these steps
 record Follows (past : List Session) (doings : List Doing) (r : Reading) : Type 0 where
   pub has : Has r (past_after past doings)
-  pub begins : MayBegin doings → Begins r
+  pub begins : MayBeginServe doings → Begins r
 
-asked_more : (past : List Session) (earlier : List Doing) (x : Answer) (r : Reading) → IsAsk x → Follows past earlier r → Follows past (Asked x ∷ earlier) (recorded r x)
+asked_more : (past : List Session) (earlier : List Doing) (x : Answer) (r : Reading) → IsAsk x → Follows past earlier r → Follows past (Asked x ∷ earlier) (reading_after_any r x)
 asked_more past earlier Opened r is f = record { has = ap (λ (ss : List Session). new_session ∷ ss) f.has; begins = λ may. (refl, inl (refl, refl)) }
 asked_more past earlier NotYet r is f = record { has = f.has; begins = λ may. absurd may }
 asked_more past earlier Finished r is f = record { has = f.has; begins = λ may. absurd may }
 asked_more past earlier x r is f = absurd is
 
-waited_more : (past : List Session) (earlier : List Doing) (x : Answer) (deposits : List Deposit) (r : Reading) → IsWait x deposits → Follows past earlier r → Follows past (Waited x deposits ∷ earlier) (recorded r x)
+waited_more : (past : List Session) (earlier : List Doing) (x : Answer) (deposits : List Deposit) (r : Reading) → IsWait x deposits → Follows past earlier r → Follows past (Waited x deposits ∷ earlier) (reading_after_any r x)
 waited_more past earlier Again deposits r is f = record { has = f.has; begins = λ may. (refl, inl (refl, refl)) }
-waited_more past earlier Silent deposits r is f = record { has = ap silenced f.has ∙ silent_bare (past_after past earlier) deposits; begins = λ may. absurd may }
+waited_more past earlier Silent deposits r is f = record { has = ap sessions_after_silence f.has ∙ silent_bare (past_after past earlier) deposits; begins = λ may. absurd may }
 waited_more past earlier x deposits r is f = absurd is
 
-served_more : (who : Peer) (past : List Session) (earlier : List Doing) (happened : List Happening) (stop : Ended) (r : Reading) → IsCall who (past_after past earlier) happened stop → MayBegin earlier → Follows past earlier r →
-    Follows past (Served happened stop ∷ earlier) (all_recorded r (answers_in happened))
+served_more : (who : Peer) (past : List Session) (earlier : List Doing) (happened : List Happening) (stop : Ended) (r : Reading) → IsCall who (past_after past earlier) happened stop → MayBeginServe earlier → Follows past earlier r →
+    Follows past (Served happened stop ∷ earlier) (reading_after_all r (answers_in happened))
 served_more who past earlier happened stop r call may f =
     let now = past_after past earlier in
-    let here : reading (map in_record now) r.row r.writing r.reads ≡ r = (λ i. reading (sym f.has i) r.row r.writing r.reads) in
+    let here : reading_at (map in_record now) r.row r.writing r.reads ≡ r = (λ i. reading_at (sym f.has i) r.row r.writing r.reads) in
     let P : Reading → Type 0 = λ x. Begins x in
-    let Q : Reading → Type 0 = λ x. Follows past (Served happened stop ∷ earlier) (all_recorded x (answers_in happened)) in
+    let Q : Reading → Type 0 = λ x. Follows past (Served happened stop ∷ earlier) (reading_after_all x (answers_in happened)) in
     let after = after_call who now r.row r.writing r.reads happened stop (subst P (sym here) (f.begins may)) call in
     subst Q here (record { has = after.0; begins = λ more. after.1 (paused_full happened stop earlier more call.stops) })
 
 -- one step more
 read_more : (past : List Session) (earlier : List Doing) (d : Doing) (answers : List Answer) (r : Reading) → answers_in (happened_in d) ≡ answers →
-    Follows past (d ∷ earlier) (all_recorded (all_recorded r (answers_in (happened_of earlier))) answers) → Follows past (d ∷ earlier) (all_recorded r (answers_in (happened_of (d ∷ earlier))))
+    Follows past (d ∷ earlier) (reading_after_all (reading_after_all r (answers_in (happened_of earlier))) answers) → Follows past (d ∷ earlier) (reading_after_all r (answers_in (happened_of (d ∷ earlier))))
 read_more past earlier d answers r are f =
     let P : Reading → Type 0 = λ x. Follows past (d ∷ earlier) x in
     let split : answers_in (happened_of earlier ++ happened_in d) ≡ answers_in (happened_of earlier) ++ answers =
     answers_both (happened_of earlier) (happened_in d) ∙ ap (λ (xs : List Answer). answers_in (happened_of earlier) ++ xs) are in
-    subst P (sym (ap (all_recorded r) split ∙ recorded_both r (answers_in (happened_of earlier)) answers)) f
+    subst P (sym (ap (reading_after_all r) split ∙ recorded_both r (answers_in (happened_of earlier)) answers)) f
 
 abbrev start : List Session → Reading
-start past = reading (map in_record past) 0 0 0
+start past = reading_at (map in_record past) 0 0 0
 
-follows : (who : Peer) (past : List Session) (doings : List Doing) → IsOrderly who past doings → Follows past doings (all_recorded (start past) (answers_in (happened_of doings)))
+follows : (who : Peer) (past : List Session) (doings : List Doing) → IsOrderly who past doings → Follows past doings (reading_after_all (start past) (answers_in (happened_of doings)))
 follows who past [] orderly = record { has = refl; begins = λ may. (refl, inl (refl, refl)) }
 follows who past (Asked x ∷ earlier) orderly =
     read_more past earlier (Asked x) (x ∷ []) (start past) refl
-    (asked_more past earlier x (all_recorded (start past) (answers_in (happened_of earlier))) orderly.0 (follows who past earlier orderly.2))
+    (asked_more past earlier x (reading_after_all (start past) (answers_in (happened_of earlier))) orderly.0 (follows who past earlier orderly.2))
 follows who past (Served happened stop ∷ earlier) orderly =
     read_more past earlier (Served happened stop) (answers_in happened) (start past) refl
-    (served_more who past earlier happened stop (all_recorded (start past) (answers_in (happened_of earlier))) orderly.0 orderly.1 (follows who past earlier orderly.2))
+    (served_more who past earlier happened stop (reading_after_all (start past) (answers_in (happened_of earlier))) orderly.0 orderly.1 (follows who past earlier orderly.2))
 follows who past (Waited x deposits ∷ earlier) orderly =
     read_more past earlier (Waited x deposits) (x ∷ []) (start past) (ap (λ (xs : List Answer). x ∷ xs) (no_answers deposits))
-    (waited_more past earlier x deposits (all_recorded (start past) (answers_in (happened_of earlier))) orderly.0 (follows who past earlier orderly.2))
+    (waited_more past earlier x deposits (reading_after_all (start past) (answers_in (happened_of earlier))) orderly.0 (follows who past earlier orderly.2))
 
 pub one_record : (who : Peer) (past : List Session) (doings : List Doing) → IsOrderly who past doings → IsOneRecord past doings
 one_record who past doings orderly = sym (follows who past doings orderly).has

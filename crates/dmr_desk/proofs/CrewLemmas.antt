@@ -5,7 +5,7 @@ use Rattle.std.proofs.lemmas.Bool.{eq-eqb, eqb-true}
 use Rattle.dmr_link.specs.declared.desk.Deposit.{Deposit}
 use Rattle.dmr_desk.specs.Sitting.{Sitting, empty_seats}
 use Rattle.dmr_desk.specs.Work.{Stand}
-use Rattle.dmr_desk.specs.Term.{Done, IsDone, AllDone, IsNew, AreNew, is_none, is_new, are_new}
+use Rattle.dmr_desk.specs.Term.{Done, IsWorkDone, AllDone, IsNew, AreNew, is_none, is_new, are_new}
 
 -- ---- work
 
@@ -16,13 +16,13 @@ all_done_length n [] (d ∷ ds) h = absurd h
 all_done_length n (s ∷ ss) [] h = absurd h
 
 -- one more, the last
-pub all_done_snoc : (n : ℕ) (ss : List Stand) (ds : List Done) (s : Stand) (d : Done) → AllDone n ss ds → IsDone (n + length ss) s d → AllDone n (ss ++ s ∷ []) (ds ++ d ∷ [])
+pub all_done_snoc : (n : ℕ) (ss : List Stand) (ds : List Done) (s : Stand) (d : Done) → AllDone n ss ds → IsWorkDone (n + length ss) s d → AllDone n (ss ++ s ∷ []) (ds ++ d ∷ [])
 all_done_snoc n [] [] s d h k =
     let e : n + 0 ≡ n = omega arith in
-    let P : ℕ → Type 0 = λ m. IsDone m s d in (subst P e k, tt)
+    let P : ℕ → Type 0 = λ m. IsWorkDone m s d in (subst P e k, tt)
 all_done_snoc n (x ∷ ss) (y ∷ ds) s d h k =
     let e : n + suc (length ss) ≡ n + 1 + length ss = omega arith in
-    let P : ℕ → Type 0 = λ m. IsDone m s d in (h.0, all_done_snoc (n + 1) ss ds s d h.1 (subst P e k))
+    let P : ℕ → Type 0 = λ m. IsWorkDone m s d in (h.0, all_done_snoc (n + 1) ss ds s d h.1 (subst P e k))
 all_done_snoc n [] (y ∷ ds) s d h k = absurd h
 all_done_snoc n (x ∷ ss) [] s d h k = absurd h
 

@@ -2,18 +2,18 @@
 use Rattle.std.proofs.Common.{◌≡◌, ℕ, inl, inr, List, length, reverse, arith, Some, Result, Ok, Err, refl, sym, ap, ◌∙◌, subst}
 use Rattle.std.specs.Prelude.{slice_get, Contains, IfErr}
 use Rattle.std.proofs.lemmas.Option.{same_Some, slice_get_within}
-use Rattle.dmr_core.specs.State.{State}
+use Rattle.dmr_core.specs.State.{SiteState}
 use Rattle.dmr_core.specs.declared.entry.Entry.{Entry}
 use Rattle.dmr_link.specs.declared.desk.Deposit.{Deposit}
 use Rattle.dmr_desk.specs.declared.report.Report.{Report}
 use Rattle.dmr_desk.specs.declared.fault.CloseFault.{CloseFault}
 use Rattle.dmr_desk.specs.declared.fault.CloseFault.TheVariants.{SeatMissing, Differs}
-use Rattle.dmr_desk.specs.Pages.{Pages, AreKept, site_after}
+use Rattle.dmr_desk.specs.Pages.{Pages, AreSoundPages, site_after_entries}
 use Rattle.dmr_link.specs.Runs.{IsSafe}
 use Rattle.dmr_desk.specs.Sitting.{Sitting, Opened}
 use Rattle.dmr_desk.specs.Views.{view_of}
-use Rattle.dmr_desk.specs.Audited.{AreGathered, IsFault, IsMissing, IsOpenedWith, IsOther, IsAudited, IsReported, SameBelow, all_told}
-use Rattle.dmr_desk.proofs.Counts.{no_others}
+use Rattle.dmr_desk.specs.Audited.{AreGathered, IsFault, IsMissing, IsOpenedWith, IsOther, IsAudited, IsReported, SameBelow, count_of_deposits}
+use Rattle.dmr_desk.proofs.NoOtherActors.{no_others}
 
 pub missing_fault : (desk : Opened) (seats : List Sitting) (pages : Pages) (held : ℕ) (fault : CloseFault) → IsMissing seats desk.actors held fault → IsFault desk seats pages held fault
 missing_fault desk seats pages held (SeatMissing actor) is = is
@@ -43,9 +43,9 @@ other_result desk seats views pages held (Ok report) g count is = is
 other_result desk seats views pages held (Err fault) g count is = other_fault desk seats views pages held fault g count is
 
 -- a report of what a book has, at the very site and limit that it was opened with
-of_book : (pages : Pages) (report : Report) → AreKept pages → IsSafe pages.opening.plan pages.opening.facts (reverse pages.entries) → report.site ≡ site_after pages.opening pages.entries → report.journal ≡ pages.entries → SameBelow (length report.views.items) report.views.items pages.entries → length pages.entries ≡ all_told report.views.items → IsReported pages.opening pages.limit report.views.items report
+of_book : (pages : Pages) (report : Report) → AreSoundPages pages → IsSafe pages.opening.plan pages.opening.facts (reverse pages.entries) → report.site ≡ site_after_entries pages.opening pages.entries → report.journal ≡ pages.entries → SameBelow (length report.views.items) report.views.items pages.entries → length pages.entries ≡ count_of_deposits report.views.items → IsReported pages.opening pages.limit report.views.items report
 of_book pages report kept safe site journal same count =
-    let P : List Entry → Type 0 = λ entries. IsReported pages.opening pages.limit report.views.items (record { site = site_after pages.opening entries; journal = entries; views = report.views }) in
+    let P : List Entry → Type 0 = λ entries. IsReported pages.opening pages.limit report.views.items (record { site = site_after_entries pages.opening entries; journal = entries; views = report.views }) in
     let base : P pages.entries = record {
       legal = kept.legal;
       safe = safe;
@@ -57,9 +57,9 @@ of_book pages report kept safe site journal same count =
     let Q : Report → Type 0 = λ r. IsReported pages.opening pages.limit report.views.items r in
     subst Q (λ i. record { site = sym site i; journal = sym journal i; views = report.views }) base
 
-pub reported : (opening : State) (limit : ℕ) (pages : Pages) (report : Report) → AreKept pages → IsSafe pages.opening.plan pages.opening.facts (reverse pages.entries) → IsOpenedWith pages opening limit → report.site ≡ site_after pages.opening pages.entries → report.journal ≡ pages.entries → SameBelow (length report.views.items) report.views.items pages.entries → length pages.entries ≡ all_told report.views.items → IsReported opening limit report.views.items report
+pub reported : (opening : SiteState) (limit : ℕ) (pages : Pages) (report : Report) → AreSoundPages pages → IsSafe pages.opening.plan pages.opening.facts (reverse pages.entries) → IsOpenedWith pages opening limit → report.site ≡ site_after_entries pages.opening pages.entries → report.journal ≡ pages.entries → SameBelow (length report.views.items) report.views.items pages.entries → length pages.entries ≡ count_of_deposits report.views.items → IsReported opening limit report.views.items report
 reported opening limit pages report kept safe is_of site journal same count =
-    let P : State → Type 0 = λ s. IsReported s pages.limit report.views.items report in
+    let P : SiteState → Type 0 = λ s. IsReported s pages.limit report.views.items report in
     let Q : ℕ → Type 0 = λ n. IsReported opening n report.views.items report in
     subst Q is_of.1 (subst P is_of.0 (of_book pages report kept safe site journal same count))
 

@@ -1,4 +1,5 @@
--- Whether two access controls have the same plan, noise numbers and count of Fills, as a test.
+-- Whether two access controls have the same plan, noise numbers and count of Fills, as a test. Their equality alone names it:
+-- nothing above rests on it.
 use Rattle.std.specs.Prelude.{◌≡◌, ◌&&◌, Bool, nat_eq}
 use Rattle.std.specs.Bool.{Decides}
 use Rattle.std.specs.Cmp.{decided, IsEquivalence}

@@ -7,7 +7,8 @@ use Rattle.std.specs.Cmp.Lexicographic.{pointwise}
 use Rattle.std.proofs.lemmas.Bool.{eq-eqb, and_from}
 use Rattle.dmr_bits.specs.Bits.{octet_bit, field_of, IsOctets}
 use Rattle.dmr_bits.proofs.BitLemmas.{bits_value-same, bits_value-injective, octets-same, zeros-octets}
-use Rattle.dmr_pdu.specs.Layout.{Row, Holds, fills, AllFit}
+use Rattle.dmr_pdu.specs.Layout.{Row, Holds}
+use Rattle.dmr_pdu.specs.Rows.{fills, AllFit}
 
 pub left : (a b : Bool) → (a && b) ≡ true → a ≡ true
 left true b e = refl

@@ -1,7 +1,7 @@
 -- The octets of a PDU, and the PDU of octets, as functions. That they give what `Spells` and `Agrees` say, and nothing
 -- else, is proved in proofs/FunctionLemmas; the crates above rest on that alone.
-use Rattle.std.specs.Prelude.{◌==◌, ℕ, ◌+◌, ◌-◌, ◌*◌, ◌/◌, ◌%◌, ◌^◌, Bool, true, false, ◌&&◌, nat_lt, List, [], ◌∷◌, Option, Some, None, if◌then◌else◌, map}
-use Rattle.std.specs.List.{range_with_len}
+use Rattle.std.specs.Prelude.{◌==◌, ℕ, ◌+◌, ◌-◌, ◌*◌, ◌/◌, ◌%◌, ◌^◌, Bool, false, nat_lt, List, [], ◌∷◌, Option, Some, None, if◌then◌else◌, map}
+use Rattle.std.specs.List.{list_all, range_with_len}
 use Rattle.dmr_bits.specs.Bits.{bits_value, field_of}
 use Rattle.dmr_pdu.specs.declared.pdu.Pdu.{Pdu}
 use Rattle.dmr_pdu.specs.declared.pdu.Pdu.TheVariants.{Other}
@@ -20,8 +20,7 @@ octets_of pdu = map (λ k. bits_value (row_bit (layout pdu)) (8 * k) 8) (range_w
 
 -- every row holds, as a test
 abbrev pub do_hold : List ℕ → List Row → Bool
-do_hold octets [] = true
-do_hold octets (r ∷ rows) = (field_of octets r.0.first r.0.width == r.1) && do_hold octets rows
+do_hold octets rows = list_all (λ (r : Row). field_of octets r.0.first r.0.width == r.1) rows
 
 -- the PDU that was read, where all of its layout holds
 abbrev pub pdu_or_other : List ℕ → Option Pdu → Pdu

@@ -1,5 +1,6 @@
 -- The layouts of the PDUs, and which octets a PDU agrees with.
-use Rattle.std.specs.Prelude.{◌≡◌, ◌==◌, ℕ, ◌+◌, ◌<◌, ◌^◌, Bool, ◌&&◌, nat_le, List, [], ◌∷◌, if◌then◌else◌}
+use Rattle.std.specs.Prelude.{◌≡◌, ℕ, Bool, List, [], ◌∷◌, if◌then◌else◌}
+use Rattle.std.specs.List.{AllByRecursion}
 use Rattle.dmr_bits.specs.Bits.{field_of}
 use Rattle.dmr_pdu.specs.Channels.{IsChannel}
 use Rattle.dmr_pdu.specs.declared.layouts.Place.{Place}
@@ -42,8 +43,7 @@ layout (Other octets) = []
 
 -- every row holds
 abbrev pub Holds : List ℕ → List Row → Type 0
-Holds octets [] = Unit {0}
-Holds octets (r ∷ rows) = (field_of octets r.0.first r.0.width ≡ r.1) × Holds octets rows
+Holds octets rows = AllByRecursion (λ (r : Row). field_of octets r.0.first r.0.width ≡ r.1) rows
 
 -- a PDU that names a channel names one that may stand
 unfoldable pub HasChannel : Pdu → Type 0
@@ -78,15 +78,3 @@ Agrees pdu octets = IsLaidOut pdu octets
 unfoldable pub IsReadable : Pdu → Type 0
 IsReadable (Other carried) = (pdu : Pdu) → ¬ IsLaidOut pdu carried
 IsReadable pdu = Unit {0}
-
--- ---- what the writer of rows asks of them
-
--- the places follow one another, from a bit on to bit 80
-abbrev pub fills : ℕ → List Row → Bool
-fills first [] = first == 80
-fills first (r ∷ rows) = (r.0.first == first) && (nat_le r.0.width 32 && fills (first + r.0.width) rows)
-
--- each number fits its place
-abbrev pub AllFit : List Row → Type 0
-AllFit [] = Unit {0}
-AllFit (r ∷ rows) = (r.1 < 2 ^ r.0.width) × AllFit rows

@@ -6,3 +6,4 @@ pub mod Layout
 pub mod Padding
 pub mod Reading
 pub mod Reasons
+pub mod Rows

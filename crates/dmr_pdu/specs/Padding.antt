@@ -1,4 +1,5 @@
--- A list of bounded length in its cells: entries, and a blank in each cell behind them.
+-- A list of bounded length in its cells: entries, and a blank in each cell behind them. The model of `BoundedList` alone
+-- names these: nothing above rests on them.
 use Rattle.std.specs.Prelude.{◌≡◌, ℕ, ◌-◌, ◌≤◌, List, ◌++◌, length, take, drop, replicate}
 use Rattle.std.proofs.Common.{arith, take-append-drop, length-take-le}
 

@@ -3,7 +3,8 @@
 
 ghost use Rattle.std.specs.Prelude.{◌≡◌, ◌+◌, ◌<◌, ◌≤◌, ◌^◌, ℕ, IsTrue, IfSome, if◌then◌else◌};
 ghost use Rattle.dmr_bits.specs.Bits.{field_of, IsOctets};
-ghost use Rattle.dmr_pdu.specs.Layout.{Holds, IsListed, SpellsPdu, fills, AllFit};
+ghost use Rattle.dmr_pdu.specs.Layout.{Holds, IsListed, SpellsPdu};
+ghost use Rattle.dmr_pdu.specs.Rows.{fills, AllFit};
 ghost use Rattle.dmr_pdu.specs.Reading.{read_as, bit_of, channel};
 
 use crate::display::{Shown, show_all, show_octets};

@@ -1,5 +1,6 @@
 -- What a port in memory answers, by what is left of its steps.
 use Rattle.std.specs.Prelude.{ℕ, ◌<◌, List, [], ◌∷◌, if◌then◌else◌, nat_lt, length, take, drop, min}
+use Rattle.std.specs.List.{AllByRecursion}
 use Rattle.dmr_wire.specs.declared.wire.Got.{Got}
 use Rattle.dmr_wire.specs.declared.wire.Got.TheVariants as got
 use Rattle.dmr_wire.specs.declared.wire.Put.{Put}
@@ -50,5 +51,4 @@ IsReading (Says answer) = Unit {0}
 
 -- each of them does
 abbrev pub AreReadings : List Reading → Type 0
-AreReadings [] = Unit {0}
-AreReadings (reading ∷ rest) = IsReading reading × AreReadings rest
+AreReadings readings = AllByRecursion IsReading readings

@@ -14,7 +14,7 @@ mod rows;
 mod words;
 
 pub use laws::{lines_in_any_cutting, lines_stand_before_their_ends};
-pub use line_cutter::{LineCutter, LineStep};
+pub use line_cutter::{LONGEST_LINE, LineCutter, LineStep};
 pub use parsing::parse;
 pub use printing::{LONGEST_TEXT, line_too_long, print, unknown_command};
 pub use words::number_in;

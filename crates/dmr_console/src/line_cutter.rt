@@ -13,8 +13,11 @@ const LF: u8 = b'\n';
 /// The octet of which one may stand before an LF.
 const CR: u8 = b'\r';
 
-/// How many octets a line has at most before its LF, a CR among them.
-const LONGEST: usize = 80;
+/// The most octets of a line before its LF, a CR among them (this project's profile).
+pub const LONGEST_LINE: usize = 80;
+
+/// How many octets of an open line are kept: with one more than a line can have it is too long, whatever follows.
+const MOST_KEPT: usize = LONGEST_LINE + 1;
 
 /// What an octet brings (this project's profile).
 #[derive(Debug, Drop, PartialEq, Eq)]
@@ -22,7 +25,7 @@ pub enum LineStep {
     /// No line yet: its LF must still come.
     Need,
     /// The octet is the LF of this line: the octets before it, without the CR that stands before the LF, if one does.
-    Line(ArrayVec<u8, 80>),
+    Line(ArrayVec<u8, LONGEST_LINE>),
     /// The octet is the LF of a line of more than 80 octets, a CR counted among them. The line's octets are gone, and
     /// the next octet begins a new line.
     TooLong,
@@ -33,7 +36,7 @@ pub enum LineStep {
 /// octets.
 #[derive(Debug, Drop)]
 pub struct LineCutter {
-    begun: ArrayVec<u8, 81>,
+    begun: ArrayVec<u8, MOST_KEPT>,
 }
 
 impl Model for LineCutter {
@@ -110,7 +113,7 @@ impl Default for LineCutter {
 fn line_of(octets: &[u8]) -> LineStep
     ensures { result ≡ line_of_octets octets.now }
 {
-    if octets.len() > LONGEST {
+    if octets.len() > LONGEST_LINE {
         return LineStep::TooLong;
     }
     let mut line = ArrayVec::new();

@@ -5,6 +5,7 @@ ghost use Rattle.dmr_console.specs.Words.{words_of_line};
 ghost use Rattle.dmr_console.specs.Commands.{command_without_words, command_by, command_of, end_command, one_number};
 
 use crate::words::{first_word, number_in};
+use dmr_calls::MOST_LINES;
 use dmr_core::{Command, LineNo};
 use dmr_pdu::{Address, CarrierNo, Lpcn, SlotNo};
 
@@ -35,7 +36,7 @@ fn command_by(name: &[u8], arguments: &[u8]) -> Option<Command>
         let number = one_number(0, 15, arguments)?;
         Some(Command::Calls(CarrierNo::new(number)))
     } else if name == b"lines".as_slice() {
-        let number = one_number(1, 32, arguments)?;
+        let number = one_number(1, MOST_LINES as u32, arguments)?;
         Some(Command::Lines(LineNo::new(number as u8)))
     } else if name == b"slots".as_slice() {
         alone(Command::Slots, arguments)

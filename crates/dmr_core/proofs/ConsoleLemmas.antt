@@ -13,7 +13,7 @@ use Rattle.dmr_pool.specs.Slots.{slot_at}
 use Rattle.dmr_core.specs.declared.reply.SlotState.{SlotState}
 use Rattle.dmr_core.specs.Facts.{Facts}
 use Rattle.dmr_core.specs.Words.{stands_on}
-use Rattle.dmr_core.specs.Shown.{all_slot_states, slot_states}
+use Rattle.dmr_core.specs.Displays.{all_slot_states, slot_states}
 
 -- a call is found on a slot exactly where one stands there
 pub called : (calls : List Standing) (slot : Slot) → is_some (call_on calls slot) ≡ stands_on calls slot

@@ -1,7 +1,7 @@
 pub mod Facts
 pub mod Words
 pub mod Late
-pub mod Shown
+pub mod Displays
 pub mod Rules
 pub mod Replies
 pub mod Journal

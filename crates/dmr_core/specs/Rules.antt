@@ -34,7 +34,7 @@ use Rattle.dmr_core.specs.declared.act.Acts.{Acts}
 use Rattle.dmr_core.specs.declared.act.Act.TheVariants.{Queue, Send, Fill, Joined, Left, Asked, AskOver, Lined, Unlined, Began, Ended}
 use Rattle.dmr_core.specs.Facts.{Facts, asks_by_event, calls_by_event, has_carrier}
 use Rattle.dmr_core.specs.Late.{next_call}
-use Rattle.dmr_core.specs.Shown.{all_slot_states, calls_on_carrier}
+use Rattle.dmr_core.specs.Displays.{all_slot_states, calls_on_carrier}
 use Rattle.dmr_core.specs.Words.{is_up, outbox, lpcn_of, lowest_free, slot_for_new, has_room, is_registered, is_engaged}
 
 -- C_ACKD to the source, for the reason, with the target besides

@@ -1,6 +1,7 @@
 //! What an operator asks of the site.
 
 ghost use Rattle.std.specs.Prelude.{◌≡◌, ◌≤◌};
+ghost use Rattle.dmr_calls.specs.declared.calls.TheConstants.{MOST_LINES};
 
 use dmr_pdu::{Address, CarrierNo, Lpcn, SlotNo};
 use std::marker::Model;
@@ -13,12 +14,13 @@ pub struct LineNo {
 
 impl Model for LineNo {
     ghost use Rattle.std.specs.Prelude.{ℕ, ◌≤◌};
+    ghost use Rattle.dmr_calls.specs.declared.calls.TheConstants.{MOST_LINES};
 
     ghost Value = { ℕ };
 
     ghost view = { λ n. n.number };
 
-    ghost invariant = { λ n. (1 ≤ n.number) × (n.number ≤ 32) };
+    ghost invariant = { λ n. (1 ≤ n.number) × (n.number ≤ MOST_LINES) };
 
     ghost inverse = { λ n. record { number = n } };
 }
@@ -27,7 +29,7 @@ impl LineNo {
     /// The place of a number from 1 to 32.
     pub fn new(number: u8) -> Self
         requires least { 1 ≤ number }
-        requires most { number ≤ 32 }
+        requires most { number ≤ MOST_LINES }
         ensures { result ≡ number }
     {
         LineNo { number }
@@ -37,7 +39,7 @@ impl LineNo {
     pub fn get(&self) -> u8
         ensures value { result ≡ self.now }
         ensures least { 1 ≤ result }
-        ensures most { result ≤ 32 }
+        ensures most { result ≤ MOST_LINES }
     {
         self.number
     }

@@ -5,7 +5,7 @@ ghost use Rattle.dmr_core.specs.declared.reply.Reply.TheVariants.{Calls, NoCarri
 ghost use Rattle.dmr_core.specs.Rules.{acts_and_done, answer_to_command, drop_radio, end_call, reply_alone};
 ghost use Rattle.dmr_calls.specs.Calls.{call_on};
 ghost use Rattle.dmr_core.specs.Facts.{has_carrier};
-ghost use Rattle.dmr_core.specs.Shown.{all_slot_states, at_most_one, calls_on_carrier, slot_states, state_of};
+ghost use Rattle.dmr_core.specs.Displays.{all_slot_states, at_most_one, calls_on_carrier, slot_states, state_of};
 
 use super::Machine;
 use crate::act::{Act, ActList, Acts};

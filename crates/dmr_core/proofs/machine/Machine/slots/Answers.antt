@@ -1,5 +1,5 @@
 use Rattle.std.proofs.Common.{arith, ◌++◌, ◌∙◌, sym}
-use Rattle.dmr_core.specs.Shown.{slot_states}
+use Rattle.dmr_core.specs.Displays.{slot_states}
 use Rattle.dmr_core.proofs.ConsoleLemmas.{all_are_shown, shown_more}
 use Rattle.dmr_core.proofs.machine.Machine.slots.Goals as goal
 

@@ -1,39 +1,20 @@
 -- What the connections of a link mean, added up.
-use Rattle.std.proofs.Common.{◌≡◌, ℕ, false, List, [], ◌∷◌, ◌++◌, map, refl, sym, ap, ◌∙◌, subst, append_assoc}
+use Rattle.std.proofs.Common.{◌≡◌, List, [], ◌∷◌, ◌++◌, map, refl, sym, ap, ◌∙◌, subst, append_assoc}
 use Rattle.std.specs.Prelude.{All}
 use Rattle.std.proofs.lemmas.List.{append-nil, map-append}
-use Rattle.std.proofs.lemmas.List.Elements.{All-head, All-tail}
-use Rattle.dmr_link.specs.declared.connection.CarrierIdentity.{CarrierIdentity}
-use Rattle.dmr_link.specs.declared.connection.Connection.{Connection}
-use Rattle.dmr_link.specs.declared.connection.Connection.TheVariants.{Closed, Waiting, Running}
-use Rattle.dmr_link.specs.CarrierSessions.{session_on, is_open}
+use Rattle.std.proofs.lemmas.List.Elements.{All-head, All-tail, filter_map-append}
 use Rattle.dmr_link.specs.Notices.{Notice}
 use Rattle.dmr_link.specs.declared.desk.Deposit.{Deposit}
 use Rattle.dmr_link.specs.declared.stream.Peer.{Peer}
-use Rattle.dmr_link.specs.declared.stream.Stream.{Stream}
-use Rattle.dmr_link.specs.declared.stream.Stream.TheVariants as stream
 use Rattle.dmr_link.specs.declared.talk.Talk.{Talk}
 use Rattle.dmr_link.specs.Owed.{Accounts, notices_owed}
-use Rattle.dmr_link.specs.Peers.{all_brings}
-use Rattle.dmr_link.specs.Session.{events_in}
-use Rattle.dmr_link.specs.Sessions.{Session, IsClosed, IsOver, Stands, StandsFor, WasServed, kept_of, lost_of}
-use Rattle.dmr_link.proofs.TextsGrow.{events-append}
+use Rattle.dmr_link.specs.Session.{event_in, events_in}
+use Rattle.dmr_link.specs.Sessions.{Session, IsOver, Stands, StandsFor, WasServed, kept_of, lost_of}
+use Rattle.dmr_link.proofs.LinksAccount.{closed_brings}
 use Rattle.dmr_desk.specs.Meaning.{AllMean, AreAccounted, IsAccounted, IsOneMeaning}
 use Rattle.dmr_desk.specs.Work.{deposits_of_sessions}
 
 -- ---- a link that is over owes nothing
-
-frames_bring : (who : CarrierIdentity) (k : Connection) (xs : List ℕ) → is_open k ≡ false → all_brings (stream.Frames (session_on who k)) xs ≡ []
-frames_bring who k [] at = refl
-frames_bring who Closed (x ∷ xs) at = frames_bring who Closed xs refl
-frames_bring who (Waiting rest) (x ∷ xs) at = cc
-frames_bring who (Running rest) (x ∷ xs) at = cc
-
-closed_brings : (k : Stream) (xs : List ℕ) → IsClosed k → all_brings k xs ≡ []
-closed_brings k [] at = refl
-closed_brings stream.Closed (x ∷ xs) at = closed_brings stream.Closed xs refl
-closed_brings (stream.Frames session) (x ∷ xs) at = frames_bring session.who session.connection (x ∷ xs) at
-closed_brings (stream.Lines begun) (x ∷ xs) at = cc
 
 over_owes : (l : Talk) → IsOver l → notices_owed l ≡ []
 over_owes l over = (λ i. (kept_of (over.kept i) ++ lost_of (over.lost i)) ++ closed_brings l.connection l.unread over.connection i)
@@ -81,7 +62,7 @@ all_mean who (s ∷ ss) done owing are =
 all_events : (who : Peer) (past : List Session) (done owing : List Notice) → AreAccounted who past done owing → events_in done ≡ map (λ (d : Deposit). d.event) (deposits_of_sessions past)
 all_events who [] done owing are = ap events_in are.0
 all_events who (s ∷ ss) done owing are =
-    ap events_in are.2 ∙ events-append are.0 are.1
+    ap events_in are.2 ∙ filter_map-append event_in are.0 are.1
     ∙ (λ i. all_events who ss are.0 [] are.3 i ++ are.4.events i)
     ∙ sym (map-append (λ (d : Deposit). d.event) (deposits_of_sessions ss) s.calls)
 

@@ -1,34 +1,26 @@
 -- The answers of a worker's steps, read in one go.
-use Rattle.std.proofs.Common.{◌≡◌, ◌⊎◌, inl, inr, ℕ, ◌+◌, ◌≤◌, ◌==◌, Bool, true, false, cond, List, [], ◌∷◌, ◌++◌, Option, Some, map, refl, sym, ap, ◌∙◌, subst, arith}
-use Rattle.std.specs.Prelude.{nat_lt, if◌then◌else◌}
-use Rattle.std.proofs.lemmas.Bool.{ne_eqb}
+use Rattle.std.proofs.Common.{◌≡◌, ◌⊎◌, inl, inr, ℕ, ◌+◌, ◌≤◌, Bool, true, false, cond, List, [], ◌∷◌, ◌++◌, Option, Some, map, refl, sym, ap, ◌∙◌, subst, arith}
+use Rattle.std.specs.Prelude.{nat_lt}
 use Rattle.std.proofs.lemmas.Option.{same_Some}
+use Rattle.std.proofs.lemmas.List.Sums.{fold-append}
+use Rattle.std.proofs.lemmas.List.Elements.{filter_map-append}
 use Rattle.dmr_wire.specs.Told.{Answer, Tells, Opened, NotYet, Finished, Came, InputEnded, ReadInterrupted, ReadBlocked, ReadFailed, Took, WriteInterrupted, WriteBlocked, WriteFailed, Again, Silent}
 use Rattle.dmr_link.specs.declared.desk.Deposit.{Deposit}
 use Rattle.dmr_link.specs.declared.ended.Ended.{Ended}
 use Rattle.dmr_link.specs.declared.ended.Ended.TheVariants as ended
 use Rattle.dmr_link.specs.declared.stream.Peer.{Peer}
-use Rattle.dmr_link.specs.Happenings.{Happening, Answered, Handed, Passed, answers_in, deposits_in, is_read}
+use Rattle.dmr_link.specs.Happenings.{Happening, Handed, answers_in, deposits_in, port_answer}
 use Rattle.dmr_link.specs.Recorded.{Reading, reading_at, of_hearing, reading_after_any, reading_after_all, sessions_after_silence}
 use Rattle.dmr_link.specs.Sessions.{Session, new_session, Hearing, ReadFaulty, WriteFaulty, hearing_at, in_writing, with_how, took, hearing_after_answer, hearing_after_answers, is_wire, reads_in, AreOfWire, sessions_after}
+use Rattle.dmr_link.proofs.RecordsReadAsCalls.{at, within, Matches, matches_same, behind}
 use Rattle.dmr_desk.specs.Meaning.{in_record, read_on, IsOneRecord}
 use Rattle.dmr_desk.specs.Work.{Doing, Asked, Served, Waited, happened_in, happened_of, with_newest_deposits, past_after, IsAsk, IsWait, MayBeginServe, StopsAt, IsCall, IsOrderly}
 
 -- ---- lists
 
-answers_both : (xs ys : List Happening) → answers_in (xs ++ ys) ≡ answers_in xs ++ answers_in ys
-answers_both [] ys = refl
-answers_both (Answered a ∷ xs) ys = ap (λ (r : List Answer). a ∷ r) (answers_both xs ys)
-answers_both (Handed d ∷ xs) ys = answers_both xs ys
-answers_both (Passed p ∷ xs) ys = answers_both xs ys
-
 no_answers : (deposits : List Deposit) → answers_in (map Handed deposits) ≡ []
 no_answers [] = refl
 no_answers (d ∷ deposits) = no_answers deposits
-
-recorded_both : (r : Reading) (xs ys : List Answer) → reading_after_all r (xs ++ ys) ≡ reading_after_all (reading_after_all r xs) ys
-recorded_both r [] ys = refl
-recorded_both r (x ∷ xs) ys = recorded_both (reading_after_any r x) xs ys
 
 -- ---- what a desk took, aside
 
@@ -64,106 +56,6 @@ bare_all h [] = refl
 bare_all h (a ∷ answers) = ap (λ (k : Hearing). hearing_after_answers k answers) (bare_heard h a) ∙ bare_all (hearing_after_answer h a) answers
 
 -- ---- a call of serve
-
-abbrev at : Session → ℕ → ℕ → Hearing
-at s row writing = record { session = s; row = row; writing = writing }
-
-not_yet : (reads : ℕ) → reads + 1 ≤ 64 → (reads == 64) ≡ false
-not_yet reads few = ne_eqb reads 64 (λ e. omega arith)
-
-module _ (s : Session) (ss : List Session) (row writing reads : ℕ) where
-  a_read : (a : Answer) → reads + 1 ≤ 64 →
-      of_hearing ss (if reads == 64 then 1 else reads + 1) (hearing_after_answer (at s (if reads == 64 then 0 else row) writing) a) ≡ of_hearing ss (reads + 1) (hearing_after_answer (at s row writing) a)
-  a_read a few = (λ i. of_hearing ss (cond (not_yet reads few i) 1 (reads + 1)) (hearing_after_answer (at s (cond (not_yet reads few i) 0 row) writing) a))
-
-  a_write : (a : Answer) → of_hearing ss reads (hearing_after_answer (at s row writing) a) ≡ of_hearing ss (reads + 0) (hearing_after_answer (at s row writing) a)
-  a_write a = let e : reads ≡ reads + 0 = omega arith in ap (λ (n : ℕ). of_hearing ss n (hearing_after_answer (at s row writing) a)) e
-
-  one_more : (a : Answer) → is_wire a ≡ true → reads + is_read a ≤ 64 → reading_after_any (reading_at (s ∷ ss) row writing reads) a ≡ of_hearing ss (reads + is_read a) (hearing_after_answer (at s row writing) a)
-  one_more Opened wire few = cc
-  one_more NotYet wire few = cc
-  one_more Finished wire few = cc
-  one_more (Came octets) wire few = a_read (Came octets) few
-  one_more InputEnded wire few = a_read InputEnded few
-  one_more ReadInterrupted wire few = a_read ReadInterrupted few
-  one_more ReadBlocked wire few = a_read ReadBlocked few
-  one_more ReadFailed wire few = a_read ReadFailed few
-  one_more (Took octets) wire few = a_write (Took octets)
-  one_more WriteInterrupted wire few = a_write WriteInterrupted
-  one_more WriteBlocked wire few = a_write WriteBlocked
-  one_more WriteFailed wire few = a_write WriteFailed
-  one_more Again wire few = cc
-  one_more Silent wire few = cc
-
--- within the reads of a call
-within : (ss : List Session) (answers : List Answer) (h : Hearing) (reads : ℕ) → AreOfWire answers → reads + reads_in answers ≤ 64 →
-    reading_after_all (of_hearing ss reads h) answers ≡ of_hearing ss (reads + reads_in answers) (hearing_after_answers h answers)
-within ss [] h reads wire few = let e : reads ≡ reads + 0 = omega arith in ap (λ (n : ℕ). of_hearing ss n h) e
-within ss (a ∷ answers) h reads wire few =
-    let this : reads + is_read a ≤ 64 = omega arith in
-    let later : (reads + is_read a) + reads_in answers ≤ 64 = omega arith in
-    let sum : (reads + is_read a) + reads_in answers ≡ reads + (is_read a + reads_in answers) = omega arith in
-    ap (λ (r : Reading). reading_after_all r answers) (one_more h.session ss h.row h.writing reads a wire.0 this)
-    ∙ within ss answers (hearing_after_answer h a) (reads + is_read a) wire.1 later
-    ∙ ap (λ (n : ℕ). of_hearing ss n (hearing_after_answers (hearing_after_answer h a) answers)) sum
-
--- a reading is where a call is: after so many reads of it, or behind the reads of the call before, and before its first
-record Matches (ss : List Session) (r : Reading) (k : Hearing) (reads : ℕ) : Type 0 where
-  pub past : r.past ≡ k.session ∷ ss
-  pub writing : r.writing ≡ k.writing
-  pub reads_are : (r.reads ≡ reads) ⊎ (reads ≡ 0)
-
-matches_same : (ss : List Session) (r : Reading) (k : Hearing) (reads : ℕ) → r ≡ of_hearing ss reads k → Matches ss r k reads
-matches_same ss r k reads same = record {
-  past = ap (λ (x : Reading). x.past) same;
-  writing = ap (λ (x : Reading). x.writing) same;
-  reads_are = inl (ap (λ (x : Reading). x.reads) same);
-}
-
-abbrev Behind : List Session → List Answer → Type 0
-Behind ss answers = (h : Hearing) → AreOfWire answers → reads_in answers ≤ 64 → Matches ss (reading_after_all (of_hearing ss 64 h) answers) (hearing_after_answers (at h.session 0 h.writing) answers) (reads_in answers)
-
--- a write there
-written : (ss : List Session) (answers : List Answer) (k : Hearing) → Behind ss answers → k.row ≡ 0 → AreOfWire answers → 0 + reads_in answers ≤ 64 →
-    Matches ss (reading_after_all (of_hearing ss 64 k) answers) (hearing_after_answers k answers) (0 + reads_in answers)
-written ss answers k behind none wire few =
-    let P : ℕ → Type 0 = λ n. Matches ss (reading_after_all (of_hearing ss 64 k) answers) (hearing_after_answers (at k.session n k.writing) answers) (reads_in answers) in
-    let Q : ℕ → Type 0 = λ n. Matches ss (reading_after_all (of_hearing ss 64 k) answers) (hearing_after_answers k answers) n in
-    let same : reads_in answers ≡ 0 + reads_in answers = omega arith in
-    let later : reads_in answers ≤ 64 = omega arith in
-    subst Q same (subst P (sym none) (behind k wire later))
-
-row_interrupted : (b : Bool) (s : Session) (n : ℕ) → (cond b (in_writing s n) (hearing_at (with_how s WriteFaulty) 0)).row ≡ 0
-row_interrupted true s n = refl
-row_interrupted false s n = refl
-
-row_taken : (s : Session) (row writing : ℕ) (octets : List ℕ) → (hearing_after_answer (at s row writing) (Took octets)).row ≡ 0
-row_taken s row writing [] = refl
-row_taken s row writing (x ∷ octets) = refl
-
--- the first read there
-first_read : (ss : List Session) (answers : List Answer) (k : Hearing) → AreOfWire answers → 1 + reads_in answers ≤ 64 →
-    Matches ss (reading_after_all (of_hearing ss 1 k) answers) (hearing_after_answers k answers) (1 + reads_in answers)
-first_read ss answers k wire few = matches_same ss (reading_after_all (of_hearing ss 1 k) answers) (hearing_after_answers k answers) (1 + reads_in answers) (within ss answers k 1 wire few)
-
--- behind the 64 reads of the call before
-behind : (ss : List Session) (answers : List Answer) → Behind ss answers
-behind ss [] h wire few = record { past = refl; writing = refl; reads_are = inr refl }
-behind ss (Opened ∷ answers) h wire few = let e = wire.0 in absurd (cc e)
-behind ss (NotYet ∷ answers) h wire few = let e = wire.0 in absurd (cc e)
-behind ss (Finished ∷ answers) h wire few = let e = wire.0 in absurd (cc e)
-behind ss (Again ∷ answers) h wire few = let e = wire.0 in absurd (cc e)
-behind ss (Silent ∷ answers) h wire few = let e = wire.0 in absurd (cc e)
-behind ss (Came octets ∷ answers) h wire few = first_read ss answers (hearing_after_answer (at h.session 0 h.writing) (Came octets)) wire.1 few
-behind ss (InputEnded ∷ answers) h wire few = first_read ss answers (hearing_after_answer (at h.session 0 h.writing) InputEnded) wire.1 few
-behind ss (ReadInterrupted ∷ answers) h wire few = first_read ss answers (hearing_after_answer (at h.session 0 h.writing) ReadInterrupted) wire.1 few
-behind ss (ReadBlocked ∷ answers) h wire few = first_read ss answers (hearing_after_answer (at h.session 0 h.writing) ReadBlocked) wire.1 few
-behind ss (ReadFailed ∷ answers) h wire few = first_read ss answers (hearing_after_answer (at h.session 0 h.writing) ReadFailed) wire.1 few
-behind ss (Took octets ∷ answers) h wire few = written ss answers (hearing_after_answer (at h.session 0 h.writing) (Took octets)) (behind ss answers) (row_taken h.session 0 h.writing octets) wire.1 few
-behind ss (WriteInterrupted ∷ answers) h wire few =
-    written ss answers (hearing_after_answer (at h.session 0 h.writing) WriteInterrupted) (behind ss answers) (row_interrupted (nat_lt h.writing 16) h.session (h.writing + 1)) wire.1 few
-behind ss (WriteBlocked ∷ answers) h wire few = written ss answers (hearing_after_answer (at h.session 0 h.writing) WriteBlocked) (behind ss answers) refl wire.1 few
-behind ss (WriteFailed ∷ answers) h wire few = written ss answers (hearing_after_answer (at h.session 0 h.writing) WriteFailed) (behind ss answers) refl wire.1 few
 
 -- where there is no connection nothing is heard
 unheard : (row writing reads : ℕ) (a : Answer) → is_wire a ≡ true → reading_after_any (reading_at [] row writing reads) a ≡ reading_at [] row writing reads
@@ -280,8 +172,8 @@ read_more : (past : List Session) (earlier : List Doing) (d : Doing) (answers : 
 read_more past earlier d answers r are f =
     let P : Reading → Type 0 = λ x. Follows past (d ∷ earlier) x in
     let split : answers_in (happened_of earlier ++ happened_in d) ≡ answers_in (happened_of earlier) ++ answers =
-    answers_both (happened_of earlier) (happened_in d) ∙ ap (λ (xs : List Answer). answers_in (happened_of earlier) ++ xs) are in
-    subst P (sym (ap (reading_after_all r) split ∙ recorded_both r (answers_in (happened_of earlier)) answers)) f
+    filter_map-append port_answer (happened_of earlier) (happened_in d) ∙ ap (λ (xs : List Answer). answers_in (happened_of earlier) ++ xs) are in
+    subst P (sym (ap (reading_after_all r) split ∙ fold-append reading_after_any r (answers_in (happened_of earlier)) answers)) f
 
 abbrev start : List Session → Reading
 start past = reading_at (map in_record past) 0 0 0

@@ -4,14 +4,10 @@ use Rattle.std.proofs.lemmas.List.{append-nil}
 use Rattle.dmr_core.specs.declared.act.Acts.{Acts}
 use Rattle.dmr_core.specs.declared.event.Event.TheVariants.{Tick}
 use Rattle.dmr_link.specs.declared.desk.Deposit.{Deposit}
+use Rattle.dmr_link.proofs.ListLemmas.{all-append}
 use Rattle.dmr_desk.specs.declared.ending.Ending.TheVariants as ending
 use Rattle.dmr_desk.specs.declared.pace.Pace.TheVariants as pace
-use Rattle.dmr_desk.specs.Pace.{Paced, FollowsPace, Gave, SaysFinished, AreTicks, Ticking, Ticks}
-
--- one more of these
-one_more : (deposits : List Deposit) (d : Deposit) → AreTicks deposits → d.event ≡ Tick → AreTicks (deposits ++ d ∷ [])
-one_more [] d all same = (same, tt)
-one_more (x ∷ xs) d all same = (all.0, one_more xs d all.1 same)
+use Rattle.dmr_desk.specs.Pace.{Paced, FollowsPace, Gave, SaysFinished, Ticking, Ticks}
 
 gave_one_more : (before after next : Option Paced) (n : ℕ) → Gave before after n → FollowsPace after pace.Tick next → Gave before next (n + 1)
 gave_one_more before after None n g f = tt
@@ -45,7 +41,7 @@ one_tick before after next calls calls1 calls2 later a b f same e =
     let l : length (b.0 ++ d ∷ []) ≡ length b.0 + 1 = length-append b.0 (d ∷ []) in (
       b.0 ++ d ∷ [],
       e ∙ ap (λ (c : List Deposit). c ++ d ∷ []) (same ∙ b.1) ∙ append_assoc calls b.0 (d ∷ []),
-      one_more b.0 d b.2 refl,
+      all-append (λ (d : Deposit). d.event ≡ Tick) b.0 (d ∷ []) b.2 (refl, tt),
       rw l (gave_one_more before after next (length b.0) b.3 f),
     )
 

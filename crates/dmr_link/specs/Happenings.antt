@@ -1,5 +1,5 @@
 -- What happens in a call of serve, in its order.
-use Rattle.std.specs.Prelude.{◌≡◌, ℕ, ◌==◌, List, [], ◌∷◌, ◌++◌, Option, Some, None, if◌then◌else◌}
+use Rattle.std.specs.Prelude.{◌≡◌, ℕ, ◌==◌, List, [], ◌∷◌, ◌++◌, Option, Some, None, Result, Ok, Err, if◌then◌else◌, filter_map, fold}
 use Rattle.dmr_wire.specs.Told.{Answer, Came, InputEnded, ReadInterrupted, ReadBlocked, ReadFailed}
 use Rattle.dmr_link.specs.declared.desk.Deposit.{Deposit}
 use Rattle.dmr_link.specs.declared.ended.Ended.{Ended}
@@ -12,26 +12,33 @@ pub data Happening : Type 0 where
   Handed : (deposit : Deposit) → Happening
   Passed : (passage : Passage) → Happening
 
+-- what a port answers there, a desk takes, or a gate tells
+abbrev pub port_answer : Happening → Option Answer
+port_answer (Answered a) = Some a
+port_answer (Handed d) = None
+port_answer (Passed p) = None
+
+abbrev pub desk_deposit : Happening → Option Deposit
+desk_deposit (Answered a) = None
+desk_deposit (Handed d) = Some d
+desk_deposit (Passed p) = None
+
+abbrev pub gate_passage : Happening → Option Passage
+gate_passage (Answered a) = None
+gate_passage (Handed d) = None
+gate_passage (Passed p) = Some p
+
 -- the answers of the port among them
 abbrev pub answers_in : List Happening → List Answer
-answers_in [] = []
-answers_in (Answered a ∷ xs) = a ∷ answers_in xs
-answers_in (Handed d ∷ xs) = answers_in xs
-answers_in (Passed p ∷ xs) = answers_in xs
+answers_in happened = filter_map port_answer happened
 
 -- what the desk took
 abbrev pub deposits_in : List Happening → List Deposit
-deposits_in [] = []
-deposits_in (Answered a ∷ xs) = deposits_in xs
-deposits_in (Handed d ∷ xs) = d ∷ deposits_in xs
-deposits_in (Passed p ∷ xs) = deposits_in xs
+deposits_in happened = filter_map desk_deposit happened
 
 -- how the gate was passed
 abbrev pub passages_in : List Happening → List Passage
-passages_in [] = []
-passages_in (Answered a ∷ xs) = passages_in xs
-passages_in (Handed d ∷ xs) = passages_in xs
-passages_in (Passed p ∷ xs) = p ∷ passages_in xs
+passages_in happened = filter_map gate_passage happened
 
 -- how many reads an answer is of, and answers are of
 abbrev pub is_read : Answer → ℕ
@@ -87,8 +94,7 @@ stage_then Answering x = answering_then x
 stage_then other x = Disordered
 
 abbrev pub stage_after_all : Stage → List Happening → Stage
-stage_after_all stage [] = stage
-stage_after_all stage (x ∷ xs) = stage_after_all (stage_then stage x) xs
+stage_after_all stage happened = fold stage_then stage happened
 
 -- where a call stands when it ends so
 abbrev pub stage_at : Ended → Stage
@@ -97,9 +103,10 @@ stage_at ended.GateShut = ShutOut
 stage_at ended.Idle = Blocked
 stage_at other = Outside
 
-abbrev pub stage_of : Option Ended → Stage
-stage_of None = Outside
-stage_of (Some stop) = stage_at stop
+-- where it stands behind a step of it, which stopped it or not
+abbrev pub stage_after : {X : Type 0} → Result X Ended → Stage
+stage_after (Ok done) = Outside
+stage_after (Err stop) = stage_at stop
 
 -- how the gate is passed in a call that ends so, in which the desk took these events: it is entered and left for each; once more
 -- where the desk took one no more; and it is found shut where it was

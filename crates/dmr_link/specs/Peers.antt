@@ -1,5 +1,5 @@
 -- Carriers and operators: what octets from each mean, and what goes out to each.
-use Rattle.std.specs.Prelude.{ℕ, Bool, true, false, List, [], ◌∷◌, ◌++◌, Option, Some, None, map}
+use Rattle.std.specs.Prelude.{ℕ, Bool, true, false, List, [], Option, Some, None, map, flat_map, scan}
 use Rattle.dmr_console.specs.declared.line_cutter.LineStep.{LineStep}
 use Rattle.dmr_console.specs.declared.line_cutter.LineStep.TheVariants as step
 use Rattle.dmr_console.specs.Commands.{command_of}
@@ -11,6 +11,7 @@ use Rattle.dmr_core.specs.declared.act.Acts.{Acts}
 use Rattle.dmr_core.specs.declared.entry.Entry.{Entry}
 use Rattle.dmr_core.specs.declared.event.Event.{Event}
 use Rattle.dmr_core.specs.declared.event.Event.TheVariants.{Say}
+use Rattle.dmr_core.specs.Journal.{entry_by_nobody}
 use Rattle.dmr_link.specs.declared.notices.LineFault.TheVariants.{TooLong}
 use Rattle.dmr_link.specs.Notices.{Notice}
 use Rattle.dmr_link.specs.Notices.{Happened, Refused, Unheeded}
@@ -49,7 +50,7 @@ closing_from Operator octets = None
 
 -- an entry of a journal, as a desk took it
 abbrev pub entry_of_deposit : Deposit → Entry
-entry_of_deposit d = record { actor = 0; event = d.event; acts = d.acts }
+entry_of_deposit d = entry_by_nobody d.event d.acts
 
 -- TEXT to a peer, of notices and of what a desk took: a carrier's session text, or the console text
 abbrev pub text_to_peer : Peer → List Notice → List Deposit → List ℕ
@@ -111,5 +112,4 @@ closes_by (stream.Lines begun) x = None
 
 -- what octets bring
 abbrev pub all_brings : Stream → List ℕ → List Notice
-all_brings k [] = []
-all_brings k (x ∷ xs) = list_of_notice (brings k x) ++ all_brings (left_after k x) xs
+all_brings k octets = flat_map list_of_notice (scan left_after brings k octets)

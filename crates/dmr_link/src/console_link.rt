@@ -10,7 +10,7 @@ ghost use Rattle.dmr_link.specs.declared.desk.TermOver.{TermOver as ATermOver};
 ghost use Rattle.dmr_link.specs.declared.stream.Peer.TheVariants.{Operator};
 
 use crate::desk::{Desk, OpenGate, TermOver};
-use crate::ended::{Ended, answer_of};
+use crate::ended::Ended;
 use crate::stream::Peer;
 use crate::talk::Talk;
 use dmr_wire::Wire;
@@ -93,7 +93,7 @@ impl ConsoleLink {
         ensures ended { is_live self.old ≡ false → (result ≡ ended_of self.old.closing) × (self.new ≡ self.old) × (port.new ≡ port.old) × (desk.new ≡ desk.old) }
     {
         if !self.talk.is_live() {
-            return answer_of(self.talk.closing);
+            return Ended::from(self.talk.closing);
         }
         self.talk.listen(port, desk, &mut OpenGate)
     }

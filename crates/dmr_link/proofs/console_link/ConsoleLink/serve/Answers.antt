@@ -12,8 +12,8 @@ returns-then-not-is_live-clause-serves g c =
     let at = sides (g.W.Wire.told c.args.port.now) (g.D.Desk.calls c.args.desk.now) None in
     let dead : is_live c.self.inside.talk ≡ false = sym c.is_live.ensures ∙ c.if-not-is_live.true in
     let P : Ended → Type 0 = λ e. Serves c.self.inside.talk c.self.inside.talk at at e in
-    let Q : Talk → Type 0 = λ l. Serves l l at at c.answer_of.result in
-    subst Q c.self.view_is (subst P (sym c.answer_of.ensures) (still_serves c.self.inside.talk at dead))
+    let Q : Talk → Type 0 = λ l. Serves l l at at c.from.result in
+    subst Q c.self.view_is (subst P (sym c.from.ensures) (still_serves c.self.inside.talk at dead))
 
 inside_serves : (g : Over) (c : goal.After-listen g) → Serves c.self.inside.talk c.listen.new.self
     (sides (g.W.Wire.told c.args.port.now) (g.D.Desk.calls c.args.desk.now) None)
@@ -38,7 +38,7 @@ returns-clause-serves g c =
 pub returns-then-not-is_live-clause-no_cause : goal.returns-then-not-is_live-clause-no_cause
 returns-then-not-is_live-clause-no_cause g c = λ cause e.
     let over = dead_over c.self.inside.talk (sym c.is_live.ensures ∙ c.if-not-is_live.true) in
-    no_cause c.self.inside.talk c.self.invariant.1.0 cause c.self.invariant.0 c.self.invariant.1.1 over (sym c.answer_of.ensures ∙ e)
+    no_cause c.self.inside.talk c.self.invariant.1.0 cause c.self.invariant.0 c.self.invariant.1.1 over (sym c.from.ensures ∙ e)
 
 pub returns-clause-no_cause : goal.returns-clause-no_cause
 returns-clause-no_cause g c = λ cause e.

@@ -39,6 +39,7 @@ site = record {
   tick_ms = 60;
   silence = 100;
   term_entries = 10000;
+  link_version = 1;
   address = 127 ∷ 0 ∷ 0 ∷ 1 ∷ [];
   console_port = 7100;
   radios = record { first = 1000; last = 1999 } ∷ [];

@@ -1,7 +1,7 @@
-//! What a carrier sends, frame by frame, as the controller cuts it.
+//! What a carrier sends, frame by frame, as a controller cuts it that serves every version of the link format.
 
 use crate::words_of_bursts::show_word;
-use dmr_frames::{Cutter, FrameIn, Step};
+use dmr_frames::{Cutter, FrameIn, Step, Version};
 use std::alloc::Global;
 use std::io;
 use std::io::Write;
@@ -20,7 +20,7 @@ impl CarrierReader {
     /// A connection on which nothing came yet.
     pub fn new() -> CarrierReader {
         CarrierReader {
-            cutter: Cutter::new(),
+            cutter: Cutter::new(Version::V2),
             came: 0,
             begins: 0,
             faulty: false,
@@ -75,7 +75,11 @@ fn show_frame<W: Write>(
 ) -> io::Result<()> {
     writeln!(out, "{begins:>4}  {frame}")?;
     match frame {
-        FrameIn::Rx { slot: _, word } => show_word(alloc, word, out),
+        FrameIn::Rx {
+            number: _,
+            slot: _,
+            word,
+        } => show_word(alloc, word, out),
         _ => Ok(()),
     }
 }

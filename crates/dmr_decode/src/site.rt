@@ -50,7 +50,11 @@ fn show_frame<W: Write>(
 ) -> io::Result<()> {
     writeln!(out, "{begins:>4}  {frame}")?;
     match frame {
-        FrameOut::Tx { slot: _, word } => show_word(alloc, word, out),
+        FrameOut::Tx {
+            number: _,
+            slot: _,
+            word,
+        } => show_word(alloc, word, out),
         _ => Ok(()),
     }
 }
@@ -66,18 +70,23 @@ fn front_of<'a>(octets: &'a [u8]) -> Option<Front<'a>>
     Some(Front { frame, rest })
 }
 
-/// The frame that octets may begin with, by its type and body.
+/// The TX of a burst whose word is the first 25 of these octets, which follow its slot.
+fn burst_at(number: Option<u8>, slot: u8, body: &[u8]) -> Option<FrameOut> {
+    let mut word = [0; 25];
+    word.copy_from_slice(body.get(..25)?);
+    Some(FrameOut::Tx {
+        number,
+        slot: SlotNo::try_new(u32::from(slot))?,
+        word: Word196::from_octets(&word).ok()?,
+    })
+}
+
+/// The frame that octets may begin with, by its type and body, and a TX by its length too: a longer one has a number.
 fn frame_at(octets: &[u8]) -> Option<FrameOut> {
     match octets {
         [0x81, _, version, ..] => Some(FrameOut::Welcome { version: *version }),
-        [0x82, _, slot, body @ ..] => {
-            let mut word = [0; 25];
-            word.copy_from_slice(body.get(..25)?);
-            Some(FrameOut::Tx {
-                slot: SlotNo::try_new(u32::from(*slot))?,
-                word: Word196::from_octets(&word).ok()?,
-            })
-        }
+        [0x82, 26, slot, body @ ..] => burst_at(None, *slot, body),
+        [0x82, 27, number, slot, body @ ..] => burst_at(Some(*number), *slot, body),
         [0x83, ..] => Some(FrameOut::Done),
         [0x84, _, 1, ..] => Some(FrameOut::Refused(Refusal::BadVersion)),
         [0x84, _, 2, ..] => Some(FrameOut::Refused(Refusal::WrongCarrier)),

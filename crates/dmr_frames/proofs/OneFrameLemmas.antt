@@ -5,40 +5,41 @@ use Rattle.std.proofs.lemmas.List.{append-nil, take_more, length-take-le, get_or
 use Rattle.dmr_frames.specs.declared.frame.FrameIn.{FrameIn}
 use Rattle.dmr_frames.specs.declared.cutter.Step.{Step}
 use Rattle.dmr_frames.specs.declared.cutter.Step.TheVariants.{Need, Frame, Fault}
+use Rattle.dmr_frames.specs.declared.version.Version.{Version}
 use Rattle.dmr_frames.specs.Frames.{IsFrame, spelling}
 use Rattle.dmr_frames.specs.Stream.{IsOpen, IsStep}
 use Rattle.dmr_frames.specs.Reading.{step_at}
 use Rattle.dmr_frames.proofs.StepLemmas.{step_sound}
 use Rattle.dmr_frames.proofs.StreamLemmas.{spelled_once, open_no_spelling}
 
-inside : (q : List ℕ) (x : ℕ) (more : List ℕ) (f : FrameIn) (s : Step) → IsFrame f → q ++ x ∷ more ≡ spelling f → 0 < length more → IsStep q x s → s ≡ Need
-inside q x more f Need hf e l is = refl
-inside q x more f (Frame g) hf e l is =
+inside : (v : Version) (q : List ℕ) (x : ℕ) (more : List ℕ) (f : FrameIn) (s : Step) → IsFrame v f → q ++ x ∷ more ≡ spelling f → 0 < length more → IsStep v q x s → s ≡ Need
+inside v q x more f Need hf e l is = refl
+inside v q x more f (Frame g) hf e l is =
     let joined : spelling g ++ more ≡ spelling f ++ [] = ap (λ (p : List ℕ). p ++ more) (sym is.1) ∙ append_assoc q (x ∷ []) more ∙ e ∙ sym (append-nil (spelling f)) in
-    let none : more ≡ [] = (spelled_once g f more [] is.0 hf joined).1 in
+    let none : more ≡ [] = (spelled_once v v g f more [] is.0 hf joined).1 in
     let n : length more ≡ 0 = ap length none in
     absurd (omega arith)
-inside q x more f (Fault cause) hf e l is = absurd (is.0 (f, more, hf, append_assoc q (x ∷ []) more ∙ e))
+inside v q x more f (Fault cause) hf e l is = absurd (is.0 (f, more, hf, append_assoc q (x ∷ []) more ∙ e))
 
 -- inside a frame each octet needs more
-pub step-inside : (q : List ℕ) (x : ℕ) (more : List ℕ) (f : FrameIn) → x < 256 → IsFrame f → q ++ x ∷ more ≡ spelling f → 0 < length more → step_at q x ≡ Need
-step-inside q x more f lt hf e l = inside q x more f (step_at q x) hf e l (step_sound q x (f, x, more, hf, e) lt)
+pub step-inside : (v : Version) (q : List ℕ) (x : ℕ) (more : List ℕ) (f : FrameIn) → x < 256 → IsFrame v f → q ++ x ∷ more ≡ spelling f → 0 < length more → step_at v q x ≡ Need
+step-inside v q x more f lt hf e l = inside v q x more f (step_at v q x) hf e l (step_sound v q x (f, x, more, hf, e) lt)
 
-at_last : (q : List ℕ) (x : ℕ) (f : FrameIn) (s : Step) → IsFrame f → q ++ x ∷ [] ≡ spelling f → IsStep q x s → s ≡ Frame f
-at_last q x f Need hf e is = absurd (open_no_spelling (q ++ x ∷ []) f [] hf (e ∙ sym (append-nil (spelling f))) is)
-at_last q x f (Frame g) hf e is = ap Frame (spelled_once g f [] [] is.0 hf (ap (λ (p : List ℕ). p ++ []) (sym is.1 ∙ e))).0
-at_last q x f (Fault cause) hf e is = absurd (is.0 (f, [], hf, append-nil (q ++ x ∷ []) ∙ e))
+at_last : (v : Version) (q : List ℕ) (x : ℕ) (f : FrameIn) (s : Step) → IsFrame v f → q ++ x ∷ [] ≡ spelling f → IsStep v q x s → s ≡ Frame f
+at_last v q x f Need hf e is = absurd (open_no_spelling v (q ++ x ∷ []) f [] hf (e ∙ sym (append-nil (spelling f))) is)
+at_last v q x f (Frame g) hf e is = ap Frame (spelled_once v v g f [] [] is.0 hf (ap (λ (p : List ℕ). p ++ []) (sym is.1 ∙ e))).0
+at_last v q x f (Fault cause) hf e is = absurd (is.0 (f, [], hf, append-nil (q ++ x ∷ []) ∙ e))
 
 -- the last octet of a frame brings it
-pub step-at_last : (q : List ℕ) (x : ℕ) (f : FrameIn) → x < 256 → IsFrame f → q ++ x ∷ [] ≡ spelling f → step_at q x ≡ Frame f
-step-at_last q x f lt hf e = at_last q x f (step_at q x) hf e (step_sound q x (f, x, [], hf, e) lt)
+pub step-at_last : (v : Version) (q : List ℕ) (x : ℕ) (f : FrameIn) → x < 256 → IsFrame v f → q ++ x ∷ [] ≡ spelling f → step_at v q x ≡ Frame f
+step-at_last v q x f lt hf e = at_last v q x f (step_at v q x) hf e (step_sound v q x (f, x, [], hf, e) lt)
 
 -- a step that needs more leaves a rest that is open, and one that brings a frame has spelled it
-pub open-after_need : (q : List ℕ) (x : ℕ) → x < 256 → IsOpen q → step_at q x ≡ Need → IsOpen (q ++ x ∷ [])
-open-after_need q x lt h e = let P : Step → Type 0 = λ s. IsStep q x s in subst P e (step_sound q x h lt)
+pub open-after_need : (v : Version) (q : List ℕ) (x : ℕ) → x < 256 → IsOpen v q → step_at v q x ≡ Need → IsOpen v (q ++ x ∷ [])
+open-after_need v q x lt h e = let P : Step → Type 0 = λ s. IsStep v q x s in subst P e (step_sound v q x h lt)
 
-pub spelled-at_frame : (q : List ℕ) (x : ℕ) (f : FrameIn) → x < 256 → IsOpen q → step_at q x ≡ Frame f → IsFrame f × (q ++ x ∷ [] ≡ spelling f)
-spelled-at_frame q x f lt h e = let P : Step → Type 0 = λ s. IsStep q x s in subst P e (step_sound q x h lt)
+pub spelled-at_frame : (v : Version) (q : List ℕ) (x : ℕ) (f : FrameIn) → x < 256 → IsOpen v q → step_at v q x ≡ Frame f → IsFrame v f × (q ++ x ∷ [] ≡ spelling f)
+spelled-at_frame v q x f lt h e = let P : Step → Type 0 = λ s. IsStep v q x s in subst P e (step_sound v q x h lt)
 
 -- ---- octets by their front and the last of them
 
@@ -64,13 +65,13 @@ split_at : (xs : List ℕ) (i : ℕ) → i < length xs → take i xs ++ get_or x
 split_at xs i lt = rw (add-one, ← drop-cons xs i 0) (take-append-drop i xs)
 
 -- before its last octet a frame needs more
-pub step-in_front : (octets : List ℕ) (i : ℕ) (f : FrameIn) → ((k : ℕ) → get_or octets k 0 < 256) → 0 < length octets → i < length (front_of octets) → IsFrame f → octets ≡ spelling f → step_at (take i (front_of octets)) (get_or (front_of octets) i 0) ≡ Need
-step-in_front octets i f small l lt hf e =
+pub step-in_front : (v : Version) (octets : List ℕ) (i : ℕ) (f : FrameIn) → ((k : ℕ) → get_or octets k 0 < 256) → 0 < length octets → i < length (front_of octets) → IsFrame v f → octets ≡ spelling f → step_at v (take i (front_of octets)) (get_or (front_of octets) i 0) ≡ Need
+step-in_front v octets i f small l lt hf e =
     let front : List ℕ = front_of octets in
     let rest : List ℕ = drop (i + 1) front ++ last_of octets ∷ [] in
     let parts : take i front ++ get_or front i 0 ∷ rest ≡ spelling f = sym (append_assoc (take i front) (get_or front i 0 ∷ drop (i + 1) front) (last_of octets ∷ [])) ∙ ap (λ (xs : List ℕ). xs ++ last_of octets ∷ []) (split_at front i lt) ∙ sym (front-last octets l) ∙ e in
-    step-inside (take i front) (get_or front i 0) rest f (small-front_of octets i small lt) hf parts (omega (arith, length-append (drop (i + 1) front) (last_of octets ∷ [])))
+    step-inside v (take i front) (get_or front i 0) rest f (small-front_of octets i small lt) hf parts (omega (arith, length-append (drop (i + 1) front) (last_of octets ∷ [])))
 
 -- at its last octet it is whole
-pub step-after_front : (octets : List ℕ) (f : FrameIn) → ((k : ℕ) → get_or octets k 0 < 256) → 0 < length octets → IsFrame f → octets ≡ spelling f → step_at (front_of octets) (last_of octets) ≡ Frame f
-step-after_front octets f small l hf e = step-at_last (front_of octets) (last_of octets) f (small (length octets - 1)) hf (sym (front-last octets l) ∙ e)
+pub step-after_front : (v : Version) (octets : List ℕ) (f : FrameIn) → ((k : ℕ) → get_or octets k 0 < 256) → 0 < length octets → IsFrame v f → octets ≡ spelling f → step_at v (front_of octets) (last_of octets) ≡ Frame f
+step-after_front v octets f small l hf e = step-at_last v (front_of octets) (last_of octets) f (small (length octets - 1)) hf (sym (front-last octets l) ∙ e)

@@ -1,8 +1,9 @@
--- How a reading goes on, and what the octets of a frame, and those of a frame that has begun, bring to a connection's first rest.
-use Rattle.std.proofs.Common.{◌≡◌, ℕ, ◌/◌, ◌%◌, ◌<◌, List, [], ◌∷◌, ◌++◌, refl, sym, ap, ◌∙◌, arith, append_assoc, subst, All}
+-- How a reading goes on, and what the octets of a frame, and those of a frame that has begun, bring to a rest of nothing.
+use Rattle.std.proofs.Common.{◌≡◌, ℕ, ◌/◌, ◌%◌, ◌<◌, Option, Some, None, List, [], ◌∷◌, ◌++◌, refl, sym, ap, ◌∙◌, arith, append_assoc, subst, All}
 use Rattle.std.specs.List.{flat_map}
 use Rattle.std.proofs.lemmas.List.{append-nil, flat_map_more}
-use Rattle.std.proofs.lemmas.List.Elements.{All-nil, All-cons, All-head, All-tail, All-push, All-from_get_or}
+use Rattle.std.proofs.lemmas.List.Sums.{fold_push}
+use Rattle.std.proofs.lemmas.List.Elements.{All-head, All-tail, All-from_get_or}
 use Rattle.dmr_bits.specs.Words.{word_octets}
 use Rattle.dmr_bits.proofs.WordLemmas.{word_octets-octets}
 use Rattle.dmr_frames.specs.declared.frame.FrameIn.{FrameIn}
@@ -10,46 +11,69 @@ use Rattle.dmr_frames.specs.declared.frame.FrameIn.TheVariants.{Hello, Rx, Poll,
 use Rattle.dmr_frames.specs.declared.frame.Cause.{Cause}
 use Rattle.dmr_frames.specs.declared.cutter.Step.{Step}
 use Rattle.dmr_frames.specs.declared.cutter.Step.TheVariants.{Need, Frame, Fault}
-use Rattle.dmr_frames.specs.Frames.{IsFrame, spelling}
+use Rattle.dmr_frames.specs.declared.version.Version.{Version}
+use Rattle.dmr_frames.specs.declared.version.Version.TheVariants.{V1, V2}
+use Rattle.dmr_frames.specs.declared.version.FrameTable.{FrameTable}
+use Rattle.dmr_frames.specs.Versions.{version_of, table_after, table_after_frames}
+use Rattle.dmr_frames.specs.Frames.{IsNumbered, IsFrame, burst_octets, version_by, burst_length, spelling}
 use Rattle.dmr_frames.specs.Rest.{Rest, Open, Faulty}
-use Rattle.dmr_frames.specs.Stream.{IsOpen, Reads, IsStep}
+use Rattle.dmr_frames.specs.Stream.{IsOpen, IsFaulty, Reads, AreFrames, IsStep}
 use Rattle.dmr_frames.specs.Shape.{AreSmall}
 use Rattle.dmr_frames.specs.Reading.{step_at, step_from, rest_after_octet, rest_after, frame_of, frames_from, rest_after_octets}
 use Rattle.dmr_frames.proofs.ShapeLemmas.{small-cons, small-front}
 use Rattle.dmr_frames.proofs.StreamLemmas.{readings-same}
 use Rattle.dmr_frames.proofs.StepLemmas.{step_sound}
 
-pub open_nothing : IsOpen []
-open_nothing = (Poll, 3, 0 ∷ [], tt, refl)
+pub open_nothing : (v : Version) → IsOpen v []
+open_nothing v = (Poll, 3, 0 ∷ [], tt, refl)
 
-no_more : (octets : List ℕ) (fs : List FrameIn) (r : Rest) → Reads octets fs r → Reads octets (fs ++ []) r
-no_more octets fs r h = let P : List FrameIn → Type 0 = λ gs. Reads octets gs r in subst P (sym (append-nil fs)) h
+-- one frame more, of the version whose turn it is
+frames_more : (table : FrameTable) (fs : List FrameIn) (f : FrameIn) → AreFrames table fs → IsFrame (version_of (table_after_frames table fs)) f → AreFrames table (fs ++ f ∷ [])
+frames_more table [] f h is = (is, tt)
+frames_more table (g ∷ fs) f h is = (h.0, frames_more (table_after table g) fs f h.1 is)
 
-open_on : (octets : List ℕ) (fs : List FrameIn) (q : List ℕ) (x : ℕ) (s : Step) → Reads octets fs (Open q) → IsStep q x s → Reads (octets ++ x ∷ []) (fs ++ frame_of s) (rest_after q x s)
-open_on octets fs q x Need h is = no_more (octets ++ x ∷ []) fs (Open (q ++ x ∷ [])) (record {
+table_more : (table : FrameTable) (fs : List FrameIn) (f : FrameIn) → table_after_frames table (fs ++ f ∷ []) ≡ table_after (table_after_frames table fs) f
+table_more table fs f = fold_push table_after table fs f
+
+moved_frame : (t u : FrameTable) (f : FrameIn) → t ≡ u → IsFrame (version_of u) f → IsFrame (version_of t) f
+moved_frame t u f e h = let P : FrameTable → Type 0 = λ table. IsFrame (version_of table) f in subst P (sym e) h
+
+no_more : (table : FrameTable) (octets : List ℕ) (fs : List FrameIn) (r : Rest) → Reads table octets fs r → Reads table octets (fs ++ []) r
+no_more table octets fs r h = let P : List FrameIn → Type 0 = λ gs. Reads table octets gs r in subst P (sym (append-nil fs)) h
+
+-- the octets behind the frames, with one more of them
+longer_by : (fs : List FrameIn) (octets tail q : List ℕ) (x : ℕ) → octets ≡ flat_map spelling fs ++ tail → tail ≡ q → octets ++ x ∷ [] ≡ flat_map spelling fs ++ (q ++ x ∷ [])
+longer_by fs octets tail q x e d = ap (λ (o : List ℕ). o ++ x ∷ []) (e ∙ ap (λ (t : List ℕ). flat_map spelling fs ++ t) d) ∙ append_assoc (flat_map spelling fs) q (x ∷ [])
+
+open_on : (table : FrameTable) (octets : List ℕ) (fs : List FrameIn) (t : FrameTable) (q : List ℕ) (x : ℕ) (s : Step) → Reads table octets fs (Open t q) → IsStep (version_of t) q x s →
+    Reads table (octets ++ x ∷ []) (fs ++ frame_of s) (rest_after t q x s)
+open_on table octets fs t q x Need h is = no_more table (octets ++ x ∷ []) fs (Open t (q ++ x ∷ [])) (record {
   tail = q ++ x ∷ [];
-  whole = ap (λ (o : List ℕ). o ++ x ∷ []) (h.whole ∙ ap (λ (t : List ℕ). flat_map spelling fs ++ t) h.rest_is.0) ∙ append_assoc (flat_map spelling fs) q (x ∷ []);
+  whole = longer_by fs octets h.tail q x h.whole h.rest_is.1;
   each = h.each;
-  rest_is = (refl, is);
+  rest_is = (h.rest_is.0, refl, is);
 })
-open_on octets fs q x (Frame f) h is = record {
+open_on table octets fs t q x (Frame f) h is = record {
   tail = [];
-  whole = ap (λ (o : List ℕ). o ++ x ∷ []) (h.whole ∙ ap (λ (t : List ℕ). flat_map spelling fs ++ t) h.rest_is.0) ∙ append_assoc (flat_map spelling fs) q (x ∷ [])
+  whole = longer_by fs octets h.tail q x h.whole h.rest_is.1
       ∙ ap (λ (t : List ℕ). flat_map spelling fs ++ t) is.1 ∙ flat_map_more spelling [] fs f ∙ sym (append-nil (flat_map spelling (fs ++ f ∷ [])));
-  each = All-push IsFrame fs f h.each is.0;
-  rest_is = (refl, open_nothing);
+  each = frames_more table fs f h.each (moved_frame (table_after_frames table fs) t f h.rest_is.0 is.0);
+  rest_is = (table_more table fs f ∙ ap (λ (u : FrameTable). table_after u f) h.rest_is.0, refl, open_nothing (version_of (table_after t f)));
 }
-open_on octets fs q x (Fault cause) h is = no_more (octets ++ x ∷ []) fs (Faulty cause) (record {
-  tail = q ++ x ∷ [];
-  whole = ap (λ (o : List ℕ). o ++ x ∷ []) (h.whole ∙ ap (λ (t : List ℕ). flat_map spelling fs ++ t) h.rest_is.0) ∙ append_assoc (flat_map spelling fs) q (x ∷ []);
-  each = h.each;
-  rest_is = record { front = q; octet = x; more = []; whole = refl; open_front = h.rest_is.1; no_frame = is.0; cause_is = is.1 };
-})
+open_on table octets fs t q x (Fault cause) h is = no_more table (octets ++ x ∷ []) fs (Faulty cause) (
+    let fault : IsFaulty (version_of t) (q ++ x ∷ []) cause = record { front = q; octet = x; more = []; whole = refl; open_front = h.rest_is.2; no_frame = is.0; cause_is = is.1 } in
+    let P : FrameTable → Type 0 = λ u. IsFaulty (version_of u) (q ++ x ∷ []) cause in
+    record {
+      tail = q ++ x ∷ [];
+      whole = longer_by fs octets h.tail q x h.whole h.rest_is.1;
+      each = h.each;
+      rest_is = subst P (sym h.rest_is.0) fault;
+    })
 
-faulty_on : (octets : List ℕ) (fs : List FrameIn) (c : Cause) (x : ℕ) → Reads octets fs (Faulty c) → Reads (octets ++ x ∷ []) (fs ++ []) (Faulty c)
-faulty_on octets fs c x h = no_more (octets ++ x ∷ []) fs (Faulty c) (record {
+faulty_on : (table : FrameTable) (octets : List ℕ) (fs : List FrameIn) (c : Cause) (x : ℕ) → Reads table octets fs (Faulty c) → Reads table (octets ++ x ∷ []) (fs ++ []) (Faulty c)
+faulty_on table octets fs c x h = no_more table (octets ++ x ∷ []) fs (Faulty c) (record {
   tail = h.tail ++ x ∷ [];
-  whole = ap (λ (o : List ℕ). o ++ x ∷ []) h.whole ∙ append_assoc (flat_map spelling fs) h.tail (x ∷ []);
+  whole = longer_by fs octets h.tail h.tail x h.whole refl;
   each = h.each;
   rest_is = record {
     front = h.rest_is.front;
@@ -62,65 +86,74 @@ faulty_on octets fs c x h = no_more (octets ++ x ∷ []) fs (Faulty c) (record {
   };
 })
 
-pub reads_on : (octets : List ℕ) (fs : List FrameIn) (r : Rest) (x : ℕ) → x < 256 → Reads octets fs r → Reads (octets ++ x ∷ []) (fs ++ frame_of (step_from r x)) (rest_after_octet r x)
-reads_on octets fs (Open q) x lt h = open_on octets fs q x (step_at q x) h (step_sound q x h.rest_is.1 lt)
-reads_on octets fs (Faulty c) x lt h = faulty_on octets fs c x h
+pub reads_on : (table : FrameTable) (octets : List ℕ) (fs : List FrameIn) (r : Rest) (x : ℕ) → x < 256 → Reads table octets fs r → Reads table (octets ++ x ∷ []) (fs ++ frame_of (step_from r x)) (rest_after_octet r x)
+reads_on table octets fs (Open t q) x lt h = open_on table octets fs t q x (step_at (version_of t) q x) h (step_sound (version_of t) q x h.rest_is.2 lt)
+reads_on table octets fs (Faulty c) x lt h = faulty_on table octets fs c x h
 
-pub reads_more : (octets : List ℕ) (fs : List FrameIn) (r : Rest) (xs : List ℕ) → All (λ x. x < 256) xs → Reads octets fs r → Reads (octets ++ xs) (fs ++ frames_from r xs) (rest_after_octets r xs)
-reads_more octets fs r [] small h =
-    let P : List ℕ → Type 0 = λ o. Reads o (fs ++ []) r in
-    subst P (sym (append-nil octets)) (no_more octets fs r h)
-reads_more octets fs r (x ∷ xs) small h =
-    let next : Reads (octets ++ x ∷ []) (fs ++ frame_of (step_from r x)) (rest_after_octet r x) = reads_on octets fs r x (All-head (λ x. x < 256) x xs small) h in
-    let rest : Reads (octets ++ x ∷ [] ++ xs) (fs ++ frame_of (step_from r x) ++ frames_from (rest_after_octet r x) xs) (rest_after_octets (rest_after_octet r x) xs) = reads_more (octets ++ x ∷ []) (fs ++ frame_of (step_from r x)) (rest_after_octet r x) xs (All-tail (λ x. x < 256) x xs small) next in
-    let P : List ℕ → Type 0 = λ o. Reads o (fs ++ frame_of (step_from r x) ++ frames_from (rest_after_octet r x) xs) (rest_after_octets (rest_after_octet r x) xs) in
-    let Q : List FrameIn → Type 0 = λ gs. Reads (octets ++ x ∷ xs) gs (rest_after_octets (rest_after_octet r x) xs) in
+pub reads_more : (table : FrameTable) (octets : List ℕ) (fs : List FrameIn) (r : Rest) (xs : List ℕ) → All (λ x. x < 256) xs → Reads table octets fs r → Reads table (octets ++ xs) (fs ++ frames_from r xs) (rest_after_octets r xs)
+reads_more table octets fs r [] small h =
+    let P : List ℕ → Type 0 = λ o. Reads table o (fs ++ []) r in
+    subst P (sym (append-nil octets)) (no_more table octets fs r h)
+reads_more table octets fs r (x ∷ xs) small h =
+    let next : Reads table (octets ++ x ∷ []) (fs ++ frame_of (step_from r x)) (rest_after_octet r x) = reads_on table octets fs r x (All-head (λ x. x < 256) x xs small) h in
+    let rest : Reads table (octets ++ x ∷ [] ++ xs) (fs ++ frame_of (step_from r x) ++ frames_from (rest_after_octet r x) xs) (rest_after_octets (rest_after_octet r x) xs) = reads_more table (octets ++ x ∷ []) (fs ++ frame_of (step_from r x)) (rest_after_octet r x) xs (All-tail (λ x. x < 256) x xs small) next in
+    let P : List ℕ → Type 0 = λ o. Reads table o (fs ++ frame_of (step_from r x) ++ frames_from (rest_after_octet r x) xs) (rest_after_octets (rest_after_octet r x) xs) in
+    let Q : List FrameIn → Type 0 = λ gs. Reads table (octets ++ x ∷ xs) gs (rest_after_octets (rest_after_octet r x) xs) in
     subst Q (append_assoc fs (frame_of (step_from r x)) (frames_from (rest_after_octet r x) xs)) (subst P (append_assoc octets (x ∷ []) xs) rest)
 
-pub reads_nothing : Reads [] [] (Open [])
-reads_nothing = record { tail = []; whole = refl; each = All-nil IsFrame; rest_is = (refl, open_nothing) }
+pub reads_nothing : (table : FrameTable) → Reads table [] [] (Open table [])
+reads_nothing table = record { tail = []; whole = refl; each = tt; rest_is = (refl, refl, open_nothing (version_of table)) }
 
-pub reads_all : (octets : List ℕ) → All (λ x. x < 256) octets → Reads octets (frames_from (Open []) octets) (rest_after_octets (Open []) octets)
-reads_all octets small = reads_more [] [] (Open []) octets small reads_nothing
+pub reads_all : (table : FrameTable) (octets : List ℕ) → All (λ x. x < 256) octets → Reads table octets (frames_from (Open table []) octets) (rest_after_octets (Open table []) octets)
+reads_all table octets small = reads_more table [] [] (Open table []) octets small (reads_nothing table)
 
 -- ---- frames whose octets are known
 
 none_small : AreSmall []
 none_small = λ k. omega arith
 
+burst-small : (v : Version) (number : Option ℕ) (slot : ℕ) (octets : List ℕ) → IsNumbered v number → slot < 2 → AreSmall octets → AreSmall (burst_length (version_by number) ∷ burst_octets number slot octets)
+burst-small v None slot octets is lt h = small-cons 26 (slot ∷ octets) (omega arith) (small-cons slot octets (omega arith) h)
+burst-small V1 (Some n) slot octets is lt h = absurd is
+burst-small V2 (Some n) slot octets is lt h = small-cons 27 (n ∷ slot ∷ octets) (omega arith) (small-cons n (slot ∷ octets) is (small-cons slot octets (omega arith) h))
+
 -- the octets of a frame are octets
-pub spelling-small : (f : FrameIn) → IsFrame f → AreSmall (spelling f)
-spelling-small (Hello v c l) is =
+pub spelling-small : (v : Version) (f : FrameIn) → IsFrame v f → AreSmall (spelling f)
+spelling-small version (Hello v c l) is =
     small-cons 1 (4 ∷ v ∷ c ∷ (l / 256) ∷ (l % 256) ∷ []) (omega arith) (small-cons 4 (v ∷ c ∷ (l / 256) ∷ (l % 256) ∷ []) (omega arith)
     (small-cons v (c ∷ (l / 256) ∷ (l % 256) ∷ []) is.0 (small-cons c ((l / 256) ∷ (l % 256) ∷ []) is.1
     (small-cons (l / 256) ((l % 256) ∷ []) (omega (arith, is.2)) (small-cons (l % 256) [] (omega arith) none_small)))))
-spelling-small (Rx slot word) is =
-    small-cons 2 (26 ∷ slot ∷ word_octets word) (omega arith) (small-cons 26 (slot ∷ word_octets word) (omega arith) (small-cons slot (word_octets word) (omega (arith, is.0)) (word_octets-octets word).small))
-spelling-small Poll is = small-cons 3 (0 ∷ []) (omega arith) (small-cons 0 [] (omega arith) none_small)
-spelling-small (Active slot) is = small-cons 4 (1 ∷ slot ∷ []) (omega arith) (small-cons 1 (slot ∷ []) (omega arith) (small-cons slot [] (omega (arith, is)) none_small))
-spelling-small Bye is = small-cons 5 (0 ∷ []) (omega arith) (small-cons 0 [] (omega arith) none_small)
+spelling-small version (Rx number slot word) is =
+    small-cons 2 (burst_length (version_by number) ∷ burst_octets number slot (word_octets word)) (omega arith) (burst-small version number slot (word_octets word) is.0 is.1 (word_octets-octets word).small)
+spelling-small version Poll is = small-cons 3 (0 ∷ []) (omega arith) (small-cons 0 [] (omega arith) none_small)
+spelling-small version (Active slot) is = small-cons 4 (1 ∷ slot ∷ []) (omega arith) (small-cons 1 (slot ∷ []) (omega arith) (small-cons slot [] (omega (arith, is)) none_small))
+spelling-small version Bye is = small-cons 5 (0 ∷ []) (omega arith) (small-cons 0 [] (omega arith) none_small)
 
-pub open-small : (q : List ℕ) → IsOpen q → AreSmall q
-open-small q (f, x, more, is, e) = let P : List ℕ → Type 0 = λ xs. AreSmall xs in small-front q (x ∷ more) (subst P (sym e) (spelling-small f is))
+pub open-small : (v : Version) (q : List ℕ) → IsOpen v q → AreSmall q
+open-small v q (f, x, more, is, e) = let P : List ℕ → Type 0 = λ xs. AreSmall xs in small-front q (x ∷ more) (subst P (sym e) (spelling-small v f is))
 
 all_small : (xs : List ℕ) → AreSmall xs → All (λ x. x < 256) xs
 all_small xs h = All-from_get_or (λ x. x < 256) xs 0 (λ i lt. h i)
 
-reads_open : (q : List ℕ) → IsOpen q → Reads q [] (Open q)
-reads_open q h = record { tail = q; whole = refl; each = All-nil IsFrame; rest_is = (refl, h) }
+reads_open : (table : FrameTable) (q : List ℕ) → IsOpen (version_of table) q → Reads table q [] (Open table q)
+reads_open table q h = record { tail = q; whole = refl; each = tt; rest_is = (refl, refl, h) }
 
-reads_frame : (f : FrameIn) → IsFrame f → Reads (spelling f) (f ∷ []) (Open [])
-reads_frame f h = record {
+reads_frame : (table : FrameTable) (f : FrameIn) → IsFrame (version_of table) f → Reads table (spelling f) (f ∷ []) (Open (table_after table f) [])
+reads_frame table f h = record {
   tail = [];
   whole = sym (append-nil (spelling f)) ∙ sym (append-nil (spelling f ++ []));
-  each = All-cons IsFrame f [] h (All-nil IsFrame);
-  rest_is = (refl, open_nothing);
+  each = (h, tt);
+  rest_is = (refl, refl, open_nothing (version_of (table_after table f)));
 }
 
 -- what is no whole frame yet brings none, and stays
-pub open-brings : (q : List ℕ) → IsOpen q → (frames_from (Open []) q ≡ []) × (rest_after_octets (Open []) q ≡ Open q)
-open-brings q h = readings-same q (frames_from (Open []) q) [] (rest_after_octets (Open []) q) (Open q) (reads_all q (all_small q (open-small q h))) (reads_open q h)
+pub open-brings : (table : FrameTable) (q : List ℕ) → IsOpen (version_of table) q → (frames_from (Open table []) q ≡ []) × (rest_after_octets (Open table []) q ≡ Open table q)
+open-brings table q h =
+    readings-same table q (frames_from (Open table []) q) [] (rest_after_octets (Open table []) q) (Open table q) (reads_all table q (all_small q (open-small (version_of table) q h))) (reads_open table q h)
 
 -- the octets of a frame bring it, and nothing is left
-pub spelling-brings : (f : FrameIn) → IsFrame f → (frames_from (Open []) (spelling f) ≡ f ∷ []) × (rest_after_octets (Open []) (spelling f) ≡ Open [])
-spelling-brings f h = readings-same (spelling f) (frames_from (Open []) (spelling f)) (f ∷ []) (rest_after_octets (Open []) (spelling f)) (Open []) (reads_all (spelling f) (all_small (spelling f) (spelling-small f h))) (reads_frame f h)
+pub spelling-brings : (table : FrameTable) (f : FrameIn) → IsFrame (version_of table) f →
+    (frames_from (Open table []) (spelling f) ≡ f ∷ []) × (rest_after_octets (Open table []) (spelling f) ≡ Open (table_after table f) [])
+spelling-brings table f h =
+    readings-same table (spelling f) (frames_from (Open table []) (spelling f)) (f ∷ []) (rest_after_octets (Open table []) (spelling f)) (Open (table_after table f) [])
+    (reads_all table (spelling f) (all_small (spelling f) (spelling-small (version_of table) f h))) (reads_frame table f h)

@@ -1,5 +1,5 @@
 -- The spellings of the frames to a carrier part, and the length octets.
-use Rattle.std.proofs.Common.{◌≡◌, ℕ, ◌+◌, List, ◌++◌, length, get_or, refl, ap, arith}
+use Rattle.std.proofs.Common.{◌≡◌, ℕ, ◌+◌, Bool, Option, Some, None, List, [], ◌∷◌, ◌++◌, length, get_or, refl, ap, arith}
 use Rattle.dmr_bits.specs.Words.{word_octets}
 use Rattle.dmr_bits.proofs.WordLemmas.{word_octets-octets}
 use Rattle.dmr_frames.specs.declared.frame.FrameIn.{FrameIn}
@@ -7,8 +7,8 @@ use Rattle.dmr_frames.specs.declared.frame.FrameIn.TheVariants.{Hello, Rx, Poll,
 use Rattle.dmr_frames.specs.declared.frame.FrameOut.{FrameOut}
 use Rattle.dmr_frames.specs.declared.frame.FrameOut.TheVariants.{Welcome, Tx, Done, Refused}
 use Rattle.dmr_frames.specs.declared.frame.Refusal.TheVariants.{BadVersion, WrongCarrier}
-use Rattle.dmr_frames.specs.Frames.{IsFrameOut, spelling, spelling_out}
-use Rattle.dmr_frames.proofs.StreamLemmas.{same_words}
+use Rattle.dmr_frames.specs.Frames.{IsFrameOut, burst_length, burst_octets, spelling, spelling_out, version_by}
+use Rattle.dmr_frames.proofs.StreamLemmas.{same_bursts}
 
 -- the type of a frame
 abbrev first : List ℕ → ℕ
@@ -23,39 +23,47 @@ spelled_out_once (Welcome v) (Welcome w) x y hf hg e =
     let same : v ≡ w = ap third e in
     let rest : x ≡ y = cc in
     ((λ i. Welcome (same i)), rest)
-spelled_out_once (Welcome v) (Tx slot word) x y hf hg e = absurd (omega (arith, ap first e))
+spelled_out_once (Welcome v) (Tx number slot word) x y hf hg e = absurd (omega (arith, ap first e))
 spelled_out_once (Welcome v) Done x y hf hg e = absurd (omega (arith, ap first e))
 spelled_out_once (Welcome v) (Refused r) x y hf hg e = absurd (omega (arith, ap first e))
-spelled_out_once (Tx slot word) (Welcome v) x y hf hg e = absurd (omega (arith, ap first e))
-spelled_out_once (Tx slot word) (Tx slot' word') x y hf hg e =
-    let es : slot ≡ slot' = cc in
-    let ew : word_octets word ++ x ≡ word_octets word' ++ y = cc in
-    let same : (word ≡ word') × (x ≡ y) = same_words word word' x y hf.1 hg.1 ew in
-    ((λ i. Tx (es i) (same.0 i)), same.1)
-spelled_out_once (Tx slot word) Done x y hf hg e = absurd (omega (arith, ap first e))
-spelled_out_once (Tx slot word) (Refused r) x y hf hg e = absurd (omega (arith, ap first e))
+spelled_out_once (Tx number slot word) (Welcome v) x y hf hg e = absurd (omega (arith, ap first e))
+spelled_out_once (Tx number slot word) (Tx number' slot' word') x y hf hg e =
+    let behind : burst_length (version_by number) ∷ (burst_octets number slot (word_octets word) ++ x) ≡ burst_length (version_by number') ∷ (burst_octets number' slot' (word_octets word') ++ y) = cc in
+    let same : (number ≡ number') × (slot ≡ slot') × (word ≡ word') × (x ≡ y) = same_bursts number number' slot slot' word word' x y hf.2 hg.2 behind in
+    ((λ i. Tx (same.0 i) (same.1 i) (same.2 i)), same.3)
+spelled_out_once (Tx number slot word) Done x y hf hg e = absurd (omega (arith, ap first e))
+spelled_out_once (Tx number slot word) (Refused r) x y hf hg e = absurd (omega (arith, ap first e))
 spelled_out_once Done (Welcome v) x y hf hg e = absurd (omega (arith, ap first e))
-spelled_out_once Done (Tx slot word) x y hf hg e = absurd (omega (arith, ap first e))
+spelled_out_once Done (Tx number slot word) x y hf hg e = absurd (omega (arith, ap first e))
 spelled_out_once Done Done x y hf hg e = (refl, cc)
 spelled_out_once Done (Refused r) x y hf hg e = absurd (omega (arith, ap first e))
 spelled_out_once (Refused r) (Welcome v) x y hf hg e = absurd (omega (arith, ap first e))
-spelled_out_once (Refused r) (Tx slot word) x y hf hg e = absurd (omega (arith, ap first e))
+spelled_out_once (Refused r) (Tx number slot word) x y hf hg e = absurd (omega (arith, ap first e))
 spelled_out_once (Refused r) Done x y hf hg e = absurd (omega (arith, ap first e))
 spelled_out_once (Refused BadVersion) (Refused BadVersion) x y hf hg e = (refl, cc)
 spelled_out_once (Refused BadVersion) (Refused WrongCarrier) x y hf hg e = absurd (omega (arith, ap third e))
 spelled_out_once (Refused WrongCarrier) (Refused BadVersion) x y hf hg e = absurd (omega (arith, ap third e))
 spelled_out_once (Refused WrongCarrier) (Refused WrongCarrier) x y hf hg e = (refl, cc)
 
+-- the octets of a burst go on with those of its word
+pub burst-more : (number : Option ℕ) (slot : ℕ) (octets : List ℕ) → burst_octets number slot [] ++ octets ≡ burst_octets number slot octets
+burst-more None slot octets = refl
+burst-more (Some n) slot octets = refl
+
+length-burst : (number : Option ℕ) (slot : ℕ) (word : List Bool) → length (burst_octets number slot (word_octets word)) ≡ burst_length (version_by number)
+length-burst None slot word = omega (arith, (word_octets-octets word).len)
+length-burst (Some n) slot word = omega (arith, (word_octets-octets word).len)
+
 -- the second octet counts those behind it
 pub length-spelling : (f : FrameIn) → length (spelling f) ≡ get_or (spelling f) 1 0 + 2
 length-spelling (Hello v c l) = omega arith
-length-spelling (Rx slot word) = omega (arith, (word_octets-octets word).len)
+length-spelling (Rx number slot word) = omega (arith, length-burst number slot word)
 length-spelling Poll = omega arith
 length-spelling (Active slot) = omega arith
 length-spelling Bye = omega arith
 
 pub length-spelling_out : (f : FrameOut) → length (spelling_out f) ≡ get_or (spelling_out f) 1 0 + 2
 length-spelling_out (Welcome v) = omega arith
-length-spelling_out (Tx slot word) = omega (arith, (word_octets-octets word).len)
+length-spelling_out (Tx number slot word) = omega (arith, length-burst number slot word)
 length-spelling_out Done = omega arith
 length-spelling_out (Refused r) = omega arith

@@ -1,15 +1,17 @@
 -- Two readings of one stream are one.
-use Rattle.std.proofs.Common.{◌≡◌, ℕ, ◌/◌, ◌%◌, Bool, List, [], ◌∷◌, ◌++◌, length, refl, sym, ap, ◌∙◌, arith, ⊎_elim, inl, inr, ◌⊎◌, length-append, append_assoc, subst, Some, take, drop, All}
+use Rattle.std.proofs.Common.{◌≡◌, ℕ, ◌/◌, ◌%◌, Bool, List, [], ◌∷◌, ◌++◌, length, refl, sym, ap, ◌∙◌, arith, ⊎_elim, inl, inr, ◌⊎◌, length-append, append_assoc, subst, Option, Some, None, get_or, take, drop}
 use Rattle.std.specs.List.{flat_map}
 use Rattle.std.proofs.lemmas.List.{append-nil, take_at, drop_at}
-use Rattle.std.proofs.lemmas.List.Elements.{All-head, All-tail}
 use Rattle.dmr_frames.specs.declared.frame.FrameIn.{FrameIn}
 use Rattle.dmr_frames.specs.declared.frame.FrameIn.TheVariants.{Hello, Rx, Poll, Active, Bye}
 use Rattle.dmr_frames.specs.declared.frame.Cause.{Cause}
 use Rattle.dmr_bits.specs.Words.{word_octets, word_of}
-use Rattle.dmr_frames.specs.Frames.{IsFrame, spelling}
+use Rattle.dmr_frames.specs.declared.version.Version.{Version}
+use Rattle.dmr_frames.specs.declared.version.FrameTable.{FrameTable}
+use Rattle.dmr_frames.specs.Frames.{IsFrame, spelling, burst_length, version_by, burst_octets}
 use Rattle.dmr_frames.specs.Rest.{Rest, Open, Faulty}
-use Rattle.dmr_frames.specs.Stream.{Begins, IsOpen, IsFaulty, IsRest, Reads, fault_at}
+use Rattle.dmr_frames.specs.Stream.{Begins, IsOpen, IsFaulty, IsRest, Reads, AreFrames, fault_at}
+use Rattle.dmr_frames.specs.Versions.{version_of, table_after, table_after_frames}
 use Rattle.dmr_bits.proofs.WordLemmas.{word_octets-octets, word_of-word_octets}
 
 -- two ways to part a list: one front goes on to the other
@@ -27,124 +29,162 @@ same_words v w x y lv lw e =
     let back : x ≡ y = sym (drop_at (word_octets v) x 25 (word_octets-octets v).len) ∙ ap (drop 25) e ∙ drop_at (word_octets w) y 25 (word_octets-octets w).len in
     (sym (word_of-word_octets v lv) ∙ ap word_of front ∙ word_of-word_octets w lw, back)
 
--- no spelling goes on to another
-pub spelled_once : (f g : FrameIn) (x y : List ℕ) → IsFrame f → IsFrame g → spelling f ++ x ≡ spelling g ++ y → (f ≡ g) × (x ≡ y)
-spelled_once (Hello v c l) (Hello v' c' l') x y hf hg e =
+abbrev first_octet : List ℕ → ℕ
+first_octet octets = get_or octets 0 0
+
+-- two bursts, behind their type: whether each has a number is told by its length octet
+pub same_bursts : (m n : Option ℕ) (s t : ℕ) (v w : List Bool) (x y : List ℕ) → length v ≡ 196 → length w ≡ 196 →
+    burst_length (version_by m) ∷ (burst_octets m s (word_octets v) ++ x) ≡ burst_length (version_by n) ∷ (burst_octets n t (word_octets w) ++ y) → (m ≡ n) × (s ≡ t) × (v ≡ w) × (x ≡ y)
+same_bursts None None s t v w x y lv lw e =
+    let es : s ≡ t = cc in
+    let ew : word_octets v ++ x ≡ word_octets w ++ y = cc in
+    let same : (v ≡ w) × (x ≡ y) = same_words v w x y lv lw ew in
+    (refl, es, same.0, same.1)
+same_bursts None (Some n) s t v w x y lv lw e = absurd (omega (arith, ap first_octet e))
+same_bursts (Some m) None s t v w x y lv lw e = absurd (omega (arith, ap first_octet e))
+same_bursts (Some m) (Some n) s t v w x y lv lw e =
+    let en : m ≡ n = cc in
+    let es : s ≡ t = cc in
+    let ew : word_octets v ++ x ≡ word_octets w ++ y = cc in
+    let same : (v ≡ w) × (x ≡ y) = same_words v w x y lv lw ew in
+    (ap Some en, es, same.0, same.1)
+
+-- no spelling goes on to another, of whichever versions the two are
+pub spelled_once : (d k : Version) (f g : FrameIn) (x y : List ℕ) → IsFrame d f → IsFrame k g → spelling f ++ x ≡ spelling g ++ y → (f ≡ g) × (x ≡ y)
+spelled_once d k (Hello v c l) (Hello v' c' l') x y hf hg e =
     let ev : v ≡ v' = cc in let ec : c ≡ c' = cc in let eh : l / 256 ≡ l' / 256 = cc in let el : l % 256 ≡ l' % 256 = cc in
     let same : l ≡ l' = omega arith in
     ((λ i. Hello (ev i) (ec i) (same i)), cc)
-spelled_once (Hello v c l) (Rx slot word) x y hf hg e = cc
-spelled_once (Hello v c l) Poll x y hf hg e = cc
-spelled_once (Hello v c l) (Active slot) x y hf hg e = cc
-spelled_once (Hello v c l) Bye x y hf hg e = cc
-spelled_once (Rx slot word) (Hello v c l) x y hf hg e = cc
-spelled_once (Rx slot word) (Rx slot' word') x y hf hg e =
-    let es : slot ≡ slot' = cc in
-    let ew : word_octets word ++ x ≡ word_octets word' ++ y = cc in
-    let same : (word ≡ word') × (x ≡ y) = same_words word word' x y hf.1 hg.1 ew in
-    ((λ i. Rx (es i) (same.0 i)), same.1)
-spelled_once (Rx slot word) Poll x y hf hg e = cc
-spelled_once (Rx slot word) (Active s) x y hf hg e = cc
-spelled_once (Rx slot word) Bye x y hf hg e = cc
-spelled_once Poll (Hello v c l) x y hf hg e = cc
-spelled_once Poll (Rx slot word) x y hf hg e = cc
-spelled_once Poll Poll x y hf hg e = (refl, cc)
-spelled_once Poll (Active slot) x y hf hg e = cc
-spelled_once Poll Bye x y hf hg e = cc
-spelled_once (Active s) (Hello v c l) x y hf hg e = cc
-spelled_once (Active s) (Rx slot word) x y hf hg e = cc
-spelled_once (Active s) Poll x y hf hg e = cc
-spelled_once (Active s) (Active slot) x y hf hg e = let es : s ≡ slot = cc in (ap Active es, cc)
-spelled_once (Active s) Bye x y hf hg e = cc
-spelled_once Bye (Hello v c l) x y hf hg e = cc
-spelled_once Bye (Rx slot word) x y hf hg e = cc
-spelled_once Bye Poll x y hf hg e = cc
-spelled_once Bye (Active slot) x y hf hg e = cc
-spelled_once Bye Bye x y hf hg e = (refl, cc)
+spelled_once d k (Hello v c l) (Rx number' slot' word') x y hf hg e = cc
+spelled_once d k (Hello v c l) Poll x y hf hg e = cc
+spelled_once d k (Hello v c l) (Active s') x y hf hg e = cc
+spelled_once d k (Hello v c l) Bye x y hf hg e = cc
+spelled_once d k (Rx number slot word) (Hello v' c' l') x y hf hg e = cc
+spelled_once d k (Rx number slot word) (Rx number' slot' word') x y hf hg e =
+    let behind : burst_length (version_by number) ∷ (burst_octets number slot (word_octets word) ++ x) ≡ burst_length (version_by number') ∷ (burst_octets number' slot' (word_octets word') ++ y) = cc in
+    let same : (number ≡ number') × (slot ≡ slot') × (word ≡ word') × (x ≡ y) = same_bursts number number' slot slot' word word' x y hf.2 hg.2 behind in
+    ((λ i. Rx (same.0 i) (same.1 i) (same.2 i)), same.3)
+spelled_once d k (Rx number slot word) Poll x y hf hg e = cc
+spelled_once d k (Rx number slot word) (Active s') x y hf hg e = cc
+spelled_once d k (Rx number slot word) Bye x y hf hg e = cc
+spelled_once d k Poll (Hello v' c' l') x y hf hg e = cc
+spelled_once d k Poll (Rx number' slot' word') x y hf hg e = cc
+spelled_once d k Poll Poll x y hf hg e = (refl, cc)
+spelled_once d k Poll (Active s') x y hf hg e = cc
+spelled_once d k Poll Bye x y hf hg e = cc
+spelled_once d k (Active s) (Hello v' c' l') x y hf hg e = cc
+spelled_once d k (Active s) (Rx number' slot' word') x y hf hg e = cc
+spelled_once d k (Active s) Poll x y hf hg e = cc
+spelled_once d k (Active s) (Active s') x y hf hg e = let es : s ≡ s' = cc in (ap Active es, cc)
+spelled_once d k (Active s) Bye x y hf hg e = cc
+spelled_once d k Bye (Hello v' c' l') x y hf hg e = cc
+spelled_once d k Bye (Rx number' slot' word') x y hf hg e = cc
+spelled_once d k Bye Poll x y hf hg e = cc
+spelled_once d k Bye (Active s') x y hf hg e = cc
+spelled_once d k Bye Bye x y hf hg e = (refl, cc)
 
 -- an open rest begins with no whole spelling
-pub open_no_spelling : (q : List ℕ) (g : FrameIn) (y : List ℕ) → IsFrame g → q ≡ spelling g ++ y → IsOpen q → ⊥
-open_no_spelling q g y hg e (f, x, more, hf, h) =
+pub open_no_spelling : (v : Version) (q : List ℕ) (g : FrameIn) (y : List ℕ) → IsFrame v g → q ≡ spelling g ++ y → IsOpen v q → ⊥
+open_no_spelling v q g y hg e (f, x, more, hf, h) =
     let joined : spelling g ++ (y ++ x ∷ more) ≡ spelling f ++ [] = sym (append_assoc (spelling g) y (x ∷ more)) ∙ ap (λ (p : List ℕ). p ++ x ∷ more) (sym e) ∙ h ∙ sym (append-nil (spelling f)) in
-    let rest : y ++ x ∷ more ≡ [] = (spelled_once g f (y ++ x ∷ more) [] hg hf joined).1 in
+    let rest : y ++ x ∷ more ≡ [] = (spelled_once v v g f (y ++ x ∷ more) [] hg hf joined).1 in
     let n : length (y ++ x ∷ more) ≡ 0 = ap length rest in
     omega (arith, n, length-append y (x ∷ more))
 
-open_begins : (q : List ℕ) (x : ℕ) (m : List ℕ) → IsOpen (q ++ x ∷ m) → Begins (q ++ x ∷ [])
-open_begins q x m (f, y, more, hf, h) = (f, m ++ y ∷ more, hf, append_assoc q (x ∷ []) (m ++ y ∷ more) ∙ sym (append_assoc q (x ∷ m) (y ∷ more)) ∙ h)
+open_begins : (v : Version) (q : List ℕ) (x : ℕ) (m : List ℕ) → IsOpen v (q ++ x ∷ m) → Begins v (q ++ x ∷ [])
+open_begins v q x m (f, y, more, hf, h) = (f, m ++ y ∷ more, hf, append_assoc q (x ∷ []) (m ++ y ∷ more) ∙ sym (append_assoc q (x ∷ m) (y ∷ more)) ∙ h)
 
-spelling_begins : (q : List ℕ) (x : ℕ) (m : List ℕ) (g : FrameIn) → IsFrame g → spelling g ≡ q ++ x ∷ m → Begins (q ++ x ∷ [])
-spelling_begins q x m g hg h = (g, m, hg, append_assoc q (x ∷ []) m ∙ sym h)
+spelling_begins : (v : Version) (q : List ℕ) (x : ℕ) (m : List ℕ) (g : FrameIn) → IsFrame v g → spelling g ≡ q ++ x ∷ m → Begins v (q ++ x ∷ [])
+spelling_begins v q x m g hg h = (g, m, hg, append_assoc q (x ∷ []) m ∙ sym h)
 
 -- a faulty rest begins with no whole spelling
-faulty_no_spelling : (octets : List ℕ) (cause : Cause) (g : FrameIn) (y : List ℕ) → IsFrame g → octets ≡ spelling g ++ y → IsFaulty octets cause → ⊥
-faulty_no_spelling octets cause g y hg e h =
+faulty_no_spelling : (v : Version) (octets : List ℕ) (cause : Cause) (g : FrameIn) (y : List ℕ) → IsFrame v g → octets ≡ spelling g ++ y → IsFaulty v octets cause → ⊥
+faulty_no_spelling v octets cause g y hg e h =
     ⊎_elim
     (λ (k : (m : List ℕ) × (spelling g ≡ h.front ++ m) × (h.octet ∷ h.more ≡ m ++ y)). longer k.0 k.1 k.2)
-    (λ (k : (m : List ℕ) × (h.front ≡ spelling g ++ m) × (y ≡ m ++ (h.octet ∷ h.more))). open_no_spelling h.front g k.0 hg k.1 h.open_front)
+    (λ (k : (m : List ℕ) × (h.front ≡ spelling g ++ m) × (y ≡ m ++ (h.octet ∷ h.more))). open_no_spelling v h.front g k.0 hg k.1 h.open_front)
     (append_cases h.front (h.octet ∷ h.more) (spelling g) y (sym h.whole ∙ e))
   where
     longer : (m : List ℕ) → spelling g ≡ h.front ++ m → h.octet ∷ h.more ≡ m ++ y → ⊥
-    longer [] e1 e2 = open_no_spelling h.front g [] hg (sym (append-nil h.front) ∙ sym e1 ∙ sym (append-nil (spelling g))) h.open_front
+    longer [] e1 e2 = open_no_spelling v h.front g [] hg (sym (append-nil h.front) ∙ sym e1 ∙ sym (append-nil (spelling g))) h.open_front
     longer (x ∷ m) e1 e2 =
         let head : x ≡ h.octet = cc in
-        let P : ℕ → Type 0 = λ n. Begins (h.front ++ n ∷ []) in
-        h.no_frame (subst P head (spelling_begins h.front x m g hg e1))
+        let P : ℕ → Type 0 = λ n. Begins v (h.front ++ n ∷ []) in
+        h.no_frame (subst P head (spelling_begins v h.front x m g hg e1))
 
-rest_no_spelling : (tail : List ℕ) (rest : Rest) (g : FrameIn) (y : List ℕ) → IsFrame g → tail ≡ spelling g ++ y → IsRest tail rest → ⊥
-rest_no_spelling tail (Open q) g y hg e h = open_no_spelling q g y hg (sym h.0 ∙ e) h.1
-rest_no_spelling tail (Faulty cause) g y hg e h = faulty_no_spelling tail cause g y hg e h
+-- a version is that of a table
+moved_open : (t u : FrameTable) (q : List ℕ) → t ≡ u → IsOpen (version_of t) q → IsOpen (version_of u) q
+moved_open t u q e h = let P : FrameTable → Type 0 = λ table. IsOpen (version_of table) q in subst P e h
+
+rest_no_spelling : (table : FrameTable) (tail : List ℕ) (rest : Rest) (g : FrameIn) (y : List ℕ) → IsFrame (version_of table) g → tail ≡ spelling g ++ y → IsRest table tail rest → ⊥
+rest_no_spelling table tail (Open t q) g y hg e h = open_no_spelling (version_of table) q g y hg (sym h.1 ∙ e) (moved_open t table q (sym h.0) h.2)
+rest_no_spelling table tail (Faulty cause) g y hg e h = faulty_no_spelling (version_of table) tail cause g y hg e h
 
 -- no open rest is faulty
-open_not_faulty : (q : List ℕ) (cause : Cause) → IsOpen q → IsFaulty q cause → ⊥
-open_not_faulty q cause o h =
-    let P : List ℕ → Type 0 = λ xs. IsOpen xs in
-    h.no_frame (open_begins h.front h.octet h.more (subst P h.whole o))
+open_not_faulty : (v : Version) (q : List ℕ) (cause : Cause) → IsOpen v q → IsFaulty v q cause → ⊥
+open_not_faulty v q cause o h =
+    let P : List ℕ → Type 0 = λ xs. IsOpen v xs in
+    h.no_frame (open_begins v h.front h.octet h.more (subst P h.whole o))
 
 some_same : (c d : Cause) → Some c ≡ Some d → c ≡ d
 some_same c d e = cc
 
 -- the front of a fault is not shorter than another's
-faulty_front : (a b : List ℕ) (x y : ℕ) (m n : List ℕ) → (Begins (a ++ x ∷ []) → ⊥) → IsOpen b → (k : List ℕ) → b ≡ a ++ k → x ∷ m ≡ k ++ y ∷ n → a ≡ b
-faulty_front a b x y m n none o [] e1 e2 = sym (append-nil a) ∙ sym e1
-faulty_front a b x y m n none o (z ∷ k) e1 e2 =
+faulty_front : (v : Version) (a b : List ℕ) (x y : ℕ) (m n : List ℕ) → (Begins v (a ++ x ∷ []) → ⊥) → IsOpen v b → (k : List ℕ) → b ≡ a ++ k → x ∷ m ≡ k ++ y ∷ n → a ≡ b
+faulty_front v a b x y m n none o [] e1 e2 = sym (append-nil a) ∙ sym e1
+faulty_front v a b x y m n none o (z ∷ k) e1 e2 =
     let head : z ≡ x = cc in
-    let P : List ℕ → Type 0 = λ xs. IsOpen xs in
-    let Q : ℕ → Type 0 = λ i. Begins (a ++ i ∷ []) in
-    absurd (none (subst Q head (open_begins a z k (subst P e1 o))))
+    let P : List ℕ → Type 0 = λ xs. IsOpen v xs in
+    let Q : ℕ → Type 0 = λ i. Begins v (a ++ i ∷ []) in
+    absurd (none (subst Q head (open_begins v a z k (subst P e1 o))))
 
-same_front : (octets : List ℕ) (c d : Cause) (g : IsFaulty octets c) (h : IsFaulty octets d) → g.front ≡ h.front
-same_front octets c d g h =
+same_front : (v : Version) (octets : List ℕ) (c d : Cause) (g : IsFaulty v octets c) (h : IsFaulty v octets d) → g.front ≡ h.front
+same_front v octets c d g h =
     ⊎_elim
-    (λ (k : (m : List ℕ) × (h.front ≡ g.front ++ m) × (g.octet ∷ g.more ≡ m ++ (h.octet ∷ h.more))). faulty_front g.front h.front g.octet h.octet g.more h.more g.no_frame h.open_front k.0 k.1 k.2)
-    (λ (k : (m : List ℕ) × (g.front ≡ h.front ++ m) × (h.octet ∷ h.more ≡ m ++ (g.octet ∷ g.more))). sym (faulty_front h.front g.front h.octet g.octet h.more g.more h.no_frame g.open_front k.0 k.1 k.2))
+    (λ (k : (m : List ℕ) × (h.front ≡ g.front ++ m) × (g.octet ∷ g.more ≡ m ++ (h.octet ∷ h.more))). faulty_front v g.front h.front g.octet h.octet g.more h.more g.no_frame h.open_front k.0 k.1 k.2)
+    (λ (k : (m : List ℕ) × (g.front ≡ h.front ++ m) × (h.octet ∷ h.more ≡ m ++ (g.octet ∷ g.more))). sym (faulty_front v h.front g.front h.octet g.octet h.more g.more h.no_frame g.open_front k.0 k.1 k.2))
     (append_cases g.front (g.octet ∷ g.more) h.front (h.octet ∷ h.more) (sym g.whole ∙ h.whole))
 
-same_cause : (octets : List ℕ) (c d : Cause) → IsFaulty octets c → IsFaulty octets d → c ≡ d
-same_cause octets c d g h = some_same c d (sym g.cause_is ∙ ap (λ (q : List ℕ). fault_at (length q)) (same_front octets c d g h) ∙ h.cause_is)
+same_cause : (v : Version) (octets : List ℕ) (c d : Cause) → IsFaulty v octets c → IsFaulty v octets d → c ≡ d
+same_cause v octets c d g h = some_same c d (sym g.cause_is ∙ ap (λ (q : List ℕ). fault_at v (length q)) (same_front v octets c d g h) ∙ h.cause_is)
 
-same_rest : (tail : List ℕ) (r s : Rest) → IsRest tail r → IsRest tail s → r ≡ s
-same_rest tail (Open q) (Open p) g h = ap Open (sym g.0 ∙ h.0)
-same_rest tail (Open q) (Faulty c) g h = let P : List ℕ → Type 0 = λ xs. IsFaulty xs c in absurd (open_not_faulty q c g.1 (subst P g.0 h))
-same_rest tail (Faulty c) (Open q) g h = let P : List ℕ → Type 0 = λ xs. IsFaulty xs c in absurd (open_not_faulty q c h.1 (subst P h.0 g))
-same_rest tail (Faulty c) (Faulty d) g h = ap Faulty (same_cause tail c d g h)
+moved_faulty : (v : Version) (a b : List ℕ) (c : Cause) → a ≡ b → IsFaulty v a c → IsFaulty v b c
+moved_faulty v a b c e h = let P : List ℕ → Type 0 = λ xs. IsFaulty v xs c in subst P e h
 
-moved_rest : (a b : List ℕ) (r : Rest) → a ≡ b → IsRest a r → IsRest b r
-moved_rest a b r e h = let P : List ℕ → Type 0 = λ xs. IsRest xs r in subst P e h
+same_rest : (table : FrameTable) (tail : List ℕ) (r s : Rest) → IsRest table tail r → IsRest table tail s → r ≡ s
+same_rest table tail (Open t q) (Open u p) g h =
+    let et : t ≡ u = sym g.0 ∙ h.0 in
+    let eq : q ≡ p = sym g.1 ∙ h.1 in
+    λ i. Open (et i) (eq i)
+same_rest table tail (Open t q) (Faulty c) g h = absurd (open_not_faulty (version_of table) q c (moved_open t table q (sym g.0) g.2) (moved_faulty (version_of table) tail q c g.1 h))
+same_rest table tail (Faulty c) (Open t q) g h = absurd (open_not_faulty (version_of table) q c (moved_open t table q (sym h.0) h.2) (moved_faulty (version_of table) tail q c h.1 g))
+same_rest table tail (Faulty c) (Faulty d) g h = ap Faulty (same_cause (version_of table) tail c d g h)
 
--- the same octets, read twice
-one_reading : (fs gs : List FrameIn) (s t : List ℕ) (r q : Rest) → All IsFrame fs → All IsFrame gs → flat_map spelling fs ++ s ≡ flat_map spelling gs ++ t → IsRest s r → IsRest t q → (fs ≡ gs) × (r ≡ q)
-one_reading [] [] s t r q af ag e hr hq = (refl, same_rest t r q (moved_rest s t r e hr) hq)
-one_reading [] (g ∷ gs) s t r q af ag e hr hq =
-    absurd (rest_no_spelling s r g (flat_map spelling gs ++ t) (All-head IsFrame g gs ag) (e ∙ append_assoc (spelling g) (flat_map spelling gs) t) hr)
-one_reading (f ∷ fs) [] s t r q af ag e hr hq =
-    absurd (rest_no_spelling t q f (flat_map spelling fs ++ s) (All-head IsFrame f fs af) (sym e ∙ append_assoc (spelling f) (flat_map spelling fs) s) hq)
-one_reading (f ∷ fs) (g ∷ gs) s t r q af ag e hr hq =
+moved_rest : (t u : FrameTable) (a b : List ℕ) (r : Rest) → t ≡ u → a ≡ b → IsRest t a r → IsRest u b r
+moved_rest t u a b r d e h =
+    let P : FrameTable → Type 0 = λ table. IsRest table a r in
+    let Q : List ℕ → Type 0 = λ xs. IsRest u xs r in
+    subst Q e (subst P d h)
+
+moved_frames : (t u : FrameTable) (fs : List FrameIn) → t ≡ u → AreFrames t fs → AreFrames u fs
+moved_frames t u fs e h = let P : FrameTable → Type 0 = λ table. AreFrames table fs in subst P e h
+
+-- the same octets, read twice by one table
+one_reading : (table : FrameTable) (fs gs : List FrameIn) (s t : List ℕ) (r q : Rest) → AreFrames table fs → AreFrames table gs → flat_map spelling fs ++ s ≡ flat_map spelling gs ++ t →
+    IsRest (table_after_frames table fs) s r → IsRest (table_after_frames table gs) t q → (fs ≡ gs) × (r ≡ q)
+one_reading table [] [] s t r q af ag e hr hq = (refl, same_rest table t r q (moved_rest table table s t r refl e hr) hq)
+one_reading table [] (g ∷ gs) s t r q af ag e hr hq =
+    absurd (rest_no_spelling table s r g (flat_map spelling gs ++ t) ag.0 (e ∙ append_assoc (spelling g) (flat_map spelling gs) t) hr)
+one_reading table (f ∷ fs) [] s t r q af ag e hr hq =
+    absurd (rest_no_spelling table t q f (flat_map spelling fs ++ s) af.0 (sym e ∙ append_assoc (spelling f) (flat_map spelling fs) s) hq)
+one_reading table (f ∷ fs) (g ∷ gs) s t r q af ag e hr hq =
     let parted : (f ≡ g) × (flat_map spelling fs ++ s ≡ flat_map spelling gs ++ t) =
-    spelled_once f g (flat_map spelling fs ++ s) (flat_map spelling gs ++ t) (All-head IsFrame f fs af) (All-head IsFrame g gs ag)
+    spelled_once (version_of table) (version_of table) f g (flat_map spelling fs ++ s) (flat_map spelling gs ++ t) af.0 ag.0
     (sym (append_assoc (spelling f) (flat_map spelling fs) s) ∙ e ∙ append_assoc (spelling g) (flat_map spelling gs) t) in
-    let others : (fs ≡ gs) × (r ≡ q) = one_reading fs gs s t r q (All-tail IsFrame f fs af) (All-tail IsFrame g gs ag) parted.1 hr hq in
+    let back : table_after table g ≡ table_after table f = ap (table_after table) (sym parted.0) in
+    let others : (fs ≡ gs) × (r ≡ q) = one_reading (table_after table f) fs gs s t r q af.1 (moved_frames (table_after table g) (table_after table f) gs back ag.1) parted.1 hr
+    (moved_rest (table_after_frames (table_after table g) gs) (table_after_frames (table_after table f) gs) t t q (ap (λ (u : FrameTable). table_after_frames u gs) back) refl hq) in
     ((λ i. (parted.0 i) ∷ (others.0 i)), others.1)
 
-pub readings-same : (octets : List ℕ) (fs gs : List FrameIn) (r q : Rest) → Reads octets fs r → Reads octets gs q → (fs ≡ gs) × (r ≡ q)
-readings-same octets fs gs r q g h = one_reading fs gs g.tail h.tail r q g.each h.each (sym g.whole ∙ h.whole) g.rest_is h.rest_is
+pub readings-same : (table : FrameTable) (octets : List ℕ) (fs gs : List FrameIn) (r q : Rest) → Reads table octets fs r → Reads table octets gs q → (fs ≡ gs) × (r ≡ q)
+readings-same table octets fs gs r q g h = one_reading table fs gs g.tail h.tail r q g.each h.each (sym g.whole ∙ h.whole) g.rest_is h.rest_is

@@ -1,3 +1,4 @@
+pub mod Versions
 pub mod Frames
 pub mod Rest
 pub mod Stream

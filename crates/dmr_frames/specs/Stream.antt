@@ -1,54 +1,68 @@
--- A stream of octets: frames, and a rest.
-use Rattle.std.specs.Prelude.{◌≡◌, ℕ, List, [], ◌∷◌, ◌++◌, length, All, Option, Some, None, if◌then◌else◌, ◌==◌}
+-- A stream of octets: frames, and a rest. The first frame chooses the version of those behind it.
+use Rattle.std.specs.Prelude.{◌≡◌, ℕ, ◌+◌, List, [], ◌∷◌, ◌++◌, length, Option, Some, None, if◌then◌else◌, ◌==◌, ◌||◌}
 use Rattle.std.specs.List.{flat_map}
 use Rattle.dmr_frames.specs.declared.frame.FrameIn.{FrameIn}
 use Rattle.dmr_frames.specs.declared.frame.Cause.{Cause}
 use Rattle.dmr_frames.specs.declared.frame.Cause.TheVariants.{UnknownType, BadLength, BadSlot, BadPad}
 use Rattle.dmr_frames.specs.declared.cutter.Step.{Step}
 use Rattle.dmr_frames.specs.declared.cutter.Step.TheVariants.{Need, Frame, Fault}
-use Rattle.dmr_frames.specs.Frames.{IsFrame, spelling}
+use Rattle.dmr_frames.specs.declared.version.Version.{Version}
+use Rattle.dmr_frames.specs.declared.version.Version.TheVariants.{V1, V2}
+use Rattle.dmr_frames.specs.declared.version.FrameTable.{FrameTable}
+use Rattle.dmr_frames.specs.Frames.{IsFrame, spelling, burst_length}
 use Rattle.dmr_frames.specs.Rest.{Rest, Open, Faulty}
+use Rattle.dmr_frames.specs.Versions.{version_of, table_after, table_after_frames}
 
--- some frame's spelling begins so
-abbrev pub Begins : List ℕ → Type 0
-Begins q = (f : FrameIn) × (more : List ℕ) × IsFrame f × (q ++ more ≡ spelling f)
+-- the spelling of some frame of this version begins so
+abbrev pub Begins : Version → List ℕ → Type 0
+Begins version q = (f : FrameIn) × (more : List ℕ) × IsFrame version f × (q ++ more ≡ spelling f)
 
--- a proper prefix of some frame's spelling
-abbrev pub IsOpen : List ℕ → Type 0
-IsOpen q = (f : FrameIn) × (x : ℕ) × (more : List ℕ) × IsFrame f × (q ++ x ∷ more ≡ spelling f)
+-- a proper prefix of the spelling of some frame of this version
+abbrev pub IsOpen : Version → List ℕ → Type 0
+IsOpen version q = (f : FrameIn) × (x : ℕ) × (more : List ℕ) × IsFrame version f × (q ++ x ∷ more ≡ spelling f)
+
+-- the place of the slot in an RX, counted from 0; that of an ACTIVE stands at place 2 in each version
+abbrev pub slot_place : Version → ℕ
+slot_place V1 = 2
+slot_place V2 = 3
 
 -- the fault that comes after so many octets of a frame
-abbrev pub fault_at : ℕ → Option Cause
-fault_at n =
+abbrev pub fault_at : Version → ℕ → Option Cause
+fault_at version n =
     if n == 0 then Some UnknownType else
     if n == 1 then Some BadLength else
-    if n == 2 then Some BadSlot else
-    if n == 27 then Some BadPad else None
+    if n == 2 || n == slot_place version then Some BadSlot else
+    if n == burst_length version + 1 then Some BadPad else None
 
 -- a proper prefix of a spelling, one octet with which no spelling begins, and anything
-pub record IsFaulty (octets : List ℕ) (cause : Cause) : Type 0 where
+pub record IsFaulty (version : Version) (octets : List ℕ) (cause : Cause) : Type 0 where
   pub front : List ℕ
   pub octet : ℕ
   pub more : List ℕ
   pub whole : octets ≡ front ++ octet ∷ more
-  pub open_front : IsOpen front
-  pub no_frame : Begins (front ++ octet ∷ []) → ⊥
-  pub cause_is : fault_at (length front) ≡ Some cause
+  pub open_front : IsOpen version front
+  pub no_frame : Begins version (front ++ octet ∷ []) → ⊥
+  pub cause_is : fault_at version (length front) ≡ Some cause
 
--- octets behind the last whole frame, and what they are
-abbrev pub IsRest : List ℕ → Rest → Type 0
-IsRest octets (Open q) = (octets ≡ q) × IsOpen q
-IsRest octets (Faulty cause) = IsFaulty octets cause
+-- octets behind the last whole frame, by the table there, and what they are
+abbrev pub IsRest : FrameTable → List ℕ → Rest → Type 0
+IsRest table octets (Open t q) = (table ≡ t) × (octets ≡ q) × IsOpen (version_of t) q
+IsRest table octets (Faulty cause) = IsFaulty (version_of table) octets cause
 
--- the octets are the spellings of these frames, followed by this rest
-pub record Reads (octets : List ℕ) (frames : List FrameIn) (rest : Rest) : Type 0 where
+-- each frame is of the version whose turn it is
+abbrev pub AreFrames : FrameTable → List FrameIn → Type 0
+AreFrames table [] = Unit {0}
+AreFrames table (f ∷ fs) = IsFrame (version_of table) f × AreFrames (table_after table f) fs
+
+-- the octets are the spellings of these frames, the first by this table, followed by this rest
+pub record Reads (table : FrameTable) (octets : List ℕ) (frames : List FrameIn) (rest : Rest) : Type 0 where
   pub tail : List ℕ
   pub whole : octets ≡ flat_map spelling frames ++ tail
-  pub each : All IsFrame frames
-  pub rest_is : IsRest tail rest
+  pub each : AreFrames table frames
+  pub rest_is : IsRest (table_after_frames table frames) tail rest
 
 -- what one octet more makes of an open rest: still an open one, a whole frame, or a fault
-abbrev pub IsStep : List ℕ → ℕ → Step → Type 0
-IsStep q x Need = IsOpen (q ++ x ∷ [])
-IsStep q x (Frame f) = IsFrame f × (q ++ x ∷ [] ≡ spelling f)
-IsStep q x (Fault cause) = (Begins (q ++ x ∷ []) → ⊥) × (fault_at (length q) ≡ Some cause)
+abbrev pub IsStep : Version → List ℕ → ℕ → Step → Type 0
+IsStep version q x Need = IsOpen version (q ++ x ∷ [])
+IsStep version q x (Frame f) = IsFrame version f × (q ++ x ∷ [] ≡ spelling f)
+IsStep version q x (Fault cause) = (Begins version (q ++ x ∷ []) → ⊥) × (fault_at version (length q) ≡ Some cause)

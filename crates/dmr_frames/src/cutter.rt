@@ -4,14 +4,16 @@ ghost use Rattle.std.specs.Prelude.{◌≡◌, ◌==◌, ℕ, ◌<◌, List, [],
 ghost use Rattle.dmr_bits.specs.Bits.{field_of};
 ghost use Rattle.dmr_bits.specs.Words.{word_of};
 ghost use Rattle.dmr_frames.specs.Rest.{Open};
-ghost use Rattle.dmr_frames.specs.Shape.{IsShape, IsRxBody};
+ghost use Rattle.dmr_frames.specs.Shape.{IsShape, IsRxBody, IsBurst};
 ghost use Rattle.dmr_frames.specs.declared.frame.FrameIn.{FrameIn};
+ghost use Rattle.dmr_frames.specs.declared.version.FrameTable.{FrameTable};
 ghost use Rattle.dmr_frames.specs.Stream.{Reads};
 ghost use Rattle.dmr_frames.specs.Reading.{frame_of, step_from, rest_after_octet};
-ghost use Rattle.dmr_frames.specs.Reading.{step_at, type_step, length_step, body_step, hello_step, rx_step, active_step};
+ghost use Rattle.dmr_frames.specs.Reading.{step_at, type_step, length_step, body_step, hello_step, rx_step, burst_step, active_step};
 
 use crate::frame::{Cause, FrameIn, LONGEST_FRAME};
 use crate::frame_type::{ACTIVE, BYE, HELLO, POLL, RX, length_octet};
+use crate::version::{FrameTable, Version};
 use dmr_bits::Word196;
 use dmr_pdu::SlotNo;
 use std::marker::Model;
@@ -27,12 +29,13 @@ pub enum Step {
     Fault(Cause),
 }
 
-/// Cuts the octets of one connection into frames: the octets since the last whole frame, or the fault that was met.
-/// Contracts see it as that rest.
+/// Cuts the octets of one connection into frames: the octets since the last whole frame and the table by which they are cut, or the
+/// fault that was met. Contracts see it as that rest.
 #[derive(Debug, Drop)]
 pub struct Cutter {
     octets: [u8; LONGEST_FRAME],
     count: usize,
+    table: FrameTable,
     fault: Option<Cause>,
 }
 
@@ -41,22 +44,31 @@ impl Model for Cutter {
     ghost use Rattle.dmr_frames.specs.Rest.{Rest, rest_of};
     ghost use Rattle.dmr_frames.specs.declared.frame.TheConstants.{LONGEST_FRAME};
     ghost use Rattle.dmr_frames.specs.Shape.{IsShape};
+    ghost use Rattle.dmr_frames.specs.Versions.{version_of};
 
     ghost Value = { Rest };
 
-    ghost view = { λ c. rest_of c.fault (take c.count c.octets) };
+    ghost view = { λ c. rest_of c.fault c.table (take c.count c.octets) };
 
-    ghost invariant = { λ c. (c.count < LONGEST_FRAME) × IsShape (take c.count c.octets) };
+    ghost invariant = { λ c. (c.count < LONGEST_FRAME) × IsShape (version_of c.table) (take c.count c.octets) };
 }
 
 impl Cutter {
-    /// The cutter of a connection that has begun: no octets, no fault.
-    pub fn new() -> Self
-        ensures { result ≡ Open [] }
+    /// The cutter of a connection that has begun, where versions up to this one are served: no frame, no octets, no fault.
+    pub fn new(greatest: Version) -> Self
+        ensures { result ≡ Open (FrameTable.First greatest) [] }
+    {
+        Cutter::by(FrameTable::First(greatest))
+    }
+
+    /// The cutter of a connection that has come so far that its octets are cut by this table: no octets, no fault.
+    pub(crate) fn by(table: FrameTable) -> Self
+        ensures { result ≡ Open table [] }
     {
         Cutter {
             octets: [0; LONGEST_FRAME],
             count: 0,
+            table,
             fault: None,
         }
     }
@@ -68,6 +80,7 @@ impl Cutter {
         Cutter {
             octets: self.octets,
             count: self.count,
+            table: self.table,
             fault: self.fault,
         }
     }
@@ -75,11 +88,14 @@ impl Cutter {
     /// Takes the next octet, and says what it brings. A frame comes at its last octet, a fault at the first octet with
     /// which the octets since the last frame begin no frame at all: `UnknownType`, `BadLength`, `BadSlot` or `BadPad`.
     /// From then on every octet is answered with that same fault.
+    ///
+    /// The first frame is cut by the table of version 1, and those behind it by that of the version which it chose.
     pub fn feed_byte(&mut self, octet: u8) -> Step
         // Where the octets so far are the spellings of these frames and a rest, they still are with this octet and
         // with the frame that it brings, if it brings one.
-        ensures stream { (octets : List ℕ) (frames : List FrameIn) → Reads octets frames self.old →
-            Reads (octets ++ octet ∷ []) (frames ++ frame_of result) self.new }
+        ensures stream { (table : FrameTable) (octets : List ℕ) (frames : List FrameIn) →
+            Reads table octets frames self.old →
+            Reads table (octets ++ octet ∷ []) (frames ++ frame_of result) self.new }
         ensures step { result ≡ step_from self.old octet }
         ensures rest { self.new ≡ rest_after_octet self.old octet }
     {
@@ -94,41 +110,35 @@ impl Cutter {
         if let Some(cause) = self.fault {
             return Step::Fault(cause);
         }
-        let step = read_octet(&self.octets[..self.count], octet);
-        match step {
+        match read_octet(self.table.version(), &self.octets[..self.count], octet) {
             Step::Need => {
                 self.octets[self.count] = octet;
                 self.count += 1;
+                Step::Need
             }
-            Step::Frame(_) => self.count = 0,
-            Step::Fault(cause) => self.fault = Some(cause),
+            Step::Frame(frame) => {
+                self.count = 0;
+                self.table = self.table.after(&frame);
+                Step::Frame(frame)
+            }
+            Step::Fault(cause) => {
+                self.fault = Some(cause);
+                Step::Fault(cause)
+            }
         }
-        step
-    }
-}
-
-/// The cutter of a connection that has begun.
-impl Default for Cutter {
-    ghost use Rattle.std.specs.Prelude.{◌≡◌, []};
-    ghost use Rattle.dmr_frames.specs.Rest.{Open};
-
-    ghost is_default = { λ c. c ≡ Open [] };
-
-    fn default() -> Self {
-        Cutter::new()
     }
 }
 
 /// What an octet brings after those of a frame that has begun.
 #[tactic(auto, unfolding(crate::specs::Reading::step_at))]
-fn read_octet(begun: &[u8], octet: u8) -> Step
-    requires { IsShape begun.now }
-    ensures { result ≡ step_at begun.now octet }
+fn read_octet(version: Version, begun: &[u8], octet: u8) -> Step
+    requires { IsShape version begun.now }
+    ensures { result ≡ step_at version begun.now octet }
 {
     match begun {
         [] => read_type(octet),
-        [kind] => read_length(*kind, octet),
-        [kind, _, body @ ..] => read_body(*kind, body, octet),
+        [kind] => read_length(version, *kind, octet),
+        [kind, _, body @ ..] => read_body(version, *kind, body, octet),
     }
 }
 
@@ -144,12 +154,12 @@ fn read_type(octet: u8) -> Step
     }
 }
 
-/// The length octet of a frame of this type, which ends a frame that has no body.
+/// The length octet of a frame of this type in this version, which ends a frame that has no body.
 #[tactic(auto, unfolding(crate::specs::Reading::length_step))]
-fn read_length(kind: u8, octet: u8) -> Step
-    ensures { result ≡ length_step kind octet }
+fn read_length(version: Version, kind: u8, octet: u8) -> Step
+    ensures { result ≡ length_step version kind octet }
 {
-    if octet != length_octet(kind) {
+    if octet != length_octet(version, kind) {
         return Step::Fault(Cause::BadLength);
     }
     match kind {
@@ -161,13 +171,13 @@ fn read_length(kind: u8, octet: u8) -> Step
 
 /// An octet of a body, which follows these octets of it.
 #[tactic(auto, unfolding(crate::specs::Reading::body_step))]
-fn read_body(kind: u8, body: &[u8], octet: u8) -> Step
-    requires { kind ≡ 2 → IsRxBody body.now }
-    ensures { result ≡ body_step kind body.now octet }
+fn read_body(version: Version, kind: u8, body: &[u8], octet: u8) -> Step
+    requires { kind ≡ 2 → IsRxBody version body.now }
+    ensures { result ≡ body_step version kind body.now octet }
 {
     match kind {
         HELLO => read_hello(body, octet),
-        RX => read_rx(body, octet),
+        RX => read_rx(version, body, octet),
         _ => read_active(octet),
     }
 }
@@ -187,11 +197,26 @@ fn read_hello(body: &[u8], octet: u8) -> Step
     }
 }
 
-/// An octet of an RX's body: the slot, or one of the word's 25.
+/// An octet of an RX's body, which in version 2 begins with a number.
 #[tactic(auto, unfolding(crate::specs::Reading::rx_step))]
-fn read_rx(body: &[u8], octet: u8) -> Step
-    requires { IsRxBody body.now }
-    ensures { result ≡ rx_step body.now octet }
+fn read_rx(version: Version, body: &[u8], octet: u8) -> Step
+    requires { IsRxBody version body.now }
+    ensures { result ≡ rx_step version body.now octet }
+{
+    match version {
+        Version::V1 => read_burst(None, body, octet),
+        Version::V2 => match body {
+            [] => Step::Need,
+            [number, burst @ ..] => read_burst(Some(*number), burst, octet),
+        },
+    }
+}
+
+/// An octet of a burst behind its number, if it has one: the slot, or one of the word's 25.
+#[tactic(auto, unfolding(crate::specs::Reading::burst_step))]
+fn read_burst(number: Option<u8>, body: &[u8], octet: u8) -> Step
+    requires { IsBurst body.now }
+    ensures { result ≡ burst_step number body.now octet }
 {
     match body {
         [] => {
@@ -205,24 +230,25 @@ fn read_rx(body: &[u8], octet: u8) -> Step
             if octets.len() < 24 {
                 Step::Need
             } else {
-                read_last(*slot, octets, octet)
+                read_last(number, *slot, octets, octet)
             }
         }
     }
 }
 
 /// The last octet of an RX, which follows the slot and 24 octets.
-fn read_last(slot: u8, octets: &[u8], octet: u8) -> Step
+fn read_last(number: Option<u8>, slot: u8, octets: &[u8], octet: u8) -> Step
     requires slot { slot < 2 }
     requires len { length octets.now ≡ 24 }
     ensures { let whole = octets.now ++ octet ∷ [] in
-        result ≡ (if field_of whole 196 4 == 0 then Step.Frame (FrameIn.Rx slot (word_of whole)) else Step.Fault Cause.BadPad) }
+        result ≡ (if field_of whole 196 4 == 0 then Step.Frame (FrameIn.Rx number slot (word_of whole)) else Step.Fault Cause.BadPad) }
 {
     let mut whole = [0; 25];
     whole[..24].copy_from_slice(octets);
     whole[24] = octet;
     match Word196::from_octets(&whole) {
         Ok(word) => Step::Frame(FrameIn::Rx {
+            number,
             slot: SlotNo::new(u32::from(slot)),
             word,
         }),

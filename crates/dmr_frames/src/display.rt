@@ -12,7 +12,16 @@ impl fmt::Display for FrameIn {
                 carrier,
                 lpcn,
             } => write!(f, "HELLO version={version} carrier={carrier} lpcn={lpcn}"),
-            FrameIn::Rx { slot, word: _ } => write!(f, "RX slot={slot}"),
+            FrameIn::Rx {
+                number: Some(number),
+                slot,
+                word: _,
+            } => write!(f, "RX number={number} slot={slot}"),
+            FrameIn::Rx {
+                number: None,
+                slot,
+                word: _,
+            } => write!(f, "RX slot={slot}"),
             FrameIn::Poll => write!(f, "POLL"),
             FrameIn::Active { slot } => write!(f, "ACTIVE slot={slot}"),
             FrameIn::Bye => write!(f, "BYE"),
@@ -35,7 +44,16 @@ impl fmt::Display for FrameOut {
     fn fmt<W: fmt::Write>(&self, f: &mut fmt::Formatter<W>) -> fmt::Result {
         match self {
             FrameOut::Welcome { version } => write!(f, "WELCOME version={version}"),
-            FrameOut::Tx { slot, word: _ } => write!(f, "TX slot={slot}"),
+            FrameOut::Tx {
+                number: Some(number),
+                slot,
+                word: _,
+            } => write!(f, "TX number={number} slot={slot}"),
+            FrameOut::Tx {
+                number: None,
+                slot,
+                word: _,
+            } => write!(f, "TX slot={slot}"),
             FrameOut::Done => write!(f, "DONE"),
             FrameOut::Refused(refusal) => write!(f, "REFUSED reason={refusal}"),
         }
@@ -52,7 +70,7 @@ impl fmt::Display for Cause {
             Cause::BadPad => "BadPad, the last four bits of an RX are 0",
             Cause::NoHello => "NoHello, the first frame is no HELLO",
             Cause::SecondHello => "SecondHello, a HELLO that is not the first frame",
-            Cause::BadVersion => "BadVersion, another version of the link",
+            Cause::BadVersion => "BadVersion, a version of the link that is not served",
             Cause::WrongCarrier => "WrongCarrier, another carrier or channel than the port's",
         };
         write!(f, "{text}")

@@ -1,14 +1,11 @@
-//! The frames of the link (version 1 of this project's profile).
+//! The frames of the link (versions 1 and 2 of this project's profile).
 
 use dmr_bits::Word196;
 use dmr_pdu::SlotNo;
 
-/// The version of the link format that these frames are of (this project's profile): a HELLO that is accepted and each WELCOME
-/// have it.
-pub const LINK_VERSION: u8 = 1;
-
-/// The octets of the longest frames, RX and TX: type, length, slot, and the 25 of a word.
-pub const LONGEST_FRAME: usize = 28;
+/// The octets of the longest frames, RX and TX of version 2: type, length, number, slot, and the 25 of a word. In version 1 they
+/// are shorter by the number.
+pub const LONGEST_FRAME: usize = 29;
 
 /// A frame that comes from a carrier.
 #[derive(Clone, Copy, Debug, PartialEq, Eq)]
@@ -16,13 +13,24 @@ pub enum FrameIn {
     /// HELLO, the first frame of a connection: the version of the link format that the carrier speaks, the carrier's
     /// number within the site, and its logical physical channel number. All three are as they were sent; no range of
     /// theirs was examined.
-    Hello { version: u8, carrier: u8, lpcn: u16 },
-    /// RX: a burst was received on a slot.
-    Rx { slot: SlotNo, word: Word196 },
+    Hello {
+        version: u8,
+        carrier: u8,
+        lpcn: u16,
+    },
+    /// RX: a burst was received on a slot. Its number is the octet that the carrier counts its bursts by in version 2 of the link
+    /// format; in version 1 there is none.
+    Rx {
+        number: Option<u8>,
+        slot: SlotNo,
+        word: Word196,
+    },
     /// POLL: the carrier asks for what it is to send.
     Poll,
     /// ACTIVE: there is traffic on a slot.
-    Active { slot: SlotNo },
+    Active {
+        slot: SlotNo,
+    },
     /// BYE: the carrier ends the connection.
     Bye,
 }
@@ -30,7 +38,7 @@ pub enum FrameIn {
 /// Why a carrier is refused.
 #[derive(Clone, Copy, Debug, PartialEq, Eq)]
 pub enum Refusal {
-    /// The carrier speaks another version of the link format.
+    /// The carrier speaks a version of the link format that is not served.
     BadVersion,
     /// The carrier's number or its channel is not the one that belongs to the port.
     WrongCarrier,
@@ -40,9 +48,15 @@ pub enum Refusal {
 #[derive(Clone, Copy, Debug, PartialEq, Eq)]
 pub enum FrameOut {
     /// WELCOME: the answer to a HELLO that is accepted. It carries the version of the link format that is spoken from then on.
-    Welcome { version: u8 },
-    /// TX: a burst to be sent on a slot.
-    Tx { slot: SlotNo, word: Word196 },
+    Welcome {
+        version: u8,
+    },
+    /// TX: a burst to be sent on a slot. It has a number octet in version 2 of the link format, and none in version 1.
+    Tx {
+        number: Option<u8>,
+        slot: SlotNo,
+        word: Word196,
+    },
     /// DONE: the answer to a POLL is complete.
     Done,
     /// REFUSED: the answer to a HELLO that is not accepted.
@@ -55,7 +69,8 @@ pub enum FrameOut {
 pub enum Cause {
     /// A type octet that is not one of a carrier's frames, 01 to 05.
     UnknownType,
-    /// A length octet other than the one that belongs to the type octet before it.
+    /// A length octet other than the one that belongs to the type octet before it, in the version of the link format by which
+    /// the octets are cut.
     BadLength,
     /// A slot octet, in RX or ACTIVE, that is not 00 or 01.
     BadSlot,
@@ -65,8 +80,8 @@ pub enum Cause {
     NoHello,
     /// A HELLO that is not the first frame of the connection.
     SecondHello,
-    /// A HELLO whose version is not 1. This goes before `WrongCarrier`.
+    /// A HELLO whose version is not served. This goes before `WrongCarrier`.
     BadVersion,
-    /// A HELLO of version 1 whose carrier number or channel is not the one that belongs to the port.
+    /// A HELLO of a version that is served, whose carrier number or channel is not the one that belongs to the port.
     WrongCarrier,
 }

@@ -3,32 +3,36 @@
 ghost use Rattle.std.specs.Prelude.{◌≡◌, ◌+◌, ◌<◌, ℕ, List, [], ◌∷◌, ◌++◌, All, length, slice_index};
 ghost use Rattle.dmr_frames.specs.declared.frame.FrameIn.{FrameIn};
 ghost use Rattle.dmr_frames.specs.declared.frame.FrameOut.{FrameOut};
+ghost use Rattle.dmr_frames.specs.declared.version.FrameTable.{FrameTable};
+ghost use Rattle.dmr_frames.specs.declared.version.Version.{Version};
 ghost use Rattle.dmr_frames.specs.Frames.{IsFrame, IsFrameOut, spelling, spelling_out};
 ghost use Rattle.dmr_frames.specs.Rest.{Rest, Open};
 ghost use Rattle.dmr_frames.specs.Stream.{IsOpen, Reads};
+ghost use Rattle.dmr_frames.specs.Versions.{table_after, version_of};
 ghost use Rattle.dmr_frames.specs.Reading.{frames_from, rest_after_octets};
 
-/// Octets have one reading at most, and any octets have one: the frames and the rest that they bring one by one, in
+/// Octets have one reading at most by each table, and any octets have one: the frames and the rest that they bring one by one, in
 /// whatever pieces they come.
 pub fn one_reading()
-    ensures one { (octets : List ℕ) (fs gs : List FrameIn) (r q : Rest) →
-        Reads octets fs r → Reads octets gs q → (fs ≡ gs) × (r ≡ q) }
-    ensures found { (octets : List ℕ) → All (λ x. x < 256) octets →
-        Reads octets (frames_from (Open []) octets) (rest_after_octets (Open []) octets) }
+    ensures one { (table : FrameTable) (octets : List ℕ) (fs gs : List FrameIn) (r q : Rest) →
+        Reads table octets fs r → Reads table octets gs q → (fs ≡ gs) × (r ≡ q) }
+    ensures found { (table : FrameTable) (octets : List ℕ) → All (λ x. x < 256) octets →
+        Reads table octets (frames_from (Open table []) octets) (rest_after_octets (Open table []) octets) }
     ensures cut { (rest : Rest) (a b : List ℕ) →
         (frames_from rest (a ++ b) ≡ frames_from rest a ++ frames_from (rest_after_octets rest a) b)
         × (rest_after_octets rest (a ++ b) ≡ rest_after_octets (rest_after_octets rest a) b) }
     // The octets of a frame bring it and leave nothing; those of a part of a frame bring nothing and stay.
-    ensures frame { (f : FrameIn) → IsFrame f →
-        (frames_from (Open []) (spelling f) ≡ f ∷ []) × (rest_after_octets (Open []) (spelling f) ≡ Open []) }
-    ensures part { (q : List ℕ) → IsOpen q →
-        (frames_from (Open []) q ≡ []) × (rest_after_octets (Open []) q ≡ Open q) }
+    ensures frame { (table : FrameTable) (f : FrameIn) → IsFrame (version_of table) f →
+        (frames_from (Open table []) (spelling f) ≡ f ∷ [])
+        × (rest_after_octets (Open table []) (spelling f) ≡ Open (table_after table f) []) }
+    ensures part { (table : FrameTable) (q : List ℕ) → IsOpen (version_of table) q →
+        (frames_from (Open table []) q ≡ []) × (rest_after_octets (Open table []) q ≡ Open table q) }
 {}
 
 /// Each frame has one spelling, and none is a proper prefix of another's: octets that begin with the spelling of one
-/// frame begin with no other frame's. The second octet of a spelling counts the octets behind it.
+/// frame begin with no other frame's, of whichever version the two are. The second octet of a spelling counts the octets behind it.
 pub fn spellings_part()
-    ensures from_carrier { (f g : FrameIn) (a b : List ℕ) → IsFrame f → IsFrame g →
+    ensures from_carrier { (v w : Version) (f g : FrameIn) (a b : List ℕ) → IsFrame v f → IsFrame w g →
         spelling f ++ a ≡ spelling g ++ b → (f ≡ g) × (a ≡ b) }
     ensures to_carrier { (f g : FrameOut) (a b : List ℕ) → IsFrameOut f → IsFrameOut g →
         spelling_out f ++ a ≡ spelling_out g ++ b → (f ≡ g) × (a ≡ b) }

@@ -1,8 +1,11 @@
-//! Link frames of version 1 (this project's profile): the octets that a carrier and the site exchange.
+//! Link frames of versions 1 and 2 (this project's profile): the octets that a carrier and the site exchange.
 //!
 //! A frame is a type octet, a length octet that counts its body's octets, and the body. A `Cutter` takes a carrier's
 //! octets one by one, so it does not matter in which pieces they come, and answers each frame at its last octet;
 //! `write_frame` spells the frames that go to a carrier. Nothing here takes memory.
+//!
+//! The versions differ in RX and TX, which in version 2 have a number octet before the slot. The first frame of a connection is of
+//! version 1; where it is a HELLO of version 2, and version 2 is served, those behind it are of version 2.
 #![tactic(auto)]
 
 mod cutter;
@@ -10,11 +13,13 @@ mod display;
 mod frame;
 mod frame_type;
 mod law;
+mod version;
 mod whole;
 mod write;
 
 pub use cutter::{Cutter, Step};
-pub use frame::{Cause, FrameIn, FrameOut, LINK_VERSION, LONGEST_FRAME, Refusal};
+pub use frame::{Cause, FrameIn, FrameOut, LONGEST_FRAME, Refusal};
 pub use law::{one_reading, spellings_part};
+pub use version::{FrameTable, Version};
 pub use whole::whole_frame;
 pub use write::write_frame;

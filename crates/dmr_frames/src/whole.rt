@@ -6,17 +6,18 @@ ghost use Rattle.dmr_frames.specs.Frames.{IsFrame, spelling};
 
 use crate::cutter::{Cutter, Step};
 use crate::frame::FrameIn;
+use crate::version::{FrameTable, Version};
 
-/// The frame from a carrier whose spelling these octets are, from the first to the last. `None` where they are none:
-/// a part of a frame, a fault, a frame with octets behind it, or no octets.
-pub fn whole_frame(octets: &[u8]) -> Option<FrameIn>
-    ensures found { IfSome result (λ f. IsFrame f × (octets.now ≡ spelling f)) }
-    ensures only { (f : FrameIn) → IsFrame f → octets.now ≡ spelling f → result ≡ Some f }
+/// The frame from a carrier, of this version of the link format, whose spelling these octets are, from the first to the last.
+/// `None` where they are none: a part of a frame, a fault, a frame with octets behind it, an RX of the other version, or no octets.
+pub fn whole_frame(version: Version, octets: &[u8]) -> Option<FrameIn>
+    ensures found { IfSome result (λ f. IsFrame version f × (octets.now ≡ spelling f)) }
+    ensures only { (f : FrameIn) → IsFrame version f → octets.now ≡ spelling f → result ≡ Some f }
 {
     let [front @ .., last] = octets else {
         return None;
     };
-    let mut cutter = Cutter::new();
+    let mut cutter = Cutter::by(FrameTable::Later(version));
     for octet in front {
         let Step::Need = cutter.feed_byte(*octet) else {
             return None;

@@ -5,46 +5,58 @@ use Rattle.std.proofs.lemmas.Bool.{cases_eq}
 use Rattle.std.proofs.lemmas.List.{map-set, length-map, length_push, map-append, replicate_more, get_or_append_left, get_or_push, get_or_read}
 use Rattle.dmr_plan.specs.declared.settings.Settings.{Settings}
 use Rattle.dmr_core.specs.Facts.{Facts}
-use Rattle.dmr_link.specs.declared.carrier_session.CarrierSession.{CarrierSession}
+use Rattle.dmr_link.specs.declared.session.Dialogue.{Dialogue}
 use Rattle.dmr_link.specs.declared.connection.CarrierIdentity.{CarrierIdentity}
 use Rattle.dmr_link.specs.declared.connection.Connection.{Connection}
-use Rattle.dmr_link.specs.declared.connection.Connection.TheVariants.{Closed}
+use Rattle.dmr_link.specs.declared.connection.Connection.TheVariants.{Closed, Waiting, Running}
+use Rattle.dmr_link.specs.Meaning.{notices_at_end}
 use Rattle.dmr_core.specs.State.{SiteState as Site}
 use Rattle.dmr_link.specs.Answering.{facts_from, site_after_notices}
-use Rattle.dmr_link.specs.EngineSessions.{carrier_in, connection_in, AreSessions}
+use Rattle.dmr_link.specs.EngineSessions.{carrier_in, connection_in, next_in, AreDialogues}
+use Rattle.dmr_link.specs.Identities.{greatest_of, who_of}
+use Rattle.dmr_link.specs.Numbering.{frames_text, next_after_frames}
 use Rattle.dmr_link.specs.Input.{Piece}
-use Rattle.dmr_link.specs.Inputs.{who_of, piece_brings, piece_leaves, leaves_by, texts_by}
-use Rattle.dmr_link.specs.Session.{text_from}
+use Rattle.dmr_link.specs.Notices.{Notice}
+use Rattle.dmr_link.specs.Inputs.{piece_brings, piece_leaves, leaves_by, texts_by}
+use Rattle.dmr_link.specs.Session.{frames_said}
 use Rattle.dmr_link.specs.Sound.{IsConnectionSound}
-use Rattle.dmr_link.specs.State.{State, connection_of, AreConnections}
-use Rattle.dmr_link.proofs.PastsStandForEngines.{who_carrier, get_or-all_same}
+use Rattle.dmr_link.specs.State.{State, connection_of, next_of, AreConnections}
+use Rattle.dmr_frames.specs.declared.version.Version.{Version}
+use Rattle.dmr_link.proofs.PastsStandForEngines.{who_carrier, who_greatest, get_or-all_same}
 
-pub read_connection : (sessions : List (Option CarrierSession)) (c : ℕ) → get_or (map connection_in sessions) c Closed ≡ connection_in (get_or sessions c None)
+pub read_connection : (sessions : List (Option Dialogue)) (c : ℕ) → get_or (map connection_in sessions) c Closed ≡ connection_in (get_or sessions c None)
 read_connection [] zero = refl
 read_connection [] (suc c) = refl
 read_connection (x ∷ sessions) zero = refl
 read_connection (x ∷ sessions) (suc c) = read_connection sessions c
 
-pub sessions_connect : (plan : Settings) (sessions : List (Option CarrierSession)) → AreSessions plan sessions → AreConnections (map connection_in sessions)
+pub read_next : (sessions : List (Option Dialogue)) (c : ℕ) → get_or (map next_in sessions) c None ≡ next_in (get_or sessions c None)
+read_next [] zero = refl
+read_next [] (suc c) = refl
+read_next (x ∷ sessions) zero = refl
+read_next (x ∷ sessions) (suc c) = read_next sessions c
+
+pub sessions_connect : (plan : Settings) (sessions : List (Option Dialogue)) → AreDialogues plan sessions → AreConnections (greatest_of plan) (map connection_in sessions)
 sessions_connect plan sessions are = record {
   sixteen = length-map sessions connection_in ∙ are.sixteen;
-  sound = λ c. let P : Connection → Type 0 = IsConnectionSound in subst P (sym (read_connection sessions c)) (are.sound c);
+  sound = λ c. let P : Connection → Type 0 = IsConnectionSound (greatest_of plan) in subst P (sym (read_connection sessions c)) (are.sound c);
 }
 
 -- ---- new ones
 
 -- those of the carriers below a number
-pub record AreBegun (plan : Settings) (sessions : List (Option CarrierSession)) (n : ℕ) : Type 0 where
+pub record AreBegun (plan : Settings) (sessions : List (Option Dialogue)) (n : ℕ) : Type 0 where
   pub many : length sessions ≡ n
   pub own : (c : ℕ) → c < n → carrier_in (get_or sessions c None) ≡ who_of plan c
   pub none : map connection_in sessions ≡ replicate n Closed
+  pub uncounted : map next_in sessions ≡ replicate n None
 
 pub begun_none : (plan : Settings) → AreBegun plan [] 0
-begun_none plan = record { many = refl; own = λ c few. absurd (omega arith); none = refl }
+begun_none plan = record { many = refl; own = λ c few. absurd (omega arith); none = refl; uncounted = refl }
 
-pub begun_more : (plan : Settings) (sessions : List (Option CarrierSession)) (n : ℕ) (session : Option CarrierSession) → AreBegun plan sessions n →
-    carrier_in session ≡ who_of plan n → connection_in session ≡ Closed → AreBegun plan (sessions ++ session ∷ []) (n + 1)
-begun_more plan sessions n session are own none = record {
+pub begun_more : (plan : Settings) (sessions : List (Option Dialogue)) (n : ℕ) (session : Option Dialogue) → AreBegun plan sessions n →
+    carrier_in session ≡ who_of plan n → connection_in session ≡ Closed → next_in session ≡ None → AreBegun plan (sessions ++ session ∷ []) (n + 1)
+begun_more plan sessions n session are own none uncounted = record {
   many = length_push sessions session ∙ ap (λ (m : ℕ). m + 1) are.many;
   own = λ c few.
       ⊎_elim
@@ -55,6 +67,10 @@ begun_more plan sessions n session are own none = record {
       map-append connection_in sessions (session ∷ [])
       ∙ (λ i. are.none i ++ none i ∷ [])
       ∙ replicate_more n Closed;
+  uncounted =
+      map-append next_in sessions (session ∷ [])
+      ∙ (λ i. are.uncounted i ++ uncounted i ∷ [])
+      ∙ replicate_more n None;
 }
   where
     smaller : (c : ℕ) → c < n + 1 → (c ≡ n → ⊥) → c < n
@@ -63,19 +79,19 @@ begun_more plan sessions n session are own none = record {
     before : (c : ℕ) → c < n + 1 → (c ≡ n → ⊥) → c < length sessions
     before c few other = let h : c < n = smaller c few other in omega (arith, h, are.many)
 
-pub begun_all : (plan : Settings) (sessions : List (Option CarrierSession)) → AreBegun plan sessions 16 → AreSessions plan sessions
+pub begun_all : (plan : Settings) (sessions : List (Option Dialogue)) → AreBegun plan sessions 16 → AreDialogues plan sessions
 begun_all plan sessions are = record {
   sixteen = are.many;
   own = are.own;
   sound = λ c.
-      let P : Connection → Type 0 = IsConnectionSound in
+      let P : Connection → Type 0 = IsConnectionSound (greatest_of plan) in
       subst P (sym (sym (read_connection sessions c) ∙ ap (λ (ks : List Connection). get_or ks c Closed) are.none ∙ get_or-all_same {A = Connection} 16 c Closed)) tt;
 }
 
 -- ---- one of them goes on
 
-pub sessions_set : (plan : Settings) (sessions : List (Option CarrierSession)) (c : ℕ) (old new : CarrierSession) → c < 16 → AreSessions plan sessions →
-    get_or sessions c None ≡ Some old → new.who ≡ old.who → IsConnectionSound new.connection → AreSessions plan (set sessions c (Some new))
+pub sessions_set : (plan : Settings) (sessions : List (Option Dialogue)) (c : ℕ) (old new : Dialogue) → c < 16 → AreDialogues plan sessions →
+    get_or sessions c None ≡ Some old → new.session.who ≡ old.session.who → IsConnectionSound old.session.who.greatest new.session.connection → AreDialogues plan (set sessions c (Some new))
 sessions_set plan sessions c old new small are at same sound = record {
   sixteen = length-set sessions c (Some new) ∙ are.sixteen;
   own = λ d few.
@@ -84,23 +100,27 @@ sessions_set plan sessions c old new small are at same sound = record {
       (λ (other : d ≡ c → ⊥). ap carrier_in (get_or-set_other sessions c d (Some new) None other) ∙ are.own d few)
       (cases_eq d c);
   sound = λ d.
-      let P : Connection → Type 0 = IsConnectionSound in
+      let P : Connection → Type 0 = IsConnectionSound (greatest_of plan) in
+      let Q : Version → Type 0 = λ greatest. IsConnectionSound greatest new.session.connection in
       ⊎_elim
-      (λ (here : d ≡ c). subst P (sym (ap connection_in (read_here d here))) sound)
+      (λ (here : d ≡ c). subst P (sym (ap connection_in (read_here d here))) (subst Q its_greatest sound))
       (λ (other : d ≡ c → ⊥). subst P (sym (ap connection_in (get_or-set_other sessions c d (Some new) None other))) (are.sound d))
       (cases_eq d c);
 }
   where
+    its_greatest : old.session.who.greatest ≡ greatest_of plan
+    its_greatest = who_greatest plan c old.session.who (sym (are.own c small) ∙ ap carrier_in at)
+
     read_here : (d : ℕ) → d ≡ c → get_or (set sessions c (Some new)) d None ≡ Some new
     read_here d here = ap (λ (n : ℕ). get_or (set sessions c (Some new)) n None) here ∙ get_or-set_same sessions c (Some new) None (omega (arith, are.sixteen))
 
 -- ---- what an input to a carrier leaves and puts out
 
 -- the engine with these sessions
-abbrev pub engine_with : Settings → Facts → List (Option CarrierSession) → List ℕ → State
-engine_with plan facts sessions console = record { plan = plan; facts = facts; connections = map connection_in sessions; console = console }
+abbrev pub engine_with : Settings → Facts → List (Option Dialogue) → List ℕ → State
+engine_with plan facts sessions console = record { plan = plan; facts = facts; connections = map connection_in sessions; numbers = map next_in sessions; console = console }
 
-module _ (plan : Settings) (facts : Facts) (sessions : List (Option CarrierSession)) (console : List ℕ) (c : ℕ) (small : c < 16) (are : AreSessions plan sessions) (piece : Piece) where
+module _ (plan : Settings) (facts : Facts) (sessions : List (Option Dialogue)) (console : List ℕ) (c : ℕ) (small : c < 16) (are : AreDialogues plan sessions) (piece : Piece) where
   -- the plan has no such carrier
   module _ (at : get_or sessions c None ≡ None) where
     no_carrier : None ≡ who_of plan c
@@ -113,54 +133,86 @@ module _ (plan : Settings) (facts : Facts) (sessions : List (Option CarrierSessi
     none_texts texts = ap (λ (who : Option CarrierIdentity). texts_by (engine_with plan facts sessions console) texts who piece) no_carrier
 
   -- it has
-  module _ (old : CarrierSession) (at : get_or sessions c None ≡ Some old) where
-    its_carrier : Some old.who ≡ who_of plan c
+  module _ (old : Dialogue) (at : get_or sessions c None ≡ Some old) where
+    its_carrier : Some old.session.who ≡ who_of plan c
     its_carrier = ap carrier_in (sym at) ∙ are.own c small
 
-    its_number : old.who.carrier ≡ c
-    its_number = who_carrier plan c old.who (sym its_carrier)
+    its_number : old.session.who.carrier ≡ c
+    its_number = who_carrier plan c old.session.who (sym its_carrier)
 
-    its_connection : connection_of (engine_with plan facts sessions console) old.who.carrier ≡ old.connection
+    its_connection : connection_of (engine_with plan facts sessions console) old.session.who.carrier ≡ old.session.connection
     its_connection = ap (connection_of (engine_with plan facts sessions console)) its_number ∙ read_connection sessions c ∙ ap connection_in at
 
-    pub some_leaves : (new : CarrierSession) (later : Facts) → new.connection ≡ piece_leaves old.who old.connection piece → later ≡ facts_from plan facts (piece_brings old.who old.connection piece) →
+    its_next : next_of (engine_with plan facts sessions console) old.session.who.carrier ≡ old.numbering
+    its_next = ap (next_of (engine_with plan facts sessions console)) its_number ∙ read_next sessions c ∙ ap next_in at
+
+    -- what its piece brings, and the frames that it puts out
+    abbrev brought_by : Connection → List Notice
+    brought_by k = piece_brings old.session.who k piece
+
+    pub some_leaves : (new : Dialogue) (later : Facts) → new.session.connection ≡ piece_leaves old.session.who old.session.connection piece →
+        new.numbering ≡ next_after_frames old.numbering (frames_said plan facts (brought_by old.session.connection)) → later ≡ facts_from plan facts (brought_by old.session.connection) →
         engine_with plan later (set sessions c (Some new)) console ≡ leaves_by (engine_with plan facts sessions console) (who_of plan c) piece
-    some_leaves new later left brought =
+    some_leaves new later left counted brought =
         (λ i. record {
           plan = plan;
-          facts = (brought ∙ ap (λ (k : Connection). facts_from plan facts (piece_brings old.who k piece)) (sym its_connection)) i;
+          facts = (brought ∙ ap (λ (k : Connection). facts_from plan facts (brought_by k)) (sym its_connection)) i;
           connections = (map-set connection_in sessions c (Some new)
-              ∙ (λ j. set (map connection_in sessions) (sym its_number j) ((left ∙ ap (λ (k : Connection). piece_leaves old.who k piece) (sym its_connection)) j))) i;
+              ∙ (λ j. set (map connection_in sessions) (sym its_number j) ((left ∙ ap (λ (k : Connection). piece_leaves old.session.who k piece) (sym its_connection)) j))) i;
+          numbers = (map-set next_in sessions c (Some new)
+              ∙ (λ j. set (map next_in sessions) (sym its_number j) ((counted ∙ (λ m. next_after_frames (sym its_next m) (frames_said plan facts (brought_by (sym its_connection m))))) j))) i;
           console = console;
         })
         ∙ ap (λ (who : Option CarrierIdentity). leaves_by (engine_with plan facts sessions console) who piece) its_carrier
 
-    pub some_texts : (texts : List (List ℕ)) (more : List ℕ) → more ≡ get_or texts c [] ++ text_from plan facts (piece_brings old.who old.connection piece) →
+    pub some_texts : (texts : List (List ℕ)) (more : List ℕ) → more ≡ get_or texts c [] ++ frames_text old.numbering (frames_said plan facts (brought_by old.session.connection)) →
         set texts c more ≡ texts_by (engine_with plan facts sessions console) texts (who_of plan c) piece
     some_texts texts more put =
         (λ i. set texts (sym its_number i)
-        ((put ∙ (λ j. get_or texts (sym its_number j) [] ++ text_from plan facts (piece_brings old.who (sym its_connection j) piece))) i))
+        ((put ∙ (λ j. get_or texts (sym its_number j) [] ++ frames_text (sym its_next j) (frames_said plan facts (brought_by (sym its_connection j))))) i))
         ∙ ap (λ (who : Option CarrierIdentity). texts_by (engine_with plan facts sessions console) texts who piece) its_carrier
 
 -- ---- an input to a carrier of the plan, as the engine does it
 
-module _ (site later : Site) (sessions : List (Option CarrierSession)) (console : List ℕ) (n c : ℕ) (small : n < 16) (same : n ≡ c) (are : AreSessions site.plan sessions)
-    (found : Option CarrierSession) (read : found ≡ get_or sessions n found) (old : CarrierSession) (is : found ≡ Some old) (piece : Piece)
-    (brought : later ≡ site_after_notices site (piece_brings old.who old.connection piece)) where
+module _ (site later : Site) (sessions : List (Option Dialogue)) (console : List ℕ) (n c : ℕ) (small : n < 16) (same : n ≡ c) (are : AreDialogues site.plan sessions)
+    (found : Option Dialogue) (read : found ≡ get_or sessions n found) (old : Dialogue) (is : found ≡ Some old) (piece : Piece)
+    (brought : later ≡ site_after_notices site (piece_brings old.session.who old.session.connection piece)) where
   its_session : get_or sessions n None ≡ Some old
   its_session = sym (get_or_read sessions n found (omega (arith, are.sixteen)) read None) ∙ is
 
-  pub session_leaves : (s : State) → engine_with site.plan site.facts sessions console ≡ s → (new : CarrierSession) → new.connection ≡ piece_leaves old.who old.connection piece →
+  pub session_leaves : (s : State) → engine_with site.plan site.facts sessions console ≡ s → (new : Dialogue) → new.session.connection ≡ piece_leaves old.session.who old.session.connection piece →
+      new.numbering ≡ next_after_frames old.numbering (frames_said site.plan site.facts (piece_brings old.session.who old.session.connection piece)) →
       engine_with later.plan later.facts (set sessions n (Some new)) console ≡ leaves_by s (who_of s.plan c) piece
-  session_leaves s view new left =
+  session_leaves s view new left counted =
       (λ i. engine_with (brought i).plan (brought i).facts (set sessions n (Some new)) console)
-      ∙ some_leaves site.plan site.facts sessions console n small are piece old its_session new (facts_from site.plan site.facts (piece_brings old.who old.connection piece)) left refl
+      ∙ some_leaves site.plan site.facts sessions console n small are piece old its_session new (facts_from site.plan site.facts (piece_brings old.session.who old.session.connection piece)) left counted refl
       ∙ (λ i. leaves_by (view i) (who_of (view i).plan (same i)) piece)
 
-  pub session_stays : (new : CarrierSession) → new.who ≡ old.who → IsConnectionSound new.connection → AreSessions later.plan (set sessions n (Some new))
+  pub session_stays : (new : Dialogue) → new.session.who ≡ old.session.who → IsConnectionSound old.session.who.greatest new.session.connection → AreDialogues later.plan (set sessions n (Some new))
   session_stays new whose sound =
-      let P : Settings → Type 0 = λ plan. AreSessions plan (set sessions n (Some new)) in
+      let P : Settings → Type 0 = λ plan. AreDialogues plan (set sessions n (Some new)) in
       subst P (sym (ap (λ (x : Site). x.plan) brought)) (sessions_set site.plan sessions n old new small are its_session whose sound)
+
+-- a dialogue that stays its carrier's, and sound
+pub dialogues_stay : (plan later : Settings) (sessions : List (Option Dialogue)) (n : ℕ) → n < 16 → AreDialogues plan sessions → (found : Option Dialogue) → found ≡ get_or sessions n found → (old : Dialogue) → found ≡ Some old →
+    (new : Dialogue) → later ≡ plan → new.session.who ≡ old.session.who → (IsConnectionSound old.session.who.greatest old.session.connection → IsConnectionSound old.session.who.greatest new.session.connection) → AreDialogues later (set sessions n (Some new))
+dialogues_stay plan later sessions n small are found read old is new kept whose stays =
+    let P : Settings → Type 0 = λ p. AreDialogues p (set sessions n (Some new)) in
+    let Q : Version → Type 0 = λ greatest. IsConnectionSound greatest old.session.connection in
+    let R : Connection → Type 0 = IsConnectionSound (greatest_of plan) in
+    subst P (sym kept) (sessions_set plan sessions n old new small are at whose (stays (subst Q (sym its_greatest) (subst R (ap connection_in at) (are.sound n)))))
+  where
+    at : get_or sessions n None ≡ Some old
+    at = sym (get_or_read sessions n found (omega (arith, are.sixteen)) read None) ∙ is
+
+    its_greatest : old.session.who.greatest ≡ greatest_of plan
+    its_greatest = who_greatest plan n old.session.who (sym (are.own n small) ∙ ap carrier_in at)
+
+-- the end of a connection puts out no TX
+pub ends_uncounted : (plan : Settings) (facts : Facts) (c : ℕ) (k : Connection) (next : Option ℕ) → next ≡ next_after_frames next (frames_said plan facts (notices_at_end c k))
+ends_uncounted plan facts c Closed next = refl
+ends_uncounted plan facts c (Waiting rest) next = refl
+ends_uncounted plan facts c (Running rest newest) next = refl
 
 -- ---- what two facts of an answer give
 

@@ -13,9 +13,9 @@ session_on who k = record { who = who; connection = k }
 abbrev pub is_open : Connection → Bool
 is_open Closed = false
 is_open (Waiting rest) = true
-is_open (Running rest) = true
+is_open (Running rest newest) = true
 
 -- the carrier, if it is up
 abbrev pub up_by : CarrierIdentity → Connection → Option ℕ
-up_by who (Running rest) = Some who.carrier
+up_by who (Running rest newest) = Some who.carrier
 up_by who other = None

@@ -1,6 +1,5 @@
 -- How octets close a connection.
-use Rattle.std.specs.Prelude.{ℕ, List, [], ◌∷◌, Option, Some, None, ◌==◌, if◌then◌else◌}
-use Rattle.dmr_frames.specs.declared.frame.TheConstants.{LINK_VERSION}
+use Rattle.std.specs.Prelude.{ℕ, List, [], ◌∷◌, Option, Some, None, if◌then◌else◌}
 use Rattle.dmr_frames.specs.declared.frame.FrameIn.{FrameIn}
 use Rattle.dmr_frames.specs.declared.frame.FrameIn.TheVariants as frame
 use Rattle.dmr_frames.specs.declared.frame.Cause.{Cause}
@@ -16,7 +15,7 @@ use Rattle.dmr_link.specs.declared.ended.Closing.TheVariants as closing
 use Rattle.dmr_link.specs.declared.connection.CarrierIdentity.{CarrierIdentity}
 use Rattle.dmr_link.specs.declared.connection.Connection.{Connection}
 use Rattle.dmr_link.specs.declared.connection.Connection.TheVariants.{Closed, Waiting, Running}
-use Rattle.dmr_link.specs.Meaning.{is_accepted}
+use Rattle.dmr_link.specs.Meaning.{is_accepted, is_served, no_octets}
 use Rattle.dmr_link.specs.Steps.{connection_after_octet}
 
 -- what is answered for a connection that was closed so
@@ -30,17 +29,17 @@ ended_of (closing.Bad why) = ended.BadFrame why
 
 -- a fault behind the last frame
 abbrev pub fault_of : Rest → Option Closing
-fault_of (Open octets) = None
+fault_of (Open table octets) = None
 fault_of (Faulty why) = Some (closing.Bad why)
 
 -- what is wrong with a first frame that isn't accepted
-abbrev pub wrong_first : FrameIn → Cause
-wrong_first (frame.Hello version carrier lpcn) = if version == LINK_VERSION then cause.WrongCarrier else cause.BadVersion
-wrong_first other = cause.NoHello
+abbrev pub wrong_first : CarrierIdentity → FrameIn → Cause
+wrong_first who (frame.Hello version carrier lpcn) = if is_served who version then cause.WrongCarrier else cause.BadVersion
+wrong_first who other = cause.NoHello
 
 -- how a first frame closes a connection, if it does
 abbrev pub first_closes : CarrierIdentity → FrameIn → Option Closing
-first_closes who f = if is_accepted who f then None else Some (closing.Bad (wrong_first f))
+first_closes who f = if is_accepted who f then None else Some (closing.Bad (wrong_first who f))
 
 -- how a frame closes a connection whose carrier is up, if it does
 abbrev pub frame_closes : FrameIn → Option Closing
@@ -61,11 +60,11 @@ up_closed (f ∷ fs) rest = or_else (frame_closes f) (up_closed fs rest)
 -- frames of a connection
 abbrev pub frames_closed : CarrierIdentity → List FrameIn → Rest → Option Closing
 frames_closed who [] rest = fault_of rest
-frames_closed who (f ∷ fs) rest = if is_accepted who f then up_closed fs rest else Some (closing.Bad (wrong_first f))
+frames_closed who (f ∷ fs) rest = if is_accepted who f then up_closed fs rest else Some (closing.Bad (wrong_first who f))
 
 -- HOW OCTETS CLOSE a connection, if they do: by a BYE of a carrier that is up, or for a cause
 unfoldable pub closing_of_octets : CarrierIdentity → List ℕ → Option Closing
-closing_of_octets who octets = frames_closed who (frames_from (Open []) octets) (rest_after_octets (Open []) octets)
+closing_of_octets who octets = frames_closed who (frames_from (no_octets who) octets) (rest_after_octets (no_octets who) octets)
 
 -- ---- octet by octet
 
@@ -83,7 +82,7 @@ running_closes (Fault why) = Some (closing.Bad why)
 abbrev pub closes : CarrierIdentity → Connection → ℕ → Option Closing
 closes who Closed x = None
 closes who (Waiting rest) x = waiting_closes who (step_from rest x)
-closes who (Running rest) x = running_closes (step_from rest x)
+closes who (Running rest newest) x = running_closes (step_from rest x)
 
 -- the same of octets
 abbrev pub all_closes : CarrierIdentity → Connection → List ℕ → Option Closing

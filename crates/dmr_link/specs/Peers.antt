@@ -9,12 +9,13 @@ use Rattle.dmr_frames.specs.declared.frame.FrameOut.TheVariants as out
 use Rattle.dmr_frames.specs.Frames.{spelling_out}
 use Rattle.dmr_core.specs.declared.act.Acts.{Acts}
 use Rattle.dmr_core.specs.declared.entry.Entry.{Entry}
-use Rattle.dmr_core.specs.declared.event.Event.{Event}
 use Rattle.dmr_core.specs.declared.event.Event.TheVariants.{Say}
 use Rattle.dmr_core.specs.Journal.{entry_by_nobody}
 use Rattle.dmr_link.specs.declared.notices.LineFault.TheVariants.{TooLong}
 use Rattle.dmr_link.specs.Notices.{Notice}
-use Rattle.dmr_link.specs.Notices.{Happened, Refused, Unheeded}
+use Rattle.dmr_link.specs.Notices.{Happened, Accepted, Refused, Unheeded}
+use Rattle.dmr_link.specs.declared.notices.SiteNotice.{SiteNotice}
+use Rattle.dmr_link.specs.declared.notices.SiteNotice.TheVariants as site
 use Rattle.dmr_link.specs.declared.desk.Deposit.{Deposit}
 use Rattle.dmr_link.specs.declared.ended.Closing.{Closing}
 use Rattle.dmr_link.specs.declared.stream.Peer.{Peer}
@@ -25,7 +26,8 @@ use Rattle.dmr_link.specs.CarrierSessions.{session_on, is_open, up_by}
 use Rattle.dmr_link.specs.Closing.{closing_of_octets, closes}
 use Rattle.dmr_link.specs.Console.{notice_of_command, meaning_of_text, console_text, fault_text, reply_text}
 use Rattle.dmr_link.specs.Meaning.{meaning_of_octets, left_by_octets, list_of_notice}
-use Rattle.dmr_link.specs.Session.{session_answer_text, session_text}
+use Rattle.dmr_link.specs.Numbering.{frames_text, next_after_frames}
+use Rattle.dmr_link.specs.Session.{event_frames, session_frames, session_text, welcome}
 use Rattle.dmr_link.specs.Steps.{new_connection, notice_of_octet, connection_after_octet}
 
 -- ---- what octets mean
@@ -52,19 +54,36 @@ closing_from Operator octets = None
 abbrev pub entry_of_deposit : Deposit → Entry
 entry_of_deposit d = entry_by_nobody d.event d.acts
 
--- TEXT to a peer, of notices and of what a desk took: a carrier's session text, or the console text
-abbrev pub text_to_peer : Peer → List Notice → List Deposit → List ℕ
-text_to_peer (Carrier who) notices calls = session_text who.carrier notices (map entry_of_deposit calls)
-text_to_peer Operator notices calls = console_text notices (map entry_of_deposit calls)
+-- what goes out to a peer of notices and of what a desk took, where the next TX has this number: a carrier's session text, or the console
+-- text
+abbrev pub text_onward : Peer → Option ℕ → List Notice → List Deposit → List ℕ
+text_onward (Carrier who) next notices calls = session_text next who.carrier notices (map entry_of_deposit calls)
+text_onward Operator next notices calls = console_text notices (map entry_of_deposit calls)
 
--- what answers an event: a command's reply, or what the event and its answer say to their carrier
-abbrev pub answer_text : Event → Acts → List ℕ
-answer_text (Say command) acts = reply_text acts.said
-answer_text event acts = session_answer_text event acts.list
+-- and the number of the next TX then
+abbrev pub next_onward : Peer → Option ℕ → List Notice → List Deposit → Option ℕ
+next_onward (Carrier who) next notices calls = next_after_frames next (session_frames who.carrier notices (map entry_of_deposit calls))
+next_onward Operator next notices calls = next
+
+-- TEXT to a peer, of the notices of a connection and of what a desk took of it
+abbrev pub text_to_peer : Peer → List Notice → List Deposit → List ℕ
+text_to_peer who notices calls = text_onward who None notices calls
+
+-- what answers that of which the site learns: WELCOME, a command's reply, or what an event and its answer say to their carrier
+abbrev pub answer_text : Option ℕ → SiteNotice → Acts → List ℕ
+answer_text next (site.Accepted c version) acts = frames_text next (welcome version)
+answer_text next (site.Happened (Say command)) acts = reply_text acts.said
+answer_text next (site.Happened event) acts = frames_text next (event_frames event acts.list)
+
+-- the number of the next TX then
+abbrev pub next_after_answer : Option ℕ → SiteNotice → Acts → Option ℕ
+next_after_answer next (site.Accepted c version) acts = next_after_frames next (welcome version)
+next_after_answer next (site.Happened event) acts = next_after_frames next (event_frames event acts.list)
 
 -- what is told of a notice that the site doesn't learn of
 abbrev pub aside_text : Notice → List ℕ
 aside_text (Happened event) = []
+aside_text (Accepted c version) = []
 aside_text (Refused c refusal) = spelling_out (out.Refused refusal)
 aside_text (Unheeded fault) = fault_text fault
 
@@ -72,7 +91,7 @@ aside_text (Unheeded fault) = fault_text fault
 
 -- a connection that has just begun
 abbrev pub opened_for : Peer → Stream
-opened_for (Carrier who) = stream.Frames (session_on who new_connection)
+opened_for (Carrier who) = stream.Frames (session_on who (new_connection who))
 opened_for Operator = stream.Lines []
 
 -- whether a connection is open

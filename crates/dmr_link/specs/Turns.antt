@@ -15,16 +15,16 @@ use Rattle.dmr_link.specs.Steps.{waiting_brings, running_brings}
 abbrev pub turn_at : Connection → ℕ → Turn
 turn_at Closed x = turn.Closed
 turn_at (Waiting rest) x = turn.Waiting (step_from rest x)
-turn_at (Running rest) x = turn.Running (step_from rest x)
+turn_at (Running rest newest) x = turn.Running newest (step_from rest x)
 
 -- what it brings
 abbrev pub brings_on : CarrierIdentity → Turn → Option Notice
 brings_on who turn.Closed = None
 brings_on who (turn.Waiting step) = waiting_brings who step
-brings_on who (turn.Running step) = running_brings who.carrier step
+brings_on who (turn.Running newest step) = running_brings who.carrier newest step
 
 -- how it closes the connection, if it does
 abbrev pub closes_on : CarrierIdentity → Turn → Option Closing
 closes_on who turn.Closed = None
 closes_on who (turn.Waiting step) = waiting_closes who step
-closes_on who (turn.Running step) = running_closes step
+closes_on who (turn.Running newest step) = running_closes step

@@ -33,11 +33,11 @@ impl CarrierSession {
 
     /// A session whose connection has just begun.
     pub fn open(who: CarrierIdentity) -> CarrierSession
-        ensures { result ≡ session_on who new_connection }
+        ensures { result ≡ session_on who (new_connection who) }
     {
         CarrierSession {
             who,
-            connection: Connection::open(),
+            connection: Connection::open(&who),
         }
     }
 
@@ -47,7 +47,7 @@ impl CarrierSession {
     {
         match self.connection {
             Connection::Closed => false,
-            Connection::Waiting(_) | Connection::Running(_) => true,
+            Connection::Waiting(_) | Connection::Running { .. } => true,
         }
     }
 
@@ -56,7 +56,7 @@ impl CarrierSession {
         ensures { result ≡ up_by self.now.who self.now.connection }
     {
         match self.connection {
-            Connection::Running(_) => Some(self.who.carrier),
+            Connection::Running { .. } => Some(self.who.carrier),
             Connection::Closed | Connection::Waiting(_) => None,
         }
     }
@@ -67,7 +67,7 @@ impl CarrierSession {
         ensures notice { option_map carrier_notice result.notice ≡ notice_of_octet self.old.who self.old.connection octet }
         ensures closing { result.closing ≡ closes self.old.who self.old.connection octet }
         ensures session { self.new ≡ session_on self.old.who (connection_after_octet self.old.who self.old.connection octet) }
-        ensures sound { IsConnectionSound self.old.connection → IsConnectionSound self.new.connection }
+        ensures sound { IsConnectionSound self.old.who.greatest self.old.connection → IsConnectionSound self.old.who.greatest self.new.connection }
     {
         let who = self.who;
         self.connection.receive(&who, octet)

@@ -2,20 +2,21 @@
 
 ghost use Rattle.std.specs.Prelude.{◌≡◌, option_map};
 ghost use Rattle.dmr_burst.specs.Functions.{meaning_of};
-ghost use Rattle.dmr_link.specs.Meaning.{event_of_burst as event_heard, is_accepted, refusal_of_first as notice_refused, first_brings, is_last, event_of as event_of_frame};
+ghost use Rattle.dmr_link.specs.Meaning.{event_of_burst as event_heard, is_served, is_accepted, refusal_of_first as notice_refused, first_brings, is_last, is_repeat, newest_after, event_of as event_of_frame};
 ghost use Rattle.dmr_link.specs.Closing.{closes, wrong_first as the_wrong_first, first_closes, frame_closes};
 ghost use Rattle.dmr_link.specs.Notices.{carrier_notice};
 ghost use Rattle.dmr_link.specs.Sound.{IsConnectionSound};
-ghost use Rattle.dmr_link.specs.Steps.{new_connection, notice_of_octet, connection_after_octet};
+ghost use Rattle.dmr_link.specs.Steps.{new_connection, notice_of_octet, connection_after_octet, running_brings, waiting_leaves, running_leaves};
 ghost use Rattle.dmr_link.specs.Turns.{turn_at, brings_on, closes_on};
 
 use crate::ended::Closing;
-use crate::notices::CarrierNotice;
+use crate::notices::{CarrierNotice, SiteNotice};
 use dmr_bits::Word196;
 use dmr_burst::read;
 use dmr_core::Event;
-use dmr_frames::{Cause, Cutter, FrameIn, LINK_VERSION, Refusal, Step};
+use dmr_frames::{Cause, Cutter, FrameIn, Refusal, Step, Version};
 use dmr_pdu::{CarrierNo, Lpcn, Slot, SlotNo};
+use std::mem::replace;
 
 /// Which carrier a session is for: it has to say HELLO with just these.
 #[derive(Clone, Copy, Debug, PartialEq, Eq)]
@@ -24,6 +25,8 @@ pub struct CarrierIdentity {
     pub carrier: CarrierNo,
     /// The logical physical channel number of its slots.
     pub lpcn: Lpcn,
+    /// The greatest version of the link that it is served: its HELLO names that, or one below.
+    pub greatest: Version,
 }
 
 /// A carrier's connection, with the octets of the frame that has begun on it.
@@ -34,7 +37,12 @@ pub enum Connection {
     /// It is open, and its first frame has not come whole.
     Waiting(Cutter),
     /// The carrier said HELLO, and is up.
-    Running(Cutter),
+    Running {
+        /// The octets of the frame that has begun.
+        cutter: Cutter,
+        /// The number of the newest RX, if it has one: an RX of that number is the same once more.
+        newest: Option<u8>,
+    },
 }
 
 /// What an octet completes on a connection: a step of the cutter, and where the connection stood.
@@ -44,8 +52,8 @@ pub enum Turn {
     Closed,
     /// Its first frame had not come whole.
     Waiting(Step),
-    /// Its carrier was up.
-    Running(Step),
+    /// Its carrier was up, and its newest RX had this number, if one.
+    Running(Option<u8>, Step),
 }
 
 /// The event of a word that was received in a slot.
@@ -58,7 +66,14 @@ fn heard(slot: Slot, word: &Word196) -> Event
     }
 }
 
-/// Whether the first frame of a connection is the HELLO that it should be: of the version that is spoken, with the carrier's own number and
+/// Whether the carrier is served the version of the link that an octet names.
+fn is_version(who: &CarrierIdentity, version: u8) -> bool
+    ensures { result ≡ is_served who.now version }
+{
+    who.greatest.named(version).is_some()
+}
+
+/// Whether the first frame of a connection is the HELLO that it should be: of a version that is served, with the carrier's own number and
 /// channel.
 fn accepts(who: &CarrierIdentity, frame: &FrameIn) -> bool
     ensures { result ≡ is_accepted who.now frame.now }
@@ -69,7 +84,7 @@ fn accepts(who: &CarrierIdentity, frame: &FrameIn) -> bool
             carrier,
             lpcn,
         } => {
-            *version == LINK_VERSION
+            is_version(who, *version)
                 && u32::from(*carrier) == who.carrier.get()
                 && u32::from(*lpcn) == who.lpcn.get()
         }
@@ -84,7 +99,7 @@ fn refused(who: &CarrierIdentity, frame: &FrameIn) -> Option<CarrierNotice>
 {
     match frame {
         FrameIn::Hello { version, .. } => {
-            let refusal = if *version == LINK_VERSION {
+            let refusal = if is_version(who, *version) {
                 Refusal::WrongCarrier
             } else {
                 Refusal::BadVersion
@@ -100,7 +115,9 @@ fn first(who: &CarrierIdentity, frame: &FrameIn) -> Option<CarrierNotice>
     ensures { option_map carrier_notice result ≡ first_brings who.now frame.now }
 {
     if accepts(who, frame) {
-        Some(CarrierNotice::Happened(Event::Up(who.carrier)))
+        let version = who.greatest.chosen_by(frame);
+        let accepted = SiteNotice::Accepted(who.carrier, version);
+        Some(CarrierNotice::Site(accepted))
     } else {
         refused(who, frame)
     }
@@ -117,12 +134,38 @@ fn ends(frame: &FrameIn) -> bool
     }
 }
 
+/// Whether a frame is the newest RX once more, which had this number, if one.
+fn repeats(newest: Option<u8>, frame: &FrameIn) -> bool
+    ensures { result ≡ is_repeat newest frame.now }
+{
+    match (newest, frame) {
+        (
+            Some(newest),
+            FrameIn::Rx {
+                number: Some(number),
+                ..
+            },
+        ) => *number == newest,
+        _ => false,
+    }
+}
+
+/// The number of the newest RX behind a frame, if it has one.
+fn number_behind(newest: Option<u8>, frame: &FrameIn) -> Option<u8>
+    ensures { result ≡ newest_after newest frame.now }
+{
+    match frame {
+        FrameIn::Rx { number, .. } => *number,
+        _ => newest,
+    }
+}
+
 /// The event of a frame of a carrier that is up.
 fn event_of(carrier: CarrierNo, frame: &FrameIn) -> Event
     ensures { result ≡ event_of_frame carrier frame.now }
 {
     match frame {
-        FrameIn::Rx { slot, word } => {
+        FrameIn::Rx { slot, word, .. } => {
             let slot = Slot {
                 carrier,
                 slot: *slot,
@@ -139,6 +182,17 @@ fn event_of(carrier: CarrierNo, frame: &FrameIn) -> Event
     }
 }
 
+/// What a frame of a carrier that is up brings: nothing where it is the newest RX once more.
+fn brought(who: &CarrierIdentity, newest: Option<u8>, frame: &FrameIn) -> Option<CarrierNotice>
+    ensures { option_map carrier_notice result ≡ running_brings who.now.carrier newest (Step.Frame frame.now) }
+{
+    if repeats(newest, frame) {
+        return None;
+    }
+    let event = event_of(who.carrier, frame);
+    Some(CarrierNotice::Site(SiteNotice::Happened(event)))
+}
+
 /// What an octet brings, and how it closes the connection, if it does.
 #[derive(Clone, Copy, Debug)]
 pub struct Received {
@@ -149,15 +203,17 @@ pub struct Received {
 }
 
 /// What is wrong with a first frame that isn't accepted.
-fn wrong_first(frame: &FrameIn) -> Cause
-    ensures { result ≡ the_wrong_first frame.now }
+fn wrong_first(who: &CarrierIdentity, frame: &FrameIn) -> Cause
+    ensures { result ≡ the_wrong_first who.now frame.now }
 {
     match frame {
-        FrameIn::Hello {
-            version: LINK_VERSION,
-            ..
-        } => Cause::WrongCarrier,
-        FrameIn::Hello { .. } => Cause::BadVersion,
+        FrameIn::Hello { version, .. } => {
+            if is_version(who, *version) {
+                Cause::WrongCarrier
+            } else {
+                Cause::BadVersion
+            }
+        }
         _ => Cause::NoHello,
     }
 }
@@ -180,7 +236,7 @@ fn first_closing(who: &CarrierIdentity, frame: &FrameIn) -> Option<Closing>
     if accepts(who, frame) {
         None
     } else {
-        Some(Closing::Bad(wrong_first(frame)))
+        Some(Closing::Bad(wrong_first(who, frame)))
     }
 }
 
@@ -192,13 +248,11 @@ impl Turn {
         match self {
             Turn::Closed => None,
             Turn::Waiting(Step::Frame(frame)) => first(who, frame),
-            Turn::Waiting(_) | Turn::Running(Step::Need) => None,
-            Turn::Running(Step::Frame(frame)) => {
-                Some(CarrierNotice::Happened(event_of(who.carrier, frame)))
-            }
-            Turn::Running(Step::Fault(_)) => {
+            Turn::Waiting(_) | Turn::Running(_, Step::Need) => None,
+            Turn::Running(newest, Step::Frame(frame)) => brought(who, *newest, frame),
+            Turn::Running(_, Step::Fault(_)) => {
                 let lost = Event::Lost(who.carrier);
-                Some(CarrierNotice::Happened(lost))
+                Some(CarrierNotice::Site(SiteNotice::Happened(lost)))
             }
         }
     }
@@ -208,22 +262,62 @@ impl Turn {
         ensures { result ≡ closes_on who.now self.now }
     {
         match self {
-            Turn::Closed | Turn::Waiting(Step::Need) | Turn::Running(Step::Need) => None,
+            Turn::Closed | Turn::Waiting(Step::Need) | Turn::Running(_, Step::Need) => None,
             Turn::Waiting(Step::Frame(frame)) => first_closing(who, frame),
-            Turn::Running(Step::Frame(frame)) => closing_of(frame),
-            Turn::Waiting(Step::Fault(cause)) | Turn::Running(Step::Fault(cause)) => {
+            Turn::Running(_, Step::Frame(frame)) => closing_of(frame),
+            Turn::Waiting(Step::Fault(cause)) | Turn::Running(_, Step::Fault(cause)) => {
                 Some(Closing::Bad(*cause))
             }
         }
     }
 }
 
+/// The connection behind a step of its cutter, where its first frame had not come whole.
+fn behind_first(who: &CarrierIdentity, cutter: Cutter, step: &Step) -> Connection
+    ensures { result ≡ waiting_leaves who.now cutter step.now }
+{
+    match step {
+        Step::Need => Connection::Waiting(cutter),
+        Step::Frame(frame) => {
+            if accepts(who, frame) {
+                Connection::Running {
+                    cutter,
+                    newest: None,
+                }
+            } else {
+                Connection::Closed
+            }
+        }
+        Step::Fault(_) => Connection::Closed,
+    }
+}
+
+/// The connection behind a step of its cutter, where its carrier was up, and its newest RX had this number, if one.
+fn behind_next(cutter: Cutter, newest: Option<u8>, step: &Step) -> Connection
+    ensures { result ≡ running_leaves cutter newest step.now }
+{
+    match step {
+        Step::Need => Connection::Running { cutter, newest },
+        Step::Frame(frame) => {
+            if ends(frame) {
+                Connection::Closed
+            } else {
+                Connection::Running {
+                    cutter,
+                    newest: number_behind(newest, frame),
+                }
+            }
+        }
+        Step::Fault(_) => Connection::Closed,
+    }
+}
+
 impl Connection {
-    /// A connection that has just begun.
-    pub fn open() -> Connection
-        ensures { result ≡ new_connection }
+    /// A connection of a carrier that has just begun.
+    pub fn open(who: &CarrierIdentity) -> Connection
+        ensures { result ≡ new_connection who.now }
     {
-        Connection::Waiting(Cutter::new())
+        Connection::Waiting(Cutter::new(who.greatest))
     }
 
     /// The same connection once more. What octets do to the one does nothing to the other.
@@ -233,7 +327,10 @@ impl Connection {
         match self {
             Connection::Closed => Connection::Closed,
             Connection::Waiting(cutter) => Connection::Waiting(cutter.fork()),
-            Connection::Running(cutter) => Connection::Running(cutter.fork()),
+            Connection::Running { cutter, newest } => Connection::Running {
+                cutter: cutter.fork(),
+                newest: *newest,
+            },
         }
     }
 
@@ -242,37 +339,19 @@ impl Connection {
     pub fn advance(&mut self, who: &CarrierIdentity, octet: u8) -> Turn
         ensures turn { result ≡ turn_at self.old octet }
         ensures connection { self.new ≡ connection_after_octet who.now self.old octet }
-        ensures sound { IsConnectionSound self.old → IsConnectionSound self.new }
+        ensures sound { IsConnectionSound who.now.greatest self.old → IsConnectionSound who.now.greatest self.new }
     {
-        match self {
+        match replace(self, Connection::Closed) {
             Connection::Closed => Turn::Closed,
-            Connection::Waiting(cutter) => {
+            Connection::Waiting(mut cutter) => {
                 let step = cutter.feed_byte(octet);
-                match &step {
-                    Step::Need => {}
-                    Step::Frame(frame) => {
-                        *self = if accepts(who, frame) {
-                            Connection::Running(Cutter::new())
-                        } else {
-                            Connection::Closed
-                        };
-                    }
-                    Step::Fault(_) => *self = Connection::Closed,
-                }
+                *self = behind_first(who, cutter, &step);
                 Turn::Waiting(step)
             }
-            Connection::Running(cutter) => {
+            Connection::Running { mut cutter, newest } => {
                 let step = cutter.feed_byte(octet);
-                match &step {
-                    Step::Need => {}
-                    Step::Frame(frame) => {
-                        if ends(frame) {
-                            *self = Connection::Closed;
-                        }
-                    }
-                    Step::Fault(_) => *self = Connection::Closed,
-                }
-                Turn::Running(step)
+                *self = behind_next(cutter, newest, &step);
+                Turn::Running(newest, step)
             }
         }
     }
@@ -282,7 +361,7 @@ impl Connection {
         ensures notice { option_map carrier_notice result.notice ≡ notice_of_octet who.now self.old octet }
         ensures closing { result.closing ≡ closes who.now self.old octet }
         ensures connection { self.new ≡ connection_after_octet who.now self.old octet }
-        ensures sound { IsConnectionSound self.old → IsConnectionSound self.new }
+        ensures sound { IsConnectionSound who.now.greatest self.old → IsConnectionSound who.now.greatest self.new }
     {
         let turn = self.advance(who, octet);
         Received {

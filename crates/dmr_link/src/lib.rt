@@ -1,6 +1,6 @@
 //! What comes from a site's carriers and operators, made into events of the site, and what is put out for each carrier and for
-//! the operators. What the octets of a connection mean, and what is put out for it, is this project's link profile, version 1;
-//! what an operator's octets mean is its console profile. There are two ways to use them:
+//! the operators. What the octets of a connection mean, and what is put out for it, is this project's link profile, versions 1
+//! and 2; what an operator's octets mean is its console profile. There are two ways to use them:
 //!
 //! - An [`Engine`] holds a site, the connections of its carriers, and an operator's open line. It takes [`Input`]s one by one,
 //!   in one thread: a connection begins, octets come on it in pieces of any length, it is cut, an operator's octets come, also
@@ -22,10 +22,12 @@ mod console_link;
 mod desk;
 mod ended;
 mod engine;
+mod identities;
 mod input;
 mod laws;
 mod link;
 mod notices;
+mod numbering;
 mod outputs;
 mod owing;
 mod room;
@@ -39,6 +41,7 @@ pub use console_link::ConsoleLink;
 pub use desk::{Deposit, Desk, Gate, OpenGate, TermOver};
 pub use ended::Ended;
 pub use engine::{Engine, RunFault};
+pub use identities::greatest_version;
 pub use input::Input;
 pub use laws::{connections_mean, inputs_mean, octets_mean, steps_make_runs};
 pub use link::Link;

@@ -1,14 +1,38 @@
 //! What octets bring: those of a carrier, and those of an operator.
 
+ghost use Rattle.std.specs.Prelude.{◌≡◌};
+ghost use Rattle.dmr_link.specs.Notices.{event_of_notice};
+
 use dmr_core::{Command, Event};
-use dmr_frames::Refusal;
+use dmr_frames::{Refusal, Version};
 use dmr_pdu::CarrierNo;
+
+/// What the site learns of.
+#[derive(Clone, Copy, Debug, PartialEq, Eq)]
+pub enum SiteNotice {
+    /// Something happens to it.
+    Happened(Event),
+    /// This carrier's HELLO is accepted, which is its Up. The link is spoken in this version from then on.
+    Accepted(CarrierNo, Version),
+}
+
+impl SiteNotice {
+    /// What happens to the site.
+    pub fn event(&self) -> Event
+        ensures { result ≡ event_of_notice self.now }
+    {
+        match self {
+            SiteNotice::Happened(event) => *event,
+            SiteNotice::Accepted(carrier, _) => Event::Up(*carrier),
+        }
+    }
+}
 
 /// What comes of a carrier's octets.
 #[derive(Clone, Copy, Debug, PartialEq, Eq)]
 pub enum CarrierNotice {
-    /// Something happens to the site.
-    Happened(Event),
+    /// The site learns of it.
+    Site(SiteNotice),
     /// This carrier is refused, and is told why. The site doesn't learn of it.
     Refused(CarrierNo, Refusal),
 }
@@ -43,9 +67,9 @@ pub enum Aside {
 /// What comes of the octets of a link's peer, as a link sees it: what a desk is to take, or what it tells its peer by itself.
 #[derive(Clone, Copy, Debug, PartialEq, Eq)]
 pub enum PeerNotice {
-    /// An event of the site.
-    Event(Event),
-    /// No event.
+    /// The site learns of it.
+    Site(SiteNotice),
+    /// The peer alone is told of it.
     Aside(Aside),
 }
 
@@ -58,7 +82,7 @@ impl From<CarrierNotice> for PeerNotice {
 
     fn from(notice: CarrierNotice) -> PeerNotice {
         match notice {
-            CarrierNotice::Happened(event) => PeerNotice::Event(event),
+            CarrierNotice::Site(notice) => PeerNotice::Site(notice),
             CarrierNotice::Refused(carrier, refusal) => {
                 PeerNotice::Aside(Aside::Refused(carrier, refusal))
             }
@@ -75,7 +99,9 @@ impl From<OperatorNotice> for PeerNotice {
 
     fn from(notice: OperatorNotice) -> PeerNotice {
         match notice {
-            OperatorNotice::Asked(command) => PeerNotice::Event(Event::Say(command)),
+            OperatorNotice::Asked(command) => {
+                PeerNotice::Site(SiteNotice::Happened(Event::Say(command)))
+            }
             OperatorNotice::Unheeded(fault) => PeerNotice::Aside(Aside::Unheeded(fault)),
         }
     }

@@ -21,7 +21,7 @@ fn most(turn: &Turn, who: &CarrierIdentity) -> usize
 {
     match turn {
         Turn::Waiting(Step::Frame(FrameIn::Hello { .. })) => ANSWER_TO_HELLO,
-        Turn::Running(Step::Frame(FrameIn::Poll)) => ANSWER_TO_POLL,
+        Turn::Running(_, Step::Frame(FrameIn::Poll)) => ANSWER_TO_POLL,
         _ => 0,
     }
 }

@@ -1,16 +1,16 @@
 //! What answers a peer is written to its port.
 
-ghost use Rattle.std.specs.Prelude.{◌≡◌, ◌++◌, flat_map};
-ghost use Rattle.dmr_frames.specs.declared.frame.FrameOut.TheVariants.{Done};
-ghost use Rattle.dmr_frames.specs.Frames.{spelling_out};
+ghost use Rattle.std.specs.Prelude.{◌≡◌, ◌++◌, [], ◌∷◌, true, flat_map};
 ghost use Rattle.dmr_link.specs.Console.{reply_text};
 ghost use Rattle.dmr_link.specs.Moves.{Puts};
 ghost use Rattle.dmr_link.specs.Notices.{aside_notice};
-ghost use Rattle.dmr_link.specs.Peers.{answer_text, aside_text};
-ghost use Rattle.dmr_link.specs.Session.{transmission};
+ghost use Rattle.dmr_link.specs.Numbering.{frame_text, frames_text, next_after, next_after_frames};
+ghost use Rattle.dmr_link.specs.Peers.{answer_text, aside_text, next_after_answer};
+ghost use Rattle.dmr_link.specs.Session.{transmissions};
 
-use crate::answers::{WELCOME, tx_of};
-use crate::notices::{Aside, LineFault};
+use crate::answers::{tx_of, welcome_to};
+use crate::notices::{Aside, LineFault, SiteNotice};
+use crate::numbering::Numbering;
 use dmr_console::{line_too_long, print, unknown_command};
 use dmr_core::{Act, Acts, Event, Reply};
 use dmr_frames::{FrameOut, write_frame};
@@ -48,34 +48,37 @@ fn send<W: Wire>(port: &mut W, octets: &[u8]) -> bool
     true
 }
 
-/// Writes a frame.
-fn put<W: Wire>(port: &mut W, frame: &FrameOut) -> bool
-    ensures { Puts (W.told port.old) (spelling_out frame.now) result (W.told port.new) }
+/// Writes a frame, a TX with its number.
+fn put<W: Wire>(port: &mut W, numbering: &mut Numbering, frame: &FrameOut) -> bool
+    ensures puts { Puts (W.told port.old) (frame_text numbering.old frame.now) result (W.told port.new) }
+    ensures next { numbering.new ≡ next_after numbering.old frame.now }
 {
-    let octets = write_frame(frame);
+    let octets = numbering.spell(frame);
     send(port, octets.as_slice())
 }
 
 /// Writes a TX, where something is sent in a slot.
-fn transmit<W: Wire>(port: &mut W, act: &Act) -> bool
-    ensures { Puts (W.told port.old) (transmission act.now) result (W.told port.new) }
+fn transmit<W: Wire>(port: &mut W, numbering: &mut Numbering, act: &Act) -> bool
+    ensures puts { Puts (W.told port.old) (frames_text numbering.old (transmissions act.now)) result (W.told port.new) }
+    ensures next { numbering.new ≡ next_after_frames numbering.old (transmissions act.now) }
 {
     match tx_of(act) {
-        Some(frame) => put(port, &frame),
+        Some(frame) => put(port, numbering, &frame),
         None => true,
     }
 }
 
 /// Writes the answer to a poll: a TX for each PDU that is sent, and DONE.
-fn transmit_all<W: Wire>(port: &mut W, acts: &[Act]) -> bool
-    ensures { Puts (W.told port.old) (flat_map transmission acts.now ++ spelling_out Done) result (W.told port.new) }
+fn transmit_all<W: Wire>(port: &mut W, numbering: &mut Numbering, acts: &[Act]) -> bool
+    ensures puts { Puts (W.told port.old) (frames_text numbering.old (flat_map transmissions acts.now ++ FrameOut.Done ∷ [])) result (W.told port.new) }
+    ensures next { result ≡ true → numbering.new ≡ next_after_frames numbering.old (flat_map transmissions acts.now ++ FrameOut.Done ∷ []) }
 {
     for act in acts {
-        if !transmit(port, act) {
+        if !transmit(port, numbering, act) {
             return false;
         }
     }
-    put(port, &FrameOut::Done)
+    put(port, numbering, &FrameOut::Done)
 }
 
 /// Writes a reply, if there is one.
@@ -91,16 +94,32 @@ fn print_reply<W: Wire>(port: &mut W, reply: &Option<Reply>) -> bool
     }
 }
 
-/// Writes what answers an event: WELCOME to a carrier that comes up, what is sent and DONE to one that polls, the reply to an
-/// operator's command.
-pub fn say<W: Wire>(port: &mut W, event: &Event, acts: &Acts) -> bool
-    ensures { Puts (W.told port.old) (answer_text event.now acts.now) result (W.told port.new) }
+/// Writes what an event and its answer say: what is sent and DONE to a carrier that polls, the reply to an operator's command.
+fn answer<W: Wire>(port: &mut W, numbering: &mut Numbering, event: &Event, acts: &Acts) -> bool
+    ensures puts { Puts (W.told port.old) (answer_text numbering.old (SiteNotice.Happened event.now) acts.now) result (W.told port.new) }
+    ensures next { result ≡ true → numbering.new ≡ next_after_answer numbering.old (SiteNotice.Happened event.now) acts.now }
 {
     match event {
-        Event::Up(_) => put(port, &WELCOME),
-        Event::Poll(_) => transmit_all(port, acts.list.as_slice()),
+        Event::Poll(_) => transmit_all(port, numbering, acts.list.as_slice()),
         Event::Say(_) => print_reply(port, &acts.said),
         _ => true,
+    }
+}
+
+/// Writes what answers a notice of which the site has learnt: WELCOME to a carrier that is accepted, else what its event and its answer
+/// say. Where all was taken, the numbering is that behind it.
+pub fn say<W: Wire>(
+    port: &mut W,
+    numbering: &mut Numbering,
+    notice: &SiteNotice,
+    acts: &Acts,
+) -> bool
+    ensures puts { Puts (W.told port.old) (answer_text numbering.old notice.now acts.now) result (W.told port.new) }
+    ensures next { result ≡ true → numbering.new ≡ next_after_answer numbering.old notice.now acts.now }
+{
+    match notice {
+        SiteNotice::Accepted(_, version) => put(port, numbering, &welcome_to(*version)),
+        SiteNotice::Happened(event) => answer(port, numbering, event, acts),
     }
 }
 
@@ -109,7 +128,10 @@ pub fn tell_aside<W: Wire>(port: &mut W, aside: &Aside) -> bool
     ensures { Puts (W.told port.old) (aside_text (aside_notice aside.now)) result (W.told port.new) }
 {
     match aside {
-        Aside::Refused(_, refusal) => put(port, &FrameOut::Refused(*refusal)),
+        Aside::Refused(_, refusal) => {
+            let octets = write_frame(&FrameOut::Refused(*refusal));
+            send(port, octets.as_slice())
+        }
         Aside::Unheeded(LineFault::UnknownCommand) => send(port, unknown_command().as_bytes()),
         Aside::Unheeded(LineFault::TooLong) => send(port, line_too_long().as_bytes()),
     }

@@ -26,6 +26,7 @@ pub record IsPlan (s : Settings) : Type 0 where
   pub tick_ms : IsNumberOf key.TickMs s.tick_ms
   pub silence : IsNumberOf key.Silence s.silence
   pub term_entries : IsNumberOf key.TermEntries s.term_entries
+  pub link_version : IsNumberOf key.LinkVersion s.link_version
   pub console_port : IsNumberOf key.ConsolePort s.console_port
   pub radios : AreRadios s.radios
   pub groups : AreGroups s.groups

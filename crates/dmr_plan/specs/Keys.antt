@@ -1,7 +1,7 @@
 -- The key table of the site file.
 use Rattle.std.specs.Prelude.{ℕ, ◌≤◌, List, codes}
 use Rattle.dmr_plan.specs.declared.key.Key.{Key}
-use Rattle.dmr_plan.specs.declared.key.Key.TheVariants.{System, Regi, Tsi, LeaveBit, AlohaSync, AlohaVersion, AlohaOffset, AlohaActive, NrandWait, Hang, Maximum, AhoyWait, AhoyTries, GrantCopies, ClearCopies, BackoffLow, BackoffHigh, TickMs, Silence, TermEntries, Address, ConsolePort, Radios, Groups, Carrier, Control, Number, Lpcn, Port}
+use Rattle.dmr_plan.specs.declared.key.Key.TheVariants.{System, Regi, Tsi, LeaveBit, AlohaSync, AlohaVersion, AlohaOffset, AlohaActive, NrandWait, Hang, Maximum, AhoyWait, AhoyTries, GrantCopies, ClearCopies, BackoffLow, BackoffHigh, TickMs, Silence, TermEntries, LinkVersion, Address, ConsolePort, Radios, Groups, Carrier, Control, Number, Lpcn, Port}
 use Rattle.dmr_plan.specs.declared.key.Content.{Content}
 use Rattle.dmr_plan.specs.declared.key.Content.TheVariants.{OneNumber, Numbers, Pairs, Tables}
 use Rattle.dmr_plan.specs.declared.key.Fallback.{Fallback}
@@ -49,6 +49,7 @@ key_row BackoffHigh = number_row (codes "backoff_high") 1 15 Fault
 key_row TickMs = number_row (codes "tick_ms") 10 1000 Fault
 key_row Silence = number_row (codes "silence") 1 65535 Fault
 key_row TermEntries = number_row (codes "term_entries") 1 100000 (Value 10000)
+key_row LinkVersion = number_row (codes "link_version") 1 2 (Value 1)
 key_row Address = array_row (codes "address") Numbers 4 4 0 255 Loopback
 key_row ConsolePort = number_row (codes "console_port") 1 65535 Fault
 key_row Radios = array_row (codes "radios") Pairs 1 MOST_RANGES 1 16776415 Fault

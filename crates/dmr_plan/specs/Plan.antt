@@ -36,6 +36,7 @@ plan_of ms = do
   tick_ms ← number_at_key ms key.TickMs
   silence ← number_at_key ms key.Silence
   term_entries ← number_at_key ms key.TermEntries
+  link_version ← number_at_key ms key.LinkVersion
   address ← address_of ms
   console_port ← number_at_key ms key.ConsolePort
   radios ← radios_of ms
@@ -43,7 +44,7 @@ plan_of ms = do
   carriers ← carriers_of ms
   control ← number_at_key ms key.Control
   if has_number_in carriers control
-      then Ok (record { system = system; regi = regi; tsi = tsi; leave_bit = leave_bit; aloha_sync = aloha_sync; aloha_version = aloha_version; aloha_offset = aloha_offset; aloha_active = aloha_active; nrand_wait = nrand_wait; hang = hang; maximum = maximum; ahoy_wait = ahoy_wait; ahoy_tries = ahoy_tries; grant_copies = grant_copies; clear_copies = clear_copies; backoff_low = backoff_low; backoff_high = backoff_high; tick_ms = tick_ms; silence = silence; term_entries = term_entries; address = address; console_port = console_port; radios = radios; groups = groups; carriers = carriers; control = control })
+      then Ok (record { system = system; regi = regi; tsi = tsi; leave_bit = leave_bit; aloha_sync = aloha_sync; aloha_version = aloha_version; aloha_offset = aloha_offset; aloha_active = aloha_active; nrand_wait = nrand_wait; hang = hang; maximum = maximum; ahoy_wait = ahoy_wait; ahoy_tries = ahoy_tries; grant_copies = grant_copies; clear_copies = clear_copies; backoff_low = backoff_low; backoff_high = backoff_high; tick_ms = tick_ms; silence = silence; term_entries = term_entries; link_version = link_version; address = address; console_port = console_port; radios = radios; groups = groups; carriers = carriers; control = control })
       else Err (OutOfRange key.Control)
 
 -- the same of a document, which has a table only where it is TOML

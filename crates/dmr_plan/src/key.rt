@@ -52,6 +52,8 @@ pub enum Key {
     Silence,
     /// How many entries the journal of a term takes: 1 to 100000; 10000 where it is missing.
     TermEntries,
+    /// The greatest version of the link format that carriers are served: 1 to 2; 1 where it is missing.
+    LinkVersion,
     /// The IPv4 address to listen at: an array of four numbers 0 to 255; [127, 0, 0, 1] where it is missing.
     Address,
     /// The TCP port of the console: 1 to 65535; it must stand there.
@@ -208,6 +210,7 @@ impl Key {
             Key::TickMs => number("tick_ms", 10, 1000, Fallback::Fault),
             Key::Silence => number("silence", 1, 65535, Fallback::Fault),
             Key::TermEntries => number("term_entries", 1, 100_000, Fallback::Value(10000)),
+            Key::LinkVersion => number("link_version", 1, 2, Fallback::Value(1)),
             Key::Address => array(
                 "address",
                 Content::Numbers,

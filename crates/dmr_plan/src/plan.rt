@@ -231,6 +231,14 @@ impl Plan {
         self.settings.term_entries
     }
 
+    /// The greatest version of the link format that carriers are served: 1 to 2; 1 where the file doesn't say (this
+    /// project's profile).
+    pub fn link_version(&self) -> u8
+        ensures { result ≡ self.now.link_version }
+    {
+        self.settings.link_version
+    }
+
     /// The IPv4 address to listen at, first octet first; 127.0.0.1 where the file doesn't say.
     pub fn address(&self) -> &[u8]
         ensures { result.now ≡ self.now.address }

@@ -59,6 +59,8 @@ pub struct Settings {
     pub silence: u16,
     /// The entries of a term's journal.
     pub term_entries: u32,
+    /// The greatest version of the link format that carriers are served.
+    pub link_version: u8,
     /// The IPv4 address to listen at.
     pub address: [u8; 4],
     /// The TCP port of the console.
@@ -113,6 +115,7 @@ pub fn settings_in(table: &Table) -> Result<Settings, PlanFault>
         tick_ms: number(table, Key::TickMs)? as u16,
         silence: number(table, Key::Silence)? as u16,
         term_entries: number(table, Key::TermEntries)?,
+        link_version: number(table, Key::LinkVersion)? as u8,
         address: address_in(table)?,
         console_port: number(table, Key::ConsolePort)? as u16,
         radios: radios_in(table)?,

@@ -5,6 +5,7 @@ mod carriers;
 mod desk;
 mod frames;
 mod gate;
+mod numbered;
 mod operators;
 mod peer;
 mod stage;
@@ -28,7 +29,8 @@ fn links_of_carriers(rt: HostRuntime) -> Result<(), Fail> {
     tell_all(&rt, &peer, &terms::PAUSES, "")?;
     tell_all(&rt, &peer, &terms::STOPS, "")?;
     tell_all(&rt, &peer, &terms::CUTS, "")?;
-    tell_all(&rt, &peer, &terms::ENDINGS, terms::AGAIN)
+    tell_all(&rt, &peer, &terms::ENDINGS, terms::AGAIN)?;
+    tell_all(&rt, &Peer::numbered(), &numbered::NUMBERS, "")
 }
 
 #[test]

@@ -52,6 +52,10 @@ tick_ms = 60 / tick_ms = 9 => out of range tick_ms
 silence = 100 / silence = 0 => out of range silence
 control = 0 / control = 0|term_entries = 0 => out of range term_entries
 control = 0 / control = 0|term_entries = 100001 => out of range term_entries
+control = 0 / control = 0|link_version = \"2\" => wrong type link_version
+control = 0 / control = 0|link_version = 0 => out of range link_version
+control = 0 / control = 0|link_version = 3 => out of range link_version
+control = 0 / control = 0|link_version = 1 => accepted
 console_port = 7100 / console_port = 0 => out of range console_port
 ",
     // The type of the whole array comes before its count and its numbers; an `address` of another count is of a wrong
@@ -105,6 +109,8 @@ control = 0 / control = 16 => out of range control
     // Of several faults the first in the order of the keys is told; the carriers are checked table by table.
     "\
 hang = 100 / hang = 0 & regi = 0xFFFEC6| / => missing regi
+control = 0 / control = 0|address = [1]|link_version = 3 => out of range link_version
+control = 0 / control = 0|link_version = 3|term_entries = 0 => out of range term_entries
 lpcn = 1 / lpcn = 0 & number = 1 / number = 99 => out of range lpcn
 control = 0 / control = 9 & port = 7102 / port = 0 => out of range port
 ",
@@ -152,7 +158,7 @@ fn tells_want_of_memory(rt: HostRuntime) -> Result<(), Fail> {
 const MORE_KEYS: &str = "\
 leave_bit = 0| / \
 aloha_sync = 1|aloha_version = 7|aloha_offset = 1|aloha_active = 1|\
-nrand_wait = 15|term_entries = 1|address = [10, 0, 0, 255]|";
+nrand_wait = 15|term_entries = 1|link_version = 2|address = [10, 0, 0, 255]|";
 
 /// Carriers as an array of tables in line, and keys that the table of keys doesn't have.
 const WRITTEN_OTHERWISE: &str = "\
@@ -161,7 +167,7 @@ name = \"north\"|[extra]|hang = \"x\"|";
 
 /// The numbers of the keys from `system` to `console_port`, but for `leave_bit` and `address`, in the order of the
 /// keys.
-type Numbers = [u32; 20];
+type Numbers = [u32; 21];
 
 /// Changes of the site file, and what its keys say then: their numbers, `leave_bit` and `address`.
 static VALUES: [(&str, Numbers, Option<u8>, [u8; 4]); 2] = [
@@ -169,7 +175,7 @@ static VALUES: [(&str, Numbers, Option<u8>, [u8; 4]); 2] = [
         SMALL,
         [
             0x1234, 0xFFFEC6, 0xFFFECA, 0, 0, 0, 0, 0, 100, 3000, 8, 3, 1, 1, 1, 8, 60, 100, 10000,
-            7100,
+            1, 7100,
         ],
         Some(0),
         [127, 0, 0, 1],
@@ -177,7 +183,7 @@ static VALUES: [(&str, Numbers, Option<u8>, [u8; 4]); 2] = [
     (
         MORE_KEYS,
         [
-            0x1234, 0xFFFEC6, 0xFFFECA, 1, 7, 1, 1, 15, 100, 3000, 8, 3, 1, 1, 1, 8, 60, 100, 1,
+            0x1234, 0xFFFEC6, 0xFFFECA, 1, 7, 1, 1, 15, 100, 3000, 8, 3, 1, 1, 1, 8, 60, 100, 1, 2,
             7100,
         ],
         None,
@@ -207,6 +213,7 @@ fn numbers_of(plan: &Plan) -> Numbers {
         u32::from(plan.tick_ms()),
         u32::from(plan.silence()),
         plan.term_entries(),
+        u32::from(plan.link_version()),
         u32::from(plan.console_port()),
     ]
 }

@@ -7,6 +7,7 @@
 
 mod carriers;
 mod closed;
+mod numbered;
 mod operators;
 mod peers;
 mod stage;
@@ -16,7 +17,7 @@ use self::peers::Peer;
 use self::stage::{Outcome, Stage};
 use self::steps::add_steps;
 use dmr_desk::Ending;
-use dmr_frames::Cause;
+use dmr_frames::{Cause, Version};
 use dmr_link::Ended;
 use dmr_wire::Step;
 use std::process::Abort;
@@ -35,15 +36,17 @@ struct Want<'a> {
 
 #[test]
 fn of_carriers(rt: HostRuntime) -> Result<(), Fail> {
-    try_all(&rt, Peer::Carrier, &carriers::ROWS)
+    try_all(&rt, Peer::Carrier(Version::V1), &carriers::ROWS)?;
+    try_all(&rt, Peer::Carrier(Version::V2), &numbered::ROWS)
 }
 
-/// Each type of a frame with each other length, before a HELLO and behind one: two connections for each, in one term for each type. The
-/// octet of the length is the last that comes, and nothing is read behind it.
+/// Each type of a frame with each other length, before a HELLO and behind one: two connections for each, in one term for each type and
+/// version of the link. The octet of the length is the last that comes, and nothing is read behind it.
 #[test]
 fn lengths_of_frames(rt: HostRuntime) -> Result<(), Fail> {
-    for (kind, right) in &carriers::TYPES {
-        try_lengths(&rt, kind, *right)?;
+    for (kind, first, later) in &carriers::TYPES {
+        try_lengths(&rt, Version::V1, kind, *first, *first)?;
+        try_lengths(&rt, Version::V2, kind, *first, *later)?;
     }
     Ok(())
 }
@@ -73,20 +76,28 @@ fn try_all<R: Abort + AllocGlobal + Wait + Threads + Sync>(
     Ok(())
 }
 
-/// Runs the term of a type of frames, with each length but the right one.
+/// Runs the term of a type of frames in this version of the link, with each length but the right one: that of the first frame, which is
+/// of version 1, and that of a later one.
 fn try_lengths<R: Abort + AllocGlobal + Wait + Threads + Sync>(
     rt: &R,
+    version: Version,
     kind: &str,
-    right: usize,
+    first: usize,
+    later: usize,
 ) -> Result<(), Fail> {
     let alloc = rt.alloc();
-    let words = format!(in alloc; "connect, hex {kind}NN, connect, hex 010401000001{kind}NN")?;
+    let octet = version.octet();
+    let before = format!(in alloc; "connect, hex {kind}NN")?;
+    let behind = format!(in alloc; "connect, hex 01040{octet}000001{kind}NN")?;
     let mut steps = Vec::new(alloc);
     let mut events = String::new(alloc);
     let mut octets = String::from_str(alloc, "0")?;
     for length in 0..256usize {
-        if length != right {
-            if !add_steps(alloc, &mut steps, &[], words.as_str(), length)? {
+        if length != first && !add_steps(alloc, &mut steps, &[], before.as_str(), length)? {
+            return Err("a step".into());
+        }
+        if length != later {
+            if !add_steps(alloc, &mut steps, &[], behind.as_str(), length)? {
                 return Err("a step".into());
             }
             events.push_str("UL")?;
@@ -94,14 +105,14 @@ fn try_lengths<R: Abort + AllocGlobal + Wait + Threads + Sync>(
         }
     }
     let want = Want {
-        peer: Peer::Carrier,
+        peer: Peer::Carrier(version),
         events: events.as_str(),
         octets: octets.as_str(),
         ended: Ended::BadFrame(Cause::BadLength),
     };
-    let calls = try_term(rt, kind, steps, &want, right)?;
+    let calls = try_term(rt, kind, steps, &want, later)?;
     // Of each length: a connect and a read, a connect, a read and a write. Then the connect that is the last.
-    assert_eq!(rt; calls, Some(5 * 255 + 1), "{kind}");
+    assert_eq!(rt; calls, Some(5 * 255 + 1), "{kind}, version {octet}");
     Ok(())
 }
 
@@ -153,6 +164,7 @@ fn ended_of(name: &str) -> Option<Ended> {
         "read fault" => Some(Ended::ReadFault),
         "write fault" => Some(Ended::WriteFault),
         "bad length" => Some(Ended::BadFrame(Cause::BadLength)),
+        "bad slot" => Some(Ended::BadFrame(Cause::BadSlot)),
         "unknown type" => Some(Ended::BadFrame(Cause::UnknownType)),
         _ => None,
     }

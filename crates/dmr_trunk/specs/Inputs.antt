@@ -1,5 +1,5 @@
 -- What the inputs of a script put out.
-use Rattle.std.specs.Prelude.{ℕ, List, reverse}
+use Rattle.std.specs.Prelude.{ℕ, List, None, reverse}
 use Rattle.dmr_plan.specs.declared.settings.Settings.{Settings}
 use Rattle.dmr_core.specs.declared.entry.Entry.{Entry}
 use Rattle.dmr_core.specs.Facts.{no_facts}
@@ -20,7 +20,7 @@ journal plan inputs = journal_of plan no_facts (reverse (events_in (meaning_of_i
 
 -- what is put out for a carrier: its session text
 unfoldable pub put_out : Settings → List Input → ℕ → List ℕ
-put_out plan inputs carrier = session_text carrier (meaning_of_inputs plan inputs) (reverse (journal plan inputs))
+put_out plan inputs carrier = session_text None carrier (meaning_of_inputs plan inputs) (reverse (journal plan inputs))
 
 -- what is put out for operators: the console text
 unfoldable pub operators_text : Settings → List Input → List ℕ

@@ -10,6 +10,7 @@ mod control_slot;
 mod cutting;
 mod faults;
 mod individual_calls;
+mod link_version;
 mod memory;
 mod program;
 mod registration;
@@ -191,6 +192,11 @@ fn plain_texts(rt: HostRuntime) -> Result<(), OutOfMemory> {
 pub fn site_with(alloc: Global, old: &str, new: &str) -> Result<String, OutOfMemory> {
     let (before, behind) = SITE.split_once(old).unwrap_or((SITE, ""));
     text_of(alloc, &[(1, before), (1, new), (1, behind)])
+}
+
+/// The site of the cases, where version 2 of the link is served too.
+pub fn numbered_site(alloc: Global) -> Result<String, OutOfMemory> {
+    site_with(alloc, "[[carrier]]", "link_version = 2\n[[carrier]]")
 }
 
 /// A text of pieces that stand so many times each.

@@ -7,7 +7,7 @@ use crate::pacer::ClockPacer;
 use crate::port::{PortFault, SocketPort};
 use dmr_core::Site;
 use dmr_desk::{ConsoleStation, Station, Term, TermFault, run_term};
-use dmr_link::{ConsoleLink, Link, OpenGate};
+use dmr_link::{ConsoleLink, Link, OpenGate, greatest_version};
 use dmr_pdu::{CarrierNo, OutOfMemory};
 use dmr_plan::Plan;
 use log::Log;
@@ -79,7 +79,7 @@ fn open_stations<'a, R: Net + Log>(
         let carrier = CarrierNo::new(number);
         if let Some(row) = plan.carrier_with(carrier) {
             let station = Station {
-                link: Link::new(carrier, row.lpcn),
+                link: Link::new(carrier, row.lpcn, greatest_version(plan)),
                 port: open_port(rt, alloc, plan, Whose::Carrier(carrier), row.port)?,
                 gate: OpenGate,
             };

@@ -1,7 +1,9 @@
 //! Frames of the link, octet by octet, whole, and written.
 
 use dmr_bits::Word196;
-use dmr_frames::{Cause, Cutter, FrameIn, FrameOut, Refusal, Step, whole_frame, write_frame};
+use dmr_frames::{
+    Cause, Cutter, FrameIn, FrameOut, Refusal, Step, Version, whole_frame, write_frame,
+};
 use dmr_pdu::SlotNo;
 use std::process::Abort;
 use std::test::Fail;
@@ -12,10 +14,16 @@ const BURST: [u8; 25] = [
     0x13, 0x8C, 0x9A, 0x38, 0xF9, 0x62, 0x48, 0xE1, 0x80,
 ];
 
-/// RX of that burst on slot 0, by the table of frames.
+/// RX of that burst on slot 0, by the table of frames of version 1.
 const RECEIVED: [u8; 28] = [
     0x02, 0x1A, 0x00, 0x0E, 0xB4, 0x9C, 0xDF, 0x34, 0xF2, 0x74, 0x9C, 0xEC, 0xBA, 0x5C, 0xB3, 0xB7,
     0xC4, 0x0E, 0x88, 0x13, 0x8C, 0x9A, 0x38, 0xF9, 0x62, 0x48, 0xE1, 0x80,
+];
+
+/// RX of that burst, its number 5, on slot 0, by the table of frames of version 2.
+const RECEIVED_NUMBERED: [u8; 29] = [
+    0x02, 0x1B, 0x05, 0x00, 0x0E, 0xB4, 0x9C, 0xDF, 0x34, 0xF2, 0x74, 0x9C, 0xEC, 0xBA, 0x5C, 0xB3,
+    0xB7, 0xC4, 0x0E, 0x88, 0x13, 0x8C, 0x9A, 0x38, 0xF9, 0x62, 0x48, 0xE1, 0x80,
 ];
 
 /// Feeds octets, and asserts that all but the last need more, and that the last brings this.
@@ -37,9 +45,26 @@ fn expect_each(rt: &impl Abort, cutter: &mut Cutter, octets: &[u8], want: Step) 
     }
 }
 
+/// The cutter of a connection behind a HELLO of this version, carrier 1 on channel 1, where versions up to the greatest are served.
+fn greeted(rt: &impl Abort, greatest: Version, version: u8) -> Cutter {
+    let mut cutter = Cutter::new(greatest);
+    let hello = FrameIn::Hello {
+        version,
+        carrier: 1,
+        lpcn: 1,
+    };
+    expect_last(
+        rt,
+        &mut cutter,
+        &[0x01, 0x04, version, 0x01, 0x00, 0x01],
+        Step::Frame(hello),
+    );
+    cutter
+}
+
 #[test]
 fn hello_in_pieces_and_a_fault(rt: HostRuntime) {
-    let mut cutter = Cutter::new();
+    let mut cutter = Cutter::new(Version::V1);
     expect_each(&rt, &mut cutter, &[0x01, 0x04, 0x01], Step::Need);
     expect_each(&rt, &mut cutter, &[0x00, 0x00], Step::Need);
     let hello = FrameIn::Hello {
@@ -60,8 +85,7 @@ fn hello_in_pieces_and_a_fault(rt: HostRuntime) {
 
 #[test]
 fn a_stream(rt: HostRuntime) -> Result<(), Fail> {
-    let mut cutter = Cutter::new();
-    let word = Word196::from_octets(&BURST)?;
+    let mut cutter = Cutter::new(Version::V1);
     let hello = FrameIn::Hello {
         version: 1,
         carrier: 1,
@@ -73,15 +97,7 @@ fn a_stream(rt: HostRuntime) -> Result<(), Fail> {
         &[0x01, 0x04, 0x01, 0x01, 0x00, 0x01],
         Step::Frame(hello),
     );
-    expect_last(
-        &rt,
-        &mut cutter,
-        &RECEIVED,
-        Step::Frame(FrameIn::Rx {
-            slot: SlotNo::new(0),
-            word,
-        }),
-    );
+    expect_last(&rt, &mut cutter, &RECEIVED, received()?);
     expect_last(&rt, &mut cutter, &[0x03, 0x00], Step::Frame(FrameIn::Poll));
     expect_last(
         &rt,
@@ -96,37 +112,137 @@ fn a_stream(rt: HostRuntime) -> Result<(), Fail> {
 }
 
 #[test]
+fn a_stream_of_version_2(rt: HostRuntime) -> Result<(), Fail> {
+    let mut cutter = greeted(&rt, Version::V2, 2);
+    let word = Word196::from_octets(&BURST)?;
+    for number in [5, 0, 255, 2] {
+        let mut octets = RECEIVED_NUMBERED;
+        octets[2] = number;
+        let burst = FrameIn::Rx {
+            number: Some(number),
+            slot: SlotNo::new(0),
+            word,
+        };
+        expect_last(&rt, &mut cutter, &octets, Step::Frame(burst));
+    }
+    expect_last(&rt, &mut cutter, &[0x03, 0x00], Step::Frame(FrameIn::Poll));
+    expect_last(
+        &rt,
+        &mut cutter,
+        &[0x04, 0x01, 0x01],
+        Step::Frame(FrameIn::Active {
+            slot: SlotNo::new(1),
+        }),
+    );
+    expect_last(&rt, &mut cutter, &[0x05, 0x00], Step::Frame(FrameIn::Bye));
+    // Behind all these it is version 2 still.
+    let short = Step::Fault(Cause::BadLength);
+    expect_last(&rt, &mut cutter, &[0x02, 0x1A], short);
+    Ok(())
+}
+
+/// The greatest version that is served, the version that a HELLO names, the octets behind it, and the fault at the last of them.
+type Misfit = (Version, u8, &'static [u8], Cause);
+
+const MISFITS: [Misfit; 8] = [
+    (Version::V1, 1, &[0x02, 0x1B], Cause::BadLength),
+    (Version::V1, 2, &[0x02, 0x1B], Cause::BadLength),
+    (Version::V2, 0, &[0x02, 0x1B], Cause::BadLength),
+    (Version::V2, 1, &[0x02, 0x1B], Cause::BadLength),
+    (Version::V2, 2, &[0x02, 0x1A], Cause::BadLength),
+    (Version::V2, 2, &[0x02, 0x1B, 0x05, 0x02], Cause::BadSlot),
+    (Version::V2, 2, &[0x04, 0x01, 0x02], Cause::BadSlot),
+    (Version::V2, 3, &[0x02, 0x1B], Cause::BadLength),
+];
+
+#[test]
+fn faults_behind_a_hello(rt: HostRuntime) {
+    for (greatest, version, octets, cause) in MISFITS {
+        let mut cutter = greeted(&rt, greatest, version);
+        expect_last(&rt, &mut cutter, octets, Step::Fault(cause));
+    }
+    for pad in [0x01, 0x02, 0x04, 0x08] {
+        let mut octets = RECEIVED_NUMBERED;
+        octets[28] = pad;
+        expect_last(
+            &rt,
+            &mut greeted(&rt, Version::V2, 2),
+            &octets,
+            Step::Fault(Cause::BadPad),
+        );
+    }
+}
+
+/// What the last octet of that RX brings.
+fn received() -> Result<Step, Fail> {
+    Ok(Step::Frame(FrameIn::Rx {
+        number: None,
+        slot: SlotNo::new(0),
+        word: Word196::from_octets(&BURST)?,
+    }))
+}
+
+#[test]
+fn the_first_frame_is_of_version_1(rt: HostRuntime) -> Result<(), Fail> {
+    let fault = Step::Fault(Cause::BadLength);
+    expect_last(&rt, &mut Cutter::new(Version::V2), &[0x02, 0x1B], fault);
+    // A HELLO that is not the first frame chooses nothing.
+    let mut cutter = Cutter::new(Version::V2);
+    expect_last(&rt, &mut cutter, &RECEIVED, received()?);
+    let hello = FrameIn::Hello {
+        version: 2,
+        carrier: 1,
+        lpcn: 1,
+    };
+    expect_last(
+        &rt,
+        &mut cutter,
+        &[0x01, 0x04, 0x02, 0x01, 0x00, 0x01],
+        Step::Frame(hello),
+    );
+    expect_last(&rt, &mut cutter, &RECEIVED, received()?);
+    let fault = Step::Fault(Cause::BadLength);
+    expect_last(&rt, &mut cutter, &[0x02, 0x1B], fault);
+    Ok(())
+}
+
+#[test]
 fn faults(rt: HostRuntime) {
     for kind in [0x00, 0x06, 0x81] {
         expect_last(
             &rt,
-            &mut Cutter::new(),
+            &mut Cutter::new(Version::V1),
             &[kind],
             Step::Fault(Cause::UnknownType),
         );
     }
     expect_last(
         &rt,
-        &mut Cutter::new(),
+        &mut Cutter::new(Version::V1),
         &[0x01, 0x01],
         Step::Fault(Cause::BadLength),
     );
     expect_last(
         &rt,
-        &mut Cutter::new(),
+        &mut Cutter::new(Version::V1),
         &[0x02, 0x1A, 0x02],
         Step::Fault(Cause::BadSlot),
     );
     expect_last(
         &rt,
-        &mut Cutter::new(),
+        &mut Cutter::new(Version::V1),
         &[0x04, 0x01, 0x02],
         Step::Fault(Cause::BadSlot),
     );
     for pad in [0x01, 0x02, 0x04, 0x08] {
         let mut octets = RECEIVED;
         octets[27] = pad;
-        expect_last(&rt, &mut Cutter::new(), &octets, Step::Fault(Cause::BadPad));
+        expect_last(
+            &rt,
+            &mut Cutter::new(Version::V1),
+            &octets,
+            Step::Fault(Cause::BadPad),
+        );
     }
 }
 
@@ -143,7 +259,7 @@ fn other_lengths(rt: HostRuntime) {
             if other != length {
                 expect_last(
                     &rt,
-                    &mut Cutter::new(),
+                    &mut Cutter::new(Version::V1),
                     &[kind, other],
                     Step::Fault(Cause::BadLength),
                 );
@@ -158,6 +274,12 @@ const SENT: [u8; 28] = [
     0xA0, 0xF7, 0x83, 0xE4, 0x97, 0x54, 0x2E, 0x40, 0x5C, 0xB8, 0x3C, 0xB0,
 ];
 
+/// TX of that burst, its number 0, on slot 0, by the table of frames of version 2.
+const SENT_NUMBERED: [u8; 29] = [
+    0x82, 0x1B, 0x00, 0x00, 0x41, 0xC3, 0x02, 0x8A, 0x48, 0xFC, 0x8F, 0x40, 0x3D, 0xC0, 0x6F, 0x00,
+    0xED, 0xA0, 0xF7, 0x83, 0xE4, 0x97, 0x54, 0x2E, 0x40, 0x5C, 0xB8, 0x3C, 0xB0,
+];
+
 /// Asserts how a frame is spelled.
 fn expect_octets(rt: &impl Abort, frame: FrameOut, want: &[u8]) {
     assert_eq!(rt; write_frame(&frame).as_slice(), want);
@@ -166,17 +288,25 @@ fn expect_octets(rt: &impl Abort, frame: FrameOut, want: &[u8]) {
 #[test]
 fn frames_written(rt: HostRuntime) -> Result<(), Fail> {
     expect_octets(&rt, FrameOut::Welcome { version: 1 }, &[0x81, 0x01, 0x01]);
+    expect_octets(&rt, FrameOut::Welcome { version: 2 }, &[0x81, 0x01, 0x02]);
     let mut burst = [0; 25];
     burst.copy_from_slice(&SENT[3..]);
     let word = Word196::from_octets(&burst)?;
     expect_octets(
         &rt,
         FrameOut::Tx {
+            number: None,
             slot: SlotNo::new(0),
             word,
         },
         &SENT,
     );
+    let numbered = FrameOut::Tx {
+        number: Some(0),
+        slot: SlotNo::new(0),
+        word,
+    };
+    expect_octets(&rt, numbered, &SENT_NUMBERED);
     expect_octets(&rt, FrameOut::Done, &[0x83, 0x00]);
     expect_octets(
         &rt,
@@ -191,9 +321,9 @@ fn frames_written(rt: HostRuntime) -> Result<(), Fail> {
     Ok(())
 }
 
-/// Asserts what octets are.
-fn expect_whole(rt: &impl Abort, octets: &[u8], want: Option<FrameIn>) {
-    assert_eq!(rt; whole_frame(octets), want, "at {octets:?}");
+/// Asserts what octets are in a version.
+fn expect_whole(rt: &impl Abort, version: Version, octets: &[u8], want: Option<FrameIn>) {
+    assert_eq!(rt; whole_frame(version, octets), want, "at {octets:?}");
 }
 
 #[test]
@@ -203,22 +333,40 @@ fn one_frame(rt: HostRuntime) -> Result<(), Fail> {
         carrier: 0,
         lpcn: 4094,
     };
-    expect_whole(&rt, &[0x01, 0x04, 0x01, 0x00, 0x0F, 0xFE], Some(hello));
+    expect_whole(
+        &rt,
+        Version::V1,
+        &[0x01, 0x04, 0x01, 0x00, 0x0F, 0xFE],
+        Some(hello),
+    );
     let mut burst = [0; 25];
     burst.copy_from_slice(&RECEIVED[3..]);
     let word = Word196::from_octets(&burst)?;
     expect_whole(
         &rt,
+        Version::V1,
         &RECEIVED,
         Some(FrameIn::Rx {
+            number: None,
             slot: SlotNo::new(0),
             word,
         }),
     );
-    expect_whole(&rt, &[0x03, 0x00], Some(FrameIn::Poll));
+    expect_whole(&rt, Version::V1, &[0x03, 0x00], Some(FrameIn::Poll));
+    let numbered = FrameIn::Rx {
+        number: Some(5),
+        slot: SlotNo::new(0),
+        word,
+    };
+    expect_whole(&rt, Version::V2, &RECEIVED_NUMBERED, Some(numbered));
     let slot = SlotNo::new(1);
-    expect_whole(&rt, &[0x04, 0x01, 0x01], Some(FrameIn::Active { slot }));
-    expect_whole(&rt, &[0x05, 0x00], Some(FrameIn::Bye));
+    expect_whole(
+        &rt,
+        Version::V1,
+        &[0x04, 0x01, 0x01],
+        Some(FrameIn::Active { slot }),
+    );
+    expect_whole(&rt, Version::V1, &[0x05, 0x00], Some(FrameIn::Bye));
     Ok(())
 }
 
@@ -226,14 +374,35 @@ fn one_frame(rt: HostRuntime) -> Result<(), Fail> {
 fn no_frame(rt: HostRuntime) {
     // Parts of a frame, the empty one among them.
     for end in 0..RECEIVED.len() {
-        expect_whole(&rt, &RECEIVED[..end], None);
+        expect_whole(&rt, Version::V1, &RECEIVED[..end], None);
     }
+    for end in 0..RECEIVED_NUMBERED.len() {
+        expect_whole(&rt, Version::V2, &RECEIVED_NUMBERED[..end], None);
+    }
+    // The RX of the other version.
+    expect_whole(&rt, Version::V1, &RECEIVED_NUMBERED, None);
+    expect_whole(&rt, Version::V2, &RECEIVED, None);
     // Two frames, and a frame with an octet behind it or before it.
-    expect_whole(&rt, &[0x03, 0x00, 0x05, 0x00], None);
-    expect_whole(&rt, &[0x03, 0x00, 0x03], None);
-    expect_whole(&rt, &[0x03, 0x03, 0x00], None);
+    expect_whole(&rt, Version::V1, &[0x03, 0x00, 0x05, 0x00], None);
+    expect_whole(&rt, Version::V1, &[0x03, 0x00, 0x03], None);
+    expect_whole(&rt, Version::V1, &[0x03, 0x03, 0x00], None);
     // A frame to a carrier, and faults.
-    expect_whole(&rt, &[0x83, 0x00], None);
-    expect_whole(&rt, &[0x03, 0x01], None);
-    expect_whole(&rt, &[0x04, 0x01, 0x02], None);
+    expect_whole(&rt, Version::V1, &[0x83, 0x00], None);
+    expect_whole(&rt, Version::V1, &[0x03, 0x01], None);
+    expect_whole(&rt, Version::V1, &[0x04, 0x01, 0x02], None);
+}
+
+#[test]
+fn bursts_printed(rt: HostRuntime) -> Result<(), Fail> {
+    let slot = SlotNo::new(0);
+    let word = Word196::from_octets(&BURST)?;
+    for (number, want) in [(None, "RX slot=0"), (Some(5), "RX number=5 slot=0")] {
+        let text = format!(in rt.alloc(); "{}", FrameIn::Rx { number, slot, word })?;
+        assert_eq!(rt; text.as_str(), want);
+    }
+    for (number, want) in [(None, "TX slot=0"), (Some(255), "TX number=255 slot=0")] {
+        let text = format!(in rt.alloc(); "{}", FrameOut::Tx { number, slot, word })?;
+        assert_eq!(rt; text.as_str(), want);
+    }
+    Ok(())
 }

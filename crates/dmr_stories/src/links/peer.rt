@@ -1,8 +1,12 @@
 //! Links of either kind, and what each is told in the stories.
 
 use super::gate::CountingGate;
-use crate::engine::frames::{ACCEPTED, DONE, HELLO_0, POLL, REGISTERS, WELCOME};
+use crate::engine::frames::{
+    ACCEPTED, ACCEPTED_NUMBERED, DONE, FILL_NUMBERED, HELLO_0, HELLO_0_NUMBERED, POLL, REGISTERS,
+    REGISTERS_NUMBERED, WELCOME, WELCOME_NUMBERED,
+};
 use crate::engine::joined;
+use dmr_frames::Version;
 use dmr_link::{ConsoleLink, Desk, Ended, Link, OpenGate, TermOver};
 use dmr_pdu::{CarrierNo, Lpcn, OutOfMemory};
 use dmr_wire::MemoryPort;
@@ -11,8 +15,10 @@ use std::alloc::Global;
 /// A link of either kind.
 #[derive(Drop)]
 pub enum Peer {
-    /// The link of carrier 0.
+    /// The link of carrier 0, which is served version 1.
     Carrier(Link),
+    /// The link of carrier 0, which is served version 2 too.
+    Numbered(Link),
     /// The operators' link.
     Operator(ConsoleLink),
 }
@@ -23,7 +29,12 @@ const REPLIES: &[u8] = b"status carriers 0 radios 0 asks 0 lines 0 calls 0 fill 
 impl Peer {
     /// The link of carrier 0, whose channel is 1. It has no connection.
     pub fn carrier() -> Peer {
-        Peer::Carrier(Link::new(CarrierNo::new(0), Lpcn::new(1)))
+        Peer::Carrier(Link::new(CarrierNo::new(0), Lpcn::new(1), Version::V1))
+    }
+
+    /// The same link, which is served version 2 too.
+    pub fn numbered() -> Peer {
+        Peer::Numbered(Link::new(CarrierNo::new(0), Lpcn::new(1), Version::V2))
     }
 
     /// The operators' link. It has no connection.
@@ -35,14 +46,25 @@ impl Peer {
     pub fn another(&self) -> Peer {
         match self {
             Peer::Carrier(_) => Peer::carrier(),
+            Peer::Numbered(_) => Peer::numbered(),
             Peer::Operator(_) => Peer::operator(),
         }
     }
 
-    /// What it is told: HELLO, the registration of radio 1001 and POLL; or two lines.
+    /// What it is told: HELLO, the registration of radio 1001 and POLL, in version 2 the registration twice and POLL twice; or two lines.
     pub fn told(&self, alloc: Global) -> Result<Vec<u8>, OutOfMemory> {
         match self {
             Peer::Carrier(_) => joined(alloc, &[HELLO_0, REGISTERS, POLL]),
+            Peer::Numbered(_) => joined(
+                alloc,
+                &[
+                    HELLO_0_NUMBERED,
+                    REGISTERS_NUMBERED,
+                    REGISTERS_NUMBERED,
+                    POLL,
+                    POLL,
+                ],
+            ),
             Peer::Operator(_) => joined(alloc, &[b"status\nstay\n"]),
         }
     }
@@ -51,6 +73,16 @@ impl Peer {
     pub fn answer(&self, alloc: Global) -> Result<Vec<u8>, OutOfMemory> {
         match self {
             Peer::Carrier(_) => joined(alloc, &[WELCOME, ACCEPTED, DONE]),
+            Peer::Numbered(_) => joined(
+                alloc,
+                &[
+                    WELCOME_NUMBERED,
+                    ACCEPTED_NUMBERED,
+                    DONE,
+                    FILL_NUMBERED,
+                    DONE,
+                ],
+            ),
             Peer::Operator(_) => joined(alloc, &[REPLIES]),
         }
     }
@@ -58,7 +90,7 @@ impl Peer {
     /// Whether it is live.
     pub fn live(&self) -> bool {
         match self {
-            Peer::Carrier(link) => link.live(),
+            Peer::Carrier(link) | Peer::Numbered(link) => link.live(),
             Peer::Operator(link) => link.live(),
         }
     }
@@ -66,7 +98,7 @@ impl Peer {
     /// Opens it.
     pub fn open(&mut self) -> bool {
         match self {
-            Peer::Carrier(link) => link.open(),
+            Peer::Carrier(link) | Peer::Numbered(link) => link.open(),
             Peer::Operator(link) => link.open(),
         }
     }
@@ -79,7 +111,7 @@ impl Peer {
         gate: Option<&mut CountingGate>,
     ) -> Ended {
         match self {
-            Peer::Carrier(link) => match gate {
+            Peer::Carrier(link) | Peer::Numbered(link) => match gate {
                 Some(gate) => link.serve(port, desk, gate),
                 None => link.serve(port, desk, &mut OpenGate),
             },
@@ -90,7 +122,7 @@ impl Peer {
     /// Cuts it.
     pub fn cut<D: Desk>(&mut self, desk: &mut D) -> Result<(), TermOver> {
         match self {
-            Peer::Carrier(link) => link.cut(desk),
+            Peer::Carrier(link) | Peer::Numbered(link) => link.cut(desk),
             Peer::Operator(link) => link.cut(desk),
         }
     }

@@ -87,5 +87,11 @@ pub static ROWS: [(&str, &str); 9] = [
     ),
 ];
 
-/// The types of frames, in hexadecimal digits, each with its length.
-pub static TYPES: [(&str, usize); 5] = [("01", 4), ("02", 26), ("03", 0), ("04", 1), ("05", 0)];
+/// The types of frames, in hexadecimal digits, each with its length in version 1 of the link and in version 2.
+pub static TYPES: [(&str, usize, usize); 5] = [
+    ("01", 4, 4),
+    ("02", 26, 27),
+    ("03", 0, 0),
+    ("04", 1, 1),
+    ("05", 0, 0),
+];

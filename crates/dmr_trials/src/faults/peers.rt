@@ -1,12 +1,13 @@
 //! Who comes to a site, what it tells, and what it is answered.
 
+use dmr_frames::Version;
 use std::alloc::{AllocError, Global};
 
 /// Who comes.
 #[derive(Clone, Copy, Debug, PartialEq, Eq)]
 pub enum Peer {
-    /// Carrier 0.
-    Carrier,
+    /// Carrier 0. It speaks this version of the link, which is the greatest that it is served.
+    Carrier(Version),
     /// An operator.
     Operator,
 }
@@ -18,11 +19,25 @@ const TOLD: &[u8] = &[
     0xE1, 0x80, 0x03, 0x00,
 ];
 
+/// The same in version 2 of the link, the number of the registration being 5.
+const TOLD_NUMBERED: &[u8] = &[
+    0x01, 0x04, 0x02, 0x00, 0x00, 0x01, 0x02, 0x1B, 0x05, 0x00, 0x0E, 0xB4, 0x9C, 0xDF, 0x34, 0xF2,
+    0x74, 0x9C, 0xEC, 0xBA, 0x5C, 0xB3, 0xB7, 0xC4, 0x0E, 0x88, 0x13, 0x8C, 0x9A, 0x38, 0xF9, 0x62,
+    0x48, 0xE1, 0x80, 0x03, 0x00,
+];
+
 /// WELCOME, the acknowledgement of the registration on slot 0, and DONE.
 const ANSWERED: &[u8] = &[
     0x81, 0x01, 0x01, 0x82, 0x1A, 0x00, 0x41, 0xC3, 0x02, 0x8A, 0x48, 0xFC, 0x8F, 0x40, 0x3D, 0xC0,
     0x6F, 0x00, 0xED, 0xA0, 0xF7, 0x83, 0xE4, 0x97, 0x54, 0x2E, 0x40, 0x5C, 0xB8, 0x3C, 0xB0, 0x83,
     0x00,
+];
+
+/// The same in version 2 of the link, the number of the acknowledgement being 0.
+const ANSWERED_NUMBERED: &[u8] = &[
+    0x81, 0x01, 0x02, 0x82, 0x1B, 0x00, 0x00, 0x41, 0xC3, 0x02, 0x8A, 0x48, 0xFC, 0x8F, 0x40, 0x3D,
+    0xC0, 0x6F, 0x00, 0xED, 0xA0, 0xF7, 0x83, 0xE4, 0x97, 0x54, 0x2E, 0x40, 0x5C, 0xB8, 0x3C, 0xB0,
+    0x83, 0x00,
 ];
 
 /// Two lines.
@@ -32,18 +47,20 @@ const SAID: &[u8] = b"status\nstay\n";
 const REPLIES: &[u8] = b"status carriers 0 radios 0 asks 0 lines 0 calls 0 fill aloha\nok\n";
 
 impl Peer {
-    /// What it tells: 36 octets, or 12.
+    /// What it tells: 36 octets, 37 in version 2 of the link, or 12.
     pub fn told(self) -> &'static [u8] {
         match self {
-            Peer::Carrier => TOLD,
+            Peer::Carrier(Version::V1) => TOLD,
+            Peer::Carrier(Version::V2) => TOLD_NUMBERED,
             Peer::Operator => SAID,
         }
     }
 
-    /// The whole answer to that: 33 octets, or 64.
+    /// The whole answer to that: 33 octets, 34 in version 2 of the link, or 64.
     pub fn answer(self) -> &'static [u8] {
         match self {
-            Peer::Carrier => ANSWERED,
+            Peer::Carrier(Version::V1) => ANSWERED,
+            Peer::Carrier(Version::V2) => ANSWERED_NUMBERED,
             Peer::Operator => REPLIES,
         }
     }

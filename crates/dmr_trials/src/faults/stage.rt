@@ -8,6 +8,7 @@ use crate::site::quiet_site;
 use arrayvec::ArrayVec;
 use dmr_core::{Command, Event, Site};
 use dmr_desk::{ConsoleStation, Ending, Pace, Pacer, Station, Term, TermFault, Views, run_term};
+use dmr_frames::Version;
 use dmr_link::{ConsoleLink, Ended, Link, OpenGate};
 use dmr_pdu::{CarrierNo, Lpcn};
 use dmr_wire::{MemoryPort, Step};
@@ -70,12 +71,17 @@ fn port_of(alloc: Global, steps: Vec<Step>) -> Result<MemoryPort, Fail> {
     }
 }
 
-/// The station of a carrier with this channel, whose port answers by these steps.
-fn station_of(alloc: Global, number: u32, steps: Vec<Step>) -> Result<CarrierStation, Fail> {
+/// The station of a carrier of this number, which is served versions of the link up to the greatest, and whose port answers by these steps.
+fn station_of(
+    alloc: Global,
+    number: u32,
+    greatest: Version,
+    steps: Vec<Step>,
+) -> Result<CarrierStation, Fail> {
     let carrier = CarrierNo::try_new(number).ok_or("a carrier's number")?;
     let lpcn = Lpcn::try_new(number.saturating_add(1)).ok_or("a channel")?;
     Ok(Station {
-        link: Link::new(carrier, lpcn),
+        link: Link::new(carrier, lpcn, greatest),
         port: port_of(alloc, steps)?,
         gate: OpenGate,
     })
@@ -84,13 +90,13 @@ fn station_of(alloc: Global, number: u32, steps: Vec<Step>) -> Result<CarrierSta
 impl Stage {
     /// A quiet site to which a peer comes, whose port answers by these steps.
     pub fn new(alloc: Global, peer: Peer, steps: Vec<Step>) -> Result<Stage, Fail> {
-        let (of_carrier, of_operator, actor) = match peer {
-            Peer::Carrier => (steps, Vec::new(alloc), 0),
-            Peer::Operator => (Vec::new(alloc), steps, CONSOLE),
+        let (of_carrier, greatest, of_operator, actor) = match peer {
+            Peer::Carrier(version) => (steps, version, Vec::new(alloc), 0),
+            Peer::Operator => (Vec::new(alloc), Version::V1, steps, CONSOLE),
         };
         let mut stations = Vec::new(alloc);
-        stations.push(station_of(alloc, 0, of_carrier)?)?;
-        stations.push(station_of(alloc, 1, Vec::new(alloc))?)?;
+        stations.push(station_of(alloc, 0, greatest, of_carrier)?)?;
+        stations.push(station_of(alloc, 1, greatest, Vec::new(alloc))?)?;
         Ok(Stage {
             site: quiet_site(alloc)?,
             stations,

@@ -6,6 +6,7 @@ use crate::site::quiet_site;
 use arrayvec::ArrayVec;
 use dmr_core::Site;
 use dmr_desk::{ConsoleStation, Ending, Pace, Station, Term, TermFault, Views, run_term};
+use dmr_frames::Version;
 use dmr_link::{ConsoleLink, Link};
 use dmr_pdu::{CarrierNo, Lpcn};
 use dmr_wire::{Connect, Got, MemoryPort, Step, Waited};
@@ -86,7 +87,7 @@ fn station_of<'a>(
     let who = CarrierNo::try_new(u32::from(number)).ok_or("a carrier's number")?;
     let lpcn = Lpcn::try_new(u32::from(number) + 1).ok_or("a channel")?;
     Ok(Station {
-        link: Link::new(who, lpcn),
+        link: Link::new(who, lpcn, Version::V1),
         port: MeetingPort {
             port: port_of(rt.alloc(), carrier_steps(rt.alloc(), number, carrier)?)?,
             meeting: Meeting::new(rt, steps, actor, carrier.wait),

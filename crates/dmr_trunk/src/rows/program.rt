@@ -118,38 +118,39 @@ fn site_files(rt: HostRuntime) {
     );
 }
 
-/// Wants the site with that piece of its text written otherwise to be refused so.
-fn check_site(
-    rt: &(impl Abort + AllocGlobal),
-    old: &str,
-    new: &str,
-    said: &[u8],
-) -> Result<(), OutOfMemory> {
-    let site = site_with(rt.alloc(), old, new)?;
-    check_fault(rt, Some(site.as_bytes()), Some(b"open 0\n"), said, 1);
-    Ok(())
-}
+/// A fault of a site: a piece of the text of `SITE`, what stands in its place, and what is said.
+type SiteFault = (&'static str, &'static str, &'static [u8]);
 
-#[test]
-fn faults_of_a_site(rt: HostRuntime) -> Result<(), OutOfMemory> {
-    check_site(
-        &rt,
+static SITE_FAULTS: [SiteFault; 4] = [
+    (
         "lpcn = 2",
         "lpcn = 4095",
         b"dmr_trunk: site file: out of range lpcn\n",
-    )?;
-    check_site(
-        &rt,
+    ),
+    (
         "number = 1",
         "number = 0",
         b"dmr_trunk: site file: repeated number\n",
-    )?;
-    check_site(
-        &rt,
+    ),
+    (
         "regi = 0xFFFEC6\n",
         "",
         b"dmr_trunk: site file: missing regi\n",
-    )
+    ),
+    (
+        "[[carrier]]",
+        "link_version = 3\n[[carrier]]",
+        b"dmr_trunk: site file: out of range link_version\n",
+    ),
+];
+
+#[test]
+fn faults_of_a_site(rt: HostRuntime) -> Result<(), OutOfMemory> {
+    for (old, new, said) in &SITE_FAULTS {
+        let site = site_with(rt.alloc(), *old, *new)?;
+        check_fault(&rt, Some(site.as_bytes()), Some(b"open 0\n"), *said, 1);
+    }
+    Ok(())
 }
 
 #[test]

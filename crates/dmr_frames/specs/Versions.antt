@@ -1,0 +1,46 @@
+-- The versions of the link format, and which one the frames of a connection are of.
+use Rattle.std.specs.Prelude.{ℕ, ◌==◌, List, Option, Some, None, if◌then◌else◌, fold}
+use Rattle.dmr_frames.specs.declared.frame.FrameIn.{FrameIn}
+use Rattle.dmr_frames.specs.declared.frame.FrameIn.TheVariants.{Hello}
+use Rattle.dmr_frames.specs.declared.version.Version.{Version}
+use Rattle.dmr_frames.specs.declared.version.Version.TheVariants.{V1, V2}
+use Rattle.dmr_frames.specs.declared.version.FrameTable.{FrameTable}
+use Rattle.dmr_frames.specs.declared.version.FrameTable.TheVariants.{First, Later}
+
+-- the octet that names a version
+abbrev pub version_octet : Version → ℕ
+version_octet V1 = 0x01
+version_octet V2 = 0x02
+
+-- version 2, where versions up to this one are served
+abbrev pub second_within : Version → Option Version
+second_within V1 = None
+second_within V2 = Some V2
+
+-- the version that an octet names, of those up to the greatest that is served
+abbrev pub version_named : Version → ℕ → Option Version
+version_named greatest octet = if octet == 0x01 then Some V1 else if octet == 0x02 then second_within greatest else None
+
+-- a version, or else the first
+abbrev pub or_first : Option Version → Version
+or_first None = V1
+or_first (Some version) = version
+
+-- the version that a first frame chooses: a HELLO that of its octet, if that is served; any other frame the first
+abbrev pub chosen_by : Version → FrameIn → Version
+chosen_by greatest (Hello version carrier lpcn) = or_first (version_named greatest version)
+chosen_by greatest other = V1
+
+-- the version whose spellings come next: the first frame has those of version 1
+abbrev pub version_of : FrameTable → Version
+version_of (First greatest) = V1
+version_of (Later version) = version
+
+-- the table behind a frame: the first frame chooses it for all others
+abbrev pub table_after : FrameTable → FrameIn → FrameTable
+table_after (First greatest) f = Later (chosen_by greatest f)
+table_after (Later version) f = Later version
+
+-- the table behind frames
+abbrev pub table_after_frames : FrameTable → List FrameIn → FrameTable
+table_after_frames table frames = fold table_after table frames

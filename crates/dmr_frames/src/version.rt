@@ -1,0 +1,86 @@
+//! The versions of the link format (this project's profile).
+
+ghost use Rattle.std.specs.Prelude.{◌≡◌};
+ghost use Rattle.dmr_frames.specs.Versions.{chosen_by, version_named, version_octet, version_of, table_after};
+
+use crate::frame::FrameIn;
+
+/// A version of the link format. They differ in RX and TX alone.
+#[derive(Clone, Copy, Debug, PartialEq, Eq)]
+pub enum Version {
+    /// Version 1: bursts have no number.
+    V1,
+    /// Version 2: each burst has a number octet before its slot, so that a carrier can send an RX once more.
+    V2,
+}
+
+impl Version {
+    /// The octet that names it, in HELLO and in WELCOME: 1 or 2.
+    pub fn octet(self) -> u8
+        ensures { result ≡ version_octet self }
+    {
+        match self {
+            Version::V1 => 0x01,
+            Version::V2 => 0x02,
+        }
+    }
+
+    /// The version that an octet names, of those up to this one, the greatest that is served. `None` where it names none of them.
+    pub fn named(self, octet: u8) -> Option<Version>
+        ensures { result ≡ version_named self octet }
+    {
+        match octet {
+            0x01 => Some(Version::V1),
+            0x02 => match self {
+                Version::V1 => None,
+                Version::V2 => Some(Version::V2),
+            },
+            _ => None,
+        }
+    }
+
+    /// The version that a connection's first frame chooses for those behind it, where versions up to this one are served: a HELLO that of
+    /// its octet, if that is served; any other frame version 1.
+    pub fn chosen_by(self, frame: &FrameIn) -> Version
+        ensures { result ≡ chosen_by self frame.now }
+    {
+        let FrameIn::Hello { version, .. } = frame else {
+            return Version::V1;
+        };
+        match self.named(*version) {
+            Some(version) => version,
+            None => Version::V1,
+        }
+    }
+}
+
+/// By which table of spellings the octets of a connection are cut.
+#[derive(Clone, Copy, Debug, PartialEq, Eq)]
+pub enum FrameTable {
+    /// No frame has come yet: the first has the spelling of version 1. Versions up to this one are served.
+    First(Version),
+    /// The first frame has come, and those behind it are of this version.
+    Later(Version),
+}
+
+impl FrameTable {
+    /// The version whose spellings come next.
+    pub fn version(self) -> Version
+        ensures { result ≡ version_of self }
+    {
+        match self {
+            FrameTable::First(_) => Version::V1,
+            FrameTable::Later(version) => version,
+        }
+    }
+
+    /// The table behind a frame: a first frame that is a HELLO of a version that is served chooses it, any other version 1.
+    pub fn after(self, frame: &FrameIn) -> FrameTable
+        ensures { result ≡ table_after self frame.now }
+    {
+        match self {
+            FrameTable::First(greatest) => FrameTable::Later(greatest.chosen_by(frame)),
+            FrameTable::Later(version) => FrameTable::Later(version),
+        }
+    }
+}

@@ -1,0 +1,89 @@
+-- What octets bring and put out: the next one, and those behind it.
+use Rattle.std.proofs.Common.{◌≡◌, ℕ, ◌+◌, ◌<◌, ◌≤◌, List, ◌∷◌, ◌++◌, Option, Some, None, length, drop, drop-cons, get_or, sym, ap, ◌∙◌, append_assoc, arith, add-one}
+use Rattle.std.proofs.lemmas.List.Sums.{fold-append}
+use Rattle.dmr_core.specs.State.{SiteState as Site}
+use Rattle.dmr_frames.specs.declared.frame.FrameOut.{FrameOut}
+use Rattle.dmr_link.specs.declared.connection.CarrierIdentity.{CarrierIdentity}
+use Rattle.dmr_link.specs.declared.connection.Connection.{Connection}
+use Rattle.dmr_link.specs.Answering.{facts_after_notice, site_after_notices}
+use Rattle.dmr_link.specs.Meaning.{list_of_notice}
+use Rattle.dmr_link.specs.Notices.{Notice}
+use Rattle.dmr_link.specs.Numbering.{frames_text, next_after_frames}
+use Rattle.dmr_link.specs.Room.{most_in}
+use Rattle.dmr_link.specs.Session.{frames_said}
+use Rattle.dmr_link.specs.Steps.{notice_of_octet, connection_after_octet, notices_of_octets, connection_after_octets}
+use Rattle.dmr_link.proofs.NumberingLemmas.{frames_text-append, next_after_frames-append}
+use Rattle.dmr_link.proofs.PiecesInTwo.{frames_said-append}
+
+-- the octets from a place on
+from_here : (octets : List ℕ) (i : ℕ) → i < length octets → drop i octets ≡ get_or octets i 0 ∷ drop (i + 1) octets
+from_here octets i inside = drop-cons octets i 0 inside ∙ ap (λ (n : ℕ). get_or octets i 0 ∷ drop n octets) (sym (add-one i))
+
+site-append : (site : Site) (a b : List Notice) → site_after_notices site (a ++ b) ≡ site_after_notices (site_after_notices site a) b
+site-append site a b = (λ i. record { plan = site.plan; facts = fold-append (facts_after_notice site.plan) site.facts a b i })
+
+most-append : (notice : Option Notice) (more : List Notice) → most_in (list_of_notice notice ++ more) ≡ most_in (list_of_notice notice) + most_in more
+most-append None more = omega arith
+most-append (Some notice) more = omega arith
+
+-- whose octets they are, where the connection stood, what the octet brought, and where it left the connection
+module _ (who whose : CarrierIdentity) (same : whose ≡ who) (k later : Connection) (octets : List ℕ) (i : ℕ) (inside : i < length octets) (brought : Option Notice)
+    (brings : brought ≡ notice_of_octet whose k (get_or octets i 0)) (left : later ≡ connection_after_octet whose k (get_or octets i 0)) where
+  abbrev before : List Notice
+  before = notices_of_octets who k (drop i octets)
+
+  abbrev behind : List Notice
+  behind = notices_of_octets who later (drop (i + 1) octets)
+
+  notices_go : before ≡ list_of_notice brought ++ behind
+  notices_go =
+      ap (notices_of_octets who k) (from_here octets i inside)
+      ∙ (λ j. list_of_notice ((ap (λ (w : CarrierIdentity). notice_of_octet w k (get_or octets i 0)) (sym same) ∙ sym brings) j)
+      ++ notices_of_octets who ((ap (λ (w : CarrierIdentity). connection_after_octet w k (get_or octets i 0)) (sym same) ∙ sym left) j) (drop (i + 1) octets))
+
+  pub connection_goes : (whole : Connection) → connection_after_octets who k (drop i octets) ≡ whole → connection_after_octets who later (drop (i + 1) octets) ≡ whole
+  connection_goes whole e =
+      ap (λ (l : Connection). connection_after_octets who l (drop (i + 1) octets)) (left ∙ ap (λ (w : CarrierIdentity). connection_after_octet w k (get_or octets i 0)) same)
+      ∙ sym (ap (connection_after_octets who k) (from_here octets i inside))
+      ∙ e
+
+  pub most_goes : most_in before ≡ most_in (list_of_notice brought) + most_in behind
+  most_goes = ap most_in notices_go ∙ most-append brought behind
+
+  pub room_goes : (len more room rest : ℕ) → more ≤ len + most_in (list_of_notice brought) → rest ≡ room → len + most_in before ≤ room → more + most_in behind ≤ rest
+  room_goes len more room rest put kept fits = omega (arith, most_goes, put, kept, fits)
+
+  -- and what the site did with it
+  module _ (site new : Site) (told : new ≡ site_after_notices site (list_of_notice brought)) where
+    pub site_goes : (whole : Site) → site_after_notices site before ≡ whole → site_after_notices new behind ≡ whole
+    site_goes whole e =
+        ap (λ (s : Site). site_after_notices s behind) told
+        ∙ sym (site-append site (list_of_notice brought) behind)
+        ∙ ap (site_after_notices site) (sym notices_go)
+        ∙ e
+
+    abbrev here : List FrameOut
+    here = frames_said site.plan site.facts (list_of_notice brought)
+
+    abbrev there : List FrameOut
+    there = frames_said new.plan new.facts behind
+
+    frames_go : frames_said site.plan site.facts before ≡ here ++ there
+    frames_go =
+        ap (frames_said site.plan site.facts) notices_go
+        ∙ frames_said-append site.plan site.facts (list_of_notice brought) behind
+        ∙ ap (λ (s : Site). here ++ frames_said s.plan s.facts behind) (sym told)
+
+    module _ (next later_next : Option ℕ) (counted : later_next ≡ next_after_frames next here) where
+      pub items_go : (text more whole : List ℕ) → more ≡ text ++ frames_text next here → text ++ frames_text next (frames_said site.plan site.facts before) ≡ whole → more ++ frames_text later_next there ≡ whole
+      items_go text more whole put e =
+          (λ j. put j ++ frames_text (counted j) there)
+          ∙ append_assoc text (frames_text next here) (frames_text (next_after_frames next here) there)
+          ∙ ap (λ (t : List ℕ). text ++ t) (sym (ap (frames_text next) frames_go ∙ frames_text-append next here there))
+          ∙ e
+
+      pub next_goes : (whole : Option ℕ) → next_after_frames next (frames_said site.plan site.facts before) ≡ whole → next_after_frames later_next there ≡ whole
+      next_goes whole e =
+          ap (λ (n : Option ℕ). next_after_frames n there) counted
+          ∙ sym (ap (next_after_frames next) frames_go ∙ next_after_frames-append next here there)
+          ∙ e

@@ -1,0 +1,16 @@
+-- Which carriers a site has, and what each has to say in its HELLO.
+use Rattle.std.specs.Prelude.{ℕ, ◌==◌, Option, option_map, if◌then◌else◌}
+use Rattle.dmr_plan.specs.declared.settings.Settings.{Settings}
+use Rattle.dmr_plan.specs.declared.carriers.CarrierRow.{CarrierRow}
+use Rattle.dmr_plan.specs.Carriers.{row_with}
+use Rattle.dmr_frames.specs.declared.version.Version.{Version}
+use Rattle.dmr_frames.specs.declared.version.Version.TheVariants.{V1, V2}
+use Rattle.dmr_link.specs.declared.connection.CarrierIdentity.{CarrierIdentity}
+
+-- the greatest version of the link that a site serves
+abbrev pub greatest_of : Settings → Version
+greatest_of plan = if plan.link_version == 2 then V2 else V1
+
+-- the plan's carrier of a number, if it has one
+abbrev pub who_of : Settings → ℕ → Option CarrierIdentity
+who_of plan carrier = option_map (λ (row : CarrierRow). record { carrier = carrier; lpcn = row.lpcn; greatest = greatest_of plan }) (row_with plan.carriers carrier)

@@ -1,0 +1,32 @@
+//! Which carriers a site has, and what each has to say in its HELLO.
+
+ghost use Rattle.std.specs.Prelude.{◌≡◌};
+ghost use Rattle.dmr_link.specs.Identities.{greatest_of, who_of};
+
+use crate::connection::CarrierIdentity;
+use dmr_frames::Version;
+use dmr_pdu::CarrierNo;
+use dmr_plan::Plan;
+
+/// The greatest version of the link that the site of a plan serves its carriers: the key `link_version` of the site file.
+pub fn greatest_version(plan: &Plan) -> Version
+    ensures { result ≡ greatest_of plan.now }
+{
+    if plan.link_version() == 2 {
+        Version::V2
+    } else {
+        Version::V1
+    }
+}
+
+/// The plan's carrier of a number, if it has one.
+pub fn identity_of(plan: &Plan, carrier: CarrierNo) -> Option<CarrierIdentity>
+    ensures { result ≡ who_of plan.now carrier }
+{
+    let row = plan.carrier_with(carrier)?;
+    Some(CarrierIdentity {
+        carrier,
+        lpcn: row.lpcn,
+        greatest: greatest_version(plan),
+    })
+}

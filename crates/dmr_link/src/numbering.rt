@@ -1,0 +1,76 @@
+//! The numbers of a connection's TX frames, which the frames get as they go out.
+
+ghost use Rattle.std.specs.Prelude.{◌≡◌, ◌+◌, ◌%◌, None, option_map};
+ghost use Rattle.dmr_link.specs.Numbering.{first_number, frame_text, next_after};
+
+use arrayvec::ArrayVec;
+use dmr_frames::{FrameOut, LONGEST_FRAME, Version, write_frame};
+use std::marker::Model;
+
+/// The number of a connection's next TX, if the version of the link that is spoken on it has numbers. Contracts see it as that.
+#[derive(Clone, Copy, Debug)]
+pub struct Numbering {
+    next: Option<u8>,
+}
+
+impl Model for Numbering {
+    ghost use Rattle.std.specs.Prelude.{ℕ, Option};
+
+    ghost Value = { Option ℕ };
+
+    ghost view = { λ n. n.next };
+
+    ghost inverse = { λ next. record { next = next } };
+}
+
+/// The number of a connection's first TX, by the version octet of its WELCOME.
+fn first_of(version: u8) -> Option<u8>
+    ensures { result ≡ first_number version }
+{
+    if version == Version::V2.octet() {
+        Some(0)
+    } else {
+        None
+    }
+}
+
+impl Numbering {
+    /// That of a connection on which nothing was put out.
+    pub fn new() -> Numbering
+        ensures { result ≡ None }
+    {
+        Numbering { next: None }
+    }
+
+    /// Spells a frame as it goes out behind those before it: a TX with its number. A WELCOME begins the numbers.
+    pub fn spell(&mut self, frame: &FrameOut) -> ArrayVec<u8, LONGEST_FRAME>
+        ensures octets { result.items ≡ frame_text self.old frame.now }
+        ensures next { self.new ≡ next_after self.old frame.now }
+    {
+        match frame {
+            FrameOut::Welcome { version } => {
+                self.next = first_of(*version);
+                write_frame(frame)
+            }
+            FrameOut::Tx { slot, word, .. } => {
+                let numbered = FrameOut::Tx {
+                    number: self.next,
+                    slot: *slot,
+                    word: *word,
+                };
+                self.count();
+                write_frame(&numbered)
+            }
+            _ => write_frame(frame),
+        }
+    }
+
+    /// One TX more has gone out.
+    fn count(&mut self)
+        ensures { self.new ≡ option_map (λ n. (n + 1) % 256) self.old }
+    {
+        if let Some(number) = self.next {
+            self.next = Some(number.wrapping_add(1));
+        }
+    }
+}

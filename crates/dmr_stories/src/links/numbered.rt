@@ -1,0 +1,56 @@
+//! Stories of a carrier's link that is served version 2. Its octets are HELLO, the registration of radio 1001 with number 5 twice, and two
+//! POLLs, 68 in all, and the whole answer has 65: WELCOME, the TX of the acknowledgement with number 0, DONE, the TX of a Fill with number
+//! 1 and DONE.
+
+use super::Story;
+
+/// A burst that comes again is not handed in, and TX are numbered on over events that were kept.
+pub static NUMBERS: [Story; 3] = [
+    (
+        "a burst that comes again",
+        "\
+begin first 68 =>
+serve 0 => closed; up heard poll poll lost; 65; 5 5
+
+rounds 36 to 63
+# Its first octets are read in one call, and the others in the next.
+begin first 0+; read block; behind 0+ =>
+serve 0 => idle; up heard; 3; 2 2
+serve 0 => closed; poll poll lost; 65; 3 3
+
+rounds 36 to 63
+# It doesn't come whole.
+begin first 0+ =>
+serve => closed; up heard lost; 3
+",
+    ),
+    (
+        "the numbers go on over a kept event",
+        "\
+begin first 68 =>
+term 3 =>
+serve 0 => term over; up heard poll; 34; 4 4
+term 1 =>
+serve 0 => term over; poll; 65; 2 2
+term 1 =>
+serve 0 => closed; lost; 65; 1 1
+
+begin first 68 =>
+serve 4 => gate shut; up heard poll; 34; 4 3
+serve 0 => closed; poll lost; 65; 2 2
+",
+    ),
+    (
+        "frames of either version, and of none",
+        "\
+begin octets hello registers registers poll poll =>
+serve => closed; up heard heard poll poll lost; welcome accepted done accepted done
+begin octets hello 2 27; read block =>
+serve => bad length; up lost; welcome
+begin octets 1 4 2 0 0 1 2 26; read block =>
+serve => bad length; up lost; 3
+begin octets 1 4 3 0 0 1 poll =>
+serve => bad version; -; version
+",
+    ),
+];

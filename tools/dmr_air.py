@@ -118,14 +118,25 @@ ALOHA, AHOY, ACKD, CLEAR, PV_GRANT, TV_GRANT, MOVE = 0x99, 0x9C, 0xA0, 0xAE, 0xB
 
 POLL, BYE = b"\x03\x00", b"\x05\x00"
 WELCOME_TYPE, TX_TYPE, DONE_TYPE, REFUSED_TYPE = 0x81, 0x82, 0x83, 0x84
+# the length octet of RX and TX in each version of the link: in version 2 a number stands before the slot
+BURST_LENGTHS = {1: 26, 2: 27}
+# the number of a connection's first RX: any will do, and this one soon comes to 255, which 0 follows
+FIRST_RX = 250
 
 
 def hello(number, lpcn, version=1):
     return bytes([1, 4, version, number]) + lpcn.to_bytes(2, "big")
 
 
-def rx(slot, burst):
-    return bytes([2, 26, slot]) + burst
+def rx(slot, burst, number=None):
+    """An RX: with a number of version 2, with none of version 1."""
+    body = bytes([slot]) + burst if number is None else bytes([number, slot]) + burst
+    return bytes([2, len(body)]) + body
+
+
+def parts_of(body):
+    """What an RX or a TX has: its number, None in version 1, its slot and its burst."""
+    return body[0] if len(body) == BURST_LENGTHS[2] else None, body[-26], body[-25:]
 
 
 def active(slot):
@@ -139,6 +150,35 @@ def frames_in(buffer):
         frames.append((buffer[0], bytes(buffer[2:2 + buffer[1]])))
         del buffer[:2 + buffer[1]]
     return frames
+
+
+def number_after(number):
+    """The number of the next burst; None in version 1."""
+    return None if number is None else (number + 1) % 256
+
+
+class Link:
+    """A connection in its version of the link: in version 2 its RX are numbered, and its TX from 0, 255 followed by 0."""
+
+    def __init__(self, version):
+        self.version = version
+        self.next_rx, self.next_tx = (FIRST_RX, 0) if version == 2 else (None, None)
+
+    def rx(self, slot, burst):
+        """The octets of the next RX."""
+        octets = rx(slot, burst, self.next_rx)
+        self.next_rx = number_after(self.next_rx)
+        return octets
+
+    def tx(self, body):
+        """The slot and burst of a TX, which has to be the next; None of another, and of one of another version."""
+        if len(body) != BURST_LENGTHS.get(self.version):
+            return None
+        number, slot, burst = parts_of(body)
+        if number != self.next_tx:
+            return None
+        self.next_tx = number_after(number)
+        return slot, burst
 
 
 # ---- the site, and a controller that serves it
@@ -164,6 +204,7 @@ class Site:
         self.address = ".".join(map(str, self.plan.get("address", [127, 0, 0, 1])))
         self.rows, self.control, self.console_port = self.plan["carrier"], self.plan["control"], self.plan["console_port"]
         self.by_lpcn = {row["lpcn"]: row["number"] for row in self.rows}
+        self.link_version = self.plan.get("link_version", 1)
 
     def text(self):
         lines = [f"{key} = {value}" for key, value in self.plan.items() if key != "carrier"]

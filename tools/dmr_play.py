@@ -3,7 +3,7 @@ import heapq
 import random
 import selectors
 import time
-from collections import Counter
+from collections import Counter, deque
 from dataclasses import dataclass
 
 import dmr_air as air
@@ -12,6 +12,8 @@ from dmr_grants import Parties, SlotCalls, is_fill, is_grant, is_late, parties_a
 PERIOD = 0.060
 # a radio that hears nothing asks again after so many seconds
 PATIENCE = 2.0
+# what share of its RX a carrier sends once more, in version 2 of the link
+SENT_AGAIN = 0.1
 
 
 class Radio:
@@ -19,6 +21,28 @@ class Radio:
 
     def __init__(self, address):
         self.address, self.registered, self.asked, self.talks_until, self.call = address, False, None, 0.0, None
+        # how often it asked to be registered, less how often that was acknowledged
+        self.owed = 0
+
+
+class Backoff:
+    """The backoff that the control slot has to say (docs/SITE_MACHINE.md, "Backoff"), poll by poll since its carrier came up: each noise counts once."""
+
+    def __init__(self, plan):
+        self.low, self.high = plan["backoff_low"], plan["backoff_high"]
+        self.noises, self.awaited = [0] * 32, deque()
+
+    def noise(self):
+        self.noises[0] = min(15, self.noises[0] + 1)
+
+    def poll(self):
+        """A poll is sent, and what its answer has to say is awaited."""
+        self.awaited.append(min(self.high, self.low + sum(self.noises)))
+        self.noises = [0, *self.noises[:-1]]
+
+    def is_said(self, octets):
+        """Whether a Fill in the answer to the first poll that is awaited says it."""
+        return octets[4] & 15 == self.awaited[0]
 
 
 class Radios:
@@ -30,7 +54,7 @@ class Radios:
         self.to_send, self.groups = [], site.plan["groups"]
         # the slot of each call that stands: (carrier, slot) to (target, source); and who talks there
         self.talkers = {}
-        self.registrations, self.acknowledged = 0, 0
+        self.registrations, self.acknowledged, self.not_asked = 0, 0, 0
 
     def burst(self, octets):
         """A burst with up to three bits flipped, anywhere."""
@@ -42,12 +66,13 @@ class Radios:
         self.slots.ask(octets)
         return self.burst(octets)
 
-    def next_request(self, now):
-        """What a radio sends on the control slot in this frame: the 25 octets of a burst, or None."""
+    def next_request(self, now, backoff):
+        """What a radio sends on the control slot in this frame: the 25 octets of a burst, or None. Noise is told to the backoff."""
         if self.to_send:
             return self.burst(self.to_send.pop())
         if self.random.random() < 0.02:
             self.counts["noise sent"] += 1
+            backoff.noise()
             return air.burst_of(air.rand(14, self.site.plan["regi"], 1), self.random.sample(range(1, 196), 4))
         waiting = [it for it in self.radios.values() if not it.registered and (it.asked is None or now - it.asked > PATIENCE)]
         if waiting:
@@ -61,7 +86,7 @@ class Radios:
             self.registrations += 1
         else:
             self.counts["registrations sent again"] += 1
-        radio.asked = now
+        radio.asked, radio.owed = now, radio.owed + 1
         return self.burst(air.rand(14, self.site.plan["regi"], radio.address, self.site.register_options()))
 
     def begin_call(self, now):
@@ -83,9 +108,10 @@ class Radios:
             reason = air.REASONS.get(pdu.reason, hex(pdu.reason))
             self.counts[f"acknowledged: {reason}"] += 1
             radio = self.radios.get(pdu.target)
-            if radio and reason == "registered" and pdu.source == self.site.plan["regi"] and not radio.registered:
-                radio.registered = True
-                self.acknowledged += 1
+            if radio and reason == "registered" and pdu.source == self.site.plan["regi"]:
+                self.not_asked += radio.owed == 0
+                self.acknowledged += not radio.registered
+                radio.registered, radio.owed = True, max(0, radio.owed - 1)
         elif pdu.opcode == air.AHOY:
             self.counts["radios called"] += 1
             if self.random.random() < 0.8:
@@ -181,21 +207,15 @@ class Carrier:
         self.stream = air.connect(play.site.address, row["port"])
         self.stream.setblocking(False)
         self.buffer, self.sent, self.due, self.welcome = bytearray(), None, begins, False
+        self.link, self.again, self.backoff = air.Link(play.version), b"", Backoff(play.site.plan)
         # since when, at the earliest, what is sent now can have waited
         self.queued_since = time.perf_counter()
-        self.stream.send(air.hello(self.number, self.lpcn))
+        self.stream.send(air.hello(self.number, self.lpcn, play.version))
 
     def poll(self, now):
         """Sends what is heard in a frame, and a poll."""
-        frames = b""
-        for slot in (0, 1):
-            if self.play.radios.talks(self.number, slot, now):
-                frames += air.active(slot)
-        if self.number == self.play.site.control:
-            burst = self.play.radios.next_request(now)
-            if burst is not None:
-                frames += air.rx(0, burst)
-                self.play.counts["bursts sent"] += 1
+        frames = self.play.heard(self, now)
+        self.backoff.poll()
         self.sent = time.perf_counter()
         self.stream.send(frames + air.POLL)
         self.play.counts["polls"] += 1
@@ -210,11 +230,12 @@ class Carrier:
         answered = False
         for kind, body in air.frames_in(self.buffer):
             if kind == air.TX_TYPE:
-                self.play.burst(self, body[0], body[1:], now)
+                self.play.tx(self, body, now)
             elif kind == air.DONE_TYPE:
                 self.play.times.append(now - self.sent)
+                self.backoff.awaited.popleft()
                 answered = True
-            elif kind == air.WELCOME_TYPE:
+            elif kind == air.WELCOME_TYPE and body[0] == self.link.version:
                 self.welcome = True
             else:
                 raise ConnectionError(f"carrier {self.number}: frame {kind:02X}{body.hex()}")
@@ -226,8 +247,34 @@ class Play:
 
     def __init__(self, site, words):
         self.site, self.words, self.counts, self.times = site, words, Counter(), []
+        self.version = words.link_version or site.link_version
         self.slots, self.faults, self.known = Slots(site.plan), Counter(), {}
         self.radios = Radios(site, words.radios, words.seed, self.counts, self.slots)
+
+    def heard(self, carrier, now):
+        """The frames of what a carrier hears. In version 2 of the link it sends some RX once more, at once or with what it hears next: that means nothing."""
+        frames, carrier.again = carrier.again, b""
+        frames += b"".join(air.active(slot) for slot in (0, 1) if self.radios.talks(carrier.number, slot, now))
+        burst = self.radios.next_request(now, carrier.backoff) if carrier.number == self.site.control else None
+        if burst is not None:
+            octets = carrier.link.rx(0, burst)
+            frames += octets
+            self.counts["bursts sent"] += 1
+            if carrier.link.version == 2 and self.radios.random.random() < SENT_AGAIN:
+                self.counts["bursts sent again"] += 1
+                if self.radios.random.random() < 0.5:
+                    frames += octets
+                else:
+                    carrier.again = octets
+        return frames
+
+    def tx(self, carrier, body, now):
+        """A TX came."""
+        parts = carrier.link.tx(body)
+        if parts is None:
+            self.faults["TX of another version or number than was to come"] += 1
+        else:
+            self.burst(carrier, *parts, now)
 
     def burst(self, carrier, slot, burst, now):
         self.counts["bursts that came"] += 1
@@ -241,6 +288,7 @@ class Play:
             # nothing waited when it was asked for
             carrier.queued_since = carrier.sent
             self.slots.fill()
+            self.faults["fills with another backoff than the noise that was sent makes"] += not carrier.backoff.is_said(octets)
         self.radios.hears(octets, carrier.number, slot, time.monotonic())
         if is_grant(octets):
             pdu = air.Pdu(octets)
@@ -294,6 +342,7 @@ class Play:
     def look_at_slots(self):
         self.counts["grants of calls that had ended"] = self.slots.ended()
         self.faults["grants on a slot on which another stands"] = self.slots.overlaps()
+        self.faults["registrations acknowledged more often than they were asked for"] = self.radios.not_asked
 
     def judge(self):
         self.look_at_slots()

@@ -6,9 +6,9 @@ from dataclasses import dataclass
 
 import dmr_air as air
 
-# a carrier's frames: their length octets
-LENGTHS = {1: 4, 2: 26, 3: 0, 4: 1, 5: 0}
+# a carrier's frames: their length octets; that of RX is of the version of the link
 HELLO, RX, POLL, ACTIVE, BYE = 1, 2, 3, 4, 5
+LENGTHS = {HELLO: 4, POLL: 0, ACTIVE: 1, BYE: 0}
 
 
 class SessionFault(Exception):
@@ -88,27 +88,35 @@ def frames_of(octets):
 
 
 class FrameCutter:
-    """Cuts a carrier's octets into frames. None stands for octets from which no frame can follow."""
+    """Cuts a carrier's octets into frames, the first as of version 1 of the link, and behind a HELLO as of its version. None stands for octets from which no
+    frame can follow."""
 
     def __init__(self):
-        self.octets = b""
+        self.octets, self.version = b"", None
+
+    def length_of(self, kind):
+        return air.BURST_LENGTHS[self.version or 1] if kind == RX else LENGTHS.get(kind)
 
     def feed(self, octets):
         self.octets += octets
         while self.octets:
-            kind = self.octets[0]
-            if kind not in LENGTHS or len(self.octets) > 1 and self.octets[1] != LENGTHS[kind]:
+            kind, length = self.octets[0], self.length_of(self.octets[0])
+            if length is None or len(self.octets) > 1 and self.octets[1] != length:
                 yield None
                 return
-            if kind in (RX, ACTIVE) and len(self.octets) > 2 and self.octets[2] > 1:
+            # the slot stands before the 25 octets of an RX, and at the end of an ACTIVE
+            slot = {RX: length - 24, ACTIVE: 2}.get(kind, len(self.octets))
+            if len(self.octets) > slot and self.octets[slot] > 1:
                 yield None
                 return
-            if len(self.octets) < 2 + LENGTHS[kind]:
+            if len(self.octets) < 2 + length:
                 return
-            body, self.octets = self.octets[2:2 + LENGTHS[kind]], self.octets[2 + LENGTHS[kind]:]
+            body, self.octets = self.octets[2:2 + length], self.octets[2 + length:]
             if kind == RX and body[-1] & 15:
                 yield None
                 return
+            if self.version is None:
+                self.version = body[0] if kind == HELLO and body[0] in air.BURST_LENGTHS else 1
             yield kind, body
 
 
@@ -129,7 +137,9 @@ class Replay:
 
     def __init__(self, inputs, carriers):
         self.frames = {number: frames_of(octets) for number, octets in carriers.items()}
-        self.up, self.cutters, self.events = set(), {}, []
+        # of each carrier that is up its link, and the number of its last RX
+        self.up, self.newest = {}, {}
+        self.cutters, self.events = {}, []
         self.index = self.tick = 0
         for self.index, it in enumerate(inputs):
             self.take(it)
@@ -163,7 +173,7 @@ class Replay:
         """A connection ends."""
         self.cutters.pop(carrier, None)
         if carrier in self.up:
-            self.up.remove(carrier)
+            del self.up[carrier]
             self.note("lost", carrier=carrier, text=why)
 
     def frame(self, carrier, frame):
@@ -172,18 +182,24 @@ class Replay:
             return False
         kind, body = frame
         if kind == HELLO:
-            answer = self.next_frame(carrier)
-            if answer[0] == air.WELCOME_TYPE:
-                self.up.add(carrier)
+            welcome = self.next_frame(carrier) == (air.WELCOME_TYPE, body[:1])
+            if welcome:
+                self.up[carrier], self.newest[carrier] = air.Link(body[0]), None
                 self.note("up", carrier=carrier)
-            return answer[0] == air.WELCOME_TYPE
+            return welcome
         if kind == POLL:
             self.answered(carrier)
         elif kind == RX:
-            self.note("heard", carrier=carrier, slot=body[0], octets=air.meaning_of(body[1:]) or b"")
+            self.heard(carrier, *air.parts_of(body))
         elif kind == ACTIVE:
             self.note("active", carrier=carrier, slot=body[0])
         return kind != BYE
+
+    def heard(self, carrier, number, slot, burst):
+        """An RX: one with the number of the last is the same once more, and means nothing."""
+        if number is None or number != self.newest[carrier]:
+            self.note("heard", carrier=carrier, slot=slot, octets=air.meaning_of(burst) or b"")
+        self.newest[carrier] = number
 
     def next_frame(self, carrier):
         if not self.frames[carrier]:
@@ -194,9 +210,12 @@ class Replay:
         """The answer to a poll."""
         self.note("polled", carrier=carrier)
         while (frame := self.next_frame(carrier))[0] == air.TX_TYPE:
-            octets = air.meaning_of(frame[1][1:])
+            parts = self.up[carrier].tx(frame[1])
+            if parts is None:
+                raise SessionFault(f"carrier {carrier} was sent a TX of another version or number than was to come, at tick {self.tick}")
+            octets = air.meaning_of(parts[1])
             if octets is None:
                 raise SessionFault(f"carrier {carrier} was sent a burst that is no codeword with its check, at tick {self.tick}")
-            self.note("sent", carrier=carrier, slot=frame[1][0], octets=octets)
+            self.note("sent", carrier=carrier, slot=parts[0], octets=octets)
         if frame[0] != air.DONE_TYPE:
             raise SessionFault(f"frame {frame[0]:02X} in the answer to a poll of carrier {carrier}, at tick {self.tick}")

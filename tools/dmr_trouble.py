@@ -14,7 +14,7 @@ import time
 from collections import Counter, deque
 
 import dmr_air as air
-from dmr_play import PERIOD, Play
+from dmr_play import PERIOD, Backoff, Play
 
 # how long nothing goes wrong, at the beginning and at the end
 WARM_UP, QUIET = 8.0, 15.0
@@ -30,7 +30,10 @@ FLOOD = 180.0
 # floods the site, terms of 5,000 entries end some 15 times a second, so that a waiting worker has time for one or two parts in each
 SLOWED = 4
 
-NO_FRAMES = (b"\x06", b"\x01\x01", air.POLL[:1] + b"\x01", b"\x04\x01\x02", air.hello(0, 1), b"\xff" * 300, air.rx(0, b"\xff" * 25))
+NO_FRAMES = (
+    b"\x06", b"\x01\x01", air.POLL[:1] + b"\x01", b"\x04\x01\x02", air.hello(0, 1), b"\xff" * 300,
+    air.rx(0, b"\xff" * 25), air.rx(0, b"\xff" * 25, 0), air.rx(2, bytes(25), 0),
+)
 
 
 class TroubledCarrier:
@@ -47,8 +50,9 @@ class TroubledCarrier:
         self.hello_at, self.queued_since = 0.0, 0.0
         # what happens to it, until when, and why the controller has to end the connection
         self.trouble, self.until, self.must_end, self.down_since = None, 0.0, None, time.perf_counter()
+        self.link, self.again, self.backoff = None, b"", None
 
-    def connect(self, small=False, version=1):
+    def connect(self, small=False, version=None):
         self.stream = socket.socket()
         if small:
             # small segments and a small window keep what the controller's system takes before nothing more can be written small
@@ -62,7 +66,8 @@ class TroubledCarrier:
         self.play.selector.register(self.stream, selectors.EVENT_READ, self)
         self.counts["connections"] += 1
         self.hello_at = time.perf_counter()
-        self.send(air.hello(self.number, self.lpcn, version))
+        self.link, self.again, self.backoff = air.Link(self.play.version), b"", Backoff(self.play.site.plan)
+        self.send(air.hello(self.number, self.lpcn, self.play.version if version is None else version))
 
     def close(self, reason, now, reset=False):
         """The connection has ended; polls without an answer are lost with it."""
@@ -86,24 +91,25 @@ class TroubledCarrier:
 
     def poll(self, now):
         """Sends what is heard in a frame, and a poll."""
-        frames = b"".join(air.active(slot) for slot in (0, 1) if self.play.radios.talks(self.number, slot, now))
-        if self.number == self.play.site.control:
-            burst = self.play.radios.next_request(now)
-            if burst is not None:
-                frames += air.rx(0, burst)
-                self.counts["bursts sent"] += 1
-        self.awaited.append(time.perf_counter())
+        frames = self.play.heard(self, now)
+        self.awaits()
         self.stream.sendall(frames + air.POLL)
+
+    def awaits(self):
+        """A poll is sent."""
+        self.backoff.poll()
+        self.awaited.append(time.perf_counter())
         self.counts["polls"] += 1
 
     def begin(self, kind, now):
         """Something goes wrong with a connection that is in order."""
         self.counts[f"trouble: {kind}"] += 1
         if kind == "broken off":
-            self.send(air.rx(0, bytes(25))[:self.random.randrange(1, 28)])
+            octets = self.link.rx(0, bytes(25))
+            self.send(octets[:self.random.randrange(1, len(octets))])
             self.close(kind, now, reset=self.random.random() < 0.5)
         elif kind == "no frame":
-            self.send(self.random.choice(NO_FRAMES))
+            self.send(self.random.choice((*NO_FRAMES, air.rx(0, bytes(25), 0 if self.link.version == 1 else None))))
             self.trouble = self.must_end = kind
             self.until = now + SOON
         elif kind == "deaf":
@@ -117,13 +123,12 @@ class TroubledCarrier:
             self.trouble = self.must_end = kind
             self.until = now + self.play.site.plan["silence"] * 0.1 * SLOWED + SOON
         elif kind == "slow":
-            self.awaited.append(time.perf_counter())
-            self.counts["polls"] += 1
+            self.awaits()
             self.send(air.POLL[:1])
             self.trouble, self.until = kind, now + self.random.uniform(0.1, 2.0)
         elif kind == "refused":
             self.close("its carrier came again", now)
-            self.connect(version=2)
+            self.connect(version=self.random.choice((0, self.play.site.link_version + 1)))
             self.trouble = self.must_end = kind
             self.until = now + SOON
         else:
@@ -188,11 +193,12 @@ class TroubledCarrier:
     def frame(self, kind, body, received):
         if kind == air.TX_TYPE and self.awaited:
             self.sent = self.awaited[0]
-            self.play.burst(self, body[0], body[1:], received)
+            self.play.tx(self, body, received)
         elif kind == air.DONE_TYPE and self.awaited:
             self.sent = self.awaited.popleft()
+            self.backoff.awaited.popleft()
             self.play.times.append(received - self.sent)
-        elif kind == air.WELCOME_TYPE and not self.welcome:
+        elif kind == air.WELCOME_TYPE and not self.welcome and body[0] == self.link.version:
             self.welcome = True
             # the calls of a carrier that was lost have ended
             self.play.slots.lost(self.number, self.down_since, received)

@@ -56,9 +56,12 @@ soak: ## a million random inputs through the engine, compared with a reference m
 build/dmr_trunk build/dmr_decode build/dmr_refusals:
 	@echo "no $@: run 'make build' first"; exit 2
 
-serve-check: build/dmr_trunk ## the proved program serves sixteen carriers on loopback for half a minute; what comes back is checked. FAULTS=1: ten minutes of trouble
-	tools/carriers --site examples/sixteen_carriers.toml --program build/dmr_trunk \
-		$(if $(FAULTS),--faults --seconds 600,--seconds 30 --polls 10000)
+serve-check: build/dmr_trunk ## the proved program serves sixteen carriers on loopback for half a minute, in each version of the link; what comes back is checked. FAULTS=1: ten minutes of trouble
+ifdef FAULTS
+	tools/carriers --site examples/sixteen_carriers.toml --program build/dmr_trunk --faults --seconds 600
+else
+	for version in 2 1; do tools/carriers --site examples/sixteen_carriers.toml --program build/dmr_trunk --link-version $$version --seconds 30 --polls 10000 || exit; done
+endif
 
 serve-hostile: build/dmr_trunk ## the proved program served to carriers and strangers that behave badly (some minutes)
 	tools/serve-hostile build/dmr_trunk

@@ -56,6 +56,7 @@ impl Book {
             return Err((OutOfMemory, site));
         };
         let Ok(journal) = Vec::with_capacity(alloc, limit) else {
+            drop(opening);
             return Err((OutOfMemory, site));
         };
         site.keeps();
@@ -136,7 +137,13 @@ impl Book {
         ensures site { result.0 ≡ site_after_entries self.opening self.entries }
         ensures journal { result.1 ≡ self.entries }
     {
-        let Book { site, journal, .. } = self;
+        let Book {
+            opening,
+            site,
+            journal,
+            ..
+        } = self;
+        drop(opening);
         (site, Journal::new(journal))
     }
 }

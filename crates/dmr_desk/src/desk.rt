@@ -96,9 +96,16 @@ impl<L: Ledger> Locked<L> {
             actors,
             ..
         } = self;
-        let (views, mut all) = gathered(seats, rest, actors, number)?;
-        total.audit(&mut all);
-        audited(book, views, opening, limit)
+        match gathered(seats, rest, actors, number) {
+            Ok((views, mut all)) => {
+                total.audit(&mut all);
+                audited(book, views, opening, limit)
+            }
+            Err(fault) => {
+                drop(book);
+                Err(fault)
+            }
+        }
     }
 }
 
@@ -175,6 +182,7 @@ impl<L: Ledger> SharedDesk<L> {
         };
         let (total, mut rest) = blank.open::<L>();
         let Ok(seats) = seats_for(alloc, &mut rest, limit, actors) else {
+            drop(opening);
             return Err((OpenFault::OutOfMemory, site));
         };
         match Book::new(alloc, site, limit) {
@@ -196,7 +204,10 @@ impl<L: Ledger> SharedDesk<L> {
                     seats,
                 ))
             }
-            Err((_, site)) => Err((OpenFault::OutOfMemory, site)),
+            Err((_, site)) => {
+                drop(opening);
+                Err((OpenFault::OutOfMemory, site))
+            }
         }
     }
 
@@ -248,6 +259,8 @@ impl<L: Ledger> SharedDesk<L> {
         } = self;
         let locked = locked.into_inner();
         locked.book.keeps();
-        locked.audit(&opening, limit, actors, seats)
+        let closed = locked.audit(&opening, limit, actors, seats);
+        drop(opening);
+        closed
     }
 }

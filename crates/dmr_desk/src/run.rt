@@ -1,11 +1,12 @@
 //! Running a term.
 
-ghost use Rattle.std.specs.Prelude.{◌≡◌, ◌+◌, ◌-◌, ◌≤◌, ◌↔◌, ℕ, IfErr, IfOk, IsTrue, None, OnOk, Some, map, slice_get, vec_len};
+ghost use Rattle.std.specs.Prelude.{◌≡◌, ◌+◌, ◌-◌, ◌≤◌, ◌↔◌, ℕ, [], IfErr, IfOk, IsTrue, None, OnOk, Some, map, slice_get, vec_capacity, vec_len};
 ghost use Rattle.dmr_desk.specs.Opening.{IsLimit};
 ghost use Rattle.dmr_desk.specs.Refusing.{AreStations, IsFaultFor, IsTermFault, carrier_of_peer, numbers_from};
 ghost use Rattle.dmr_desk.specs.Term.{IsTerm, end_of_term, start_of_term};
 ghost use Rattle.dmr_desk.specs.Work.{stand};
 
+use crate::actors::LinkWork;
 use crate::desk::{PARTS, SharedDesk};
 use crate::ending::Ending;
 use crate::fault::{OpenFault, TermFault};
@@ -15,7 +16,7 @@ use crate::term::{Back, Term, finish, run_threads};
 use arrayvec::ArrayVec;
 use dmr_core::Site;
 use dmr_link::Gate;
-use dmr_pdu::CarrierNo;
+use dmr_pdu::{CarrierNo, OutOfMemory};
 use dmr_plan::Plan;
 use dmr_wire::Port;
 use std::alloc::Global;
@@ -45,6 +46,26 @@ fn are_stations<P, G>(plan: &Plan, many: u32, stations: &[Station<P, G>]) -> boo
             are_stations(plan, many - 1, rest)
         }
     }
+}
+
+/// Room for what the workers of so many stations, the ticker and the console hand back. `Err`: an allocation was refused.
+fn room_for<S: Drop, L: Ledger>(
+    alloc: Global,
+    stations: usize,
+) -> Result<(Vec<LinkWork<S, L>>, Back<S, L>), OutOfMemory>
+    requires few { stations ≤ 16 }
+    ensures room { IfOk result (λ r. (r.0.items ≡ []) × (stations ≤ vec_capacity r.0)) }
+    ensures stations { IfOk result (λ r. (r.1.stations.items ≡ []) × (stations ≤ vec_capacity r.1.stations)) }
+    ensures seats { IfOk result (λ r. (r.1.seats.items ≡ []) × (stations + 2 ≤ vec_capacity r.1.seats)) }
+    ensures ends { IfOk result (λ r. r.1.ends.items ≡ []) }
+{
+    let room = Vec::with_capacity(alloc, stations)?;
+    let back = Back {
+        stations: Vec::with_capacity(alloc, stations)?,
+        seats: Vec::with_capacity(alloc, stations + 2)?,
+        ends: ArrayVec::new(),
+    };
+    Ok((room, back))
 }
 
 /// A term over a ledger, of at most 16 stations.
@@ -79,25 +100,21 @@ where
     let actors = count as u8 + 2;
     let (desk, seats) = match SharedDesk::<L>::open(alloc, blank, site, limit, actors) {
         Ok(opened) => opened,
-        Err((fault, _)) => return Err(TermFault::Open(fault)),
+        Err((fault, site)) => {
+            drop(site);
+            return Err(TermFault::Open(fault));
+        }
     };
-    let Ok(room) = Vec::with_capacity(alloc, count) else {
+    let Ok((room, back)) = room_for(alloc, count) else {
+        drop(desk);
         return Err(TermFault::Open(OpenFault::OutOfMemory));
-    };
-    let Ok(stations_room) = Vec::with_capacity(alloc, count) else {
-        return Err(TermFault::Open(OpenFault::OutOfMemory));
-    };
-    let Ok(seats_room) = Vec::with_capacity(alloc, count + 2) else {
-        return Err(TermFault::Open(OpenFault::OutOfMemory));
-    };
-    let back = Back {
-        stations: stations_room,
-        seats: seats_room,
-        ends: ArrayVec::new(),
     };
     match run_threads(rt, &desk, stations, seats, pacer, console, room) {
         Some(all) => finish(rt, desk, limit, all, back),
-        None => Err(TermFault::NoThread),
+        None => {
+            drop(desk);
+            Err(TermFault::NoThread)
+        }
     }
 }
 

@@ -180,7 +180,10 @@ where
         Err(fault) => return Err(TermFault::Audit(fault)),
     };
     match early(&report.journal, limit, &ends) {
-        Some(actor) => Err(TermFault::Early(actor)),
+        Some(actor) => {
+            drop(report);
+            Err(TermFault::Early(actor))
+        }
         None => Ok(Term {
             report,
             ends,

@@ -12,4 +12,4 @@ of_some_book (Ok report) desk own seats pages held same kept fault = tt
 of_some_book (Err why) desk own seats pages held same kept fault = (pages, held, kept, subst (λ (d : Opened). IsFault d seats pages held why) same fault)
 
 pub returns-clause-fault : goal.returns-clause-fault
-returns-clause-fault g c = of_some_book c.audit.result _ c.args.self _ _ _ c.self.view_is c.keeps.ensures.kept c.audit.ensures.fault
+returns-clause-fault g c = of_some_book c.audit-closed.result _ c.args.self _ _ _ c.self.view_is c.keeps.ensures.kept c.audit-closed.ensures.fault

@@ -73,6 +73,23 @@ pub enum PortFault {
     OutOfMemory,
 }
 
+/// Listens on an address, and the poll that tells of connections.
+fn listen<R: Net>(rt: &R, address: SocketAddr) -> Result<(Poll, TcpListener), PortFault> {
+    let Ok(poll) = Poll::new(rt) else {
+        return Err(PortFault::NoPoll);
+    };
+    let Ok(mut listener) = TcpListener::bind(rt, address) else {
+        return Err(PortFault::CannotListen);
+    };
+    let registered = poll
+        .registry()
+        .register(&mut listener, Token(0), Interest::READABLE);
+    match registered {
+        Ok(()) => Ok((poll, listener)),
+        Err(_) => Err(PortFault::NoPoll),
+    }
+}
+
 impl<'a, R: Log> SocketPort<'a, R> {
     /// Listens on an address. A connection is silent after as many waits in a row as `silence` says.
     pub fn open(
@@ -96,19 +113,7 @@ impl<'a, R: Log> SocketPort<'a, R> {
             Ok(None) => return Err(PortFault::NoPoll),
             Err(OutOfMemory) => return Err(PortFault::OutOfMemory),
         };
-        let Ok(poll) = Poll::new(rt) else {
-            return Err(PortFault::NoPoll);
-        };
-        let Ok(mut listener) = TcpListener::bind(rt, address) else {
-            return Err(PortFault::CannotListen);
-        };
-        if poll
-            .registry()
-            .register(&mut listener, Token(0), Interest::READABLE)
-            .is_err()
-        {
-            return Err(PortFault::NoPoll);
-        }
+        let (poll, listener) = listen(rt, address)?;
         Ok(SocketPort {
             whose,
             listener,

@@ -182,7 +182,9 @@ fn outputs_of(alloc: Global, plan: &Plan, inputs: &[Input<'_>]) -> Result<Output
 {
     one_legal_journal();
     let mut engine = Engine::new(alloc, *plan)?;
-    match engine.run(alloc, inputs) {
+    let run = engine.run(alloc, inputs);
+    drop(engine);
+    match run {
         Ok(outputs) => Ok(outputs),
         Err(_) => Err(OutOfMemory),
     }

@@ -9,7 +9,7 @@ use dmr_core::Site;
 use dmr_desk::{ConsoleStation, Station, Term, TermFault, run_term};
 use dmr_link::{ConsoleLink, Link, OpenGate, greatest_version};
 use dmr_pdu::{CarrierNo, OutOfMemory};
-use dmr_plan::Plan;
+use dmr_plan::{CarrierRow, Plan};
 use log::Log;
 use std::alloc::Global;
 use std::net::{IpAddr, Ipv4Addr, Net, SocketAddr, SocketAddrV4};
@@ -33,13 +33,16 @@ pub enum ServeFault {
 /// A carrier's station.
 type CarrierAt<'a, R> = Station<SocketPort<'a, R>, OpenGate>;
 
+/// The console's station.
+type ConsoleAt<'a, R> = ConsoleStation<SocketPort<'a, R>>;
+
 /// What goes from term to term.
 #[derive(Drop)]
 struct Standing<'a, R> {
     site: Site,
     stations: Vec<CarrierAt<'a, R>>,
     pacer: ClockPacer<'a, R>,
-    console: ConsoleStation<SocketPort<'a, R>>,
+    console: ConsoleAt<'a, R>,
     notes: Notes<'a, R>,
 }
 
@@ -68,6 +71,21 @@ fn open_port<'a, R: Net + Log>(
     }
 }
 
+/// The station of a carrier on its channel, which listens on its port.
+fn open_station<'a, R: Net + Log>(
+    rt: &'a R,
+    alloc: Global,
+    plan: &Plan,
+    carrier: CarrierNo,
+    row: &CarrierRow,
+) -> Result<CarrierAt<'a, R>, ServeFault> {
+    Ok(Station {
+        link: Link::new(carrier, row.lpcn, greatest_version(plan)),
+        port: open_port(rt, alloc, plan, Whose::Carrier(carrier), row.port)?,
+        gate: OpenGate,
+    })
+}
+
 /// A station for each carrier of the plan, by number.
 fn open_stations<'a, R: Net + Log>(
     rt: &'a R,
@@ -78,17 +96,32 @@ fn open_stations<'a, R: Net + Log>(
     for number in 0..16u32 {
         let carrier = CarrierNo::new(number);
         if let Some(row) = plan.carrier_with(carrier) {
-            let station = Station {
-                link: Link::new(carrier, row.lpcn, greatest_version(plan)),
-                port: open_port(rt, alloc, plan, Whose::Carrier(carrier), row.port)?,
-                gate: OpenGate,
-            };
+            let station = open_station(rt, alloc, plan, carrier, &row)?;
             if stations.push(station).is_err() {
                 return Err(ServeFault::OutOfMemory);
             }
         }
     }
     Ok(stations)
+}
+
+/// The stations, the console and the notes that the first term begins with: ports with no connection.
+fn open_ports<'a, R: Net + Log>(
+    rt: &'a R,
+    alloc: Global,
+    plan: &Plan,
+) -> Result<(Vec<CarrierAt<'a, R>>, ConsoleAt<'a, R>, Notes<'a, R>), ServeFault> {
+    let notes = match Notes::new(rt, alloc) {
+        Ok(Some(notes)) => notes,
+        Ok(None) => return Err(ServeFault::NoPoll),
+        Err(OutOfMemory) => return Err(ServeFault::OutOfMemory),
+    };
+    let stations = open_stations(rt, alloc, plan)?;
+    let console = ConsoleStation {
+        link: ConsoleLink::new(),
+        port: open_port(rt, alloc, plan, Whose::Console, plan.console_port())?,
+    };
+    Ok((stations, console, notes))
 }
 
 /// What the first term begins with: a site on which nothing stands, and ports with no connection.
@@ -100,23 +133,19 @@ fn open_all<'a, R: Net + Log + Clock>(
     let Ok(site) = Site::new(alloc, *plan) else {
         return Err(ServeFault::OutOfMemory);
     };
-    let notes = match Notes::new(rt, alloc) {
-        Ok(Some(notes)) => notes,
-        Ok(None) => return Err(ServeFault::NoPoll),
-        Err(OutOfMemory) => return Err(ServeFault::OutOfMemory),
-    };
-    let stations = open_stations(rt, alloc, plan)?;
-    let console = ConsoleStation {
-        link: ConsoleLink::new(),
-        port: open_port(rt, alloc, plan, Whose::Console, plan.console_port())?,
-    };
-    Ok(Standing {
-        site,
-        stations,
-        pacer: ClockPacer::new(rt, plan.tick_ms()),
-        console,
-        notes,
-    })
+    match open_ports(rt, alloc, plan) {
+        Ok((stations, console, notes)) => Ok(Standing {
+            site,
+            stations,
+            pacer: ClockPacer::new(rt, plan.tick_ms()),
+            console,
+            notes,
+        }),
+        Err(fault) => {
+            drop(site);
+            Err(fault)
+        }
+    }
 }
 
 /// Notes what is listened on.
@@ -183,5 +212,6 @@ pub fn serve<R: Net + Log + Clock + Wait + Threads + Sync>(
     for _ in 0..terms {
         standing = serve_term(rt, alloc, limit, standing)?;
     }
+    drop(standing);
     Ok(())
 }

@@ -110,11 +110,11 @@ fn command<'a>(alloc: Global) -> Result<Command<'a>, OutOfMemory>
     ensures app { IfOk result (λ c. app_of c ≡ command) }
     ensures site { IfOk result (λ c. (m : ArgMatches) → IsParsedFrom c m → is_some (first_value (found_of m) (codes "site")) ≡ true) }
 {
-    let site = site_option(alloc);
-    let script = script_option(alloc);
-    let serve = serve_flag(alloc);
-    let terms = terms_option(alloc);
-    titled(alloc).arg(site)?.arg(script)?.arg(serve)?.arg(terms)
+    titled(alloc)
+        .arg(site_option(alloc))?
+        .arg(script_option(alloc))?
+        .arg(serve_flag(alloc))?
+        .arg(terms_option(alloc))
 }
 
 /// A command line of this program's name, with what `--help` says of it, and no option yet.

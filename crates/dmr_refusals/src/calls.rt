@@ -1,6 +1,6 @@
 //! Calls of the plan, the site and what it stands on, and of the port in memory.
 
-use crate::verdict::{Verdict, verdict_if};
+use crate::verdict::{Verdict, is_made, verdict_if, verdict_of_copy};
 use dmr_access::Access;
 use dmr_calls::{Calls, Line};
 use dmr_core::{Event, Site};
@@ -44,7 +44,7 @@ pub fn busy_site(alloc: Global) -> Option<Site> {
     Some(site)
 }
 
-/// Whether two sites are equal, answer some events alike, and are equal then.
+/// Whether two sites are equal, answer some events alike, and are equal then. They go then.
 pub fn go_on_alike(mut site: Site, mut other: Site) -> bool {
     let mut alike = site == other;
     let carrier = CarrierNo::new(0);
@@ -52,7 +52,10 @@ pub fn go_on_alike(mut site: Site, mut other: Site) -> bool {
     for event in &events {
         alike = alike && site.apply(*event) == other.apply(*event);
     }
-    alike && site == other
+    alike = alike && site == other;
+    drop(site);
+    drop(other);
+    alike
 }
 
 /// Reads a site file.
@@ -69,10 +72,10 @@ pub fn new_site(alloc: Global) -> Verdict {
     let Some(plan) = plan(alloc) else {
         return Verdict::NotTried;
     };
-    if Site::new(alloc, plan).is_ok() {
+    if is_made(Site::new(alloc, plan)) {
         return Verdict::Done;
     }
-    verdict_if(Site::new(alloc, plan).is_ok(), Verdict::Refused)
+    verdict_if(is_made(Site::new(alloc, plan)), Verdict::Refused)
 }
 
 /// Two registered radios.
@@ -85,13 +88,10 @@ fn registry(alloc: Global) -> Option<Registry> {
 
 /// Copies registered radios.
 pub fn clone_registry(alloc: Global) -> Verdict {
-    let (Some(registry), Some(other)) = (registry(alloc), registry(alloc)) else {
+    let Some((registry, other)) = registry(alloc).zip(registry(alloc)) else {
         return Verdict::NotTried;
     };
-    match registry.try_clone(alloc) {
-        Ok(copy) => verdict_if(copy == other, Verdict::Done),
-        Err(_) => verdict_if(registry == other, Verdict::Refused),
-    }
+    verdict_of_copy(registry.try_clone(alloc), registry, other)
 }
 
 /// A disturbed control slot.
@@ -105,13 +105,10 @@ fn access(alloc: Global) -> Option<Access> {
 
 /// Copies the noise window.
 pub fn clone_access(alloc: Global) -> Verdict {
-    let (Some(access), Some(other)) = (access(alloc), access(alloc)) else {
+    let Some((access, other)) = access(alloc).zip(access(alloc)) else {
         return Verdict::NotTried;
     };
-    match access.try_clone(alloc) {
-        Ok(copy) => verdict_if(copy == other, Verdict::Done),
-        Err(_) => verdict_if(access == other, Verdict::Refused),
-    }
+    verdict_of_copy(access.try_clone(alloc), access, other)
 }
 
 /// The slots of a site whose carrier 0 is up, and for which a PDU waits.
@@ -130,13 +127,10 @@ fn pool(alloc: Global) -> Option<Pool> {
 
 /// Copies slots and outboxes.
 pub fn clone_pool(alloc: Global) -> Verdict {
-    let (Some(pool), Some(other)) = (pool(alloc), pool(alloc)) else {
+    let Some((pool, other)) = pool(alloc).zip(pool(alloc)) else {
         return Verdict::NotTried;
     };
-    match pool.try_clone(alloc) {
-        Ok(copy) => verdict_if(copy == other, Verdict::Done),
-        Err(_) => verdict_if(pool == other, Verdict::Refused),
-    }
+    verdict_of_copy(pool.try_clone(alloc), pool, other)
 }
 
 /// A line.
@@ -153,22 +147,22 @@ fn calls(alloc: Global) -> Option<Calls> {
 
 /// Copies asks, lines and calls.
 pub fn clone_calls(alloc: Global) -> Verdict {
-    let (Some(calls), Some(other)) = (calls(alloc), calls(alloc)) else {
+    let Some((calls, other)) = calls(alloc).zip(calls(alloc)) else {
         return Verdict::NotTried;
     };
-    match calls.try_clone(alloc) {
-        Ok(copy) => verdict_if(copy == other, Verdict::Done),
-        Err(_) => verdict_if(calls == other, Verdict::Refused),
-    }
+    verdict_of_copy(calls.try_clone(alloc), calls, other)
 }
 
 /// Copies a site.
 pub fn clone_site(alloc: Global) -> Verdict {
-    let (Some(site), Some(other)) = (busy_site(alloc), busy_site(alloc)) else {
+    let Some((site, other)) = busy_site(alloc).zip(busy_site(alloc)) else {
         return Verdict::NotTried;
     };
     match site.try_clone(alloc) {
-        Ok(copy) => verdict_if(go_on_alike(copy, other), Verdict::Done),
+        Ok(copy) => {
+            drop(site);
+            verdict_if(go_on_alike(copy, other), Verdict::Done)
+        }
         Err(_) => verdict_if(go_on_alike(site, other), Verdict::Refused),
     }
 }
@@ -185,7 +179,7 @@ fn steps(alloc: Global) -> Option<Vec<Step>> {
 
 /// Makes a port in memory, which hands its steps back where it is refused.
 pub fn new_port(alloc: Global) -> Verdict {
-    let (Some(given), Some(other)) = (steps(alloc), steps(alloc)) else {
+    let Some((given, other)) = steps(alloc).zip(steps(alloc)) else {
         return Verdict::NotTried;
     };
     match MemoryPort::new(alloc, given, 64) {

@@ -12,26 +12,37 @@ use std::sync::ledger::{Blank, Ledger};
 
 /// Makes a book.
 pub fn new_book(alloc: Global) -> Verdict {
-    let (Some(site), Some(other)) = (busy_site(alloc), busy_site(alloc)) else {
+    let Some((site, other)) = busy_site(alloc).zip(busy_site(alloc)) else {
         return Verdict::NotTried;
     };
     match Book::new(alloc, site, 100) {
-        Ok(_) => Verdict::Done,
+        Ok(book) => {
+            drop(book);
+            drop(other);
+            Verdict::Done
+        }
         Err((_, back)) => verdict_if(go_on_alike(back, other), Verdict::Refused),
     }
 }
 
 /// Opens a desk for four actors.
 pub fn open_desk(alloc: Global) -> Verdict {
-    let (Some(site), Some(other)) = (busy_site(alloc), busy_site(alloc)) else {
+    let Some((site, other)) = busy_site(alloc).zip(busy_site(alloc)) else {
         return Verdict::NotTried;
     };
     match refused::<Brand>(alloc, Blank::new(PARTS), site) {
-        None => Verdict::Done,
+        None => {
+            drop(other);
+            Verdict::Done
+        }
         Some((OpenFault::OutOfMemory, back)) => {
             verdict_if(go_on_alike(back, other), Verdict::Refused)
         }
-        Some(_) => Verdict::Wrong,
+        Some((_, back)) => {
+            drop(back);
+            drop(other);
+            Verdict::Wrong
+        }
     }
 }
 

@@ -1,7 +1,7 @@
 //! Calls of the engine: a story of two carriers and an operator.
 
 use crate::calls::plan;
-use crate::verdict::{Verdict, verdict_if};
+use crate::verdict::{Verdict, is_made, verdict_if};
 use dmr_link::{Engine, Input, Outputs};
 use dmr_pdu::CarrierNo;
 use std::alloc::Global;
@@ -73,54 +73,60 @@ pub fn new_engine(alloc: Global) -> Verdict {
     let Some(plan) = plan(alloc) else {
         return Verdict::NotTried;
     };
-    if Engine::new(alloc, plan).is_ok() {
+    if is_made(Engine::new(alloc, plan)) {
         return Verdict::Done;
     }
-    verdict_if(engine(alloc).is_some(), Verdict::Refused)
+    verdict_if(is_made(Engine::new(alloc, plan)), Verdict::Refused)
 }
 
 /// Runs an engine over the story. Where it is refused, it has put out what the inputs that it took put out, and the others on the
 /// same engine give the rest.
 pub fn run_engine(alloc: Global) -> Verdict {
-    let (Some(mut engine), Some(other)) = (engine(alloc), engine(alloc)) else {
+    let Some((mut engine, other)) = engine(alloc).zip(engine(alloc)) else {
         return Verdict::NotTried;
     };
     let inputs = story();
     match engine.run(alloc, inputs.as_slice()) {
-        Ok(outputs) => verdict_if(are_whole(&outputs, &Outputs::new(alloc)), Verdict::Done),
+        Ok(outputs) => {
+            drop(engine);
+            drop(other);
+            verdict_if(are_whole(&outputs, &Outputs::new(alloc)), Verdict::Done)
+        }
         Err(fault) => {
             let front = inputs.get(..fault.done).unwrap_or(&[]);
             let back = inputs.get(fault.done..).unwrap_or(&[]);
-            let right = puts_out(alloc, other, front, &fault.outputs)
-                && gives_the_rest(alloc, engine, back, &fault.outputs);
-            verdict_if(right, Verdict::Refused)
+            let same = puts_out(alloc, other, front, &fault.outputs);
+            let whole = gives_the_rest(alloc, engine, back, &fault.outputs);
+            verdict_if(same && whole, Verdict::Refused)
         }
     }
 }
 
+/// What an engine puts out that takes these inputs and goes then; None where it is refused.
+fn run_to_end(alloc: Global, mut engine: Engine, inputs: &[Input<'_>]) -> Option<Outputs> {
+    let run = engine.run(alloc, inputs);
+    drop(engine);
+    run.ok()
+}
+
 /// Whether an engine that takes these inputs puts out the same.
-fn puts_out(alloc: Global, mut engine: Engine, inputs: &[Input<'_>], outputs: &Outputs) -> bool {
-    match engine.run(alloc, inputs) {
-        Ok(others) => {
+fn puts_out(alloc: Global, engine: Engine, inputs: &[Input<'_>], outputs: &Outputs) -> bool {
+    match run_to_end(alloc, engine, inputs) {
+        Some(others) => {
             let (first, second) = (CarrierNo::new(0), CarrierNo::new(1));
             others.carrier(first) == outputs.carrier(first)
                 && others.carrier(second) == outputs.carrier(second)
                 && others.console() == outputs.console()
         }
-        Err(_) => false,
+        None => false,
     }
 }
 
 /// Whether an engine that takes these inputs puts out what these outputs lack.
-fn gives_the_rest(
-    alloc: Global,
-    mut engine: Engine,
-    inputs: &[Input<'_>],
-    outputs: &Outputs,
-) -> bool {
-    match engine.run(alloc, inputs) {
-        Ok(rest) => are_whole(outputs, &rest),
-        Err(_) => false,
+fn gives_the_rest(alloc: Global, engine: Engine, inputs: &[Input<'_>], outputs: &Outputs) -> bool {
+    match run_to_end(alloc, engine, inputs) {
+        Some(rest) => are_whole(outputs, &rest),
+        None => false,
     }
 }
 

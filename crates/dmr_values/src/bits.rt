@@ -46,18 +46,32 @@ const BURST: [u8; 25] = [
     0x13, 0x8C, 0x9A, 0x38, 0xF9, 0x62, 0x48, 0xE1, 0x80,
 ];
 
+/// 0E begins 0000 1110; the last octet, 80, has the bits 192 to 195.
+#[test]
+fn bits_of_a_word(rt: HostRuntime) -> Result<(), Fail> {
+    let word = Word196::from_octets(&BURST)?;
+    for (place, bit) in [(3usize, false), (4, true), (192, true), (193, false)] {
+        assert_eq!(rt; word.bit(place), bit, "place {place}");
+    }
+    Ok(())
+}
+
 #[test]
 fn octets_and_back(rt: HostRuntime) -> Result<(), Fail> {
     let mut word = Word196::from_octets(&BURST)?;
     assert_eq!(rt; word.to_octets(), BURST);
-    // 0E begins 0000 1110; the last octet, 80, has the bits 192 to 195.
-    assert!(rt; !word.bit(3) && word.bit(4) && word.bit(192) && !word.bit(193));
     word.flip(4);
     word.set(193, true);
     let mut other = BURST;
     other[0] = 0x06;
     other[24] = 0xC0;
     assert_eq!(rt; word.to_octets(), other);
+    Ok(())
+}
+
+#[test]
+fn zero(rt: HostRuntime) -> Result<(), Fail> {
+    let word = Word196::from_octets(&BURST)?;
     assert_eq!(rt; Word196::zero().to_octets(), [0; 25]);
     assert!(rt; word != Word196::zero());
     Ok(())

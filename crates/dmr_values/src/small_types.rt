@@ -1,32 +1,76 @@
 //! Worked values of the small types: channels, slots, reasons, kinds, addresses and lists.
 
-use dmr_pdu::{Address, Blank, BoundedList, CarrierNo, Kind, Lpcn, Options, Reason, Slot, SlotNo};
+use crate::lines::{cut, told_and_wanted};
+use dmr_pdu::{
+    Address, Blank, BoundedList, CarrierNo, Kind, Lpcn, Options, OutOfMemory, Reason, Slot, SlotNo,
+};
 use std::test::Fail;
 
-#[test]
-fn channels(rt: HostRuntime) -> Result<(), Fail> {
-    assert_eq!(rt; Lpcn::try_new(0), None);
-    assert_eq!(rt; Lpcn::try_new(4095), None);
-    assert_eq!(rt; Lpcn::try_new(1), Some(Lpcn::blank()));
-    let highest = Lpcn::try_new(4094).ok_or("in range")?;
-    assert_eq!(rt; format!(in rt.alloc(); "{highest}")?.as_str(), "4094");
-    Ok(())
+/// Numbers that are tried, each with how it is written; `none` where it is out of range. Behind an address stands its number;
+/// of a place its carrier and slot are written, and behind them its place.
+const NUMBERS: &str = "\
+channel 0 => none
+channel 1 => 1
+channel 4094 => 4094
+channel 4095 => none
+carrier 15 => 15
+carrier 16 => none
+slot 1 => 1
+slot 2 => none
+place 2 => 1 0 2
+place 31 => 15 1 31
+address 16777215 => 16777215 16777215
+address 16777216 => none
+";
+
+/// Writes a number of a kind.
+fn write_number(said: &mut String, kind: &str, number: u32) -> Result<(), OutOfMemory> {
+    match kind {
+        "channel" => match Lpcn::try_new(number) {
+            Some(channel) => write!(said, "{channel}"),
+            None => said.push_str("none"),
+        },
+        "carrier" => match CarrierNo::try_new(number) {
+            Some(carrier) => write!(said, "{carrier}"),
+            None => said.push_str("none"),
+        },
+        "slot" => match SlotNo::try_new(number) {
+            Some(slot) => write!(said, "{slot}"),
+            None => said.push_str("none"),
+        },
+        "address" => match Address::try_new(number) {
+            Some(address) => write!(said, "{address} {}", address.get()),
+            None => said.push_str("none"),
+        },
+        "place" => write_place(said, number as usize),
+        _ => said.push_str("?"),
+    }
+}
+
+/// Writes the slot of a place, 0 to 31, and its place.
+fn write_place(said: &mut String, place: usize) -> Result<(), OutOfMemory> {
+    let slot = &Slot::at(place % 32);
+    write!(said, "{} {} {}", slot.carrier, slot.slot, slot.index())
 }
 
 #[test]
-fn slots(rt: HostRuntime) -> Result<(), Fail> {
-    assert_eq!(rt; CarrierNo::try_new(16), None);
-    assert_eq!(rt; SlotNo::try_new(2), None);
-    let slot = Slot {
-        carrier: CarrierNo::try_new(15).ok_or("in range")?,
-        slot: SlotNo::try_new(1).ok_or("in range")?,
-    };
-    assert!(rt; Slot::blank() < slot);
-    assert_eq!(rt; Slot::at(31), slot);
-    assert_eq!(rt; Slot::at(2).index(), 2);
-    let text = format!(in rt.alloc(); "{} {}", slot.carrier, slot.slot)?;
-    assert_eq!(rt; text.as_str(), "15 1");
+fn numbers(rt: HostRuntime) -> Result<(), Fail> {
+    for line in NUMBERS.lines() {
+        let (told, wanted) = told_and_wanted(line);
+        let (kind, digits) = cut(told);
+        let mut said = String::new(rt.alloc());
+        write_number(&mut said, kind, digits.parse::<u32>().unwrap_or(0))?;
+        assert_eq!(rt; said.as_str(), wanted, "{line}");
+    }
     Ok(())
+}
+
+/// The least of each.
+#[test]
+fn blanks(rt: HostRuntime) {
+    assert_eq!(rt; Lpcn::try_new(1), Some(Lpcn::blank()));
+    assert!(rt; Slot::blank() < Slot::at(31));
+    assert!(rt; Address::blank() < Address::new(0xFF_FFFF));
 }
 
 #[test]
@@ -70,36 +114,71 @@ fn kinds(rt: HostRuntime) {
 }
 
 #[test]
-fn addresses(rt: HostRuntime) -> Result<(), Fail> {
-    let highest = Address::try_new(0xFF_FFFF).ok_or("24 bits")?;
-    assert_eq!(rt; highest.get(), 16_777_215);
-    assert_eq!(rt; Address::try_new(0x100_0000), None);
-    assert!(rt; Address::blank() < highest);
-    let text = format!(in rt.alloc(); "{highest}")?;
-    assert_eq!(rt; text.as_str(), "16777215");
+fn options(rt: HostRuntime) {
     assert_eq!(rt; Options::new(127).get(), 127);
-    Ok(())
+}
+
+/// Lists by their entries, each with its length, whether it is empty and whether it is full; its entries by number; and how
+/// it is shown.
+const LISTS: &str = "\
+none => 0 true false: []
+91 => 1 false false: 91 [Address { number: 91 }]
+91 1001 => 2 false false: 91 1001 [Address { number: 91 }, Address { number: 1001 }]
+91 1001 0 => 3 false true: 91 1001 0 [Address { number: 91 }, Address { number: 1001 }, Address { number: 0 }]
+";
+
+/// The address of a number.
+fn address_of(digits: &str) -> Option<Address> {
+    Address::try_new(digits.parse::<u32>().ok()?)
+}
+
+/// Adds an address to a list, where there is room for it.
+fn add(list: &mut BoundedList<Address, 3>, address: Address) {
+    if list.len() < 3 {
+        list.push(address);
+    }
+}
+
+/// The list of these addresses.
+fn list_of(words: &str) -> BoundedList<Address, 3> {
+    let mut list = BoundedList::<Address, 3>::new();
+    for digits in words.split(' ') {
+        if let Some(address) = address_of(digits) {
+            add(&mut list, address);
+        }
+    }
+    list
+}
+
+/// Writes a list.
+fn write_list(said: &mut String, list: &BoundedList<Address, 3>) -> Result<(), OutOfMemory> {
+    let (is_empty, is_full) = (list.is_empty(), list.is_full());
+    write!(said, "{} {is_empty} {is_full}: ", list.len())?;
+    for address in list.as_slice() {
+        write!(said, "{} ", address.get())?;
+    }
+    write!(said, "{list:?}")
 }
 
 #[test]
 fn lists_of_addresses(rt: HostRuntime) -> Result<(), Fail> {
-    let mut list = BoundedList::<Address, 3>::new();
-    assert!(rt; list.is_empty() && !list.is_full());
-    list.push(Address::new(91));
-    list.push(Address::new(1001));
+    for line in LISTS.lines() {
+        let (words, wanted) = told_and_wanted(line);
+        let mut said = String::new(rt.alloc());
+        write_list(&mut said, &list_of(words))?;
+        assert_eq!(rt; said.as_str(), wanted, "{line}");
+    }
+    Ok(())
+}
+
+/// A copy is a list of its own.
+#[test]
+fn copies_of_lists(rt: HostRuntime) -> Result<(), Fail> {
+    let list = list_of("91 1001");
+    let again = list.clone()?;
     let mut copy = list;
-    assert!(rt; copy == list);
-    copy.push(Address::new(0));
-    assert!(rt; copy != list && copy.is_full());
-    assert_eq!(rt; list.len(), 2);
-    assert_eq!(rt;
-        list.as_slice(),
-        [Address::new(91), Address::new(1001)].as_slice()
-    );
-    assert!(rt; list.clone()? == list);
-    let mut one = BoundedList::<Address, 3>::new();
-    one.push(Address::new(91));
-    let text = format!(in rt.alloc(); "{one:?}")?;
-    assert_eq!(rt; text.as_str(), "[Address { number: 91 }]");
+    assert!(rt; copy == list && again == list);
+    add(&mut copy, Address::new(0));
+    assert!(rt; copy != list && copy.is_full() && list.len() == 2);
     Ok(())
 }

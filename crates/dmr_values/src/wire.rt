@@ -1,142 +1,258 @@
 //! What a port in memory answers, call by call, and what is kept of it.
 
-use dmr_wire::{Connect, Entry, Got, MemoryPort, Port, Put, Step, Waited, Wire};
+use crate::lines::{cut, told_and_wanted};
+use dmr_pdu::OutOfMemory;
+use dmr_wire::{Connect, Got, MemoryPort, Port, Put, Step, Waited, Wire};
 use std::alloc::Global;
-use std::process::Abort;
 use std::test::Fail;
 
-/// A port of these steps, with room for a record of so many answers and octets.
-fn port_of(alloc: Global, steps: Vec<Step>, room: usize) -> Result<MemoryPort, Fail> {
-    match MemoryPort::new(alloc, steps, room) {
+/// A port in memory, and what it answers.
+struct Story {
+    /// What it is called where it fails.
+    name: &'static str,
+    /// For how many answers and octets of its record there is room.
+    room: usize,
+    /// Its steps, with `, ` between them.
+    steps: &'static str,
+    /// The calls and questions, each with its answer, in the names of the code: behind that of a read stand its four
+    /// octets, all `.` before it. `echo` serves one connection.
+    told: &'static str,
+}
+
+static STORIES: [Story; 9] = [
+    Story {
+        name: "feeds go to reads one by one",
+        room: 16,
+        steps: "feed abcdefghij, feed, read 3, feed klmn, feed o",
+        told: "\
+read => Octets(4) abcd
+read => Octets(4) efgh
+read => Octets(2) ij..
+read => Octets(4) klmn
+read => Octets(1) o...
+read => End ....
+read => End ....
+",
+    },
+    Story {
+        name: "each kind of call has its own steps",
+        room: 16,
+        steps: "wait again, write interrupted, read interrupted, connect not yet, read block, feed x, \
+write block, read fault, connect ready, write fault, read end, feed yz",
+        told: "\
+read => Interrupted ....
+read => Block ....
+read => Octets(1) x...
+read => Fault ....
+read => End ....
+read => Octets(2) yz..
+connect => NotYet
+connect => Ready
+connect => Finished
+write a => Interrupted
+write a => Block
+write a => Fault
+write a => Octets(1)
+wait => Again
+wait => Silent
+taken => a
+",
+    },
+    Story {
+        name: "writes take as much as they are told",
+        room: 16,
+        steps: "write 2, write 0, write 9, write fault, write 1",
+        told: "\
+write abc => Octets(2)
+write cde => Octets(0)
+write cde => Octets(3)
+write fgh => Fault
+write fgh => Octets(1)
+write gh => Octets(2)
+taken => abcdefgh
+",
+    },
+    Story {
+        name: "every answer is kept in order",
+        room: 16,
+        steps: "connect ready, feed abcde, wait again",
+        told: "\
+echo => true
+echo => false
+read => Octets(1) e...
+entries => Some([Connect(Ready), Read(Octets(4)), Write(Octets(4)), Wait(Again), Connect(Finished), Read(Octets(1))])
+taken => abcd
+",
+    },
+    Story {
+        name: "nothing is told without room for answers",
+        room: 0,
+        steps: "",
+        told: "\
+entries => Some([])
+connect => Finished
+entries => None
+",
+    },
+    Story {
+        name: "nothing is told beyond the room for one answer",
+        room: 1,
+        steps: "",
+        told: "\
+entries => Some([])
+wait => Silent
+entries => Some([Wait(Silent)])
+connect => Finished
+entries => None
+",
+    },
+    Story {
+        name: "nothing is told beyond the room for two answers",
+        room: 2,
+        steps: "",
+        told: "\
+entries => Some([])
+wait => Silent
+entries => Some([Wait(Silent)])
+wait => Silent
+entries => Some([Wait(Silent), Wait(Silent)])
+connect => Finished
+entries => None
+",
+    },
+    Story {
+        name: "nothing is told beyond the room for four answers",
+        room: 4,
+        steps: "",
+        told: "\
+entries => Some([])
+wait => Silent
+entries => Some([Wait(Silent)])
+wait => Silent
+entries => Some([Wait(Silent), Wait(Silent)])
+wait => Silent
+entries => Some([Wait(Silent), Wait(Silent), Wait(Silent)])
+wait => Silent
+entries => Some([Wait(Silent), Wait(Silent), Wait(Silent), Wait(Silent)])
+connect => Finished
+entries => None
+",
+    },
+    // At its second write there is room for another answer, but not for its octet; nor is a later answer without octets told.
+    Story {
+        name: "nothing is told beyond the room for octets",
+        room: 5,
+        steps: "feed abc",
+        told: "\
+read => Octets(3) abc.
+write de => Octets(2)
+entries => Some([Read(Octets(3)), Write(Octets(2))])
+write f => Octets(1)
+entries => None
+read => End ....
+entries => None
+taken => de
+",
+    },
+];
+
+/// The steps of these words.
+fn steps_of(alloc: Global, words: &str) -> Result<Vec<Step>, Fail> {
+    let mut steps = Vec::new(alloc);
+    if !words.is_empty() {
+        for words in words.split(", ") {
+            steps.push(step_of(alloc, words)?)?;
+        }
+    }
+    Ok(steps)
+}
+
+/// The step of these words.
+fn step_of(alloc: Global, words: &str) -> Result<Step, Fail> {
+    let (word, text) = cut(words);
+    if word == "feed" {
+        return Ok(Step::Feed(text.as_bytes().to_vec(alloc)?));
+    }
+    match answer_of(words) {
+        Some(step) => Ok(step),
+        None => Err("a step".into()),
+    }
+}
+
+/// The step that gives no octets.
+fn answer_of(words: &str) -> Option<Step> {
+    match words {
+        "connect ready" => Some(Step::Connect(Connect::Ready)),
+        "connect not yet" => Some(Step::Connect(Connect::NotYet)),
+        "wait again" => Some(Step::Wait(Waited::Again)),
+        "read end" => Some(Step::Read(Got::End)),
+        "read interrupted" => Some(Step::Read(Got::Interrupted)),
+        "read block" => Some(Step::Read(Got::Block)),
+        "read fault" => Some(Step::Read(Got::Fault)),
+        "write interrupted" => Some(Step::Write(Put::Interrupted)),
+        "write block" => Some(Step::Write(Put::Block)),
+        "write fault" => Some(Step::Write(Put::Fault)),
+        _ => numbered_of(words),
+    }
+}
+
+/// The step of a read or a write that says how many octets.
+fn numbered_of(words: &str) -> Option<Step> {
+    let (word, digits) = cut(words);
+    let count = digits.parse::<usize>().ok()?;
+    match word {
+        "read" => Some(Step::Read(Got::Octets(count))),
+        "write" => Some(Step::Write(Put::Octets(count))),
+        _ => None,
+    }
+}
+
+/// A port of the steps of these words, with room for a record of so many answers and octets.
+fn port_of(alloc: Global, words: &str, room: usize) -> Result<MemoryPort, Fail> {
+    match MemoryPort::new(alloc, steps_of(alloc, words)?, room) {
         Ok(port) => Ok(port),
         Err((refused, _)) => Err(refused.into()),
     }
 }
 
-/// The step that feeds these octets.
-fn feed(alloc: Global, octets: &[u8]) -> Result<Step, Fail> {
-    Ok(Step::Feed(Vec::from_slice(alloc, octets)?))
-}
-
-/// Wants reads into four octets, all `.` before each, to answer this and to leave the octets so.
-fn reads(rt: &impl Abort, port: &mut MemoryPort, want: &[(Got, &[u8])]) {
-    for (got, left) in want {
-        let mut octets = [b'.'; 4];
-        assert_eq!(rt; port.read(&mut octets), *got);
-        assert_eq!(rt; octets.as_slice(), *left);
+/// Writes what answers a call of a port, or a question to it.
+fn write_answer(said: &mut String, port: &mut MemoryPort, told: &str) -> Result<(), OutOfMemory> {
+    let (word, text) = cut(told);
+    match word {
+        "connect" => write!(said, "{:?}", port.connect()),
+        "wait" => write!(said, "{:?}", port.wait()),
+        "read" => read(said, port),
+        "write" => write(said, port, text.as_bytes()),
+        "echo" => write!(said, "{}", echoes_once(port)),
+        "entries" => write!(said, "{:?}", port.entries()),
+        "taken" => write_octets(said, port.taken()),
+        _ => said.push_str("?"),
     }
 }
 
-/// Wants writes of these octets to answer this.
-fn writes(rt: &impl Abort, port: &mut MemoryPort, want: &[(&[u8], Put)]) {
-    for (octets, put) in want {
-        assert!(rt; !octets.is_empty());
-        assert_eq!(rt; port.write(octets), *put);
+/// Writes octets as characters.
+fn write_octets(said: &mut String, octets: &[u8]) -> Result<(), OutOfMemory> {
+    for octet in octets {
+        said.push(char::from(*octet))?;
     }
-}
-
-#[test]
-fn feeds_go_to_reads_one_by_one(rt: HostRuntime) -> Result<(), Fail> {
-    let alloc = rt.alloc();
-    let steps = vec![in alloc;
-        feed(alloc, b"abcdefghij")?,
-        feed(alloc, b"")?,
-        Step::Read(Got::Octets(3)),
-        feed(alloc, b"klmn")?,
-        feed(alloc, b"o")?,
-    ]?;
-    let mut port = port_of(alloc, steps, 16)?;
-    reads(
-        &rt,
-        &mut port,
-        &[
-            (Got::Octets(4), b"abcd"),
-            (Got::Octets(4), b"efgh"),
-            (Got::Octets(2), b"ij.."),
-            (Got::Octets(4), b"klmn"),
-            (Got::Octets(1), b"o..."),
-            (Got::End, b"...."),
-            (Got::End, b"...."),
-        ],
-    );
     Ok(())
 }
 
-#[test]
-fn each_kind_of_call_has_its_own_steps(rt: HostRuntime) -> Result<(), Fail> {
-    let alloc = rt.alloc();
-    let steps = vec![in alloc;
-        Step::Wait(Waited::Again),
-        Step::Write(Put::Interrupted),
-        Step::Read(Got::Interrupted),
-        Step::Connect(Connect::NotYet),
-        Step::Read(Got::Block),
-        feed(alloc, b"x")?,
-        Step::Write(Put::Block),
-        Step::Read(Got::Fault),
-        Step::Connect(Connect::Ready),
-        Step::Write(Put::Fault),
-        Step::Read(Got::End),
-        feed(alloc, b"yz")?,
-    ]?;
-    let mut port = port_of(alloc, steps, 16)?;
-    reads(
-        &rt,
-        &mut port,
-        &[
-            (Got::Interrupted, b"...."),
-            (Got::Block, b"...."),
-            (Got::Octets(1), b"x..."),
-            (Got::Fault, b"...."),
-            (Got::End, b"...."),
-            (Got::Octets(2), b"yz.."),
-        ],
-    );
-    for want in [Connect::NotYet, Connect::Ready, Connect::Finished] {
-        assert_eq!(rt; port.connect(), want);
-    }
-    writes(
-        &rt,
-        &mut port,
-        &[
-            (b"a", Put::Interrupted),
-            (b"a", Put::Block),
-            (b"a", Put::Fault),
-            (b"a", Put::Octets(1)),
-        ],
-    );
-    for want in [Waited::Again, Waited::Silent] {
-        assert_eq!(rt; port.wait(), want);
-    }
-    assert_eq!(rt; port.taken(), b"a".as_slice());
-    Ok(())
+/// Reads into four octets, all `.` before, and writes what comes of it.
+fn read(said: &mut String, port: &mut MemoryPort) -> Result<(), OutOfMemory> {
+    let mut octets = [b'.'; 4];
+    let got = port.read(&mut octets);
+    write!(said, "{got:?} ")?;
+    write_octets(said, &octets)
 }
 
-#[test]
-fn writes_take_as_much_as_they_are_told(rt: HostRuntime) -> Result<(), Fail> {
-    let alloc = rt.alloc();
-    let steps = vec![in alloc;
-        Step::Write(Put::Octets(2)),
-        Step::Write(Put::Octets(0)),
-        Step::Write(Put::Octets(9)),
-        Step::Write(Put::Fault),
-        Step::Write(Put::Octets(1)),
-    ]?;
-    let mut port = port_of(alloc, steps, 16)?;
-    writes(
-        &rt,
-        &mut port,
-        &[
-            (b"abc", Put::Octets(2)),
-            (b"cde", Put::Octets(0)),
-            (b"cde", Put::Octets(3)),
-            (b"fgh", Put::Fault),
-            (b"fgh", Put::Octets(1)),
-            (b"gh", Put::Octets(2)),
-        ],
-    );
-    assert_eq!(rt; port.taken(), b"abcdefgh".as_slice());
-    Ok(())
+/// Writes octets, at least one, to a port, and then what comes of it.
+fn write(said: &mut String, port: &mut MemoryPort, octets: &[u8]) -> Result<(), OutOfMemory> {
+    if octets.is_empty() {
+        return said.push_str("?");
+    }
+    let put = port.write(octets);
+    write!(said, "{put:?}")
 }
 
 /// Serves one connection: what a read gives is written back once, and the port is waited for once. It knows of the port only
@@ -154,66 +270,24 @@ fn echoes_once<P: Port>(port: &mut P) -> bool {
 }
 
 #[test]
-fn every_answer_is_kept_in_order(rt: HostRuntime) -> Result<(), Fail> {
-    let alloc = rt.alloc();
-    let steps = vec![in alloc;
-        Step::Connect(Connect::Ready),
-        feed(alloc, b"abcde")?,
-        Step::Wait(Waited::Again),
-    ]?;
-    let mut port = port_of(alloc, steps, 16)?;
-    assert!(rt; echoes_once(&mut port));
-    assert!(rt; !echoes_once(&mut port));
-    reads(&rt, &mut port, &[(Got::Octets(1), b"e...")]);
-    let want = [
-        Entry::Connect(Connect::Ready),
-        Entry::Read(Got::Octets(4)),
-        Entry::Write(Put::Octets(4)),
-        Entry::Wait(Waited::Again),
-        Entry::Connect(Connect::Finished),
-        Entry::Read(Got::Octets(1)),
-    ];
-    assert_eq!(rt; port.entries(), Some(want.as_slice()));
-    assert_eq!(rt; port.taken(), b"abcd".as_slice());
-    Ok(())
-}
-
-#[test]
-fn nothing_is_told_beyond_the_room_for_answers(rt: HostRuntime) -> Result<(), Fail> {
-    for (room, told) in [(0, 0), (1, 1), (2, 2), (4, 4)] {
-        let mut port = port_of(rt.alloc(), Vec::new(rt.alloc()), room)?;
-        for _ in 0..told {
-            assert!(rt; port.entries().is_some());
-            assert_eq!(rt; port.wait(), Waited::Silent);
+fn ports(rt: HostRuntime) -> Result<(), Fail> {
+    for story in &STORIES {
+        let mut port = port_of(rt.alloc(), story.steps, story.room)?;
+        for line in story.told.lines() {
+            let (told, wanted) = told_and_wanted(line);
+            let mut said = String::new(rt.alloc());
+            write_answer(&mut said, &mut port, told)?;
+            assert_eq!(rt; said.as_str(), wanted, "{}: {line}", story.name);
         }
-        assert_eq!(rt; port.entries().map(|entries| entries.len()), Some(told));
-        assert_eq!(rt; port.connect(), Connect::Finished);
-        assert!(rt; port.entries().is_none());
     }
-    Ok(())
-}
-
-#[test]
-fn nothing_is_told_beyond_the_room_for_octets(rt: HostRuntime) -> Result<(), Fail> {
-    let alloc = rt.alloc();
-    let mut port = port_of(alloc, vec![in alloc; feed(alloc, b"abc")?]?, 5)?;
-    reads(&rt, &mut port, &[(Got::Octets(3), b"abc.")]);
-    writes(&rt, &mut port, &[(b"de", Put::Octets(2))]);
-    assert!(rt; port.entries().is_some());
-    // There would be room for another answer, but not for its octet; nor is a later answer without octets told.
-    writes(&rt, &mut port, &[(b"f", Put::Octets(1))]);
-    assert!(rt; port.entries().is_none());
-    reads(&rt, &mut port, &[(Got::End, b"....")]);
-    assert!(rt; port.entries().is_none());
-    assert_eq!(rt; port.taken(), b"de".as_slice());
     Ok(())
 }
 
 #[test]
 fn want_of_memory_hands_the_steps_back(rt: HostRuntime) -> Result<(), Fail> {
     let alloc = rt.alloc();
-    let steps = vec![in alloc; Step::Wait(Waited::Again), feed(alloc, b"ab")?]?;
-    let want = vec![in alloc; Step::Wait(Waited::Again), feed(alloc, b"ab")?]?;
+    let steps = steps_of(alloc, "wait again, feed ab")?;
+    let want = steps_of(alloc, "wait again, feed ab")?;
     match MemoryPort::new(alloc, steps, usize::MAX) {
         Ok(_) => Err("there is no such room".into()),
         Err((_, steps)) => {

@@ -123,6 +123,11 @@ pub fn write_sent(
 ) -> Result<(), OutOfMemory> {
     write_slot(said, word, slot)?;
     said.push_str(" ")?;
+    write_pdu(said, pdu)
+}
+
+/// Writes a PDU by its octets.
+pub fn write_pdu(said: &mut String, pdu: &Pdu) -> Result<(), OutOfMemory> {
     for octet in pdu.to_octets() {
         write!(said, "{octet:02X}")?;
     }

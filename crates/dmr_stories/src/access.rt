@@ -1,0 +1,101 @@
+//! Access to the common site that is told what comes, and what it answers.
+//!
+//! Its control carrier is up when a story begins. It is told and asked by the names of the methods of [`Access`]: as
+//! `noise`, or `number 31`. Behind `fill` and `next_fill` stand a channel to which radios are moved, and the PDU of a late
+//! entry, each as `-` where there is none: as `fill 7 -`. `copy` puts a copy of it in the place of the one that there is,
+//! and `same` asks whether it is equal to it.
+//!
+//! An answer is a PDU, a number, or `yes` or `no`; nothing where there is none.
+
+mod stories;
+
+use crate::language::Listener;
+use crate::language::words::{cut, pdu_of, write_pdu, write_truth};
+use crate::site_file::{SMALL, plan_of};
+use dmr_access::Access;
+use dmr_pdu::{Lpcn, OutOfMemory};
+use std::alloc::Global;
+use std::test::Fail;
+
+/// Access to a site, and a copy of it.
+#[derive(Drop)]
+pub struct Fills {
+    access: Access,
+    copy: Access,
+    alloc: Global,
+}
+
+impl Fills {
+    /// Access to the common site, with its control carrier up.
+    pub fn new(alloc: Global) -> Result<Fills, Fail> {
+        let plan = plan_of(alloc, SMALL)?;
+        let mut access = Access::new(alloc, &plan)?;
+        access.reset();
+        let copy = access.try_clone(alloc)?;
+        Ok(Fills {
+            access,
+            copy,
+            alloc,
+        })
+    }
+}
+
+impl Listener for Fills {
+    fn hear(&mut self, told: &str, said: &mut String) -> Result<(), OutOfMemory> {
+        let (word, rest) = cut(told);
+        match word {
+            "copy" => self.copy = self.access.try_clone(self.alloc)?,
+            "same" => write_truth(said, self.access == self.copy)?,
+            "backoff" => write!(said, "{}", self.access.backoff())?,
+            "late_due" => write_truth(said, self.access.late_due())?,
+            "number" => write_number(said, &self.access, rest)?,
+            "fill" | "next_fill" => fill(&mut self.access, word, rest, said)?,
+            _ => self.tell_event(word, said)?,
+        }
+        Ok(())
+    }
+}
+
+impl Fills {
+    /// Tells access what came.
+    fn tell_event(&mut self, word: &str, said: &mut String) -> Result<(), OutOfMemory> {
+        match word {
+            "noise" => self.access.noise(),
+            "polled" => self.access.polled(),
+            "filled" => self.access.filled(),
+            "reset" => self.access.reset(),
+            "stop" => self.access.stop(),
+            _ => said.push_str("?")?,
+        }
+        Ok(())
+    }
+}
+
+/// Writes the noise number of so many Polls ago, where there is one.
+fn write_number(said: &mut String, access: &Access, polls: &str) -> Result<(), OutOfMemory> {
+    let Ok(polls) = polls.parse::<usize>() else {
+        return said.push_str("?");
+    };
+    match access.number(polls) {
+        Some(number) => write!(said, "{number}"),
+        None => Ok(()),
+    }
+}
+
+/// Writes what fills the control slot, or fills it next.
+fn fill(access: &mut Access, word: &str, rest: &str, said: &mut String) -> Result<(), OutOfMemory> {
+    let (channel, digits) = cut(rest);
+    let moving = channel_of(channel);
+    let late = pdu_of(digits);
+    let pdu = if word == "fill" {
+        access.fill(moving, late)
+    } else {
+        access.next_fill(moving, late)
+    };
+    write_pdu(said, &pdu)
+}
+
+/// The channel of a number.
+fn channel_of(digits: &str) -> Option<Lpcn> {
+    Lpcn::try_new(digits.parse::<u32>().ok()?)
+}

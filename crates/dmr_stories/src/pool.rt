@@ -1,0 +1,188 @@
+//! Slots of the common site that are told what comes, and what they answer.
+//!
+//! Its carriers are up when a story begins. The slots are told and asked by the names of the methods of [`Pool`], with a
+//! carrier, a slot, or a slot and a PDU behind them: as `lost 1`, `hold 0.1` or `push 0.0 B1000020.91.1001`. `copy` puts a
+//! copy of them in the place of the one that there is; `same` asks whether they are equal to it, and `is_as` whether they
+//! are as it is, whatever calls hold.
+//!
+//! An answer is a slot, a PDU or a number, `yes` or `no`, `ok` or `full`; nothing where there is none. What may not be
+//! asked of them then, as to hold a slot that is not free, is not asked, and answered `?`.
+
+mod stories;
+
+use crate::language::Listener;
+use crate::language::words::{
+    carrier_of, cut, pdu_of, slot_of, write_pdu, write_slot, write_truth,
+};
+use crate::site_file::{SMALL, plan_of};
+use dmr_pdu::{CarrierNo, OutOfMemory, Pdu, Slot};
+use dmr_pool::{Full, MOST_PDUS_OF_A_SLOT, Pool};
+use std::alloc::Global;
+use std::test::Fail;
+
+/// The slots of a site, and a copy of them.
+#[derive(Drop)]
+pub struct Slots {
+    pool: Pool,
+    copy: Pool,
+    alloc: Global,
+}
+
+impl Slots {
+    /// The slots of the common site, with its carriers up.
+    pub fn new(alloc: Global) -> Result<Slots, Fail> {
+        let plan = plan_of(alloc, SMALL)?;
+        let mut pool = Pool::new(alloc, &plan)?;
+        let carrier = CarrierNo::new(0);
+        let other = CarrierNo::new(1);
+        if plan.carrier_with(carrier).is_some() && plan.carrier_with(other).is_some() {
+            pool.up(carrier);
+            pool.up(other);
+        }
+        let copy = pool.try_clone(alloc)?;
+        Ok(Slots { pool, copy, alloc })
+    }
+}
+
+impl Listener for Slots {
+    fn hear(&mut self, told: &str, said: &mut String) -> Result<(), OutOfMemory> {
+        match told {
+            "copy" => self.copy = self.pool.try_clone(self.alloc)?,
+            "same" => write_truth(said, self.pool == self.copy)?,
+            "is_as" => write_truth(said, self.pool.is_as(&self.copy))?,
+            "keeps" => self.pool.keeps(),
+            "carriers_up" => write!(said, "{}", self.pool.carriers_up())?,
+            "control_slot" => write_slot(said, "", &self.pool.control_slot())?,
+            "free_slot" => write_found_slot(said, self.pool.free_slot())?,
+            _ => tell_place(&mut self.pool, told, said)?,
+        }
+        Ok(())
+    }
+}
+
+/// Writes a slot, where there is one.
+fn write_found_slot(said: &mut String, found: Option<Slot>) -> Result<(), OutOfMemory> {
+    match &found {
+        Some(slot) => write_slot(said, "", slot),
+        None => Ok(()),
+    }
+}
+
+/// Writes a PDU, where there is one.
+fn write_found_pdu(said: &mut String, found: Option<Pdu>) -> Result<(), OutOfMemory> {
+    match &found {
+        Some(pdu) => write_pdu(said, pdu),
+        None => Ok(()),
+    }
+}
+
+/// Tells slots what concerns a carrier or a slot.
+fn tell_place(pool: &mut Pool, told: &str, said: &mut String) -> Result<(), OutOfMemory> {
+    let (word, rest) = cut(told);
+    let (place, digits) = cut(rest);
+    if let Some(carrier) = carrier_of(place) {
+        tell_carrier(pool, word, carrier, said)
+    } else if let Some(slot) = slot_of(place) {
+        match pdu_of(digits) {
+            Some(pdu) => tell_pdu(pool, word, &slot, &pdu, said),
+            None => tell_slot(pool, word, &slot, said),
+        }
+    } else {
+        said.push_str("?")
+    }
+}
+
+/// Tells slots what concerns a carrier.
+fn tell_carrier(
+    pool: &mut Pool,
+    word: &str,
+    carrier: CarrierNo,
+    said: &mut String,
+) -> Result<(), OutOfMemory> {
+    match word {
+        "is_up" => write_truth(said, pool.is_up(carrier)),
+        "lost" => {
+            pool.lost(carrier);
+            Ok(())
+        }
+        "empty" => {
+            pool.empty(carrier);
+            Ok(())
+        }
+        _ => said.push_str("?"),
+    }
+}
+
+/// Tells slots what concerns one of them.
+fn tell_slot(
+    pool: &mut Pool,
+    word: &str,
+    slot: &Slot,
+    said: &mut String,
+) -> Result<(), OutOfMemory> {
+    match word {
+        "is_free" => write_truth(said, pool.is_free(*slot)),
+        "is_control" => write_truth(said, pool.is_control(*slot)),
+        "waiting" => write!(said, "{}", pool.waiting(*slot)),
+        "first" => write_found_pdu(said, pool.first(*slot)),
+        "take" => write_found_pdu(said, pool.take(*slot)),
+        "take_first" => write_found_pdu(said, take_first(pool, slot)),
+        "hold" => hold(pool, slot, said),
+        "release" => {
+            pool.release(*slot);
+            Ok(())
+        }
+        _ => said.push_str("?"),
+    }
+}
+
+/// Takes out the PDU that has waited longest for a slot, if one waits.
+fn take_first(pool: &mut Pool, slot: &Slot) -> Option<Pdu> {
+    let pdu = pool.first(*slot)?;
+    pool.take_first(slot, &pdu);
+    Some(pdu)
+}
+
+/// A call takes a slot, where that is free.
+fn hold(pool: &mut Pool, slot: &Slot, said: &mut String) -> Result<(), OutOfMemory> {
+    if !pool.is_free(*slot) {
+        return said.push_str("?");
+    }
+    pool.hold(*slot);
+    Ok(())
+}
+
+/// Tells slots what concerns one of them and a PDU.
+fn tell_pdu(
+    pool: &mut Pool,
+    word: &str,
+    slot: &Slot,
+    pdu: &Pdu,
+    said: &mut String,
+) -> Result<(), OutOfMemory> {
+    match word {
+        "push" => push(pool, slot, pdu, said),
+        "put" => put(pool, slot, pdu, said),
+        _ => said.push_str("?"),
+    }
+}
+
+/// Puts a PDU behind those that wait for a slot, where its carrier is up.
+fn push(pool: &mut Pool, slot: &Slot, pdu: &Pdu, said: &mut String) -> Result<(), OutOfMemory> {
+    if !pool.is_up(slot.carrier) {
+        return said.push_str("?");
+    }
+    match pool.push(*slot, *pdu) {
+        Ok(()) => said.push_str("ok"),
+        Err(Full) => said.push_str("full"),
+    }
+}
+
+/// Puts a PDU behind those that wait for a slot, where there is a place.
+fn put(pool: &mut Pool, slot: &Slot, pdu: &Pdu, said: &mut String) -> Result<(), OutOfMemory> {
+    if pool.waiting(*slot) >= MOST_PDUS_OF_A_SLOT {
+        return said.push_str("?");
+    }
+    pool.put(slot, pdu);
+    Ok(())
+}

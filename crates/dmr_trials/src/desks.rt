@@ -4,7 +4,7 @@ ghost use Rattle.std.specs.Prelude.{◌≡◌};
 
 use crate::site::quiet_site;
 use dmr_core::{Event, Site};
-use dmr_desk::{OpenFault, PARTS, SharedDesk};
+use dmr_desk::{OpenFault, PARTS, Seat, SharedDesk};
 use dmr_link::TermOver;
 use dmr_pdu::CarrierNo;
 use std::alloc::Global;
@@ -43,6 +43,29 @@ fn answer_alike(site: &mut Site, other: &mut Site, event: &Event) -> bool {
     site.apply(*event) == other.apply(*event)
 }
 
+/// Whether a desk for so many entries and actors is refused for this reason, and hands its site back as it was, which then answers a
+/// poll as before.
+fn is_handed_back(alloc: Global, limit: usize, actors: u8, want: OpenFault) -> Result<bool, Fail> {
+    let mut site = quiet_site(alloc)?;
+    site.apply(Event::Up(CarrierNo::new(0)));
+    let Ok(mut copy) = site.try_clone(alloc) else {
+        drop(site);
+        return Err("a copy of the site".into());
+    };
+    let Some((fault, mut back)) = refusal_of(alloc, site, limit, actors) else {
+        drop(copy);
+        return Err("a desk that was opened".into());
+    };
+    let poll = Event::Poll(CarrierNo::new(0));
+    let alike = fault == want
+        && back == copy
+        && answer_alike(&mut back, &mut copy, &poll)
+        && back == copy;
+    drop(back);
+    drop(copy);
+    Ok(alike)
+}
+
 /// A desk that is not opened hands its site back, which answers all that follows as before.
 #[test]
 fn a_desk_that_is_not_opened(rt: HostRuntime) -> Result<(), Fail> {
@@ -53,20 +76,23 @@ fn a_desk_that_is_not_opened(rt: HostRuntime) -> Result<(), Fail> {
         (1, 0, OpenFault::BadActors),
         (100_000, 19, OpenFault::BadActors),
     ] {
-        let mut site = quiet_site(rt.alloc())?;
-        site.apply(Event::Up(CarrierNo::new(0)));
-        let mut copy = site.try_clone(rt.alloc())?;
-        let (fault, mut back) = refusal_of(rt.alloc(), site, limit, actors).ok_or(
-            "a desk that was opened",
-        )?;
-        assert_eq!(rt; fault, want);
-        assert!(rt; back == copy);
-        let poll = Event::Poll(CarrierNo::new(0));
-        let alike = answer_alike(&mut back, &mut copy, &poll);
-        assert!(rt; alike);
-        assert!(rt; back == copy);
+        let is_back = is_handed_back(rt.alloc(), limit, actors, want)?;
+        assert!(rt; is_back, "{limit}, {actors}");
     }
     Ok(())
+}
+
+/// Whether a desk with room for two events takes two, refuses the third with two entries, is over then and not before, and the seat
+/// keeps two.
+fn refuses_third<L: Ledger, R: Wait>(rt: &R, desk: &SharedDesk<L>, seat: &mut Seat<L>) -> bool {
+    let mut refused = !desk.over(rt);
+    let events = two_events();
+    for event in &events {
+        refused = refused && desk.deposit(rt, seat, *event).is_ok();
+    }
+    let over = desk.deposit(rt, seat, Event::Tick).err();
+    refused = refused && over == Some(TermOver { entries: 2 }) && desk.over(rt);
+    refused && seat.deposits().len() == 2
 }
 
 /// What becomes of a desk with room for two events and one actor: whether the third was refused with two entries, the term was
@@ -82,16 +108,10 @@ fn third_of_two<L: Ledger, R: Wait>(
     requires eighteen { blank.parts ≡ 18 }
 {
     let (desk, mut seats) = SharedDesk::<L>::open(alloc, blank, site, 2, 1).ok()?;
-    let mut seat = seats.pop()?;
-    let mut refused = !desk.over(rt);
-    let events = two_events();
-    for event in &events {
-        refused = refused && desk.deposit(rt, &mut seat, *event).is_ok();
+    let mut refused = false;
+    for seat in seats.iter_mut() {
+        refused = refuses_third(rt, &desk, seat);
     }
-    let over = desk.deposit(rt, &mut seat, Event::Tick).err();
-    refused = refused && over == Some(TermOver { entries: 2 }) && desk.over(rt);
-    refused = refused && seat.deposits().len() == 2;
-    seats.push(seat).ok()?;
     let report = desk.close(rt, seats).ok()?;
     let entries = report.journal.as_slice().len();
     Some((refused, report.site, entries))
@@ -106,14 +126,23 @@ fn third_event<R: Wait>(rt: &R, alloc: Global, site: Site) -> Option<(bool, Site
 #[test]
 fn an_event_that_is_refused(rt: HostRuntime) -> Result<(), Fail> {
     let site = quiet_site(rt.alloc())?;
-    let mut copy = site.try_clone(rt.alloc())?;
+    let Ok(mut copy) = site.try_clone(rt.alloc()) else {
+        drop(site);
+        return Err("a copy of the site".into());
+    };
     let events = two_events();
     for event in &events {
         copy.apply(*event);
     }
-    let (refused, after, entries) = third_event(&rt, rt.alloc(), site).ok_or("a report")?;
+    let Some((refused, after, entries)) = third_event(&rt, rt.alloc(), site) else {
+        drop(copy);
+        return Err("a report".into());
+    };
+    let same = after == copy;
+    drop(after);
+    drop(copy);
     assert!(rt; refused);
     assert_eq!(rt; entries, 2);
-    assert!(rt; after == copy);
+    assert!(rt; same);
     Ok(())
 }

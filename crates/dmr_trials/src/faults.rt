@@ -150,11 +150,14 @@ fn try_term<R: Abort + AllocGlobal + Wait + Threads + Sync>(
     round: usize,
 ) -> Result<Option<usize>, Fail> {
     let mut outcome = Stage::new(rt.alloc(), want.peer, steps)?.run(rt, rt.alloc())?;
-    compare(rt, name, &outcome, want, round)?;
+    let compared = compare(rt, name, &outcome, want, round);
     for _ in 0..2 {
         serves_no_more(rt, name, &mut outcome, want.ended, round);
     }
-    Ok(outcome.calls())
+    let calls = outcome.calls();
+    drop(outcome);
+    compared?;
+    Ok(calls)
 }
 
 /// The ending of this name.

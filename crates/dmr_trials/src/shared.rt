@@ -43,11 +43,18 @@ fn open_and_close<L: Ledger, R: Wait>(
 {
     let (desk, mut seats) = match SharedDesk::<L>::open(alloc, blank, site, limit, actors) {
         Ok(opened) => opened,
-        Err((fault, _)) => return Outcome::NotOpened(fault),
+        Err((fault, site)) => {
+            drop(site);
+            return Outcome::NotOpened(fault);
+        }
     };
     seats.truncate(kept);
     match desk.close(rt, seats) {
-        Ok(report) => Outcome::Closed(report.journal.as_slice().len(), report.views.len()),
+        Ok(report) => {
+            let (entries, views) = (report.journal.as_slice().len(), report.views.len());
+            drop(report);
+            Outcome::Closed(entries, views)
+        }
         Err(fault) => Outcome::NotClosed(fault),
     }
 }
@@ -96,13 +103,14 @@ fn opens_and_closes(rt: HostRuntime) -> Result<(), Fail> {
 #[test]
 fn book_of_one_entry(rt: HostRuntime) -> Result<(), Fail> {
     let mut book = Book::new(rt.alloc(), quiet_site(rt.alloc())?, 1)
-        .map_err(|_| ())
+        .ok()
         .expect(&rt, "memory");
     let acts = book.apply(7, Event::Say(Command::Stay)).expect(&rt, "room");
     assert_eq!(rt; acts.said, Some(Reply::Done));
     assert_eq!(rt; book.apply(7, Event::Tick), Err(TermOver { entries: 1 }));
     assert_eq!(rt; book.as_slice().len(), 1);
     assert_eq!(rt; book.as_slice()[0].actor, 7);
+    drop(book);
     Ok(())
 }
 
@@ -136,13 +144,11 @@ fn at_once<L: Ledger + Send + Sync, R: Wait + Threads + Sync>(
     requires parts { blank.parts ≡ L.parts }
     requires eighteen { blank.parts ≡ 18 }
 {
-    let Ok((desk, mut seats)) = SharedDesk::<L>::open(alloc, blank, site, limit, 2) else {
+    let Some((desk, mut seats)) = SharedDesk::<L>::open(alloc, blank, site, limit, 2).ok() else {
         return Err(CloseFault::Differs(0));
     };
-    let Some(seat_1) = seats.pop() else {
-        return Err(CloseFault::SeatMissing(1));
-    };
-    let Some(seat_0) = seats.pop() else {
+    let Some((seat_1, seat_0)) = seats.pop().zip(seats.pop()) else {
+        drop(desk);
         return Err(CloseFault::SeatMissing(0));
     };
     let shared = &desk;
@@ -153,6 +159,7 @@ fn at_once<L: Ledger + Send + Sync, R: Wait + Threads + Sync>(
         move || deposit_all(rt, shared, seat_1, &Event::Tick, 1000),
     );
     let Ok(seats) = Vec::from_array(alloc, [seat_1, seat_0]) else {
+        drop(desk);
         return Err(CloseFault::SeatMissing(0));
     };
     desk.close(rt, seats)
@@ -183,6 +190,7 @@ fn two_threads(rt: HostRuntime) -> Result<(), Fail> {
             .len()
             .saturating_add(views[1].as_slice().len());
         assert_eq!(rt; told, want);
+        drop(report);
     }
     Ok(())
 }
@@ -209,7 +217,7 @@ fn abandon_behind_one<L: Ledger + Send + Sync, R: Abort + AllocGlobal + Wait + T
     requires eighteen { blank.parts ≡ 18 }
 {
     let (desk, mut seats) = SharedDesk::<L>::open(rt.alloc(), blank, site, 10, 1)
-        .map_err(|_| ())
+        .ok()
         .expect(rt, "a desk");
     let mut at = SeatAt::new(rt, &desk, seats.pop().expect(rt, "a seat"));
     assert!(rt; at.deposit(Event::Tick).is_ok());
@@ -227,6 +235,7 @@ fn abandon_behind_one<L: Ledger + Send + Sync, R: Abort + AllocGlobal + Wait + T
     let seats = Vec::from_array(rt.alloc(), [at.into_seat()]).expect(rt, "memory");
     let report = desk.close(rt, seats).expect(rt, "a report");
     assert_eq!(rt; report.journal.as_slice().len(), 1);
+    drop(report);
 }
 
 /// The same, in a ledger of its own.

@@ -23,11 +23,38 @@ fn terms(rt: HostRuntime) -> Result<(), Fail> {
         let mut stage = Stage::new(&rt, &steps, &story.opening)?;
         for want in story.terms {
             let outcome = stage.run(&rt, rt.alloc(), want.limit)?;
-            compare(&rt, story.name, &outcome, want)?;
-            stage = outcome.stage;
+            stage = compared(&rt, story.name, outcome, want)?;
         }
+        drop(stage);
     }
     Ok(())
+}
+
+/// Compares what came of a term with what it was to bring, and gives what the next begins with.
+fn compared<'a>(
+    rt: &(impl Abort + AllocGlobal),
+    name: &str,
+    outcome: Outcome<'a>,
+    want: &Want,
+) -> Result<Stage<'a>, Fail> {
+    match compare(rt, name, &outcome, want) {
+        Ok(()) => Ok(outcome.stage),
+        Err(fault) => {
+            drop(outcome);
+            Err(fault)
+        }
+    }
+}
+
+/// Writes what the first carrier told in a term, and gives what the next begins with.
+fn told_of_first<'a>(told: &mut String, outcome: Outcome<'a>) -> Result<Stage<'a>, Fail> {
+    match write_letters(told, 0, &outcome.views) {
+        Ok(()) => Ok(outcome.stage),
+        Err(refused) => {
+            drop(outcome);
+            Err(refused.into())
+        }
+    }
 }
 
 /// Compares what came of a term with what it was to bring.
@@ -72,8 +99,7 @@ fn every_limit(rt: HostRuntime) -> Result<(), Fail> {
         for number in 1..=103 {
             let outcome = stage.run(&rt, rt.alloc(), limit)?;
             terms = number;
-            write_letters(&mut told, 0, &outcome.views)?;
-            stage = outcome.stage;
+            stage = told_of_first(&mut told, outcome)?;
             if !stage.is_live(0) {
                 break;
             }
@@ -81,6 +107,7 @@ fn every_limit(rt: HostRuntime) -> Result<(), Fail> {
         assert_eq!(rt; terms, 101 / limit + 1, "limit {limit}");
         assert_eq!(rt; told.as_str(), events.as_str(), "limit {limit}");
         assert_eq!(rt; stage.taken(0), octets.as_slice(), "limit {limit}");
+        drop(stage);
     }
     Ok(())
 }

@@ -7,7 +7,9 @@ use super::peers::Peer;
 use crate::site::quiet_site;
 use arrayvec::ArrayVec;
 use dmr_core::{Command, Event, Site};
-use dmr_desk::{ConsoleStation, Ending, Pace, Pacer, Station, Term, TermFault, Views, run_term};
+use dmr_desk::{
+    ConsoleStation, Ending, Pace, Pacer, Report, Station, Term, TermFault, Views, run_term,
+};
 use dmr_frames::Version;
 use dmr_link::{ConsoleLink, Ended, Link, OpenGate};
 use dmr_pdu::{CarrierNo, Lpcn};
@@ -97,13 +99,14 @@ impl Stage {
         let mut stations = Vec::new(alloc);
         stations.push(station_of(alloc, 0, greatest, of_carrier)?)?;
         stations.push(station_of(alloc, 1, greatest, Vec::new(alloc))?)?;
+        let console = ConsoleStation {
+            link: ConsoleLink::new(),
+            port: port_of(alloc, of_operator)?,
+        };
         Ok(Stage {
             site: quiet_site(alloc)?,
             stations,
-            console: ConsoleStation {
-                link: ConsoleLink::new(),
-                port: port_of(alloc, of_operator)?,
-            },
+            console,
             actor,
         })
     }
@@ -118,12 +121,19 @@ impl Stage {
             console,
             ..
         } = run(rt, alloc, self)?;
+        let Report {
+            site,
+            journal,
+            views,
+        } = report;
+        drop(site);
         stations.truncate(1);
+        let station = stations.pop().ok_or("a station")?;
         Ok(Outcome {
-            entries: report.journal.as_slice().len(),
+            entries: journal.as_slice().len(),
             ends,
-            views: report.views,
-            station: stations.pop().ok_or("a station")?,
+            views,
+            station,
             console,
             actor,
         })

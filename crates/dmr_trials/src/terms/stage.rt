@@ -96,6 +96,20 @@ fn station_of<'a>(
     })
 }
 
+/// Stations of carriers of these numbers, a digit each, to which nobody comes.
+fn stations_of<'a>(
+    rt: &'a HostRuntime,
+    steps: &'a [AtomicU64],
+    numbers: &str,
+) -> Result<Vec<CarrierStation<'a>>, Fail> {
+    let mut stations = Vec::new(rt.alloc());
+    for digit in numbers.bytes() {
+        let number = digit.wrapping_sub(b'0');
+        stations.push(station_of(rt, steps, number, &NO_CARRIER)?)?;
+    }
+    Ok(stations)
+}
+
 /// What the port of a carrier answers. A connection comes at the second ask; its octets come after a wait, a frame with each read.
 fn carrier_steps(alloc: Global, number: u8, carrier: &Carrier) -> Result<Vec<Step>, Fail> {
     let mut steps = Vec::new(alloc);
@@ -144,6 +158,10 @@ impl<'a> Stage<'a> {
         for (number, carrier) in [0, 1].into_iter().zip(opening.carriers) {
             stations.push(station_of(rt, steps, number, carrier)?)?;
         }
+        let console = ConsoleStation {
+            link: ConsoleLink::new(),
+            port: port_of(alloc, console_steps(alloc, opening.operator)?)?,
+        };
         Ok(Stage {
             site: quiet_site(alloc)?,
             stations,
@@ -151,10 +169,7 @@ impl<'a> Stage<'a> {
                 paces: opening.paces,
                 meeting: Meeting::new(rt, steps, 2, opening.pacer),
             },
-            console: ConsoleStation {
-                link: ConsoleLink::new(),
-                port: port_of(alloc, console_steps(alloc, opening.operator)?)?,
-            },
+            console,
         })
     }
 
@@ -165,14 +180,16 @@ impl<'a> Stage<'a> {
         numbers: &str,
     ) -> Result<Self, Fail> {
         let mut stage = Stage::new(rt, steps, &NOTHING_COMES)?;
-        stage.stations.clear();
-        for digit in numbers.bytes() {
-            let number = digit.wrapping_sub(b'0');
-            stage
-                .stations
-                .push(station_of(rt, steps, number, &NO_CARRIER)?)?;
+        match stations_of(rt, steps, numbers) {
+            Ok(stations) => {
+                stage.stations = stations;
+                Ok(stage)
+            }
+            Err(fault) => {
+                drop(stage);
+                Err(fault)
+            }
         }
-        Ok(stage)
     }
 
     /// Runs a term.

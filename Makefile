@@ -50,8 +50,8 @@ bench: ## words per second beside two coders in C, all words with three flips, a
 	@tools/bench/compare
 	@crates/dmr_bench/out/dmr_bench --site
 
-soak: ## a million random inputs through the engine, compared with a reference model, by the proved program
-	@cd crates/dmr_soak && rt run -- --inputs 500000 --counts
+soak: ## a million random inputs through the engine, in both versions of the link, compared with a reference model, by the proved program
+	@cd crates/dmr_soak && rt run -- --inputs 250000 --counts
 
 build/dmr_trunk build/dmr_decode build/dmr_refusals:
 	@echo "no $@: run 'make build' first"; exit 2

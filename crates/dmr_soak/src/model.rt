@@ -16,7 +16,8 @@ static NAMES: &str =
     "Not_Supported, Perm_User_Refused, Transient_Sys_Refused, NoReg_MS_Away, SysBusy_Refused, \
     Call_Cancel_Refused, Reg_Refused, Reg_Denied, MS_Not_Registered, Called_Party_Busy, Group_Not_Allowed, \
     Message_Accepted, Reg_Accepted, Queued_For_Resource, Wait, \
-    C_ALOHA, C_MOVE, C_AHOY, P_CLEAR, grants, late grants, late entries, carriers lost, requests without room";
+    C_ALOHA, C_MOVE, C_AHOY, P_CLEAR, grants, late grants, late entries, carriers lost, requests without room, \
+    repeats, TX counted round";
 
 /// The numbers of the reasons.
 static REASONS: [u16; 15] = [
@@ -31,6 +32,13 @@ pub enum Link {
     /// It is open, and HELLO must come.
     Open,
     Up,
+}
+
+/// The numbers on a carrier's connection: that of its last RX, and that of the next TX that goes to it, where they have one.
+#[derive(Clone, Copy)]
+struct Numbers {
+    heard: Option<u8>,
+    next: Option<u8>,
 }
 
 /// How far a request has come.
@@ -66,6 +74,7 @@ pub struct Model {
     pub scene: Scene,
     pub counts: Counts,
     links: [Link; 16],
+    numbers: [Numbers; 16],
     pub registered: Vec<u32>,
     /// The requests, that which has been at its stage for longest first.
     pub requests: Vec<Request>,
@@ -88,6 +97,12 @@ fn grant_of(call: &Request, is_late: bool) -> Pdu {
     pdu_of(0xB0 + u8::from(call.group), half, call.target, call.source)
 }
 
+/// The numbers behind a HELLO of a version.
+fn first_numbers(version: u8) -> Numbers {
+    let next = if version == 2 { Some(0) } else { None };
+    Numbers { heard: None, next }
+}
+
 /// A slot as grants name it: its carrier's channel in 12 bits, and its side behind them.
 fn named(slot: Slot) -> u16 {
     (u16::from(slot.carrier) + 1) << 4 | u16::from(slot.side) << 3
@@ -104,6 +119,7 @@ impl Model {
             scene: *scene,
             counts: Counts::new(NAMES),
             links: [Link::Closed; 16],
+            numbers: [first_numbers(1); 16],
             registered: Vec::new(alloc),
             requests: Vec::new(alloc),
             outboxes,
@@ -277,6 +293,44 @@ impl Model {
         }
     }
 
+    /// Whether an RX that comes with this number, if it has one, is the last one once more. It is the last one from then on.
+    fn repeats(&mut self, carrier: u8, number: Option<u8>) -> bool {
+        let Some(numbers) = self.numbers.get_mut(usize::from(carrier)) else {
+            return false;
+        };
+        let is_repeat = number.is_some() && numbers.heard == number;
+        numbers.heard = number;
+        is_repeat
+    }
+
+    /// An RX comes, with a PDU or noise. That means nothing where it is the last one once more, or not on the control slot.
+    fn receive(
+        &mut self,
+        number: Option<u8>,
+        slot: Slot,
+        pdu: &Option<Pdu>,
+    ) -> Result<(), OutOfMemory> {
+        if self.repeats(slot.carrier, number) {
+            self.counts.add("repeats");
+            return Ok(());
+        }
+        match pdu {
+            _ if slot != self.scene.control_slot() => {}
+            Some(pdu) => self.heard(pdu)?,
+            None => self.noises.push_back(self.polls)?,
+        }
+        Ok(())
+    }
+
+    /// A carrier comes up by a HELLO of a version.
+    fn welcome(&mut self, carrier: u8, version: u8, text: &mut Vec<u8>) -> Result<(), OutOfMemory> {
+        self.turn(carrier, Link::Up);
+        if let Some(numbers) = self.numbers.get_mut(usize::from(carrier)) {
+            *numbers = first_numbers(version);
+        }
+        text.extend_from_slice(&[0x81, 0x01, version])
+    }
+
     /// Octets come from a carrier: what is put out for them comes to the end of the text.
     pub fn take(
         &mut self,
@@ -285,20 +339,14 @@ impl Model {
         text: &mut Vec<u8>,
     ) -> Result<(), OutOfMemory> {
         let link = self.links.get(usize::from(carrier)).copied();
-        let control = self.scene.control_slot();
         match (link.unwrap_or(Link::Closed), meaning) {
             (Link::Closed, _) => {}
-            (Link::Open, Meaning::Hello) => {
-                self.turn(carrier, Link::Up);
-                text.extend_from_slice(&[0x81, 0x01, 0x01])?;
-            }
+            (Link::Open, Meaning::Hello(version)) => self.welcome(carrier, *version, text)?,
             (Link::Open, Meaning::WrongHello(refusal)) => {
                 self.turn(carrier, Link::Closed);
                 text.extend_from_slice(&[0x84, 0x01, *refusal])?;
             }
-            (Link::Up, Meaning::Burst(slot, _)) if *slot != control => {}
-            (Link::Up, Meaning::Burst(_, Some(pdu))) => self.heard(pdu)?,
-            (Link::Up, Meaning::Burst(_, None)) => self.noises.push_back(self.polls)?,
+            (Link::Up, Meaning::Burst(number, slot, pdu)) => self.receive(*number, *slot, pdu)?,
             (Link::Up, Meaning::Active(slot)) => {
                 for request in self.requests.iter_mut() {
                     if request.slot == *slot {
@@ -348,6 +396,17 @@ impl Model {
         pdu
     }
 
+    /// The number of the next TX that goes to a carrier, if it has one. It is counted up.
+    fn next_number(&mut self, carrier: u8) -> Option<u8> {
+        let numbers = self.numbers.get_mut(usize::from(carrier))?;
+        let number = numbers.next?;
+        numbers.next = Some(number.wrapping_add(1));
+        if number == 255 {
+            self.counts.add("TX counted round");
+        }
+        Some(number)
+    }
+
     fn poll(&mut self, carrier: u8, text: &mut Vec<u8>) -> Result<(), OutOfMemory> {
         for side in 0..2 {
             let slot = Slot { carrier, side };
@@ -357,7 +416,10 @@ impl Model {
                 pdu = Some(self.fill());
             }
             if let Some(pdu) = pdu {
-                text.extend_from_slice(&[0x82, 0x1A, side])?;
+                match self.next_number(carrier) {
+                    Some(number) => text.extend_from_slice(&[0x82, 0x1B, number, side])?,
+                    None => text.extend_from_slice(&[0x82, 0x1A, side])?,
+                }
                 text.extend_from_slice(&burst_of(&pdu))?;
             }
         }

@@ -17,28 +17,28 @@ use std::collections::VecDeque;
 pub const OPERATORS: u8 = 16;
 
 static NAMES: &str =
-    "HELLO, wrong HELLO, bursts, bursts of nothing, ACTIVE, POLL, BYE or no frame, commands, no commands, \
-    lines too long, broken but read, broken and lost";
+    "HELLO, HELLO of version 2, wrong HELLO, bursts, bursts of nothing, ACTIVE, POLL, BYE or no frame, commands, \
+    no commands, lines too long, broken but read, broken and lost";
 
-/// Octets from which no frame can follow: of no type, with a wrong length, or with a wrong slot.
-static FAULTS: [&[u8]; 7] = [
+/// Octets from which no frame can follow in either version: of no type, with a wrong length, or with a wrong slot.
+static FAULTS: [&[u8]; 6] = [
     &[0x00],
     &[0x06],
     &[0x01, 0x05],
     &[0x02, 0x19],
     &[0x05, 0xFF],
-    &[0x02, 0x1A, 0x02],
     &[0x04, 0x01, 0x80],
 ];
 
 /// What octets of a carrier or of an operator are, at the last of them.
 #[derive(Clone, Copy)]
 pub enum Meaning {
-    Hello,
+    /// HELLO of a version that is served.
+    Hello(u8),
     /// Another HELLO, and what it is refused by.
     WrongHello(u8),
-    /// A burst, and the PDU that it means, if any.
-    Burst(Slot, Option<Pdu>),
+    /// A burst with its number, if it has one, and the PDU that it means, if any.
+    Burst(Option<u8>, Slot, Option<Pdu>),
     Active(Slot),
     Poll,
     /// BYE, or octets from which no frame can follow.
@@ -64,6 +64,9 @@ pub struct Traffic {
     pub draws: Draws,
     /// The octets that are to come from each party, and what each means beyond those before it.
     streams: Vec<VecDeque<(u8, Option<Meaning>)>>,
+    /// The version that each carrier's frames have, and the number of its last RX in version 2, on whichever connection.
+    versions: [u8; 16],
+    numbers: [u8; 16],
     pub mode: Mode,
     left: u32,
     pub counts: Counts,
@@ -72,11 +75,6 @@ pub struct Traffic {
 fn read_in(burst: &Burst) -> Option<Pdu> {
     let word = Word196::from_octets(burst).ok()?;
     Some(read(&word)?.to_octets())
-}
-
-/// The HELLO of a carrier.
-pub fn hello(carrier: u8) -> [u8; 6] {
-    [0x01, 0x04, 0x01, carrier, 0x00, carrier.wrapping_add(1)]
 }
 
 impl Traffic {
@@ -91,6 +89,8 @@ impl Traffic {
             scene: *scene,
             draws: Draws::new(seed),
             streams,
+            versions: [1; 16],
+            numbers: [0; 16],
             mode: Mode::Everyday,
             left: 300,
             counts: Counts::new(NAMES),
@@ -115,10 +115,11 @@ impl Traffic {
         }
         for meaning in meanings.as_slice() {
             self.counts.add(match meaning {
-                Meaning::Hello => "HELLO",
+                Meaning::Hello(1) => "HELLO",
+                Meaning::Hello(_) => "HELLO of version 2",
                 Meaning::WrongHello(_) => "wrong HELLO",
-                Meaning::Burst(_, Some(_)) => "bursts",
-                Meaning::Burst(_, None) => "bursts of nothing",
+                Meaning::Burst(_, _, Some(_)) => "bursts",
+                Meaning::Burst(_, _, None) => "bursts of nothing",
                 Meaning::Active(_) => "ACTIVE",
                 Meaning::Poll => "POLL",
                 Meaning::End => "BYE or no frame",
@@ -164,27 +165,129 @@ impl Traffic {
         if let Some(stream) = self.streams.get_mut(usize::from(carrier)) {
             stream.clear();
         }
+        if let Some(spoken) = self.versions.get_mut(usize::from(carrier)) {
+            *spoken = 1;
+        }
         Step::Turn(carrier, link)
     }
 
-    fn wrong_hello(&mut self, carrier: u8) -> Result<Step, OutOfMemory> {
-        let mut octets = hello(carrier);
-        let place = 2 + self.draws.place(4);
-        if let Some(octet) = octets.get_mut(place) {
-            *octet ^= self.draws.octet().max(1);
+    /// The HELLO of a carrier, with a version that is served: the frames behind it have that.
+    fn any_hello(&mut self, carrier: u8) -> [u8; 6] {
+        let mut version = 1;
+        if self.scene.version == 2 && !self.draws.chance(4) {
+            version = 2;
         }
-        let refusal = if place == 2 { 1 } else { 2 };
+        if let Some(spoken) = self.versions.get_mut(usize::from(carrier)) {
+            *spoken = version;
+        }
+        [0x01, 0x04, version, carrier, 0x00, carrier.wrapping_add(1)]
+    }
+
+    /// HELLO comes. The first RX behind it mostly has the number of the last one before it.
+    fn hello(&mut self, carrier: u8) -> Result<Step, OutOfMemory> {
+        let octets = self.any_hello(carrier);
+        if let Some(number) = self.numbers.get_mut(usize::from(carrier)) {
+            *number = number.wrapping_sub(1);
+        }
+        self.put(carrier, &octets, Some(Meaning::Hello(octets[2])))
+    }
+
+    /// HELLO comes that is refused: by 1 for its version, and where that is served, by 2 for its carrier or its channel.
+    fn wrong_hello(&mut self, carrier: u8) -> Result<Step, OutOfMemory> {
+        let mut octets = self.any_hello(carrier);
+        let refusal = 1 + self.draws.small(2);
+        if refusal == 1 {
+            octets[2] = match self.draws.below(4) {
+                0 => 0,
+                1 => self.draws.octet() | 4,
+                _ => self.scene.version.wrapping_add(1),
+            };
+        }
+        if refusal == 2 || self.draws.chance(2) {
+            let place = 3 + self.draws.place(3);
+            if let Some(octet) = octets.get_mut(place) {
+                *octet ^= self.draws.octet().max(1);
+            }
+        }
         self.put(carrier, &octets, Some(Meaning::WrongHello(refusal)))
     }
 
+    fn is_numbered(&self, carrier: u8) -> bool {
+        self.versions.get(usize::from(carrier)) == Some(&2)
+    }
+
+    /// The number of a carrier's next RX, if it has one: mostly that behind the last, now and then the last once more, that before
+    /// it, or any.
+    fn number(&mut self, carrier: u8) -> Option<u8> {
+        if !self.is_numbered(carrier) {
+            return None;
+        }
+        let further = match self.draws.below(20) {
+            0 | 1 => 0,
+            2 => 255,
+            3 => self.draws.octet(),
+            _ => 1,
+        };
+        let number = self.numbers.get_mut(usize::from(carrier))?;
+        *number = number.wrapping_add(further);
+        Some(*number)
+    }
+
+    /// What comes of an RX before its word.
+    fn head(
+        &mut self,
+        slot: Slot,
+        number: Option<u8>,
+        last: Option<Meaning>,
+    ) -> Result<Step, OutOfMemory> {
+        let Slot { carrier, side } = slot;
+        match number {
+            Some(number) => self.put(carrier, &[0x02, 0x1B, number, side], last),
+            None => self.put(carrier, &[0x02, 0x1A, side], last),
+        }
+    }
+
+    /// A burst comes on a slot, in an RX with this number, if it has one.
+    pub fn receive(
+        &mut self,
+        slot: Slot,
+        number: Option<u8>,
+        burst: &Burst,
+        pdu: Option<Pdu>,
+    ) -> Result<Step, OutOfMemory> {
+        self.head(slot, number, None)?;
+        let meaning = Meaning::Burst(number, slot, pdu);
+        self.put(slot.carrier, burst, Some(meaning))
+    }
+
+    /// An RX comes with a wrong pad, with a wrong slot, or of the other version; or another fault.
     fn fault(&mut self, carrier: u8) -> Result<Step, OutOfMemory> {
         let mut burst = self.any_burst();
-        if self.draws.chance(4) {
-            burst[24] |= 1 + self.draws.small(15);
-            self.put(carrier, &[0x02, 0x1A, 0x00], None)?;
-            self.put(carrier, &burst, Some(Meaning::End))?;
-        } else if let Some(octets) = self.draws.pick(&FAULTS) {
-            self.put(carrier, octets, Some(Meaning::End))?;
+        match self.draws.below(6) {
+            0 => {
+                burst[24] |= 1 + self.draws.small(15);
+                let number = self.number(carrier);
+                self.head(Slot { carrier, side: 0 }, number, None)?;
+                self.put(carrier, &burst, Some(Meaning::End))?;
+            }
+            1 => {
+                let side = 2 + self.draws.small(254);
+                let number = self.number(carrier);
+                self.head(Slot { carrier, side }, number, Some(Meaning::End))?;
+            }
+            2 => {
+                let length = if self.is_numbered(carrier) {
+                    0x1A
+                } else {
+                    0x1B
+                };
+                self.put(carrier, &[0x02, length], Some(Meaning::End))?;
+            }
+            _ => {
+                if let Some(octets) = self.draws.pick(&FAULTS) {
+                    self.put(carrier, octets, Some(Meaning::End))?;
+                }
+            }
         }
         let length = self.draws.place(12);
         self.put(carrier, burst.get(..length).unwrap_or(&[]), None)
@@ -200,8 +303,8 @@ impl Traffic {
         }
         let step = match self.draws.below(7) {
             0 | 1 => self.wrong_hello(carrier)?,
-            2 => self.put(carrier, &hello(carrier), Some(Meaning::Hello))?,
-            3 => self.put(carrier, &[0x03, 0x00], Some(Meaning::Poll))?,
+            2 => self.hello(carrier)?,
+            3 => self.poll_of(carrier)?,
             4 => self.put(carrier, &[0x05, 0x00], Some(Meaning::End))?,
             _ => self.fault(carrier)?,
         };
@@ -217,15 +320,25 @@ impl Traffic {
         burst
     }
 
-    /// A burst comes on a slot.
-    pub fn hear(
-        &mut self,
-        slot: Slot,
-        burst: Burst,
-        pdu: Option<Pdu>,
-    ) -> Result<Step, OutOfMemory> {
-        self.put(slot.carrier, &[0x02, 0x1A, slot.side], None)?;
-        self.put(slot.carrier, &burst, Some(Meaning::Burst(slot, pdu)))
+    /// A burst comes on a slot. In version 2 it comes before that too now and then, by the same number, on either slot, and a POLL or
+    /// an ACTIVE may stand between the two.
+    fn hear(&mut self, slot: Slot, burst: Burst, pdu: Option<Pdu>) -> Result<Step, OutOfMemory> {
+        let number = self.number(slot.carrier);
+        if number.is_some() && self.draws.chance(12) {
+            let mut earlier = slot;
+            earlier.side = self.draws.small(2);
+            self.receive(earlier, number, &burst, pdu)?;
+            match self.draws.below(4) {
+                0 => {
+                    self.poll_of(slot.carrier)?;
+                }
+                1 => {
+                    self.active_on(slot)?;
+                }
+                _ => {}
+            }
+        }
+        self.receive(slot, number, &burst, pdu)
     }
 
     fn send(&mut self, slot: Slot, pdu: &Pdu) -> Result<Step, OutOfMemory> {
@@ -260,13 +373,22 @@ impl Traffic {
         Slot { carrier, side }
     }
 
+    fn active_on(&mut self, slot: Slot) -> Result<Step, OutOfMemory> {
+        let octets = [0x04, 0x01, slot.side];
+        self.put(slot.carrier, &octets, Some(Meaning::Active(slot)))
+    }
+
     fn activity(&mut self, model: &Model) -> Result<Step, OutOfMemory> {
         let slot = match self.draws.request(model, Stage::Call) {
             Some(call) if !self.draws.chance(6) => call.slot,
             _ => self.slot(),
         };
-        let octets = [0x04, 0x01, slot.side];
-        self.put(slot.carrier, &octets, Some(Meaning::Active(slot)))
+        self.active_on(slot)
+    }
+
+    /// A carrier polls.
+    pub fn poll_of(&mut self, carrier: u8) -> Result<Step, OutOfMemory> {
+        self.put(carrier, &[0x03, 0x00], Some(Meaning::Poll))
     }
 
     fn poll(&mut self, model: &Model) -> Result<Step, OutOfMemory> {
@@ -279,7 +401,7 @@ impl Traffic {
         if self.draws.below(8) < 5 {
             slot = self.scene.control_slot();
         }
-        self.put(slot.carrier, &[0x03, 0x00], Some(Meaning::Poll))
+        self.poll_of(slot.carrier)
     }
 
     fn say(&mut self, said: Said) -> Result<Step, OutOfMemory> {
@@ -312,7 +434,7 @@ impl Traffic {
         for carrier in 0..self.scene.carriers {
             if !model.is_up(carrier) && self.draws.chance(8) {
                 let step = self.forget(carrier, Link::Open);
-                self.put(carrier, &hello(carrier), Some(Meaning::Hello))?;
+                self.hello(carrier)?;
                 return Ok(step);
             }
         }

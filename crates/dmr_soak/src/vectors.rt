@@ -22,6 +22,14 @@ static ACCEPTED_BURST: [u8; 25] = [
     0xE4, 0x97, 0x54, 0x2E, 0x40, 0x5C, 0xB8, 0x3C, 0xB0,
 ];
 
+/// What is sent where nothing waits.
+const ALOHA: Pdu = [0x99, 0x00, 0x00, 0x00, 0x11, 0x12, 0x34, 0x00, 0x00, 0x00];
+
+static ALOHA_BURST: [u8; 25] = [
+    0x00, 0x3C, 0x16, 0x27, 0x11, 0x60, 0x0B, 0x78, 0x15, 0x58, 0x08, 0x90, 0x05, 0x03, 0x05, 0x86,
+    0x22, 0x80, 0x42, 0x10, 0x79, 0x00, 0x5A, 0x23, 0x10,
+];
+
 /// PDUs, and the check that the formats give of each.
 static CHECKS: [(Pdu, u16); 5] = [
     ([0; 10], 0x5A5A),
@@ -31,36 +39,68 @@ static CHECKS: [(Pdu, u16); 5] = [
         [0xB1, 0x00, 0x00, 0x18, 0x00, 0x00, 0x5B, 0x00, 0x03, 0xE9],
         0x8A16,
     ),
-    (
-        [0x99, 0x00, 0x00, 0x00, 0x11, 0x12, 0x34, 0x00, 0x00, 0x00],
-        0xF613,
-    ),
+    (ALOHA, 0xF613),
 ];
 
-/// Whether the checks of five PDUs, and the bursts of two, are those that the formats give.
+/// Whether the checks of five PDUs, and the bursts of three, are those that the formats give.
 pub fn codes_as_the_formats() -> bool {
     CHECKS.iter().all(|(pdu, check)| check_of(pdu) == *check)
         && burst_of(&REQUEST) == REQUEST_BURST
         && burst_of(&ACCEPTED) == ACCEPTED_BURST
+        && burst_of(&ALOHA) == ALOHA_BURST
+}
+
+/// What a carrier writes behind its HELLO that hears a registration, by an RX with this number, if it has one, so many times over, and
+/// polls as often; and what is put out for all that.
+fn registration(
+    alloc: Global,
+    number: Option<u8>,
+    times: u32,
+) -> Result<(Vec<u8>, Vec<u8>), OutOfMemory> {
+    let version = if number.is_some() { 2 } else { 1 };
+    let control = TWO_CARRIERS.control_slot();
+    let mut traffic = Traffic::new(alloc, &TWO_CARRIERS, 42)?;
+    for _ in 0..times {
+        traffic.receive(control, number, &REQUEST_BURST, Some(REQUEST))?;
+    }
+    for _ in 0..times {
+        traffic.poll_of(control.carrier)?;
+    }
+    let (octets, meanings) = traffic.come(control.carrier, 100)?;
+    let mut model = Model::new(alloc, &TWO_CARRIERS)?;
+    let mut text = Vec::new(alloc);
+    model.turn(control.carrier, Link::Open);
+    model.take(control.carrier, &Meaning::Hello(version), &mut text)?;
+    for meaning in meanings.as_slice() {
+        model.take(control.carrier, meaning, &mut text)?;
+    }
+    Ok((octets, text))
 }
 
 /// Whether a registration is spelled as the formats say, and answered as the README shows it.
 pub fn registers_as_shown(alloc: Global) -> Result<bool, OutOfMemory> {
-    let mut model = Model::new(alloc, &TWO_CARRIERS)?;
-    let mut traffic = Traffic::new(alloc, &TWO_CARRIERS, 42)?;
-    let mut text = Vec::new(alloc);
-    let control = TWO_CARRIERS.control_slot();
-    traffic.hear(control, REQUEST_BURST, Some(REQUEST))?;
-    let (octets, heard) = traffic.come(0, 28)?;
-    let is_spelled = octets.starts_with(&[0x02, 0x1A, 0x00]) && octets.ends_with(&REQUEST_BURST);
-    model.turn(0, Link::Open);
-    model.take(0, &Meaning::Hello, &mut text)?;
-    for meaning in heard.as_slice() {
-        model.take(0, meaning, &mut text)?;
-    }
-    model.take(0, &Meaning::Poll, &mut text)?;
+    let (octets, text) = registration(alloc, None, 1)?;
+    let mut spelled = [0x02, 0x1A, 0x00].to_vec(alloc)?;
+    spelled.extend_from_slice(&REQUEST_BURST)?;
+    spelled.extend_from_slice(&[0x03, 0x00])?;
     let mut wanted = [0x81, 0x01, 0x01, 0x82, 0x1A, 0x00].to_vec(alloc)?;
     wanted.extend_from_slice(&ACCEPTED_BURST)?;
     wanted.extend_from_slice(&[0x83, 0x00])?;
-    Ok(is_spelled && text.as_slice() == wanted.as_slice())
+    Ok(octets.as_slice() == spelled.as_slice() && text.as_slice() == wanted.as_slice())
+}
+
+/// Whether one in version 2 whose RX comes twice is spelled and answered as the formats say.
+pub fn registers_once(alloc: Global) -> Result<bool, OutOfMemory> {
+    let (octets, text) = registration(alloc, Some(5), 2)?;
+    let mut spelled = [0x02, 0x1B, 0x05, 0x00].to_vec(alloc)?;
+    spelled.extend_from_slice(&REQUEST_BURST)?;
+    spelled.extend_from_slice(&[0x02, 0x1B, 0x05, 0x00])?;
+    spelled.extend_from_slice(&REQUEST_BURST)?;
+    spelled.extend_from_slice(&[0x03, 0x00, 0x03, 0x00])?;
+    let mut wanted = [0x81, 0x01, 0x02, 0x82, 0x1B, 0x00, 0x00].to_vec(alloc)?;
+    wanted.extend_from_slice(&ACCEPTED_BURST)?;
+    wanted.extend_from_slice(&[0x83, 0x00, 0x82, 0x1B, 0x01, 0x00])?;
+    wanted.extend_from_slice(&ALOHA_BURST)?;
+    wanted.extend_from_slice(&[0x83, 0x00])?;
+    Ok(octets.as_slice() == spelled.as_slice() && text.as_slice() == wanted.as_slice())
 }

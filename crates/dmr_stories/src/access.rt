@@ -10,7 +10,7 @@
 mod stories;
 
 use crate::language::Listener;
-use crate::language::words::{cut, pdu_of, write_pdu, write_truth};
+use crate::language::words::{cut, pdu_of, replace_with, write_pdu, write_truth};
 use crate::site_file::{SMALL, plan_of};
 use dmr_access::Access;
 use dmr_pdu::{Lpcn, OutOfMemory};
@@ -44,7 +44,7 @@ impl Listener for Fills {
     fn hear(&mut self, told: &str, said: &mut String) -> Result<(), OutOfMemory> {
         let (word, rest) = cut(told);
         match word {
-            "copy" => self.copy = self.access.try_clone(self.alloc)?,
+            "copy" => replace_with(&mut self.copy, self.access.try_clone(self.alloc)?),
             "same" => write_truth(said, self.access == self.copy)?,
             "backoff" => write!(said, "{}", self.access.backoff())?,
             "late_due" => write_truth(said, self.access.late_due())?,

@@ -77,12 +77,23 @@ fn engine(alloc: Global) -> Result<Engine, Fail> {
 fn takes_steps(rt: &(impl Abort + AllocGlobal), name: &str, told: &[Told]) -> Result<(), Fail> {
     let came = all_that_came(rt.alloc(), told, None)?;
     let mut engine = engine(rt.alloc())?;
-    let mut outputs = Outputs::new(rt.alloc());
-    for came in came.as_slice() {
+    let outputs = put_out_by_steps(rt.alloc(), &mut engine, came.as_slice());
+    drop(engine);
+    are_put_out(rt, name, told, &outputs?)?;
+    Ok(())
+}
+
+/// What an engine puts out that takes what came in steps.
+fn put_out_by_steps(
+    alloc: Global,
+    engine: &mut Engine,
+    came: &[Came],
+) -> Result<Outputs, OutOfMemory> {
+    let mut outputs = Outputs::new(alloc);
+    for came in came {
         engine.step(came.as_input(), &mut outputs)?;
     }
-    are_put_out(rt, name, told, &outputs)?;
-    Ok(())
+    Ok(outputs)
 }
 
 /// Wants this to be put out by an engine that takes all in one run, each piece cut in two where a place is given.
@@ -95,10 +106,9 @@ fn takes_in_one_run(
     let came = all_that_came(rt.alloc(), told, place)?;
     let inputs = inputs_of(rt.alloc(), came.as_slice())?;
     let mut engine = engine(rt.alloc())?;
-    match engine.run(rt.alloc(), inputs.as_slice()) {
-        Ok(outputs) => are_put_out(rt, name, told, &outputs)?,
-        Err(_) => return Err("memory".into()),
-    }
+    let outputs = engine.run(rt.alloc(), inputs.as_slice()).ok();
+    drop(engine);
+    are_put_out(rt, name, told, &outputs.ok_or("memory")?)?;
     Ok(())
 }
 

@@ -28,8 +28,21 @@ pub trait Listener {
     fn hear(&mut self, told: &str, said: &mut String) -> Result<(), OutOfMemory>;
 }
 
-/// Tells a listener a story of a name, and wants each line to be answered so.
-pub fn tell<L: Listener>(
+/// Tells a listener a story of a name in these parts, and wants each line to be answered so. The listener goes then.
+pub fn tell<L: Listener + Drop>(
+    rt: &(impl Abort + AllocGlobal),
+    mut listener: L,
+    name: &str,
+    parts: &[&str],
+) -> Result<(), OutOfMemory> {
+    for part in parts {
+        tell_part(rt, &mut listener, name, part)?;
+    }
+    Ok(())
+}
+
+/// Tells a listener a part of a story.
+fn tell_part<L: Listener>(
     rt: &(impl Abort + AllocGlobal),
     listener: &mut L,
     name: &str,

@@ -17,7 +17,7 @@ use self::answers::write_answer;
 use self::changes::{change_calls, change_waiting};
 use self::finds::{find_ask_or_line, find_call, find_own};
 use crate::language::Listener;
-use crate::language::words::{cut, write_truth};
+use crate::language::words::{cut, replace_with, write_truth};
 use dmr_calls::Calls;
 use dmr_pdu::OutOfMemory;
 use std::alloc::Global;
@@ -44,7 +44,7 @@ impl Lists {
 impl Listener for Lists {
     fn hear(&mut self, told: &str, said: &mut String) -> Result<(), OutOfMemory> {
         match told {
-            "copy" => self.copy = self.calls.try_clone(self.alloc)?,
+            "copy" => replace_with(&mut self.copy, self.calls.try_clone(self.alloc)?),
             "same" => write_truth(said, self.calls == self.copy)?,
             "empty" => write_truth(said, self.calls == Calls::new(self.alloc)?)?,
             _ => self.answer(told, said)?,

@@ -138,8 +138,8 @@ fn write_text<D: Display>(said: &mut String, value: &D) -> Result<(), OutOfMemor
 
 #[test]
 fn tells_faults(rt: HostRuntime) -> Result<(), Fail> {
-    for story in STORIES {
-        tell(&rt, &mut Reader { alloc: rt.alloc() }, "site file", story)?;
+    for story in &STORIES {
+        tell(&rt, Reader { alloc: rt.alloc() }, "site file", &[*story])?;
     }
     Ok(())
 }

@@ -12,7 +12,7 @@ mod stories;
 
 use crate::language::Listener;
 use crate::language::words::{
-    carrier_of, cut, pdu_of, slot_of, write_pdu, write_slot, write_truth,
+    carrier_of, cut, pdu_of, replace_with, slot_of, write_pdu, write_slot, write_truth,
 };
 use crate::site_file::{SMALL, plan_of};
 use dmr_pdu::{CarrierNo, OutOfMemory, Pdu, Slot};
@@ -47,7 +47,7 @@ impl Slots {
 impl Listener for Slots {
     fn hear(&mut self, told: &str, said: &mut String) -> Result<(), OutOfMemory> {
         match told {
-            "copy" => self.copy = self.pool.try_clone(self.alloc)?,
+            "copy" => replace_with(&mut self.copy, self.pool.try_clone(self.alloc)?),
             "same" => write_truth(said, self.pool == self.copy)?,
             "is_as" => write_truth(said, self.pool.is_as(&self.copy))?,
             "keeps" => self.pool.keeps(),

@@ -10,7 +10,7 @@
 mod stories;
 
 use crate::language::Listener;
-use crate::language::words::{address_of, cut, write_truth};
+use crate::language::words::{address_of, cut, replace_with, write_truth};
 use dmr_pdu::{Address, OutOfMemory};
 use dmr_registry::{Full, MOST_RADIOS, Registry};
 use std::alloc::Global;
@@ -37,7 +37,7 @@ impl Radios {
 impl Listener for Radios {
     fn hear(&mut self, told: &str, said: &mut String) -> Result<(), OutOfMemory> {
         match told {
-            "copy" => self.copy = self.registry.try_clone(self.alloc)?,
+            "copy" => replace_with(&mut self.copy, self.registry.try_clone(self.alloc)?),
             "same" => write_truth(said, self.registry == self.copy)?,
             "len" => write!(said, "{}", self.registry.len())?,
             "is_empty" => write_truth(said, self.registry.is_empty())?,

@@ -98,8 +98,7 @@ same => yes
 #[test]
 fn access(rt: HostRuntime) -> Result<(), Fail> {
     for (name, story) in &STORIES {
-        let mut fills = Fills::new(rt.alloc())?;
-        tell(&rt, &mut fills, name, story)?;
+        tell(&rt, Fills::new(rt.alloc())?, name, &[*story])?;
     }
     Ok(())
 }

@@ -6,6 +6,11 @@
 use dmr_calls::{Ask, Call, Line};
 use dmr_pdu::{Address, CarrierNo, Options, OutOfMemory, Pdu, Slot, SlotNo};
 
+/// Puts a value in a place. What stood there goes.
+pub fn replace_with<T: Drop>(place: &mut T, value: T) {
+    *place = value;
+}
+
 /// The first word, and what stands behind it.
 pub fn cut(words: &str) -> (&str, &str) {
     words.split_once(' ').unwrap_or((words, ""))

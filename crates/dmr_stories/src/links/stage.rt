@@ -16,7 +16,7 @@ use super::desk::ListDesk;
 use super::gate::CountingGate;
 use super::peer::Peer;
 use super::steps::steps_of;
-use crate::language::words::{cut, write_truth};
+use crate::language::words::{cut, replace_with, write_truth};
 use crate::language::{Listener, tell};
 use crate::site_file::{SMALL, plan_of};
 use dmr_core::Site;
@@ -56,9 +56,8 @@ pub fn tell_all(
     behind: &str,
 ) -> Result<(), Fail> {
     for (name, story) in stories {
-        let mut stage = stage_of(rt.alloc(), peer.another())?;
-        tell(rt, &mut stage, *name, *story)?;
-        tell(rt, &mut stage, *name, behind)?;
+        let stage = stage_of(rt.alloc(), peer.another())?;
+        tell(rt, stage, *name, &[*story, behind])?;
     }
     Ok(())
 }
@@ -66,11 +65,12 @@ pub fn tell_all(
 /// A link with a port without steps, and a desk of a site on which nothing stands.
 fn stage_of(alloc: Global, peer: Peer) -> Result<Stage, Fail> {
     let plan = plan_of(alloc, SMALL)?;
+    let port = port_of(alloc, Vec::new(alloc))?;
     Ok(Stage {
         alloc,
         plan,
         peer,
-        port: port_of(alloc, Vec::new(alloc))?,
+        port,
         desk: desk_of(alloc, plan)?,
         seen: 0,
         ended: None,
@@ -113,7 +113,7 @@ impl Stage {
     /// Puts a link, a desk and a port of these steps in the place of those that are there, and opens the link.
     fn begin(&mut self, steps: &str, said: &mut String) -> Result<(), OutOfMemory> {
         self.peer = self.peer.another();
-        self.desk = desk_of(self.alloc, self.plan)?;
+        replace_with(&mut self.desk, desk_of(self.alloc, self.plan)?);
         self.seen = 0;
         if !self.peer.open() {
             said.push_str("?")?;

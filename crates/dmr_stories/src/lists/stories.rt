@@ -156,8 +156,7 @@ group_line 2003 => no
 #[test]
 fn lists(rt: HostRuntime) -> Result<(), Fail> {
     for (name, story) in &STORIES {
-        let mut lists = Lists::new(rt.alloc())?;
-        tell(&rt, &mut lists, name, story)?;
+        tell(&rt, Lists::new(rt.alloc())?, name, &[*story])?;
     }
     Ok(())
 }

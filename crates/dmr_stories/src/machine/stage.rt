@@ -8,11 +8,12 @@
 
 use super::acts::write_acts;
 use super::events::event_of;
-use crate::language::words::{cut, write_truth};
+use crate::language::words::{cut, replace_with, write_truth};
 use crate::language::{Listener, tell, tell_in_round};
 use crate::site_file::{plan_of, reading_of};
 use dmr_core::{Event, Site};
 use dmr_pdu::OutOfMemory;
+use dmr_plan::Plan;
 use std::alloc::Global;
 use std::mem;
 use std::process::Abort;
@@ -48,11 +49,6 @@ heard 0.0 9F00020E.16776902.0+ => joined 0+; queue 0.0 A00000C4.0+.16776902
 poll 0 => send 0.0 A00000C4.0+.16776902
 ";
 
-/// A site on which nothing is up.
-fn site_of(alloc: Global, changes: &str) -> Result<Site, Fail> {
-    Ok(Site::new(alloc, plan_of(alloc, changes)?)?)
-}
-
 /// Whether two sites are equal.
 fn are_same(first: &Site, second: &Site) -> bool {
     *first == *second
@@ -63,32 +59,48 @@ fn are_apart(first: &Site, second: &Site) -> bool {
     *first != *second
 }
 
+/// A site of this plan on which nothing is up, and a copy of it.
+fn stage_of(alloc: Global, plan: &Plan) -> Result<Stage, OutOfMemory> {
+    let site = Site::new(alloc, *plan)?;
+    match Site::new(alloc, *plan) {
+        Ok(copy) => Ok(Stage { site, copy, alloc }),
+        Err(refused) => {
+            drop(site);
+            Err(refused)
+        }
+    }
+}
+
 /// Tells each story, and wants its site to answer so.
 pub fn tell_all(rt: &(impl Abort + AllocGlobal), stories: &[Story]) -> Result<(), Fail> {
     for story in stories {
-        let mut stage = Stage {
-            site: site_of(rt.alloc(), story.site)?,
-            copy: site_of(rt.alloc(), story.site)?,
-            alloc: rt.alloc(),
-        };
-        if let Some(last) = story.radios {
-            begin(rt, &mut stage, story.name, last)?;
-        }
-        for part in story.told {
-            tell(rt, &mut stage, story.name, part)?;
-        }
+        let plan = plan_of(rt.alloc(), story.site)?;
+        tell_story(rt, stage_of(rt.alloc(), &plan)?, &plan, story)?;
     }
     Ok(())
 }
 
-/// The carriers come up, and the radios from 1001 to the last one are registered.
-fn begin(
+/// Tells a story of a site of this plan.
+fn tell_story<L: Listener + Drop>(
     rt: &(impl Abort + AllocGlobal),
-    stage: &mut Stage,
+    mut stage: L,
+    plan: &Plan,
+    story: &Story,
+) -> Result<(), OutOfMemory> {
+    if let Some(last) = story.radios {
+        begin(rt, &mut stage, plan, story.name, last)?;
+    }
+    tell(rt, stage, story.name, story.told)
+}
+
+/// The carriers come up, and the radios from 1001 to the last one are registered.
+fn begin<L: Listener>(
+    rt: &(impl Abort + AllocGlobal),
+    stage: &mut L,
+    plan: &Plan,
     name: &str,
     last: u32,
 ) -> Result<(), OutOfMemory> {
-    let plan = *stage.site.plan();
     for row in plan.carrier() {
         tell_in_round(rt, stage, name, row.number.get(), COMES_UP)?;
     }
@@ -102,7 +114,7 @@ impl Listener for Stage {
     fn hear(&mut self, told: &str, said: &mut String) -> Result<(), OutOfMemory> {
         let (word, rest) = cut(told);
         match word {
-            "copy" => self.copy = self.site.try_clone(self.alloc)?,
+            "copy" => replace_with(&mut self.copy, self.site.try_clone(self.alloc)?),
             "swap" => mem::swap(&mut self.site, &mut self.copy),
             "same" => write_truth(said, are_same(&self.site, &self.copy))?,
             "alone" => self.stands_alone(rest, said)?,
@@ -121,7 +133,7 @@ impl Stage {
     /// Puts the site of a site file with changes in the place of the copy.
     fn take_other(&mut self, changes: &str, said: &mut String) -> Result<(), OutOfMemory> {
         match reading_of(self.alloc, changes) {
-            Ok(plan) => self.copy = Site::new(self.alloc, plan)?,
+            Ok(plan) => replace_with(&mut self.copy, Site::new(self.alloc, plan)?),
             Err(_) => said.push_str("?")?,
         }
         Ok(())
@@ -136,6 +148,8 @@ impl Stage {
         let mut copy = self.site.try_clone(self.alloc)?;
         let equal = are_same(&copy, &self.site);
         copy.apply(event);
-        write_truth(said, equal && are_apart(&copy, &self.site))
+        let alone = equal && are_apart(&copy, &self.site);
+        drop(copy);
+        write_truth(said, alone)
     }
 }

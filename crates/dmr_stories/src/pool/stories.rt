@@ -138,8 +138,7 @@ waiting 0.0 => 0
 #[test]
 fn pool(rt: HostRuntime) -> Result<(), Fail> {
     for (name, story) in &STORIES {
-        let mut slots = Slots::new(rt.alloc())?;
-        tell(&rt, &mut slots, name, story)?;
+        tell(&rt, Slots::new(rt.alloc())?, name, &[*story])?;
     }
     Ok(())
 }

@@ -86,8 +86,7 @@ is_empty => no
 #[test]
 fn registry(rt: HostRuntime) -> Result<(), Fail> {
     for (name, story) in &STORIES {
-        let mut radios = Radios::new(rt.alloc())?;
-        tell(&rt, &mut radios, name, story)?;
+        tell(&rt, Radios::new(rt.alloc())?, name, &[*story])?;
     }
     Ok(())
 }

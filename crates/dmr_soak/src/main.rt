@@ -110,12 +110,27 @@ impl Run {
         let Ok(plan) = Plan::read(alloc, text.as_str()) else {
             return Ok(None);
         };
-        Ok(Some(Run {
-            alloc,
-            engine: Engine::new(alloc, plan)?,
-            model: Model::new(alloc, site)?,
-            traffic: Traffic::new(alloc, site, seed)?,
-        }))
+        let traffic = Traffic::new(alloc, site, seed)?;
+        let model = match Model::new(alloc, site) {
+            Ok(model) => model,
+            Err(refused) => {
+                drop(traffic);
+                return Err(refused);
+            }
+        };
+        match Engine::new(alloc, plan) {
+            Ok(engine) => Ok(Some(Run {
+                alloc,
+                engine,
+                model,
+                traffic,
+            })),
+            Err(refused) => {
+                drop(model);
+                drop(traffic);
+                Err(refused)
+            }
+        }
     }
 
     /// The engine and the model take what comes next: what is to be put out for the party that wrote octets.
@@ -200,15 +215,22 @@ fn wishes_of(words: &[String]) -> Option<(u32, u64, bool)> {
 
 /// Runs a site, prints how it went, and answers whether all was put out as it should be.
 fn show<R: Print + AllocGlobal>(rt: &R, site: &Scene, wish: (u32, u64, bool)) -> io::Result<bool> {
-    let (inputs, seed, counts) = wish;
     print!(rt;
         "{} carriers, link_version {}: ",
         site.carriers, site.version
     )?;
-    let Some(mut run) = Run::new(rt.alloc(), site, seed)? else {
+    let Some(mut run) = Run::new(rt.alloc(), site, wish.1)? else {
         println!(rt; "the site file is refused")?;
         return Ok(false);
     };
+    let shown = show_run(rt, &mut run, wish);
+    drop(run);
+    shown
+}
+
+/// As many inputs come as are wished for: prints how that went, and answers whether all was put out as it should be.
+fn show_run<R: Print>(rt: &R, run: &mut Run, wish: (u32, u64, bool)) -> io::Result<bool> {
+    let (inputs, _, counts) = wish;
     for input in 1..=inputs {
         if let Some(party) = run.test()? {
             println!(rt; "input {input}: something else is put out for {party}")?;

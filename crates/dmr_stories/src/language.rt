@@ -42,7 +42,7 @@ pub fn tell<L: Listener + Drop>(
 }
 
 /// Tells a listener a part of a story.
-fn tell_part<L: Listener>(
+pub fn tell_part<L: Listener>(
     rt: &(impl Abort + AllocGlobal),
     listener: &mut L,
     name: &str,

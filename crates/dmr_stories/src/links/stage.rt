@@ -17,7 +17,7 @@ use super::gate::CountingGate;
 use super::peer::Peer;
 use super::steps::steps_of;
 use crate::language::words::{cut, replace_with, write_truth};
-use crate::language::{Listener, tell};
+use crate::language::{Listener, tell_part};
 use crate::site_file::{SMALL, plan_of};
 use dmr_core::Site;
 use dmr_link::Ended;
@@ -57,9 +57,21 @@ pub fn tell_all(
 ) -> Result<(), Fail> {
     for (name, story) in stories {
         let stage = stage_of(rt.alloc(), peer.another())?;
-        tell(rt, stage, *name, &[*story, behind])?;
+        tell_story(rt, stage, *name, *story, behind)?;
     }
     Ok(())
+}
+
+/// Tells a story, and then the words behind it.
+fn tell_story<L: Listener + Drop>(
+    rt: &(impl Abort + AllocGlobal),
+    mut stage: L,
+    name: &str,
+    story: &str,
+    behind: &str,
+) -> Result<(), OutOfMemory> {
+    tell_part(rt, &mut stage, name, story)?;
+    tell_part(rt, &mut stage, name, behind)
 }
 
 /// A link with a port without steps, and a desk of a site on which nothing stands.

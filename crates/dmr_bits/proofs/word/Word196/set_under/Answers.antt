@@ -1,0 +1,18 @@
+use Rattle.std.proofs.Common.{◌∙◌, arith, ap}
+use Rattle.dmr_bits.specs.Packed.{set_under}
+use Rattle.dmr_bits.proofs.PackedLemmas.{set_under-is, ones_in_both-le}
+use Rattle.dmr_bits.proofs.word.Word196.set_under.Goals as goal
+
+pub overflow_add-result : goal.overflow_add-result
+overflow_add-result c = omega (arith, ones_in_both-le c.self.inside.words c.args.mask.now c.self.invariant 0, ones_in_both-le c.self.inside.words c.args.mask.now c.self.invariant 1)
+
+pub overflow_add-result-2 : goal.overflow_add-result-2
+overflow_add-result-2 c =
+    omega (arith, ones_in_both-le c.self.inside.words c.args.mask.now c.self.invariant 0, ones_in_both-le c.self.inside.words c.args.mask.now c.self.invariant 1, ones_in_both-le c.self.inside.words c.args.mask.now c.self.invariant 2)
+
+pub overflow_add-result-3 : goal.overflow_add-result-3
+overflow_add-result-3 c =
+    omega (arith, ones_in_both-le c.self.inside.words c.args.mask.now c.self.invariant 0, ones_in_both-le c.self.inside.words c.args.mask.now c.self.invariant 1, ones_in_both-le c.self.inside.words c.args.mask.now c.self.invariant 2, ones_in_both-le c.self.inside.words c.args.mask.now c.self.invariant 3)
+
+pub returns : goal.returns
+returns c = set_under-is c.self.inside.words c.args.mask.now c.self.invariant ∙ ap (λ word. set_under word c.args.mask.now) c.self.view_is

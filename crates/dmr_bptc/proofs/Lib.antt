@@ -10,3 +10,4 @@ pub mod OddSumLemmas
 pub mod SumTableLemmas
 pub mod WordSumLemmas
 pub mod CodeTableLemmas
+pub mod MaskTableLemmas

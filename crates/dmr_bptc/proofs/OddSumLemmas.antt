@@ -6,7 +6,7 @@ use Rattle.std.proofs.lemmas.Bool.{cases_eq, eq-eqb, ne_eqb}
 use Rattle.std.proofs.lemmas.Nat.{xor_lt, pow_pos}
 use Rattle.std.proofs.lemmas.Nat.Bits.{bit_at_xor, bit_at-zero}
 use Rattle.dmr_bits.specs.Bits.{bits_value}
-use Rattle.dmr_bits.proofs.BitLemmas.{bits_value-bit}
+use Rattle.dmr_bits.proofs.Laws.{bits_value-bit}
 use Rattle.dmr_bptc.specs.Bptc.{add_bits, parity, Satisfies}
 use Rattle.dmr_bptc.proofs.BitSumLemmas.{add_bits-false, add_bits_middle}
 

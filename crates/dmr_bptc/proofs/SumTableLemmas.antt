@@ -88,7 +88,7 @@ row_right row e lt e_lt =
     (λ i. row_agrees (of_row i) (of_equation i) 196)
     ∙ agree_below_at (λ n. row_agrees (n / 4) (n % 4) 196) (λ _. true) 52 (4 * row + e) rows_right (omega arith)
 
-line_place-lt : (line : Line) (k : ℕ) → line_place line k < 196
+pub line_place-lt : (line : Line) (k : ℕ) → line_place line k < 196
 line_place-lt (Row row) k = omega arith
 line_place-lt (Column column) k = omega arith
 

@@ -3,6 +3,7 @@
 ghost use Rattle.std.specs.Prelude.{◌≡◌, ℕ, ◌*◌, ◌<◌, Bool, List, length};
 ghost use Rattle.dmr_bits.specs.Bits.{octet_bit, bits_value};
 ghost use Rattle.dmr_bptc.specs.Bptc.{IsEncoding};
+ghost use Rattle.dmr_bptc.specs.Functions.{encoding_of};
 
 use dmr_bits::{Octets12, Word196};
 
@@ -21,6 +22,7 @@ pub fn encode(octets: &Octets12) -> Word196
     ensures is { IsEncoding octets.now result }
     // There is no other.
     ensures alone { (word : List Bool) → IsEncoding octets.now word → word ≡ result }
+    ensures encoding { result ≡ encoding_of octets.now }
 {
     let mut first = 0;
     let mut second = 0;

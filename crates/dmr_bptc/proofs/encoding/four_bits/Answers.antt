@@ -1,7 +1,7 @@
 use Rattle.std.proofs.Common.{◌≡◌, ◌==◌, ◌+◌, ◌*◌, ◌/◌, ◌%◌, ◌-◌, ◌^◌, get_or, sym, ap, ◌∙◌, arith}
 use Rattle.std.proofs.lemmas.Nat.{and_mask, shr-shr}
 use Rattle.dmr_bits.specs.Bits.{octet_bit}
-use Rattle.dmr_bits.proofs.BitLemmas.{bits_value-of_number}
+use Rattle.dmr_bits.proofs.Laws.{bits_value-of_number}
 use Rattle.dmr_bptc.proofs.encoding.four_bits.Goals as goal
 
 pub returns-clause-is : goal.returns-clause-is

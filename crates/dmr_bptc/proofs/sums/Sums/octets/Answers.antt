@@ -2,7 +2,7 @@ use Rattle.std.proofs.Common.{◌≡◌, ◌==◌, ℕ, ◌+◌, ◌*◌, ◌/�
 use Rattle.std.proofs.lemmas.Nat.{and_mask, shr-shr}
 use Rattle.dmr_bits.specs.Bits.{bits_value}
 use Rattle.dmr_bits.specs.Packed.{packed_bit}
-use Rattle.dmr_bits.proofs.BitLemmas.{bits_value-of_number, bits_value-bit}
+use Rattle.dmr_bits.proofs.Laws.{bits_value-of_number, bits_value-bit}
 use Rattle.dmr_bptc.proofs.sums.Sums.octets.Goals as goal
 
 pub returns-clause-bits : goal.returns-clause-bits

@@ -1,0 +1,110 @@
+-- The masks are those of the equations and the interleaving: the bits that are set under an equation's mask add up to its failure.
+use Rattle.std.proofs.Common.{◌≡◌, ◌==◌, ℕ, zero, suc, ◌+◌, ◌*◌, ◌/◌, ◌%◌, ◌<◌, Bool, true, false, cond, ◌&&◌, List, [], ◌∷◌, get_or, refl, sym, ap, ◌∙◌, arith, zero-add}
+use Rattle.std.proofs.lemmas.Bool.{agree_below, agree_below_at}
+use Rattle.dmr_bits.specs.Bits.{count_from}
+use Rattle.dmr_bits.specs.Words.{word_bit}
+use Rattle.dmr_bits.specs.Packed.{packed_bit, set_under}
+use Rattle.dmr_bptc.specs.declared.layout.Line.{Line}
+use Rattle.dmr_bptc.specs.declared.layout.Line.TheVariants.{Row, Column}
+use Rattle.dmr_bptc.specs.declared.equations.TheConstants.{ROW_MASKS, COLUMN_MASKS}
+use Rattle.dmr_bptc.specs.Bptc.{add_bits, parity, row_equations, column_equations, Satisfies}
+use Rattle.dmr_bptc.specs.Lines.{line_place, line_bit, equations_of}
+use Rattle.dmr_bptc.proofs.BitSumLemmas.{add_bits-zero, add_bits-same}
+use Rattle.dmr_bptc.proofs.ParityLemmas.{equation_at, satisfies-from_each, satisfies_at, line_table}
+use Rattle.dmr_bptc.proofs.OddSumLemmas.{odd_below, odd_below-same, odd_below-parity}
+use Rattle.dmr_bptc.proofs.SumTableLemmas.{coefficient, line_place-lt}
+
+-- ---- the tables
+
+-- below a count of places, a mask has the coefficients of an equation of a line
+unfoldable row_agrees : ℕ → ℕ → ℕ → Bool
+row_agrees row e count = agree_below (packed_bit (get_or (get_or ROW_MASKS row []) e [])) (coefficient (Row row) (equation_at row_equations e)) count
+
+rows_right : agree_below (λ n. row_agrees (n / 4) (n % 4) 196) (λ _. true) 52 ≡ true
+unfolding row_agrees row_equations
+rows_right = refl
+
+row_agrees-at : (row e count place : ℕ) → row_agrees row e count ≡ true → place < count → packed_bit (get_or (get_or ROW_MASKS row []) e []) place ≡ coefficient (Row row) (equation_at row_equations e) place
+unfolding row_agrees
+row_agrees-at row e count place all lt = agree_below_at (packed_bit (get_or (get_or ROW_MASKS row []) e [])) (coefficient (Row row) (equation_at row_equations e)) count place all lt
+
+row_right : (row e : ℕ) → row < 13 → e < 4 → row_agrees row e 196 ≡ true
+row_right row e lt e_lt =
+    let of_row : row ≡ (4 * row + e) / 4 = omega arith in
+    let of_equation : e ≡ (4 * row + e) % 4 = omega arith in
+    (λ i. row_agrees (of_row i) (of_equation i) 196)
+    ∙ agree_below_at (λ n. row_agrees (n / 4) (n % 4) 196) (λ _. true) 52 (4 * row + e) rows_right (omega arith)
+
+unfoldable column_agrees : ℕ → ℕ → ℕ → Bool
+column_agrees column e count = agree_below (packed_bit (get_or (get_or COLUMN_MASKS column []) e [])) (coefficient (Column column) (equation_at column_equations e)) count
+
+columns_right : agree_below (λ n. column_agrees (n / 4) (n % 4) 196) (λ _. true) 60 ≡ true
+unfolding column_agrees column_equations
+columns_right = refl
+
+column_agrees-at : (column e count place : ℕ) → column_agrees column e count ≡ true → place < count → packed_bit (get_or (get_or COLUMN_MASKS column []) e []) place ≡ coefficient (Column column) (equation_at column_equations e) place
+unfolding column_agrees
+column_agrees-at column e count place all lt = agree_below_at (packed_bit (get_or (get_or COLUMN_MASKS column []) e [])) (coefficient (Column column) (equation_at column_equations e)) count place all lt
+
+column_right : (column e : ℕ) → column < 15 → e < 4 → column_agrees column e 196 ≡ true
+column_right column e lt e_lt =
+    let of_column : column ≡ (4 * column + e) / 4 = omega arith in
+    let of_equation : e ≡ (4 * column + e) % 4 = omega arith in
+    (λ i. column_agrees (of_column i) (of_equation i) 196)
+    ∙ agree_below_at (λ n. column_agrees (n / 4) (n % 4) 196) (λ _. true) 60 (4 * column + e) columns_right (omega arith)
+
+-- ---- even counts
+
+odd_more : (b : Bool) (n : ℕ) → ((n + cond b 1 0) % 2 == 1) ≡ add_bits b (n % 2 == 1)
+odd_more false n = let e : (n + 0) % 2 ≡ n % 2 = omega arith in ap (λ m. m == 1) e
+odd_more true n = by_rest (n % 2) refl
+  where
+    by_rest : (m : ℕ) → m ≡ n % 2 → ((n + 1) % 2 == 1) ≡ add_bits true (n % 2 == 1)
+    by_rest zero e = let next : (n + 1) % 2 ≡ 1 = omega arith in rw (next, sym e) refl
+    by_rest (suc zero) e = let next : (n + 1) % 2 ≡ 0 = omega arith in rw (next, sym e) refl
+    by_rest (suc (suc m)) e = absurd (omega arith)
+
+-- a count is odd where an odd number of places pass
+count_odd : (passes : ℕ → Bool) (n : ℕ) → (count_from passes 0 n % 2 == 1) ≡ odd_below passes n
+unfolding count_from odd_below
+count_odd passes zero = refl
+count_odd passes (suc n) = rw (zero-add n) (odd_more (passes n) (count_from passes 0 n) ∙ ap (add_bits (passes n)) (count_odd passes n))
+
+even-from : (n : ℕ) → (n % 2 == 1) ≡ false → n % 2 ≡ 0
+even-from n is = by_rest (n % 2) refl
+  where
+    by_rest : (m : ℕ) → m ≡ n % 2 → n % 2 ≡ 0
+    by_rest zero e = sym e
+    by_rest (suc zero) e = let odd : (n % 2 == 1) ≡ true = rw (sym e) refl in cc
+    by_rest (suc (suc m)) e = absurd (omega arith)
+
+-- an odd number of bits is set under a mask with an equation's coefficients where the line fails the equation
+under_mask : (word : List Bool) (mask : List ℕ) (line : Line) (e : ℕ × List ℕ) → ((place : ℕ) → place < 196 → packed_bit mask place ≡ coefficient line e place)
+    → (set_under word mask % 2 == 1) ≡ parity (line_bit word line) (e.0 ∷ e.1)
+under_mask word mask line e is =
+    count_odd (λ place. word_bit word place && packed_bit mask place) 196
+    ∙ odd_below-same (λ place. word_bit word place && packed_bit mask place) (λ place. word_bit word place && coefficient line e place) 196 (λ q lt. ap (λ b. word_bit word q && b) (is q lt))
+    ∙ odd_below-parity (word_bit word) (line_place line) 196 (line_place-lt line) (e.0 ∷ e.1)
+
+-- even counts under masks with the coefficients of a line's equations, and the equations
+module _ (word : List Bool) (line : Line) (masks : List (List ℕ))
+    (are : (e place : ℕ) → e < 4 → place < 196 → packed_bit (get_or masks e []) place ≡ coefficient line (equation_at (equations_of line) e) place) where
+  is_under : (e : ℕ) → e < 4 → (set_under word (get_or masks e []) % 2 == 1) ≡ add_bits (line_bit word line (equation_at (equations_of line) e).0) (parity (line_bit word line) (equation_at (equations_of line) e).1)
+  is_under e lt = under_mask word (get_or masks e []) line (equation_at (equations_of line) e) (λ place place_lt. are e place lt place_lt)
+
+  pub satisfies-from_even : ((e : ℕ) → e < 4 → set_under word (get_or masks e []) % 2 ≡ 0) → Satisfies (equations_of line) (line_bit word line)
+  satisfies-from_even even = satisfies-from_each (equations_of line) (line_bit word line) (λ e lt.
+      let within : e < 4 = omega (arith, (line_table line).len) in
+      add_bits-zero (line_bit word line (equation_at (equations_of line) e).0) (parity (line_bit word line) (equation_at (equations_of line) e).1)
+      (sym (is_under e within) ∙ ap (λ n. n == 1) (even e within)))
+
+  pub even-from_satisfies : Satisfies (equations_of line) (line_bit word line) → (e : ℕ) → e < 4 → set_under word (get_or masks e []) % 2 ≡ 0
+  even-from_satisfies satisfies e lt =
+      even-from (set_under word (get_or masks e [])) (is_under e lt ∙ add_bits-same (line_bit word line (equation_at (equations_of line) e).0) (parity (line_bit word line) (equation_at (equations_of line) e).1)
+      (satisfies_at (equations_of line) (line_bit word line) satisfies e (omega (arith, (line_table line).len))))
+
+pub row_masks : (row : ℕ) → row < 13 → (e place : ℕ) → e < 4 → place < 196 → packed_bit (get_or (get_or ROW_MASKS row []) e []) place ≡ coefficient (Row row) (equation_at row_equations e) place
+row_masks row lt e place e_lt place_lt = row_agrees-at row e 196 place (row_right row e lt e_lt) place_lt
+
+pub column_masks : (column : ℕ) → column < 15 → (e place : ℕ) → e < 4 → place < 196 → packed_bit (get_or (get_or COLUMN_MASKS column []) e []) place ≡ coefficient (Column column) (equation_at column_equations e) place
+column_masks column lt e place e_lt place_lt = column_agrees-at column e 196 place (column_right column e lt e_lt) place_lt

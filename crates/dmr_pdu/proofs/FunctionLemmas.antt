@@ -6,7 +6,7 @@ use Rattle.std.proofs.lemmas.Bool.{cases_lt, cases_Bool, lt-ltb, le-ltb, leb-tru
 use Rattle.std.proofs.lemmas.List.{get_or_past}
 use Rattle.std.proofs.lemmas.List.FromFn.{length-map-range_with_len, get_or-map-range_with_len}
 use Rattle.dmr_bits.specs.Bits.{octet_bit, bits_value, field_of, IsOctets}
-use Rattle.dmr_bits.proofs.BitLemmas.{octets-same, bits_value-lt, bits_value-bit}
+use Rattle.dmr_bits.proofs.Laws.{octets-same, bits_value-lt, bits_value-bit}
 use Rattle.dmr_pdu.specs.Channels.{IsChannel}
 use Rattle.dmr_pdu.specs.declared.pdu.Pdu.{Pdu}
 use Rattle.dmr_pdu.specs.declared.pdu.Pdu.TheVariants.{Other}

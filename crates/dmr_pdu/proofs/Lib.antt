@@ -4,3 +4,4 @@ pub mod FunctionLemmas
 pub mod LayoutLemmas
 pub mod PaddingLemmas
 pub mod RowLemmas
+pub mod Laws

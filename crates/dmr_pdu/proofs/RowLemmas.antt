@@ -1,12 +1,10 @@
 -- Rows that follow one another determine ten octets, and may be written one after another.
-use Rattle.std.proofs.Common.{◌≡◌, ◌==◌, ℕ, ◌+◌, ◌-◌, ◌^◌, ◌<◌, ◌≤◌, Bool, true, false, List, [], ◌∷◌, length, drop, replicate, refl, sym, ap, ◌∙◌, arith, subst, ⊎_elim, eqb}
+use Rattle.std.proofs.Common.{◌≡◌, ◌==◌, ℕ, ◌+◌, ◌-◌, ◌^◌, ◌<◌, ◌≤◌, Bool, true, false, List, [], ◌∷◌, length, drop, replicate, refl, sym, ap, ◌∙◌, arith, subst, ⊎_elim}
 use Rattle.std.specs.Prelude.{◌&&◌, nat_le}
 use Rattle.std.proofs.lemmas.Bool.{cases_lt, eqb-true, leb-true, false≢true}
 use Rattle.std.proofs.lemmas.List.{drop_all}
-use Rattle.std.specs.Cmp.Lexicographic.{pointwise}
-use Rattle.std.proofs.lemmas.Bool.{eq-eqb, and_from}
 use Rattle.dmr_bits.specs.Bits.{octet_bit, field_of, IsOctets}
-use Rattle.dmr_bits.proofs.BitLemmas.{bits_value-same, bits_value-injective, octets-same, zeros-octets}
+use Rattle.dmr_bits.proofs.Laws.{bits_value-same, bits_value-injective, octets-same, zeros-octets}
 use Rattle.dmr_pdu.specs.Layout.{Row, Holds}
 use Rattle.dmr_pdu.specs.Rows.{fills, AllFit}
 
@@ -106,15 +104,3 @@ holds-all rows i octets is past =
 
 pub octets_10 : (octets made : List ℕ) → length octets ≡ 10 → IsOctets (length octets) made → IsOctets 10 made
 octets_10 octets made e is = record { len = is.len ∙ e; small = is.small }
-
--- ---- `==` of octets
-
-pub pointwise-self : (xs : List ℕ) → pointwise eqb xs xs ≡ true
-pointwise-self [] = refl
-pointwise-self (x ∷ xs) = and_from (eqb x x) (pointwise eqb xs xs) (eq-eqb x x refl) (pointwise-self xs)
-
-pub pointwise-same : (xs ys : List ℕ) → pointwise eqb xs ys ≡ true → xs ≡ ys
-pointwise-same [] [] e = refl
-pointwise-same [] (y ∷ ys) e = absurd (false≢true e)
-pointwise-same (x ∷ xs) [] e = absurd (false≢true e)
-pointwise-same (x ∷ xs) (y ∷ ys) e = (λ i. eqb-true x y (left (eqb x y) (pointwise eqb xs ys) e) i ∷ pointwise-same xs ys (right (eqb x y) (pointwise eqb xs ys) e) i)

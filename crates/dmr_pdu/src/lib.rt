@@ -9,12 +9,14 @@
 
 mod bounded_list;
 mod display;
+mod law;
 mod layouts;
 mod numbers;
 mod pdu;
 mod slots;
 
 pub use bounded_list::{Blank, BoundedList};
+pub use law::octets_mean_one_pdu;
 pub use numbers::{Address, Kind, Number, Options, Reason};
 pub use pdu::Pdu;
 pub use slots::{CarrierNo, Lpcn, Slot, SlotNo};

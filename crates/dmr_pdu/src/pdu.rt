@@ -4,6 +4,7 @@ ghost use Rattle.std.specs.Prelude.{◌≡◌, ◌↔◌, ℕ, List, IsTrue, IfS
 ghost use Rattle.dmr_bits.specs.Bits.{IsOctets};
 ghost use Rattle.dmr_pdu.specs.declared.pdu.Pdu.{Pdu as APdu};
 ghost use Rattle.dmr_pdu.specs.Layout.{IsLaidOut, SpellsPdu, Agrees};
+ghost use Rattle.dmr_pdu.specs.Functions.{octets_of, pdu_of};
 
 use crate::layouts::{read, written};
 use crate::numbers::{Address, Kind, Number, Options, Reason};
@@ -147,6 +148,7 @@ impl Pdu {
         ensures is { SpellsPdu self.now result }
         // There are no others.
         ensures alone { (octets : List ℕ) → IsOctets 10 octets → SpellsPdu self.now octets → octets ≡ result }
+        ensures written { result ≡ octets_of self.now }
     {
         written(self)
     }
@@ -156,6 +158,7 @@ impl Pdu {
         ensures agrees { Agrees result octets.now }
         // There is no other.
         ensures only { (pdu : APdu) → Agrees pdu octets.now → pdu ≡ result }
+        ensures pdu { result ≡ pdu_of octets.now }
     {
         match Pdu::listed(octets) {
             Some(pdu) => pdu,

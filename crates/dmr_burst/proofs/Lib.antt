@@ -1,2 +1,1 @@
-pub mod SendingLemmas
-pub mod FunctionLemmas
+pub mod MeaningLemmas

@@ -1,16 +1,11 @@
 -- The meaning of a word, and the burst of a PDU, as functions, for definitions that speak of many words. That they give
 -- what `MeansPdu` and `IsBurst` say, and nothing else, stands in the contracts of `meanings_are_single`, `read` and `write`;
 -- nothing rests on how they are worked out.
-use Rattle.std.specs.Prelude.{ℕ, List, Bool, Option, Some, None, if◌then◌else◌, take, nat_eq, option_map, option_and_then}
-use Rattle.std.specs.Cmp.Lexicographic.{pointwise}
-use Rattle.dmr_csbk.specs.Check.{with_check}
+use Rattle.std.specs.Prelude.{List, Bool, Option, option_map, option_and_then}
+use Rattle.dmr_csbk.specs.Check.{with_check, without_check}
 use Rattle.dmr_bptc.specs.Functions.{decoding_of, encoding_of}
 use Rattle.dmr_pdu.specs.declared.pdu.Pdu.{Pdu}
 use Rattle.dmr_pdu.specs.Functions.{octets_of, pdu_of}
-
--- ten octets that their check follows
-unfoldable pub without_check : List ℕ → Option (List ℕ)
-without_check sealed = if pointwise nat_eq (with_check (take 10 sealed)) sealed then Some (take 10 sealed) else None
 
 -- the PDU that a word means, if it means one
 unfoldable pub meaning_of : List Bool → Option Pdu

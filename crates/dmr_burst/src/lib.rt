@@ -13,9 +13,9 @@ ghost use Rattle.dmr_burst.specs.Burst.{MeansPdu, IsBurst};
 ghost use Rattle.dmr_burst.specs.Functions.{meaning_of, burst_of};
 
 use dmr_bits::Word196;
-use dmr_bptc::{decode, encode};
-use dmr_csbk::{open_sealed, seal};
-use dmr_pdu::Pdu;
+use dmr_bptc::{decode, encode, nearest_codeword};
+use dmr_csbk::{open_sealed, seal, seals_open};
+use dmr_pdu::{Pdu, octets_mean_one_pdu};
 
 /// The word that a PDU is sent as: the codeword, with place 0 and the reserved cells 0, of its octets and their check.
 pub fn write(pdu: &Pdu) -> Word196
@@ -40,13 +40,13 @@ pub fn read(word: &Word196) -> Option<Pdu>
     ensures back { (pdu : APdu) (sent : List Bool) → IsBurst pdu sent → IsReadable pdu → distance word.now sent ≤ 3 → result ≡ Some pdu }
     ensures meaning { result ≡ meaning_of word.now }
 {
+    meanings_are_single();
     opened(word)
 }
 
 /// The PDU whose octets and check a codeword near the word carries, if there is one.
 fn opened(word: &Word196) -> Option<Pdu>
-    ensures found { IfSome result (MeansPdu word.now) }
-    ensures only { (pdu : APdu) → MeansPdu word.now pdu → result ≡ Some pdu }
+    ensures { result ≡ meaning_of word.now }
 {
     let sealed = decode(word)?;
     let octets = open_sealed(&sealed)?;
@@ -54,7 +54,8 @@ fn opened(word: &Word196) -> Option<Pdu>
 }
 
 /// The laws of meaning: a word means one PDU at most, the one that `meaning_of` gives, and a burst with at most three flipped
-/// bits means what the clean burst meant. It does nothing; its contract is the law.
+/// bits means what the clean burst meant. It does nothing; its contract is the law, which follows from the laws of the layers
+/// below.
 pub fn meanings_are_single()
     ensures found { (word : List Bool) → IfSome (meaning_of word) (MeansPdu word) }
     ensures only { (word : List Bool) (pdu : APdu) → MeansPdu word pdu → meaning_of word ≡ Some pdu }
@@ -62,4 +63,8 @@ pub fn meanings_are_single()
     ensures clean { (word codeword : List Bool) → IsCodeword codeword → distance word codeword ≤ 3 → meaning_of word ≡ meaning_of codeword }
     // What was sent is meant.
     ensures flipped { (pdu : APdu) (sent word : List Bool) → IsBurst pdu sent → IsReadable pdu → distance word sent ≤ 3 → meaning_of word ≡ Some pdu }
-{}
+{
+    nearest_codeword();
+    seals_open();
+    octets_mean_one_pdu();
+}

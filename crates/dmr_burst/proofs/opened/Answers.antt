@@ -1,22 +1,20 @@
-use Rattle.std.proofs.Common.{◌≡◌, List, ℕ, ap, ◌∙◌, sym, subst, Some}
-use Rattle.dmr_csbk.specs.Check.{with_check}
-use Rattle.dmr_csbk.proofs.SealLemmas.{with_check-octets}
-use Rattle.dmr_pdu.specs.Layout.{Agrees}
+use Rattle.std.proofs.Common.{◌≡◌, None, Some, ap, ◌∙◌, sym}
+use Rattle.std.specs.Prelude.{option_map}
+use Rattle.dmr_csbk.specs.Check.{without_check}
+use Rattle.dmr_pdu.specs.Functions.{pdu_of}
+use Rattle.dmr_burst.proofs.MeaningLemmas.{meaning_of-decoded}
 use Rattle.dmr_burst.proofs.opened.Goals as goal
 
-some-same : (a b : List ℕ) → Some a ≡ Some b → a ≡ b
-some-same a b e = cc
+pub returns-in_err-sealed : goal.returns-in_err-sealed
+returns-in_err-sealed c = c.from_residual.ensures ∙ meaning_of-decoded c.args.word.now None (sym c.in_err-sealed.was ∙ c.decode.ensures.decoding)
 
-pub returns-in_err-octets-clause-only : goal.returns-in_err-octets-clause-only
-returns-in_err-octets-clause-only c = λ pdu means.
-    let decoded : c.decode.result ≡ Some (with_check means.0) = c.decode.ensures.only (with_check means.0) (with_check-octets means.0 means.1.are_octets) means.1.means in
-    let sealed : c.in_ok-sealed.sealed ≡ with_check means.0 = some-same c.in_ok-sealed.sealed (with_check means.0) (sym c.in_ok-sealed.was ∙ decoded) in
-    let opened : c.open_sealed.result ≡ Some means.0 = c.open_sealed.ensures.only means.0 means.1.are_octets sealed in
-    cc (opened, c.in_err-octets.was)
+pub returns-in_err-octets : goal.returns-in_err-octets
+returns-in_err-octets c =
+    let opened : None ≡ without_check c.in_ok-sealed.sealed = sym c.in_err-octets.was ∙ c.open_sealed.ensures.opened in
+    c.from_residual-in_err-octets.ensures ∙ ap (option_map pdu_of) opened ∙ meaning_of-decoded c.args.word.now (Some c.in_ok-sealed.sealed) (sym c.in_ok-sealed.was ∙ c.decode.ensures.decoding)
 
-pub returns-clause-only : goal.returns-clause-only
-returns-clause-only c = λ pdu means.
-    let decoded : c.decode.result ≡ Some (with_check means.0) = c.decode.ensures.only (with_check means.0) (with_check-octets means.0 means.1.are_octets) means.1.means in
-    let sealed : c.in_ok-sealed.sealed ≡ with_check means.0 = some-same c.in_ok-sealed.sealed (with_check means.0) (sym c.in_ok-sealed.was ∙ decoded) in
-    let opened : c.in_ok-octets.octets ≡ means.0 = some-same c.in_ok-octets.octets means.0 (sym c.in_ok-octets.was ∙ c.open_sealed.ensures.only means.0 means.1.are_octets sealed) in
-    ap Some (sym (c.from_octets.ensures.only pdu (subst (Agrees pdu) (sym opened) means.1.agrees)))
+pub returns : goal.returns
+returns c =
+    let opened : Some c.in_ok-octets.octets ≡ without_check c.in_ok-sealed.sealed = sym c.in_ok-octets.was ∙ c.open_sealed.ensures.opened in
+    ap Some c.from_octets.ensures.pdu ∙ ap (option_map pdu_of) opened
+    ∙ meaning_of-decoded c.args.word.now (Some c.in_ok-sealed.sealed) (sym c.in_ok-sealed.was ∙ c.decode.ensures.decoding)

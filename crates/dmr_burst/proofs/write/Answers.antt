@@ -1,7 +1,8 @@
 use Rattle.std.proofs.Common.{◌≡◌, List, ap, ◌∙◌, sym, subst, ℕ}
 use Rattle.dmr_csbk.specs.Check.{with_check}
 use Rattle.dmr_bptc.specs.Bptc.{IsEncoding}
-use Rattle.dmr_burst.proofs.FunctionLemmas.{burst_of-is}
+use Rattle.dmr_bptc.specs.Functions.{encoding_of}
+use Rattle.dmr_burst.specs.Functions.{burst_of}
 use Rattle.dmr_burst.proofs.write.Goals as goal
 
 pub returns-clause-is : goal.returns-clause-is
@@ -21,4 +22,7 @@ returns-clause-alone c = λ word burst.
     c.encode.ensures.alone word (subst (λ (s : List ℕ). IsEncoding s word) sealed burst.1.is_encoding)
 
 pub returns-clause-burst : goal.returns-clause-burst
-returns-clause-burst c = sym (burst_of-is c.args.pdu.now c.encode.result (returns-clause-is c))
+unfolding burst_of
+returns-clause-burst c =
+    c.encode.ensures.encoding
+    ∙ ap encoding_of (c.seal-sealed.ensures.is ∙ ap with_check c.to_octets-octets.ensures.written)

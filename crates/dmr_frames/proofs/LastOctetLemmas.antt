@@ -4,7 +4,7 @@ use Rattle.std.proofs.lemmas.Bool.{eq-eqb, ne_eqb}
 use Rattle.std.proofs.lemmas.List.{set_at}
 use Rattle.dmr_bits.specs.Bits.{field_of}
 use Rattle.dmr_bits.specs.Words.{SpellsWord, word_of}
-use Rattle.dmr_bits.proofs.WordLemmas.{words-same, word_of-spelled}
+use Rattle.dmr_bits.proofs.Laws.{words-same, word_of-spelled}
 use Rattle.dmr_frames.specs.declared.frame.FrameIn.TheVariants.{Rx}
 use Rattle.dmr_frames.specs.declared.frame.Cause.TheVariants.{BadPad}
 use Rattle.dmr_frames.specs.declared.cutter.Step.TheVariants.{Frame, Fault}

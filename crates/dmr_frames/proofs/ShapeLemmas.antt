@@ -1,10 +1,9 @@
 -- The octets from which a frame can follow, by cases.
-use Rattle.std.proofs.Common.{◌≡◌, ℕ, zero, suc, ◌+◌, ◌-◌, ◌*◌, ◌/◌, ◌%◌, ◌<◌, Bool, false, Option, Some, None, List, [], ◌∷◌, ◌++◌, length, get_or, replicate, refl, sym, ap, ◌∙◌, arith, ⊎_elim, inl, inr, length-append, append_assoc, subst}
-use Rattle.std.proofs.lemmas.Bool.{cases_eq}
-use Rattle.std.proofs.lemmas.List.{append-nil, get_or-append_right, length-replicate}
+use Rattle.std.proofs.Common.{◌≡◌, ℕ, zero, suc, ◌+◌, ◌-◌, ◌*◌, ◌/◌, ◌%◌, ◌<◌, ◌≤◌, Bool, false, Option, Some, None, List, [], ◌∷◌, ◌++◌, length, get_or, replicate, refl, sym, ap, ◌∙◌, arith, ⊎_elim, inl, inr, length-append, append_assoc, subst}
+use Rattle.std.proofs.lemmas.Bool.{cases_eq, cases_lt}
+use Rattle.std.proofs.lemmas.List.{append-nil, get_or-append_right, get_or-replicate, get_or_past, length-replicate}
 use Rattle.std.proofs.lemmas.List.FromFn.{length-map-range_with_len}
 use Rattle.dmr_bits.specs.Bits.{octet_bit, field_of, IsOctets}
-use Rattle.dmr_bits.proofs.BitLemmas.{get_or-all_replicate}
 use Rattle.dmr_frames.specs.declared.frame.FrameIn.{FrameIn}
 use Rattle.dmr_frames.specs.declared.frame.FrameIn.TheVariants.{Hello, Rx, Poll, Active, Bye}
 use Rattle.dmr_bits.specs.Words.{word_octets, word_of}
@@ -13,7 +12,7 @@ use Rattle.dmr_frames.specs.declared.version.Version.TheVariants.{V1, V2}
 use Rattle.dmr_frames.specs.Frames.{IsNumbered, IsFrame, burst_length, spelling}
 use Rattle.dmr_frames.specs.Stream.{IsOpen}
 use Rattle.dmr_frames.specs.Shape.{AreSmall, IsBurst, IsRxBody, IsHelloBody, IsShape}
-use Rattle.dmr_bits.proofs.WordLemmas.{word_octets-octets, word_octets-word_of, pad-last}
+use Rattle.dmr_bits.proofs.Laws.{word_octets-octets, word_octets-word_of, pad-last}
 
 pub small-tail : (x : ℕ) (xs : List ℕ) → AreSmall (x ∷ xs) → AreSmall xs
 small-tail x xs h = λ k. h (suc k)
@@ -141,7 +140,11 @@ unfolding word_of
 word_length octets = length-map-range_with_len (octet_bit octets) 0 196
 
 zeros_at : (n k : ℕ) → ◌≡◌ {A = ℕ} (get_or (replicate n 0) k 0) 0
-zeros_at n k = get_or-all_replicate {A = ℕ} n k 0
+zeros_at n k =
+    ⊎_elim
+    (λ (lt : k < n). get_or-replicate {A = ℕ} n k 0 0 lt)
+    (λ (le : n ≤ k). get_or_past {X = ℕ} (replicate n 0) k 0 (omega (arith, length-replicate {A = ℕ} n 0)))
+    (cases_lt k n)
 
 last_zero : (octets : List ℕ) (n : ℕ) → length octets + n ≡ 24 → get_or (octets ++ 0 ∷ replicate n 0) 24 0 ≡ 0
 last_zero octets n e = get_or-append_right octets (0 ∷ replicate n 0) (length octets) 24 0 refl (omega arith) ∙ zeros_at (suc n) (24 - length octets)

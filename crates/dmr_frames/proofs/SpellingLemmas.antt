@@ -1,13 +1,14 @@
 -- The spellings of the frames to a carrier part, and the length octets.
-use Rattle.std.proofs.Common.{◌≡◌, ℕ, ◌+◌, Bool, Option, Some, None, List, [], ◌∷◌, ◌++◌, length, get_or, refl, ap, arith}
+use Rattle.std.proofs.Common.{◌≡◌, ℕ, ◌+◌, ◌≤◌, Bool, Option, Some, None, List, [], ◌∷◌, ◌++◌, length, get_or, refl, ap, arith}
 use Rattle.dmr_bits.specs.Words.{word_octets}
-use Rattle.dmr_bits.proofs.WordLemmas.{word_octets-octets}
+use Rattle.dmr_bits.proofs.Laws.{word_octets-octets}
 use Rattle.dmr_frames.specs.declared.frame.FrameIn.{FrameIn}
 use Rattle.dmr_frames.specs.declared.frame.FrameIn.TheVariants.{Hello, Rx, Poll, Active, Bye}
 use Rattle.dmr_frames.specs.declared.frame.FrameOut.{FrameOut}
 use Rattle.dmr_frames.specs.declared.frame.FrameOut.TheVariants.{Welcome, Tx, Done, Refused}
 use Rattle.dmr_frames.specs.declared.frame.Refusal.TheVariants.{BadVersion, WrongCarrier}
 use Rattle.dmr_frames.specs.Frames.{IsFrameOut, burst_length, burst_octets, spelling, spelling_out, version_by}
+use Rattle.dmr_frames.specs.Limits.{longest_frame}
 use Rattle.dmr_frames.proofs.StreamLemmas.{same_bursts}
 
 -- the type of a frame
@@ -67,3 +68,22 @@ length-spelling_out (Welcome v) = omega arith
 length-spelling_out (Tx number slot word) = omega (arith, length-burst number slot word)
 length-spelling_out Done = omega arith
 length-spelling_out (Refused r) = omega arith
+
+-- ---- how long a frame is
+
+burst-le : (number : Option ℕ) (slot : ℕ) (word : List Bool) → length (burst_octets number slot (word_octets word)) ≤ 27
+burst-le None slot word = omega (arith, (word_octets-octets word).len)
+burst-le (Some number) slot word = omega (arith, (word_octets-octets word).len)
+
+pub spelling-le : (f : FrameIn) → length (spelling f) ≤ longest_frame
+spelling-le (Hello version carrier lpcn) = omega arith
+spelling-le (Rx number slot word) = omega (arith, burst-le number slot word)
+spelling-le Poll = omega arith
+spelling-le (Active slot) = omega arith
+spelling-le Bye = omega arith
+
+pub spelling_out-le : (f : FrameOut) → length (spelling_out f) ≤ longest_frame
+spelling_out-le (Welcome version) = omega arith
+spelling_out-le (Tx number slot word) = omega (arith, burst-le number slot word)
+spelling_out-le Done = omega arith
+spelling_out-le (Refused refusal) = omega arith

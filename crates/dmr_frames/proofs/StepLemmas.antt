@@ -15,7 +15,7 @@ use Rattle.dmr_frames.specs.Frames.{IsNumbered, IsFrame, body_length, burst_leng
 use Rattle.dmr_frames.specs.Stream.{Begins, IsOpen, IsStep, fault_at}
 use Rattle.dmr_frames.specs.Reading.{type_step, length_step, hello_step, burst_step, rx_step, active_step, body_step, step_at}
 use Rattle.dmr_frames.specs.Shape.{AreSmall, IsBurst, IsRxBody, IsHelloBody, IsShape}
-use Rattle.dmr_bits.proofs.WordLemmas.{word_octets-octets, word_octets-spells, word_octets-word_of}
+use Rattle.dmr_bits.proofs.Laws.{word_octets-octets, word_octets-spells, word_octets-word_of}
 use Rattle.dmr_frames.proofs.ShapeLemmas.{IsFront, front_first, front_second, small-cons, small-append, word_length, open_type, open_hello, open_burst, open-from_shape, shape-from_open}
 
 -- ---- at a type octet

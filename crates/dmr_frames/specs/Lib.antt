@@ -4,3 +4,4 @@ pub mod Rest
 pub mod Stream
 pub mod Reading
 pub mod Shape
+pub mod Limits

@@ -1,10 +1,12 @@
 //! What holds of frames and of streams of octets. These functions do nothing: their contracts are the laws.
 
-ghost use Rattle.std.specs.Prelude.{◌≡◌, ◌+◌, ◌<◌, ℕ, List, [], ◌∷◌, ◌++◌, All, length, slice_index};
+ghost use Rattle.std.specs.Prelude.{◌≡◌, ◌+◌, ◌<◌, ◌≤◌, ℕ, List, [], ◌∷◌, ◌++◌, All, length, slice_index};
 ghost use Rattle.dmr_frames.specs.declared.frame.FrameIn.{FrameIn};
 ghost use Rattle.dmr_frames.specs.declared.frame.FrameOut.{FrameOut};
 ghost use Rattle.dmr_frames.specs.declared.version.FrameTable.{FrameTable};
 ghost use Rattle.dmr_frames.specs.declared.version.Version.{Version};
+ghost use Rattle.dmr_frames.specs.declared.frame.TheConstants.{LONGEST_FRAME};
+ghost use Rattle.dmr_frames.specs.Limits.{longest_frame};
 ghost use Rattle.dmr_frames.specs.Frames.{IsFrame, IsFrameOut, spelling, spelling_out};
 ghost use Rattle.dmr_frames.specs.Rest.{Rest, Open};
 ghost use Rattle.dmr_frames.specs.Stream.{IsOpen, Reads};
@@ -38,4 +40,11 @@ pub fn spellings_part()
         spelling_out f ++ a ≡ spelling_out g ++ b → (f ≡ g) × (a ≡ b) }
     ensures length_in { (f : FrameIn) → length (spelling f) ≡ slice_index (spelling f) 1 + 2 }
     ensures length_out { (f : FrameOut) → length (spelling_out f) ≡ slice_index (spelling_out f) 1 + 2 }
+{}
+
+/// No frame is longer than the longest, whose octets `LONGEST_FRAME` counts.
+pub fn limits_are_stated()
+    ensures longest { LONGEST_FRAME ≡ longest_frame }
+    ensures from_carrier { (f : FrameIn) → length (spelling f) ≤ longest_frame }
+    ensures to_carrier { (f : FrameOut) → length (spelling_out f) ≤ longest_frame }
 {}

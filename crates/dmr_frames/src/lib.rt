@@ -19,7 +19,7 @@ mod write;
 
 pub use cutter::{Cutter, Step};
 pub use frame::{Cause, FrameIn, FrameOut, LONGEST_FRAME, Refusal};
-pub use law::{one_reading, spellings_part};
+pub use law::{limits_are_stated, one_reading, spellings_part};
 pub use version::{FrameTable, Version};
 pub use whole::whole_frame;
 pub use write::write_frame;

@@ -1,5 +1,5 @@
 use Rattle.std.proofs.lemmas.List.Sums.{fold-append}
-use Rattle.dmr_pdu.proofs.CuttingLemmas.{items-append}
+use Rattle.dmr_pdu.proofs.Laws.{items-append}
 use Rattle.dmr_frames.specs.Reading.{step_from, rest_after_octet, frame_of}
 use Rattle.dmr_frames.proofs.StreamLemmas.{readings-same}
 use Rattle.dmr_frames.proofs.ReadingLemmas.{reads_all, open-brings, spelling-brings}

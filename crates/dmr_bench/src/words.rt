@@ -229,6 +229,12 @@ pub fn time_encoding<R: Print + AllocGlobal + Clock>(rt: &R) -> io::Result<()> {
     println!(rt; "check {check_rate} {MANY} {sum}")
 }
 
+/// Prints how many of the registration's bursts with three places turned over are read as it.
+pub fn show_all_flips<R: Print>(rt: &R) -> io::Result<()> {
+    let (as_sent, all) = registrations();
+    println!(rt; "all patterns of three flips: {as_sent} of {all} are read as the registration")
+}
+
 /// Prints how many of the registration's bursts with three places turned over are read as it, and in what time.
 pub fn show_flips<R: Print + Clock>(rt: &R) -> io::Result<()> {
     let start = Instant::now(rt)?;

@@ -2,10 +2,11 @@
 use Rattle.std.specs.Prelude.{◌≡◌, ℕ, ◌+◌, ◌-◌, ◌*◌, ◌<◌, ◌≤◌, List, length, nat_lt, slice_index_or, if◌then◌else◌}
 use Rattle.std.specs.List.{All, AllPairs}
 use Rattle.dmr_table.specs.declared.places.Place.{Place}
+use Rattle.dmr_table.specs.Limits.{most_entries}
 
 -- places are ordered by their keys, and those of one key by where they are
 abbrev pub rank_of : Place → ℕ
-rank_of p = p.key * 65536 + p.index
+rank_of p = p.key * most_entries + p.index
 
 -- each comes before the next, and none stands twice
 abbrev pub AreAscending : List Place → Type 0
@@ -20,7 +21,7 @@ pub record IsGap (places : List Place) (rank gap : ℕ) : Type 0 where
 -- the first from the key on
 pub record HasFirst (places : List Place) (key first : ℕ) : Type 0 where
   pub within : first < length places
-  pub gap : IsGap places (key * 65536) first
+  pub gap : IsGap places (key * most_entries) first
 
 -- a place after the entry at another was taken out
 abbrev pub place_after_removal : ℕ → Place → Place
@@ -40,7 +41,7 @@ pub record ArePlaces {X : Type 0} (key_of : X → ℕ) (entries : List X) (place
 
 -- what a table keeps: its room, and its places
 pub record IsTable (most entry_count entry_room place_count place_room : ℕ) {X : Type 0} (key_of : X → ℕ) (entries : List X) (of_them : List Place) : Type 0 where
-  pub small : most ≤ 65536
+  pub small : most ≤ most_entries
   pub few : entry_count ≤ most
   pub room : most ≤ entry_room
   pub places_few : place_count ≤ most

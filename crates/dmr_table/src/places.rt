@@ -1,6 +1,7 @@
 //! The places of entries, in the order of their keys.
 
 ghost use Rattle.std.specs.Prelude.{◌≡◌, ◌*◌, MatchOption, length, map};
+ghost use Rattle.dmr_table.specs.Limits.{most_entries};
 ghost use Rattle.dmr_table.specs.Places.{AreAscending, IsGap, HasFirst, rank_of, place_after_removal as lowered_of};
 
 /// An entry's key, and its place among the entries.
@@ -47,7 +48,7 @@ pub fn count_before(places: &[Place], place: Place) -> usize
 /// Which of the places is the first from a key on, if any is.
 pub fn first_from(places: &[Place], key: u32) -> Option<usize>
     requires { AreAscending places.now }
-    ensures { MatchOption result (IsGap places.now (key * 65536) (length places.now)) (HasFirst places.now key) }
+    ensures { MatchOption result (IsGap places.now (key * most_entries) (length places.now)) (HasFirst places.now key) }
 {
     let before = count_before(places, Place { key, index: 0 });
     if before < places.len() {

@@ -2,6 +2,7 @@
 
 ghost use Rattle.std.specs.Prelude.{◌≡◌, ◌<◌, ◌≤◌, ◌++◌, ◌∷◌, ◌↔◌, ◌==◌, [], length, not, find, filter, set, slice_index_or, IsTrue, IfOk, MatchOption};
 ghost use Rattle.std.specs.List.{All, list_any};
+ghost use Rattle.dmr_table.specs.Limits.{most_entries};
 ghost use Rattle.dmr_table.specs.Entries.{without_first, IsLeastFrom};
 
 use crate::keyed::Keyed;
@@ -31,7 +32,7 @@ impl<V: Keyed, const MOST: usize> Model for KeyedTable<V, MOST> {
 impl<V: Keyed, const MOST: usize> KeyedTable<V, MOST> {
     /// A table without entries. It takes the room for `MOST` of them; `Err` where there is no memory for that.
     pub fn new(alloc: Global) -> Result<Self, OutOfMemory>
-        requires { MOST ≤ 65536 }
+        requires { MOST ≤ most_entries }
         ensures { IfOk result (λ table. table ≡ []) }
     {
         let entries = Vec::with_capacity(alloc, MOST)?;

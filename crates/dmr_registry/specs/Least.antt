@@ -2,6 +2,7 @@
 use Rattle.std.specs.Prelude.{◌≡◌, ℕ, zero, suc, ◌+◌, ◌<◌, ◌≤◌, List, [], ◌∷◌, length, ◌⊎◌, filter, min, nat_le, Option, Some, None}
 use Rattle.std.specs.Option.{option_map_or}
 use Rattle.std.specs.List.{All, AllPairs, Contains}
+use Rattle.dmr_registry.specs.Limits.{most_listed}
 
 -- the registered radios from the number on, in the order of joining
 abbrev pub held_from : List ℕ → ℕ → List ℕ
@@ -14,9 +15,9 @@ IsHeldFrom radios from radio = Contains radios radio × (from ≤ radio)
 -- the 16 least registered radios from the number on, or all where there are fewer: each of the others is above them all
 pub record AreLeast (radios : List ℕ) (from : ℕ) (least : List ℕ) : Type 0 where
   pub ascending : AllPairs (λ a b. a < b) least
-  pub few : length least ≤ 16
+  pub few : length least ≤ most_listed
   pub held : All (IsHeldFrom radios from) least
-  pub others : (radio : ℕ) → IsHeldFrom radios from radio → Contains least radio ⊎ ((length least ≡ 16) × All (λ r. r < radio) least)
+  pub others : (radio : ℕ) → IsHeldFrom radios from radio → Contains least radio ⊎ ((length least ≡ most_listed) × All (λ r. r < radio) least)
 
 -- the least of some numbers
 abbrev pub least_of : List ℕ → Option ℕ
@@ -30,4 +31,4 @@ next_from (suc count) radios from = option_map_or (λ (radio : ℕ). radio ∷ n
 
 -- the 16 least from the number on, or all where there are fewer
 unfoldable pub least_from : List ℕ → ℕ → List ℕ
-least_from radios from = next_from 16 radios from
+least_from radios from = next_from most_listed radios from

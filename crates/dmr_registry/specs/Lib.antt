@@ -1,2 +1,3 @@
+pub mod Limits
 pub mod Radios
 pub mod Least

@@ -2,7 +2,7 @@
 use Rattle.std.specs.Prelude.{ℕ, List, [], ◌∷◌, ◌++◌, ◌==◌, ◌≢◌, Bool, true, false, not, nat_le, filter, length, if◌then◌else◌, Result, Ok, Err}
 use Rattle.std.specs.List.{list_any, AllPairs}
 use Rattle.dmr_registry.specs.declared.registry.Full.{Full}
-use Rattle.dmr_registry.specs.declared.registry.TheConstants.{MOST_RADIOS}
+use Rattle.dmr_registry.specs.Limits.{most_radios}
 
 -- no radio stands twice
 abbrev pub AreDistinct : List ℕ → Type 0
@@ -14,7 +14,7 @@ is_registered_in radios radio = list_any (λ r. r == radio) radios
 
 -- whether no more may join
 abbrev pub is_full : List ℕ → Bool
-is_full radios = nat_le MOST_RADIOS (length radios)
+is_full radios = nat_le most_radios (length radios)
 
 -- what a radio that joins is told: whether it is new, or that there is no place
 abbrev pub answer_to_join : List ℕ → ℕ → Result Bool Full

@@ -5,6 +5,8 @@
 //! when it is made, so that joining and leaving take no memory.
 #![tactic(auto)]
 
+mod limits;
 mod registry;
 
+pub use limits::limits_are_stated;
 pub use registry::{Full, MOST_RADIOS, Registry};

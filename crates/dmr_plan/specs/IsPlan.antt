@@ -3,7 +3,7 @@ use Rattle.std.specs.Prelude.{◌≡◌, ◌≢◌, ◌≤◌, true, IfSome}
 use Rattle.dmr_plan.specs.declared.key.Key.TheVariants as key
 use Rattle.dmr_plan.specs.declared.settings.Settings.{Settings}
 use Rattle.dmr_plan.specs.Keys.{IsNumberOf, limits_of}
-use Rattle.dmr_plan.specs.Kept.{AreRadios, AreGroups, AreCarriers}
+use Rattle.dmr_plan.specs.Kept.{IsAddress, AreRadios, AreGroups, AreCarriers}
 use Rattle.dmr_plan.specs.Carriers.{has_number_in}
 
 -- what every accepted plan keeps: each setting is within the range of its key, and what must differ differs
@@ -27,6 +27,7 @@ pub record IsPlan (s : Settings) : Type 0 where
   pub silence : IsNumberOf key.Silence s.silence
   pub term_entries : IsNumberOf key.TermEntries s.term_entries
   pub link_version : IsNumberOf key.LinkVersion s.link_version
+  pub address : IsAddress s.address
   pub console_port : IsNumberOf key.ConsolePort s.console_port
   pub radios : AreRadios s.radios
   pub groups : AreGroups s.groups

@@ -1,13 +1,17 @@
 -- What the numbers and lists of every accepted plan keep.
 use Rattle.std.specs.Prelude.{◌≡◌, ◌≤◌, ℕ, List, length, map, false}
 use Rattle.std.specs.List.{All}
-use Rattle.dmr_plan.specs.declared.key.Key.TheVariants.{Radios, Groups, Number, Lpcn, Port}
+use Rattle.dmr_plan.specs.declared.key.Key.TheVariants.{Address, Radios, Groups, Carrier, Number, Lpcn, Port}
 use Rattle.dmr_plan.specs.declared.lists.RadioRange.{RadioRange}
 use Rattle.dmr_plan.specs.declared.carriers.CarrierRow.{CarrierRow}
-use Rattle.dmr_plan.specs.declared.key.TheConstants.{MOST_RANGES, MOST_GROUPS, MOST_CARRIERS}
-use Rattle.dmr_plan.specs.Keys.{IsNumberOf}
+use Rattle.dmr_plan.specs.Keys.{IsNumberOf, limits_of}
 use Rattle.dmr_plan.specs.Lists.{has_repeat}
 use Rattle.dmr_plan.specs.Carriers.{has_port_in}
+
+-- four octets
+pub record IsAddress (octets : List ℕ) : Type 0 where
+  pub four : length octets ≡ (limits_of Address).count.most
+  pub each : All (IsNumberOf Address) octets
 
 -- both ends are addresses of radios, in order
 pub record IsRange (r : RadioRange) : Type 0 where
@@ -17,13 +21,13 @@ pub record IsRange (r : RadioRange) : Type 0 where
 
 -- 1 to 16 ranges
 pub record AreRadios (rs : List RadioRange) : Type 0 where
-  pub some : 1 ≤ length rs
-  pub few : length rs ≤ MOST_RANGES
+  pub some : (limits_of Radios).count.fewest ≤ length rs
+  pub few : length rs ≤ (limits_of Radios).count.most
   pub each : All IsRange rs
 
 -- 0 to 64 addresses, none twice
 pub record AreGroups (gs : List ℕ) : Type 0 where
-  pub few : length gs ≤ MOST_GROUPS
+  pub few : length gs ≤ (limits_of Groups).count.most
   pub each : All (IsNumberOf Groups) gs
   pub once : has_repeat gs ≡ false
 
@@ -42,7 +46,7 @@ pub record AreApart (console_port : ℕ) (rows : List CarrierRow) : Type 0 where
 
 -- 1 to 16 carriers that differ from one another
 pub record AreCarriers (console_port : ℕ) (rows : List CarrierRow) : Type 0 where
-  pub some : 1 ≤ length rows
-  pub few : length rows ≤ MOST_CARRIERS
+  pub some : (limits_of Carrier).count.fewest ≤ length rows
+  pub few : length rows ≤ (limits_of Carrier).count.most
   pub each : All IsCarrierRow rows
   pub apart : AreApart console_port rows

@@ -9,7 +9,6 @@ use Rattle.dmr_plan.specs.declared.key.Fallback.TheVariants.{Fault, Nothing, Val
 use Rattle.dmr_plan.specs.declared.key.Bounds.{Bounds}
 use Rattle.dmr_plan.specs.declared.key.Count.{Count}
 use Rattle.dmr_plan.specs.declared.key.Limits.{Limits}
-use Rattle.dmr_plan.specs.declared.key.TheConstants.{MOST_RANGES, MOST_GROUPS, MOST_CARRIERS}
 
 -- what one number may be: from the least to the most, and what holds where the key is missing
 abbrev pub number_limits : ℕ → ℕ → Fallback → Limits
@@ -52,9 +51,9 @@ key_row TermEntries = number_row (codes "term_entries") 1 100000 (Value 10000)
 key_row LinkVersion = number_row (codes "link_version") 1 2 (Value 1)
 key_row Address = array_row (codes "address") Numbers 4 4 0 255 Loopback
 key_row ConsolePort = number_row (codes "console_port") 1 65535 Fault
-key_row Radios = array_row (codes "radios") Pairs 1 MOST_RANGES 1 16776415 Fault
-key_row Groups = array_row (codes "groups") Numbers 0 MOST_GROUPS 1 16776415 Fault
-key_row Carrier = array_row (codes "carrier") Tables 1 MOST_CARRIERS 0 0 Fault
+key_row Radios = array_row (codes "radios") Pairs 1 16 1 16776415 Fault
+key_row Groups = array_row (codes "groups") Numbers 0 64 1 16776415 Fault
+key_row Carrier = array_row (codes "carrier") Tables 1 16 0 0 Fault
 key_row Control = number_row (codes "control") 0 15 Fault
 key_row Number = number_row (codes "number") 0 15 Fault
 key_row Lpcn = number_row (codes "lpcn") 1 4094 Fault

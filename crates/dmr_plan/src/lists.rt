@@ -7,7 +7,7 @@ ghost use Rattle.dmr_plan.specs.Steps.{IsOfKey};
 ghost use Rattle.dmr_plan.specs.Numbers.{number as number_of};
 ghost use Rattle.dmr_plan.specs.Arrays.{in_turn};
 ghost use Rattle.dmr_plan.specs.Lists.{has_repeat as repeats, address_of, address_of_items, address_if_missing, range_of, is_within, radios_of, radios_of_items, distinct, groups_of, groups_of_items};
-ghost use Rattle.dmr_plan.specs.Kept.{IsRange, AreRadios, AreGroups};
+ghost use Rattle.dmr_plan.specs.Kept.{IsAddress, IsRange, AreRadios, AreGroups};
 ghost use Rattle.dmr_plan.specs.Keys.{IsNumberOf};
 
 use crate::arrays::{array_at, array_from, has_count, two_in};
@@ -52,6 +52,7 @@ impl Blank for RadioRange {
 /// One octet of an address.
 fn octet(value: &Value) -> Result<u8, PlanFault>
     ensures gives { result ≡ number_of Key.Address (view value.now) }
+    ensures within { IfOk result (IsNumberOf Key.Address) }
     ensures of_key { IfErr result IsOfKey }
 {
     let range = Key::Address.limits().range;
@@ -62,6 +63,7 @@ fn octet(value: &Value) -> Result<u8, PlanFault>
 fn octets(values: &[Value]) -> Result<[u8; 4], PlanFault>
     requires { length values.now ≡ 4 }
     ensures gives { result ≡ in_turn (λ _ d. number_of Key.Address d) [] (items_view values.now) }
+    ensures limits { IfOk result IsAddress }
     ensures of_key { IfErr result IsOfKey }
 {
     let first = octet(&values[0])?;
@@ -74,6 +76,7 @@ fn octets(values: &[Value]) -> Result<[u8; 4], PlanFault>
 /// The address that an array spells.
 fn address_from(values: &[Value]) -> Result<[u8; 4], PlanFault>
     ensures gives { result ≡ address_of_items (items_view values.now) }
+    ensures limits { IfOk result IsAddress }
     ensures of_key { IfErr result IsOfKey }
 {
     if !has_count(values, Key::Address) {
@@ -85,6 +88,7 @@ fn address_from(values: &[Value]) -> Result<[u8; 4], PlanFault>
 /// The address that holds where the key is missing.
 fn address_for_missing() -> Result<[u8; 4], PlanFault>
     ensures gives { result ≡ address_if_missing }
+    ensures limits { IfOk result IsAddress }
     ensures of_key { IfErr result IsOfKey }
 {
     match Key::Address.limits().fallback {
@@ -97,6 +101,7 @@ fn address_for_missing() -> Result<[u8; 4], PlanFault>
 #[tactic(auto, unfolding(crate::specs::Lists::address_of))]
 pub fn address_in(table: &Table) -> Result<[u8; 4], PlanFault>
     ensures gives { result ≡ address_of (table_view table.now) }
+    ensures limits { IfOk result IsAddress }
     ensures of_key { IfErr result IsOfKey }
 {
     match member(table, Key::Address) {

@@ -1,6 +1,6 @@
 //! The plan that a site file makes.
 
-ghost use Rattle.std.specs.Prelude.{◌≡◌, ◌⊎◌, ◌↔◌, ◌≤◌, IsTrue, Err, None, IfSome, IsSome, is_some};
+ghost use Rattle.std.specs.Prelude.{◌≡◌, ◌⊎◌, ◌↔◌, ◌≤◌, length, IsTrue, Err, None, IfSome, IsSome, is_some};
 ghost use Rattle.std.specs.List.{Any, Contains};
 ghost use Rattle.toml.specs.Errors.{IsBlank};
 ghost use Rattle.toml.specs.Parse.{parse_document};
@@ -239,9 +239,10 @@ impl Plan {
         self.settings.link_version
     }
 
-    /// The IPv4 address to listen at, first octet first; 127.0.0.1 where the file doesn't say.
+    /// The IPv4 address to listen at: four octets, the first of the address in front. 127.0.0.1 if the file does not say.
     pub fn address(&self) -> &[u8]
-        ensures { result.now ≡ self.now.address }
+        ensures value { result.now ≡ self.now.address }
+        ensures four { length result.now ≡ 4 }
     {
         self.settings.address.as_slice()
     }

@@ -1,8 +1,9 @@
 -- What is sent on the control slot where nothing else waits.
-use Rattle.std.specs.Prelude.{ℕ, ◌+◌, ◌%◌, List, Bool, ◌==◌, true, Option, Some, None, unwrap_or, if◌then◌else◌}
+use Rattle.std.specs.Prelude.{ℕ, ◌+◌, ◌-◌, ◌%◌, List, Bool, ◌==◌, true, Option, Some, None, unwrap_or, if◌then◌else◌}
 use Rattle.dmr_pdu.specs.declared.pdu.Pdu.{Pdu}
 use Rattle.dmr_pdu.specs.declared.pdu.Pdu.TheVariants.{Aloha, Move}
 use Rattle.dmr_plan.specs.declared.settings.Settings.{Settings}
+use Rattle.dmr_access.specs.Limits.{late_entry_interval}
 use Rattle.dmr_access.specs.Noise.{backoff_of}
 
 -- what an access control has: the plan, the noise numbers, and the Fills since the control carrier came up, modulo 4
@@ -21,11 +22,11 @@ move_to plan noise lpcn = Move true (backoff_of plan noise) lpcn
 
 -- one Fill more, modulo 4
 abbrev pub next_fill_count : ℕ → ℕ
-next_fill_count fills = (fills + 1) % 4
+next_fill_count fills = (fills + 1) % late_entry_interval
 
 -- the next Fill is the fourth, the eighth and so on
 abbrev pub is_late_due : ℕ → Bool
-is_late_due fills = fills == 3
+is_late_due fills = fills == (late_entry_interval - 1)
 
 -- what fills the control slot: C_MOVE while radios are to seek the control channel on another one; else, where it is due and there is one, the late entry; else C_ALOHA
 abbrev pub fill_of : Settings → Option ℕ → List ℕ → ℕ → Option Pdu → Pdu

@@ -1,3 +1,4 @@
+pub mod Limits
 pub mod Noise
 pub mod Fill
 pub mod Same

@@ -1,26 +1,27 @@
 -- The noise numbers: how often nothing could be read on the control slot since the last Poll of its carrier, then between
 -- that Poll and the one before, and so on, 32 numbers; none while the control carrier is down.
-use Rattle.std.specs.Prelude.{ℕ, ◌+◌, min, List, [], ◌∷◌, take, replicate, sum, ◌≡◌, ◌≤◌, ◌⊎◌, length}
+use Rattle.std.specs.Prelude.{ℕ, ◌+◌, ◌-◌, min, List, [], ◌∷◌, take, replicate, sum, ◌≡◌, ◌≤◌, ◌⊎◌, length}
 use Rattle.std.specs.List.{All}
 use Rattle.dmr_plan.specs.declared.settings.Settings.{Settings}
+use Rattle.dmr_access.specs.Limits.{polls_of_window, most_noises}
 
 -- none, or 32 numbers of 0 to 15
 abbrev pub AreNoiseNumbers : List ℕ → Type 0
-AreNoiseNumbers noise = ((length noise ≡ 0) ⊎ (length noise ≡ 32)) × All (λ n. n ≤ 15) noise
+AreNoiseNumbers noise = ((length noise ≡ 0) ⊎ (length noise ≡ polls_of_window)) × All (λ n. n ≤ most_noises) noise
 
 -- what stands when the control carrier comes up
 unfoldable pub noise_at_up : List ℕ
-noise_at_up = replicate 32 0
+noise_at_up = replicate polls_of_window 0
 
 -- one Noise more since the last Poll; a number is kept to 15
 abbrev pub with_noise : List ℕ → List ℕ
 with_noise [] = []
-with_noise (n ∷ ns) = min 15 (n + 1) ∷ ns
+with_noise (n ∷ ns) = min most_noises (n + 1) ∷ ns
 
 -- a Poll: no Noise since then, and the oldest of the 32 numbers goes
 abbrev pub with_poll : List ℕ → List ℕ
 with_poll [] = []
-with_poll (n ∷ ns) = 0 ∷ take 31 (n ∷ ns)
+with_poll (n ∷ ns) = 0 ∷ take (polls_of_window - 1) (n ∷ ns)
 
 -- the backoff that is sent: one more for each Noise that counts, up to the plan's highest
 abbrev pub backoff_of : Settings → List ℕ → ℕ

@@ -8,6 +8,7 @@ use Rattle.dmr_pdu.specs.declared.pdu.Pdu.TheVariants.{PvGrant, TvGrant}
 use Rattle.dmr_plan.specs.declared.settings.Settings.{Settings}
 use Rattle.dmr_plan.specs.declared.carriers.CarrierRow.{CarrierRow}
 use Rattle.dmr_plan.specs.Carriers.{has_number_in, row_with}
+use Rattle.dmr_pool.specs.Limits.{slots_of_site}
 use Rattle.dmr_pool.specs.Slots.{Slots, IsSlot, place, slot_at, is_up, is_slot_held, box}
 
 -- slot 0 of the control carrier
@@ -46,7 +47,7 @@ is_free slots slot = is_free_by slots.plan slots.up slots.outboxes (is_slot_held
 
 -- by carrier, then by slot
 abbrev pub all_slots : List Slot
-all_slots = map slot_at (range_with_len 0 32)
+all_slots = map slot_at (range_with_len 0 slots_of_site)
 
 -- the first of all slots that is free
 unfoldable pub lowest_free_by : Settings → List Bool → List (List Pdu) → (Slot → Bool) → Option Slot

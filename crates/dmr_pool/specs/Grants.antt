@@ -8,7 +8,7 @@ use Rattle.dmr_pdu.specs.declared.pdu.Pdu.TheVariants.{PvGrant, TvGrant}
 use Rattle.dmr_plan.specs.declared.settings.Settings.{Settings}
 use Rattle.dmr_plan.specs.declared.carriers.CarrierRow.{CarrierRow}
 use Rattle.dmr_plan.specs.Carriers.{row_with}
-use Rattle.dmr_pool.specs.declared.outbox.TheConstants.{MOST_PDUS_OF_A_SLOT}
+use Rattle.dmr_pool.specs.Limits.{slots_of_site, most_pdus_of_a_slot}
 use Rattle.dmr_pool.specs.Slots.{box, slot_at}
 use Rattle.dmr_pool.specs.Free.{control_slot, is_control, names}
 
@@ -24,12 +24,12 @@ grants_of plan outboxes slot =
 
 -- there are 32 outboxes, and in each at most 64 PDUs wait
 pub record AreOutboxes (outboxes : List (List Pdu)) : Type 0 where
-  pub size : length outboxes ≡ 32
-  pub few : All (λ box. length box ≤ MOST_PDUS_OF_A_SLOT) outboxes
+  pub size : length outboxes ≡ slots_of_site
+  pub few : All (λ box. length box ≤ most_pdus_of_a_slot) outboxes
 
 -- the counts are those of the slots at their places
 abbrev pub AreCounted : Settings → List (List Pdu) → List ℕ → Type 0
-AreCounted plan outboxes counts = (place : ℕ) → place < 32 → slice_index_or counts place 0 ≡ grants_of plan outboxes (slot_at place)
+AreCounted plan outboxes counts = (place : ℕ) → place < slots_of_site → slice_index_or counts place 0 ≡ grants_of plan outboxes (slot_at place)
 
 -- the slot of a number on the plan's carrier of a channel
 abbrev pub slot_tuned : Settings → ℕ → ℕ → Option Slot

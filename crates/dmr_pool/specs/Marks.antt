@@ -2,6 +2,7 @@
 use Rattle.std.specs.Prelude.{◌≡◌, ◌≢◌, ℕ, ◌<◌, ◌==◌, Bool, true, false}
 use Rattle.std.specs.Int.{bit_at}
 use Rattle.dmr_pdu.specs.declared.slots.Slot.{Slot}
+use Rattle.dmr_pool.specs.Limits.{slots_of_site}
 use Rattle.dmr_pool.specs.Slots.{Slots, IsSlot, place, slot_at}
 use Rattle.dmr_pool.specs.Free.{is_free}
 
@@ -11,7 +12,7 @@ has_bit bits place = bit_at bits place == 1
 
 -- none of the 32 bits is set
 abbrev pub HasNoBit : ℕ → Type 0
-HasNoBit bits = (place : ℕ) → place < 32 → has_bit bits place ≡ false
+HasNoBit bits = (place : ℕ) → place < slots_of_site → has_bit bits place ≡ false
 
 -- a slot's bit is set, and none below it
 pub record IsLowestBit (bits : ℕ) (slot : Slot) : Type 0 where
@@ -22,8 +23,8 @@ pub record IsLowestBit (bits : ℕ) (slot : Slot) : Type 0 where
 -- the bit of a place is as said, and the others are as they were
 pub record IsPut (before after at : ℕ) (set : Bool) : Type 0 where
   pub there : has_bit after at ≡ set
-  pub others : (place : ℕ) → place < 32 → place ≢ at → has_bit after place ≡ has_bit before place
+  pub others : (place : ℕ) → place < slots_of_site → place ≢ at → has_bit after place ≡ has_bit before place
 
 -- the bits of the slots that are free, and no others, are set
 abbrev pub AreMarked : ℕ → Slots → Type 0
-AreMarked bits slots = (place : ℕ) → place < 32 → has_bit bits place ≡ is_free slots (slot_at place)
+AreMarked bits slots = (place : ℕ) → place < slots_of_site → has_bit bits place ≡ is_free slots (slot_at place)

@@ -4,6 +4,7 @@ pub use Rattle.dmr_pdu.specs.Slots.{IsSlot, place, slot_at}
 use Rattle.dmr_pdu.specs.declared.slots.Slot.{Slot}
 use Rattle.dmr_pdu.specs.declared.pdu.Pdu.{Pdu}
 use Rattle.dmr_plan.specs.declared.settings.Settings.{Settings}
+use Rattle.dmr_pool.specs.Limits.{carriers_of_site, slots_of_site}
 
 -- the plan, and what stands on the slots
 pub record Slots : Type 0 where
@@ -42,4 +43,4 @@ outboxes_after_send boxes slot = slice_set boxes (place slot) (drop 1 (box boxes
 
 -- nothing is up, held or waiting
 abbrev pub nothing_on : Settings → Slots
-nothing_on plan = record { plan = plan; up = replicate 16 false; held = replicate 32 false; outboxes = replicate 32 [] }
+nothing_on plan = record { plan = plan; up = replicate carriers_of_site false; held = replicate slots_of_site false; outboxes = replicate slots_of_site [] }

@@ -7,10 +7,12 @@
 //! is taken when it is made.
 #![tactic(auto)]
 
+mod limits;
 mod marks;
 mod outbox;
 mod outboxes;
 mod pool;
 
+pub use limits::limits_are_stated;
 pub use outbox::MOST_PDUS_OF_A_SLOT;
 pub use pool::{Full, Pool};

@@ -22,7 +22,7 @@ use std::marker::Model;
 pub struct Full;
 
 /// The slots of a plan's site. Contracts see it as the plan, which carriers are up, which slots calls hold, and what waits
-/// for each slot; what they all keep is `AreKept`, which [`Pool::keeps`] tells.
+/// for each slot; what they all keep is `AreSlotsOfSite`, which [`Pool::keeps`] tells.
 #[derive(Drop)]
 pub struct Pool {
     up: [bool; 16],

@@ -1,6 +1,6 @@
 -- Going round the slots: what is found is the next talkgroup call.
 use Rattle.std.proofs.Common.{arith, ◌≡◌, ℕ, zero, suc, ◌+◌, ◌-◌, ◌<◌, ◌≤◌, ◌⊎◌, inl, inr, List, [], ◌∷◌, Bool, true, false, refl, sym, ◌∙◌, subst, ap}
-use Rattle.std.specs.Prelude.{◌/◌, ◌%◌, ◌==◌, ◌&&◌, Option, Some, None, MatchOption, IfSome, cond, find, option_map}
+use Rattle.std.specs.Prelude.{◌/◌, ◌%◌, Option, Some, None, MatchOption, IfSome, cond, find, option_map}
 use Rattle.std.specs.List.{range_with_len}
 use Rattle.std.specs.Option.{option_and_then, option_map_or, option_or}
 use Rattle.std.proofs.lemmas.Bool.{cases_lt}
@@ -10,18 +10,7 @@ use Rattle.dmr_calls.specs.declared.call.Call.{Call}
 use Rattle.dmr_calls.specs.declared.call.Standing.{Standing}
 use Rattle.dmr_calls.specs.Calls.{call_on, is_slot}
 use Rattle.dmr_pdu.specs.Slots.{IsSlot, place, slot_at}
-use Rattle.dmr_calls.specs.After.{is_group_on, is_group_at, place_after, group_place, group_after, IsBelow, IsAbove, HasNoGroupCall, IsNextGroupCall}
-
--- no place passes from one on and before another
-abbrev pub NonePass : (ℕ → Bool) → ℕ → ℕ → Type 0
-NonePass passes from to = (k : ℕ) → from ≤ k → k < to → passes k ≡ false
-
--- a place passes, and none before it does, from one on and before another
-pub record IsFirst (passes : ℕ → Bool) (from to at : ℕ) : Type 0 where
-  pub reached : from ≤ at
-  pub within : at < to
-  pub passing : passes at ≡ true
-  pub before : NonePass passes from at
+use Rattle.dmr_calls.specs.After.{is_group_on, is_group_at, place_after, group_place, group_after, IsBelow, IsAbove, HasNoGroupCall, IsNextGroupCall, IsFirst, IsNext, IsTurn, NonePass}
 
 -- where one place doesn't pass either, none passes from there on
 none_more : (passes : ℕ → Bool) (from to : ℕ) → passes from ≡ false → NonePass passes (from + 1) to → NonePass passes from to
@@ -167,12 +156,12 @@ found_from passes from = either (cases_lt 32 from)
     either (inr near) = found_first passes from (32 - from) 32 (omega (arith, near))
 
 -- a talkgroup call whose turn it is: its place is the first from one on, or else the first of all
-pub record IsTurn (calls : List Standing) (from : ℕ) (call : Call) : Type 0 where
+pub record IsFoundTurn (calls : List Standing) (from : ℕ) (call : Call) : Type 0 where
   pub at : ℕ
   pub on : IsGroupOn calls (slot_at at) call
-  pub turn : IsFirst (is_group_at calls) from 32 at ⊎ (NonePass (is_group_at calls) from 32 × IsFirst (is_group_at calls) 0 32 at)
+  pub turn : IsNext (is_group_at calls) from at
 
-found_turn : (calls : List Standing) (from : ℕ) (a b : Option ℕ) → MatchOption a (NonePass (is_group_at calls) from 32) (IsFirst (is_group_at calls) from 32) → MatchOption b (NonePass (is_group_at calls) 0 32) (IsFirst (is_group_at calls) 0 32) → MatchOption (option_and_then (λ place. call_on calls (slot_at place)) (option_or a b)) (NonePass (is_group_at calls) 0 32) (IsTurn calls from)
+found_turn : (calls : List Standing) (from : ℕ) (a b : Option ℕ) → MatchOption a (NonePass (is_group_at calls) from 32) (IsFirst (is_group_at calls) from 32) → MatchOption b (NonePass (is_group_at calls) 0 32) (IsFirst (is_group_at calls) 0 32) → MatchOption (option_and_then (λ place. call_on calls (slot_at place)) (option_or a b)) (NonePass (is_group_at calls) 0 32) (IsFoundTurn calls from)
 found_turn calls from (Some k) b first other =
     let on = group_on calls (slot_at k) first.passing in
     rw on.1.stands (record { at = k; on = on.1; turn = inl first })
@@ -181,22 +170,28 @@ found_turn calls from None (Some k) none first =
     rw on.1.stands (record { at = k; on = on.1; turn = inr (none, first) })
 found_turn calls from None None none also = also
 
-pub turn_of : (calls : List Standing) (last : Option Slot) → MatchOption (group_after calls last) (NonePass (is_group_at calls) 0 32) (IsTurn calls (place_after last))
+found_after : (calls : List Standing) (last : Option Slot) → MatchOption (group_after calls last) (NonePass (is_group_at calls) 0 32) (IsFoundTurn calls (place_after last))
 unfolding group_after
-turn_of calls last =
+found_after calls last =
     found_turn calls (place_after last) (group_place calls (place_after last)) (group_place calls 0)
     (found_from (is_group_at calls) (place_after last)) (found_from (is_group_at calls) 0)
 
--- it stands on its slot
-pub turn_stands : (calls : List Standing) (from : ℕ) (call : Call) → IsTurn calls from call → IsGroupOn calls call.slot call
-turn_stands calls from call turn = record {
-  stands = subst (λ (s : Slot). call_on calls s ≡ Some call) (sym turn.on.there) turn.on.stands;
-  group = turn.on.group;
-  there = refl;
-}
+-- so it is the turn of what is found
+turn_is : (calls : List Standing) (from : ℕ) (o : Option Call) → MatchOption o (NonePass (is_group_at calls) 0 32) (IsFoundTurn calls from) → MatchOption o (HasNoGroupCall calls) (IsTurn calls from)
+turn_is calls from None none = no_group calls none
+turn_is calls from (Some call) found =
+    let at : place call.slot ≡ found.at = ap place found.on.there ∙ place-slot_at found.at in
+    record {
+      stands = subst (λ (s : Slot). call_on calls s ≡ Some call) (sym found.on.there) found.on.stands;
+      group = found.on.group;
+      turn = subst (IsNext (is_group_at calls) from) (sym at) found.turn;
+    }
+
+pub turn_of : (calls : List Standing) (last : Option Slot) → MatchOption (group_after calls last) (HasNoGroupCall calls) (IsTurn calls (place_after last))
+turn_of calls last = turn_is calls (place_after last) (group_after calls last) (found_after calls last)
 
 -- what is found is next
-next_is : (calls : List Standing) (last : Option Slot) (o : Option Call) → IfSome last IsSlot → MatchOption o (NonePass (is_group_at calls) 0 32) (IsTurn calls (place_after last)) → MatchOption o (HasNoGroupCall calls) (IsNextGroupCall calls last)
+next_is : (calls : List Standing) (last : Option Slot) (o : Option Call) → IfSome last IsSlot → MatchOption o (NonePass (is_group_at calls) 0 32) (IsFoundTurn calls (place_after last)) → MatchOption o (HasNoGroupCall calls) (IsNextGroupCall calls last)
 next_is calls last None is none = no_group calls none
 next_is calls last (Some call) is found =
     elim found.turn [
@@ -205,4 +200,4 @@ next_is calls last (Some call) is found =
     ]
 
 pub next_group_call : (calls : List Standing) (last : Option Slot) → IfSome last IsSlot → MatchOption (group_after calls last) (HasNoGroupCall calls) (IsNextGroupCall calls last)
-next_group_call calls last is = next_is calls last (group_after calls last) is (turn_of calls last)
+next_group_call calls last is = next_is calls last (group_after calls last) is (found_after calls last)

@@ -3,3 +3,4 @@ pub mod EngagedLemmas
 pub mod OwnAskLemmas
 pub mod SlotLemmas
 pub mod AfterLemmas
+pub mod Laws

@@ -1,11 +1,12 @@
 -- Talkgroup calls in turn: going round the slots by carrier, then by number.
-use Rattle.std.specs.Prelude.{◌≡◌, ◌<◌, ℕ, ◌+◌, ◌-◌, ◌⊎◌, List, Bool, true, false, Option, Some, None, find}
+use Rattle.std.specs.Prelude.{◌≡◌, ◌<◌, ◌≤◌, ℕ, ◌+◌, ◌-◌, ◌⊎◌, List, Bool, true, false, Option, Some, None, find}
 use Rattle.std.specs.List.{range_with_len}
 use Rattle.std.specs.Option.{option_and_then, option_map_or, option_or}
 use Rattle.dmr_pdu.specs.declared.slots.Slot.{Slot}
 use Rattle.dmr_pdu.specs.Slots.{IsSlot, place, slot_at}
 use Rattle.dmr_calls.specs.declared.call.Call.{Call}
 use Rattle.dmr_calls.specs.declared.call.Standing.{Standing}
+use Rattle.dmr_calls.specs.Limits.{slots_of_site}
 use Rattle.dmr_calls.specs.Calls.{call_on}
 
 -- the call on the slot is a talkgroup's
@@ -22,7 +23,7 @@ place_after last = option_map_or (λ slot. place slot + 1) last 0
 
 -- the first place of a talkgroup call, from one on
 abbrev pub group_place : List Standing → ℕ → Option ℕ
-group_place calls from = find (is_group_at calls) (range_with_len from (32 - from))
+group_place calls from = find (is_group_at calls) (range_with_len from (slots_of_site - from))
 
 -- the talkgroup call on the least slot above the last, or else on the least of all
 unfoldable pub group_after : List Standing → Option Slot → Option Call
@@ -49,3 +50,24 @@ pub record IsNextGroupCall (calls : List Standing) (last : Option Slot) (call : 
   pub group : call.group ≡ true
   pub above : (other : Slot) → IsSlot other → is_group_on calls other ≡ true → IsAbove last other → IsAbove last call.slot × (IsBelow other call.slot → ⊥)
   pub around : (IsAbove last call.slot → ⊥) → (other : Slot) → IsSlot other → is_group_on calls other ≡ true → IsBelow other call.slot → ⊥
+
+-- no place passes from one on and before another
+abbrev pub NonePass : (ℕ → Bool) → ℕ → ℕ → Type 0
+NonePass passes from to = (k : ℕ) → from ≤ k → k < to → passes k ≡ false
+
+-- a place passes, and none before it does, from one on and before another
+pub record IsFirst (passes : ℕ → Bool) (from to at : ℕ) : Type 0 where
+  pub reached : from ≤ at
+  pub within : at < to
+  pub passing : passes at ≡ true
+  pub before : NonePass passes from at
+
+-- a place is the next that passes: the first from one on, or where none passes there the first of all
+abbrev pub IsNext : (ℕ → Bool) → ℕ → ℕ → Type 0
+IsNext passes from at = IsFirst passes from slots_of_site at ⊎ (NonePass passes from slots_of_site × IsFirst passes 0 slots_of_site at)
+
+-- it is a call's turn: a talkgroup call stands on its slot, whose place is the next that has one
+pub record IsTurn (calls : List Standing) (from : ℕ) (call : Call) : Type 0 where
+  pub stands : call_on calls call.slot ≡ Some call
+  pub group : call.group ≡ true
+  pub turn : IsNext (is_group_at calls) from (place call.slot)

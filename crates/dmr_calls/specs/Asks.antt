@@ -4,7 +4,7 @@ use Rattle.std.specs.List.{list_any, AllPairs}
 use Rattle.std.specs.Option.{option_map_or}
 use Rattle.dmr_calls.specs.declared.ask.Ask.{Ask}
 use Rattle.dmr_calls.specs.declared.ask.Asking.{Asking}
-use Rattle.dmr_calls.specs.declared.calls.TheConstants.{MOST_ASKS}
+use Rattle.dmr_calls.specs.Limits.{most_asks}
 use Rattle.dmr_calls.specs.Ticks.{one_more}
 
 -- no radio has two asks
@@ -25,7 +25,7 @@ others_than source asks = filter (λ a. not (a.ask.source == source)) asks
 
 -- whether there is no place for an ask of this source: 32 of other sources stand
 abbrev pub has_no_place : List Asking → ℕ → Bool
-has_no_place asks source = nat_le MOST_ASKS (length (others_than source asks))
+has_no_place asks source = nat_le most_asks (length (others_than source asks))
 
 -- the asks with one more, where it has a place: it goes to the end, and takes the place of the one of its source
 abbrev pub with_ask : List Asking → Ask → List Asking

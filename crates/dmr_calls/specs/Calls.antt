@@ -3,7 +3,7 @@ use Rattle.std.specs.Prelude.{ℕ, List, [], ◌∷◌, ◌++◌, Bool, not, ◌
 use Rattle.dmr_pdu.specs.declared.slots.Slot.{Slot}
 use Rattle.dmr_calls.specs.declared.call.Call.{Call}
 use Rattle.dmr_calls.specs.declared.call.Standing.{Standing}
-use Rattle.dmr_calls.specs.declared.calls.TheConstants.{MOST_CALLS}
+use Rattle.dmr_calls.specs.Limits.{most_calls}
 use Rattle.dmr_calls.specs.Ticks.{one_more}
 
 -- whether two slots are the same
@@ -24,7 +24,7 @@ with_activity slot s = if is_slot s.call.slot slot then record { call = s.call; 
 
 -- the calls with one more at the end, where fewer than 31 stand
 abbrev pub with_call : List Standing → Call → List Standing
-with_call calls call = if nat_le MOST_CALLS (length calls) then calls else calls ++ just_begun call ∷ []
+with_call calls call = if nat_le most_calls (length calls) then calls else calls ++ just_begun call ∷ []
 
 -- the calls on other slots
 abbrev pub on_other_slots : Slot → List Standing → List Standing

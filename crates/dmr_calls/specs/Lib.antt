@@ -1,3 +1,4 @@
+pub mod Limits
 pub mod Standings
 pub mod Ticks
 pub mod Slots

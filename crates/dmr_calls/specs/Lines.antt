@@ -2,11 +2,11 @@
 use Rattle.std.specs.Prelude.{ℕ, List, [], ◌∷◌, ◌++◌, Bool, not, ◌==◌, ◌&&◌, nat_le, nat_lt, length, filter, find, take, drop, Option, slice_get, if◌then◌else◌}
 use Rattle.std.specs.List.{list_any}
 use Rattle.dmr_calls.specs.declared.line.Line.{Line}
-use Rattle.dmr_calls.specs.declared.calls.TheConstants.{MOST_LINES}
+use Rattle.dmr_calls.specs.Limits.{most_lines, most_listed}
 
 -- the lines with one more at the end, where fewer than 32 stand
 abbrev pub with_line : List Line → Line → List Line
-with_line lines line = if nat_le MOST_LINES (length lines) then lines else lines ++ line ∷ []
+with_line lines line = if nat_le most_lines (length lines) then lines else lines ++ line ∷ []
 
 -- the lines of other sources
 abbrev pub without_line : ℕ → List Line → List Line
@@ -18,7 +18,7 @@ first_line lines = slice_get lines 0
 
 -- the lines from a place on, counted from 0, 16 at most
 abbrev pub page_of_lines : List Line → ℕ → List Line
-page_of_lines lines place = take 16 (drop place lines)
+page_of_lines lines place = take most_listed (drop place lines)
 
 -- whether any line stands
 abbrev pub has_lines : List Line → Bool

@@ -3,7 +3,7 @@ use Rattle.std.specs.Prelude.{◌≤◌, List, [], length}
 use Rattle.dmr_calls.specs.declared.ask.Asking.{Asking}
 use Rattle.dmr_calls.specs.declared.line.Line.{Line}
 use Rattle.dmr_calls.specs.declared.call.Standing.{Standing}
-use Rattle.dmr_calls.specs.declared.calls.TheConstants.{MOST_ASKS, MOST_CALLS, MOST_LINES}
+use Rattle.dmr_calls.specs.Limits.{most_asks, most_calls, most_lines}
 
 -- the asks, lines and calls
 pub record Standings : Type 0 where
@@ -17,6 +17,6 @@ no_standings = record { asks = []; lines = []; calls = [] }
 
 -- at most 32 asks, 32 lines and 31 calls stand
 pub record AreWithinLimits (now : Standings) : Type 0 where
-  pub asks : length now.asks ≤ MOST_ASKS
-  pub lines : length now.lines ≤ MOST_LINES
-  pub calls : length now.calls ≤ MOST_CALLS
+  pub asks : length now.asks ≤ most_asks
+  pub lines : length now.lines ≤ most_lines
+  pub calls : length now.calls ≤ most_calls

@@ -1,6 +1,7 @@
 -- Ticks.
 use Rattle.std.specs.Prelude.{ℕ, ◌+◌, min}
+use Rattle.dmr_calls.specs.Limits.{most_ticks}
 
 -- one tick more, kept to 65,535
 abbrev pub one_more : ℕ → ℕ
-one_more n = min 65535 (n + 1)
+one_more n = min most_ticks (n + 1)

@@ -10,12 +10,16 @@ mod answer;
 mod ask;
 mod call;
 mod calls;
+mod limits;
 mod line;
 mod party;
 mod ticks;
+mod turns;
 
 pub use answer::{Counts, Due, Engagement, Full};
 pub use ask::{Ask, Asking};
 pub use call::{Call, Standing};
 pub use calls::{Calls, MOST_ASKS, MOST_CALLS, MOST_LINES};
+pub use limits::limits_are_stated;
 pub use line::Line;
+pub use turns::talkgroup_calls_take_turns;

@@ -1,7 +1,7 @@
 -- The commands that lines are.
 use Rattle.std.specs.Prelude.{ℕ, List, [], ◌∷◌, Option, Some, None, option_map, if◌then◌else◌, codes}
 use Rattle.std.specs.Str.{bytes_eq}
-use Rattle.dmr_calls.specs.declared.calls.TheConstants.{MOST_LINES}
+use Rattle.dmr_calls.specs.Limits.{most_lines}
 use Rattle.dmr_core.specs.declared.command.Command.{Command}
 use Rattle.dmr_core.specs.declared.command.Command.TheVariants.{Status, Radios, Calls, Lines, Slots, Drop, End, Move, Stay}
 use Rattle.dmr_console.specs.Words.{words_of_line, short_number_within}
@@ -32,7 +32,7 @@ command_by name words =
     if bytes_eq name (codes "status") then command_without_words Status words else
     if bytes_eq name (codes "radios") then option_map Radios (one_number 0 16777215 words) else
     if bytes_eq name (codes "calls") then option_map Calls (one_number 0 15 words) else
-    if bytes_eq name (codes "lines") then option_map Lines (one_number 1 MOST_LINES words) else
+    if bytes_eq name (codes "lines") then option_map Lines (one_number 1 most_lines words) else
     if bytes_eq name (codes "slots") then command_without_words Slots words else
     if bytes_eq name (codes "drop") then option_map Drop (one_number 1 16777215 words) else
     if bytes_eq name (codes "end") then end_command words else

@@ -1,7 +1,7 @@
 -- Lines of a stream of octets.
 use Rattle.std.specs.Prelude.{◌≢◌, ◌≤◌, ℕ, ◌==◌, ◌+◌, ◌-◌, All, List, [], length, take, map, slice_index, slice_index_or, if◌then◌else◌, nat_lt}
 use Rattle.std.specs.List.{slice_split}
-use Rattle.dmr_console.specs.declared.line_cutter.TheConstants.{LONGEST_LINE}
+use Rattle.dmr_console.specs.Limits.{longest_line}
 use Rattle.dmr_console.specs.declared.line_cutter.LineStep.{LineStep}
 use Rattle.dmr_console.specs.declared.line_cutter.LineStep.TheVariants.{Line, TooLong}
 
@@ -23,7 +23,7 @@ without_cr octets = if slice_index octets (length octets - 1) == 13 then take (l
 
 -- the line that these octets are before an LF: too long, if they are more than a line can have
 abbrev pub line_step_of : List ℕ → LineStep
-line_step_of octets = if nat_lt LONGEST_LINE (length octets) then TooLong else Line (record { items = without_cr octets })
+line_step_of octets = if nat_lt longest_line (length octets) then TooLong else Line (record { items = without_cr octets })
 
 -- the lines of a stream: what stands before each LF
 abbrev pub lines_in : List ℕ → List LineStep
@@ -35,9 +35,9 @@ open_in octets = last_of (parts_of octets)
 
 -- what a cutter keeps of it: one octet more than a line can have
 abbrev pub first_octets_of_line : List ℕ → List ℕ
-first_octets_of_line octets = take (LONGEST_LINE + 1) octets
+first_octets_of_line octets = take (longest_line + 1) octets
 
 -- what a cutter holds: no LF, and no octet more than it keeps
 pub record IsOpenLine (begun : List ℕ) : Type 0 where
   pub no_end : All (λ octet. octet ≢ 10) begun
-  pub few : length begun ≤ LONGEST_LINE + 1
+  pub few : length begun ≤ longest_line + 1

@@ -1,8 +1,16 @@
 //! Laws of lines. These functions do nothing: their contracts are the laws.
 
 ghost use Rattle.std.specs.Prelude.{◌≡◌, ◌≢◌, ℕ, List, [], ◌∷◌, ◌++◌, All};
+ghost use Rattle.dmr_console.specs.Limits.{longest_line};
 ghost use Rattle.dmr_console.specs.Lines.{first_octets_of_line, line_step_of, lines_in, open_in};
 ghost use Rattle.dmr_console.specs.Steps.{line_steps_from, open_line_after};
+
+use crate::line_cutter::LONGEST_LINE;
+
+/// The constant is the number that the profile states: a line has at most 80 octets before its LF.
+pub fn limits_are_stated()
+    ensures { LONGEST_LINE ≡ longest_line }
+{}
 
 /// A line is what stands before an LF and holds none itself, and what no LF follows is still open.
 pub fn lines_stand_before_their_ends()

@@ -11,7 +11,7 @@ use Rattle.dmr_core.proofs.SlotsStaySound.{payload-done, quiet-done, down-done, 
 use Rattle.dmr_core.proofs.GrantsAreOwn.{own-done}
 use Rattle.dmr_core.proofs.RadiosEngagedOnce.{once-done, parties-done}
 use Rattle.dmr_core.proofs.FillsAreLateEntries.{counted-done, unfilled-done, unnamed-done}
-use Rattle.dmr_core.proofs.LimitsAreKept.{called-done, lined-done, asks-done, few_asks-done, lines-done, few_calls-done, few_lines-done, few_radios-done, distinct-done}
+use Rattle.dmr_core.proofs.LimitsAreKept.{called-done, lined-done, asks-done, few_asks-done, lines-done, few_calls-done, few_lines-done, few_radios-done, distinct-done, ages-done, waits-done}
 
 pub sound-done : (plan : Settings) (now : Facts) (act : Act) → KnowsPlan plan → IsSound plan now → MayDo plan now act → IsSound plan (facts_after_act now act)
 sound-done plan now act p h may = record {
@@ -36,6 +36,8 @@ sound-done plan now act p h may = record {
   few_lines = few_lines-done plan now act h may;
   few_radios = few_radios-done plan now act h may;
   few_waiting = few_waiting-done plan now act p h may;
+  ages = ages-done plan now act h;
+  waits = waits-done plan now act h;
   noiseless = h.noiseless;
   window = h.window;
   counted = counted-done plan now act h;

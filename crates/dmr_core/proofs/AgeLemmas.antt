@@ -1,9 +1,10 @@
 -- Ages count ticks.
 use Rattle.std.proofs.Common.{◌≡◌, ◌≤◌, ◌+◌, ℕ, List, [], ◌∷◌, ◌++◌, Bool, true, false, refl, sym, ◌∙◌, ap, subst, arith, map, filter, min}
 use Rattle.std.specs.Prelude.{fold, find, Option, Some, None, option_map, if◌then◌else◌, cond, not, ◌==◌, ◌||◌}
-use Rattle.std.specs.List.{list_any}
+use Rattle.std.specs.List.{list_any, All}
 use Rattle.std.specs.Option.{option_map_or}
 use Rattle.std.proofs.lemmas.Bool.Decides.{nat_tests}
+use Rattle.std.proofs.lemmas.List.Elements.{All-tail}
 use Rattle.dmr_pdu.specs.declared.slots.Slot.{Slot}
 use Rattle.dmr_plan.specs.declared.settings.Settings.{Settings}
 use Rattle.dmr_calls.specs.declared.ask.Ask.{Ask}
@@ -118,6 +119,24 @@ stands_then : {X Y : Type 0} (v : X → ℕ) (f : X → Y) (o : Option X) (y : Y
 stands_then v f None y n k h = cc
 stands_then v f (Some x) y n k h = h
 
+-- what is found is within the limit where all are
+found_within : {X : Type 0} (v : X → ℕ) (p : X → Bool) (most : ℕ) (xs : List X) → All (λ x. v x ≤ most) xs → option_map_or v (find p xs) 0 ≤ most
+found_within v p most [] all = omega arith
+found_within v p most (x ∷ xs) all = either (p x) (all 0 x (omega arith)) (found_within v p most xs (All-tail (λ x. v x ≤ most) x xs all))
+  where
+    either : (b : Bool) → v x ≤ most → option_map_or v (find p xs) 0 ≤ most → option_map_or v (cond b (Some x) (find p xs)) 0 ≤ most
+    either true here more = here
+    either false here more = more
+
+pub age_before : (plan : Settings) (facts : Facts) (slot : Slot) → IsSound plan facts → age_on facts.calls slot ≤ 65535
+age_before plan facts slot sound = found_within (λ (s : Standing). s.age) (λ (s : Standing). is_slot s.call.slot slot) 65535 facts.calls (λ k d within. (sound.ages k d within).0)
+
+pub quiet_before : (plan : Settings) (facts : Facts) (slot : Slot) → IsSound plan facts → quiet_on facts.calls slot ≤ 65535
+quiet_before plan facts slot sound = found_within (λ (s : Standing). s.quiet) (λ (s : Standing). is_slot s.call.slot slot) 65535 facts.calls (λ k d within. (sound.ages k d within).1)
+
+pub waited_before : (plan : Settings) (facts : Facts) (r : ℕ) → IsSound plan facts → waited_of facts.asks r ≤ 65535
+waited_before plan facts r sound = found_within (λ (a : Asking). a.waited) (λ (a : Asking). a.ask.source == r) 65535 facts.asks sound.waits
+
 -- neither a Tick nor an opener
 no_tick : (o : Option ℕ) (t : ℕ) → Says o (min 65535 t) → Says o (min 65535 (0 + t))
 no_tick o t h = says o _ _ (omega arith) h
@@ -167,12 +186,12 @@ age_notes plan slot now (Active there) t h =
 age_notes plan slot now Tick t h = all_counted (λ (s : Standing). s.age) slot (λ s. refl) now.calls t h
 age_notes plan slot now _ t h = no_tick (on (λ (s : Standing). s.age) slot now.calls) t h
 
-pub ages_count : (plan : Settings) (facts : Facts) (journal : List Entry) (slot : Slot) (call : Call) → KnowsPlan plan → IsSound plan facts → IsLegal plan facts journal → age_on facts.calls slot ≤ 65535 → call_on (facts_after plan facts journal).calls slot ≡ Some call → age_on (facts_after plan facts journal).calls slot ≡ min 65535 (ticks_since (begins_on slot) (age_on facts.calls slot) journal)
-ages_count plan facts journal slot call p sound legal small stands =
+pub ages_count : (plan : Settings) (facts : Facts) (journal : List Entry) (slot : Slot) (call : Call) → KnowsPlan plan → IsSound plan facts → IsLegal plan facts journal → call_on (facts_after plan facts journal).calls slot ≡ Some call → age_on (facts_after plan facts journal).calls slot ≡ min 65535 (ticks_since (begins_on slot) (age_on facts.calls slot) journal)
+ages_count plan facts journal slot call p sound legal stands =
     let at : Facts → Option ℕ = λ (f : Facts). on (λ (s : Standing). s.age) slot f.calls in
     stands_then (λ (s : Standing). s.age) (λ (s : Standing). s.call) (find (λ (s : Standing). is_slot s.call.slot slot) (facts_after plan facts journal).calls) call (min 65535 (ticks_since (begins_on slot) (age_on facts.calls slot) journal)) stands
     (counts plan facts at (λ event. false) (is_begin slot) (age_on facts.calls slot) (age_notes plan slot)
-    (stood (λ (s : Standing). s.age) (find (λ (s : Standing). is_slot s.call.slot slot) facts.calls) small) journal
+    (stood (λ (s : Standing). s.age) (find (λ (s : Standing). is_slot s.call.slot slot) facts.calls) (age_before plan facts slot sound)) journal
     (throughout plan facts (Counts at (is_begin slot)) (call_counts plan (λ (s : Standing). s.age) (λ k. refl) slot) journal p sound legal))
 
 -- quiet times
@@ -198,12 +217,12 @@ quiet_notes plan slot now (Active there) t h = quiet_marked there slot now.calls
 quiet_notes plan slot now Tick t h = all_counted (λ (s : Standing). s.quiet) slot (λ s. refl) now.calls t h
 quiet_notes plan slot now _ t h = no_tick (on (λ (s : Standing). s.quiet) slot now.calls) t h
 
-pub quiet_counts : (plan : Settings) (facts : Facts) (journal : List Entry) (slot : Slot) (call : Call) → KnowsPlan plan → IsSound plan facts → IsLegal plan facts journal → quiet_on facts.calls slot ≤ 65535 → call_on (facts_after plan facts journal).calls slot ≡ Some call → quiet_on (facts_after plan facts journal).calls slot ≡ min 65535 (ticks_since (stirs_on slot) (quiet_on facts.calls slot) journal)
-quiet_counts plan facts journal slot call p sound legal small stands =
+pub quiet_counts : (plan : Settings) (facts : Facts) (journal : List Entry) (slot : Slot) (call : Call) → KnowsPlan plan → IsSound plan facts → IsLegal plan facts journal → call_on (facts_after plan facts journal).calls slot ≡ Some call → quiet_on (facts_after plan facts journal).calls slot ≡ min 65535 (ticks_since (stirs_on slot) (quiet_on facts.calls slot) journal)
+quiet_counts plan facts journal slot call p sound legal stands =
     let at : Facts → Option ℕ = λ (f : Facts). on (λ (s : Standing). s.quiet) slot f.calls in
     stands_then (λ (s : Standing). s.quiet) (λ (s : Standing). s.call) (find (λ (s : Standing). is_slot s.call.slot slot) (facts_after plan facts journal).calls) call (min 65535 (ticks_since (stirs_on slot) (quiet_on facts.calls slot) journal)) stands
     (counts plan facts at (is_active slot) (is_begin slot) (quiet_on facts.calls slot) (quiet_notes plan slot)
-    (stood (λ (s : Standing). s.quiet) (find (λ (s : Standing). is_slot s.call.slot slot) facts.calls) small) journal
+    (stood (λ (s : Standing). s.quiet) (find (λ (s : Standing). is_slot s.call.slot slot) facts.calls) (quiet_before plan facts slot sound)) journal
     (throughout plan facts (Counts at (is_begin slot)) (call_counts plan (λ (s : Standing). s.quiet) (λ k. refl) slot) journal p sound legal))
 
 -- asks

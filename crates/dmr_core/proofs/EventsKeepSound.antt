@@ -1,8 +1,9 @@
 -- Sound facts stay sound through each event.
 use Rattle.std.proofs.Common.{◌≡◌, ◌<◌, ◌≤◌, ◌+◌, ◌*◌, ℕ, zero, suc, List, [], ◌∷◌, Bool, true, false, refl, sym, ◌∙◌, ap, subst, arith, map, filter, length, ◌⊎◌, inl, inr, set, get_or, length-set}
 use Rattle.std.specs.Prelude.{Option, Some, None, if◌then◌else◌, cond, ◌&&◌, not, find, ◌==◌, ◌||◌, slice_set, slice_index_or, option_map}
-use Rattle.std.specs.List.{list_any, list_all}
+use Rattle.std.specs.List.{list_any, list_all, All}
 use Rattle.std.proofs.lemmas.Bool.{cases_lt}
+use Rattle.std.proofs.lemmas.List.Elements.{All-filter, All-map, All-weaker}
 use Rattle.std.proofs.lemmas.List.{get_or-set_other, get_or-set_same, length-map, length-take}
 use Rattle.dmr_pdu.specs.declared.slots.Slot.{Slot}
 use Rattle.dmr_pdu.specs.declared.pdu.Pdu.{Pdu}
@@ -29,6 +30,7 @@ use Rattle.dmr_core.proofs.ChoiceLemmas.{and_true}
 use Rattle.dmr_core.proofs.CallsAreApart.{marked_call, apart-map, apart-filter, stands_on-map}
 use Rattle.dmr_core.proofs.SlotsStaySound.{true_false}
 use Rattle.dmr_core.proofs.GrantsAreOwn.{call_after}
+use Rattle.dmr_core.proofs.LimitsAreKept.{IsCounted, IsWaitCounted}
 
 -- only calls changed, each of which is the call it was
 call_or : (x y : Standing) (b : Bool) (o p : Option Standing) → x.call ≡ y.call → option_map (λ (z : Standing). z.call) o ≡ option_map (λ (z : Standing). z.call) p → option_map (λ (z : Standing). z.call) (cond b (Some x) o) ≡ option_map (λ (z : Standing). z.call) (cond b (Some y) p)
@@ -44,8 +46,16 @@ call_on-map f same (s ∷ cs) slot =
 same_engaged : (f : Standing → Standing) → ((s : Standing) → (f s).call ≡ s.call) → (calls : List Standing) (asks : List Asking) (lines : List Line) (r : ℕ) → engagements (map f calls) asks lines r ≡ engagements calls asks lines r
 same_engaged f same calls asks lines r = ap (λ (n : ℕ). n + total (engagements_in_ask r) asks + total (engagements_in_line r) lines) (total-map (engagements_in_call r) f (λ s. ap (λ (c : Call). party r c.group c.source c.target) (same s)) calls)
 
-sound-mapped : (plan : Settings) (now : Facts) (f : Standing → Standing) → ((s : Standing) → (f s).call ≡ s.call) → IsSound plan now → IsSound plan (record now { calls = map f now.calls })
-sound-mapped plan now f same h = record {
+-- activity makes no age greater
+marked_counted : (slot : Slot) (s : Standing) → IsCounted s → IsCounted (with_activity slot s)
+marked_counted slot s h = either (is_slot s.call.slot slot)
+  where
+    either : (b : Bool) → IsCounted (if b then record { call = s.call; age = s.age; quiet = 0 } else s)
+    either true = (h.0, omega arith)
+    either false = h
+
+sound-mapped : (plan : Settings) (now : Facts) (f : Standing → Standing) → ((s : Standing) → (f s).call ≡ s.call) → ((s : Standing) → IsCounted s → IsCounted (f s)) → IsSound plan now → IsSound plan (record now { calls = map f now.calls })
+sound-mapped plan now f same counted h = record {
   carriers = h.carriers;
   slots = h.slots;
   known = h.known;
@@ -67,6 +77,8 @@ sound-mapped plan now f same h = record {
   few_lines = h.few_lines;
   few_radios = h.few_radios;
   few_waiting = h.few_waiting;
+  ages = All-map IsCounted f now.calls (All-weaker IsCounted (λ s. IsCounted (f s)) counted now.calls h.ages);
+  waits = h.waits;
   noiseless = h.noiseless;
   window = h.window;
   counted = h.counted;
@@ -98,6 +110,8 @@ sound-waited plan now h = record {
   few_lines = h.few_lines;
   few_radios = h.few_radios;
   few_waiting = h.few_waiting;
+  ages = h.ages;
+  waits = All-map IsWaitCounted waited_more now.asks (λ k d within. omega arith);
   noiseless = h.noiseless;
   window = h.window;
   counted = h.counted;
@@ -129,6 +143,8 @@ sound-noise plan now noise h none all = record {
   few_lines = h.few_lines;
   few_radios = h.few_radios;
   few_waiting = h.few_waiting;
+  ages = h.ages;
+  waits = h.waits;
   noiseless = λ k. none (h.noiseless k);
   window = λ k. all (h.window k);
   counted = h.counted;
@@ -160,6 +176,8 @@ sound-moving plan now moving h = record {
   few_lines = h.few_lines;
   few_radios = h.few_radios;
   few_waiting = h.few_waiting;
+  ages = h.ages;
+  waits = h.waits;
   noiseless = h.noiseless;
   window = h.window;
   counted = h.counted;
@@ -229,6 +247,10 @@ stays (s ∷ cs) c slot h = either (s.call.slot.carrier == c) refl h (stays cs c
     either : (b : Bool) → (s.call.slot.carrier == c) ≡ b → list_any (λ x. is_slot x.call.slot slot) (cond (not b) (s ∷ filter (λ x. not (x.call.slot.carrier == c)) cs) (filter (λ x. not (x.call.slot.carrier == c)) cs)) ≡ true → (stands_on (filter (λ x. not (x.call.slot.carrier == c)) cs) slot ≡ true → (slot.carrier == c) ≡ false) → (slot.carrier == c) ≡ false
     either true e h more = more h
     either false e h more = here (is_slot s.call.slot slot) refl e h more
+
+waits_or : (b : Bool) (asks : List Asking) → All IsWaitCounted asks → All IsWaitCounted (if b then [] else asks)
+waits_or true asks h = λ k d within. absurd (omega arith)
+waits_or false asks h = h
 
 lines_or : {X : Type 0} (f : X → ℕ) (b : Bool) (ls : List X) → total f (if b then [] else ls) ≤ total f ls
 lines_or f true ls = omega arith
@@ -303,6 +325,8 @@ sound-reset plan now c up noise long known others noiseless window h =
       few_lines = omega (arith, h.few_lines, length_or (c == plan.control) now.lines);
       few_radios = h.few_radios;
       few_waiting = λ slot small. emptied_or (λ b. length b ≤ 64) now.outboxes c slot (omega arith) (h.few_waiting slot small);
+      ages = All-filter gone IsCounted now.calls h.ages;
+      waits = waits_or (c == plan.control) now.asks h.waits;
       noiseless = noiseless;
       window = window;
       counted = few_or (c == plan.control) now.fills h.counted;
@@ -403,8 +427,8 @@ sound-noted plan now (Lost c) p h =
     (λ k. ended_none plan now c (c == plan.control) refl h k)
     (λ k. ended_all plan now c (c == plan.control) refl h k)
     h
-sound-noted plan now (Active slot) p h = sound-mapped plan now (with_activity slot) (marked_call slot) h
-sound-noted plan now Tick p h = sound-waited plan (record now { calls = map one_tick_older now.calls }) (sound-mapped plan now one_tick_older (λ s. refl) h)
+sound-noted plan now (Active slot) p h = sound-mapped plan now (with_activity slot) (marked_call slot) (marked_counted slot) h
+sound-noted plan now Tick p h = sound-waited plan (record now { calls = map one_tick_older now.calls }) (sound-mapped plan now one_tick_older (λ s. refl) (λ s h. (omega arith, omega arith)) h)
 sound-noted plan now (Noise slot) p h = sound-noise plan now (if is_control plan slot then with_noise now.noise else now.noise) h (with_noise_none (is_control plan slot) now.noise) (with_noise_all (is_control plan slot) now.noise)
 sound-noted plan now (Poll c) p h = sound-noise plan now (if c == plan.control then with_poll now.noise else now.noise) h (with_poll_none (c == plan.control) now.noise) (with_poll_all (c == plan.control) now.noise)
 sound-noted plan now (Say command) p h = sound-moving plan now (moving_by_event now.moving (Say command)) h

@@ -1,14 +1,14 @@
 -- Fills and late entries: what each needs, and what it leaves.
 use Rattle.std.proofs.Common.{◌≡◌, ◌<◌, ℕ, Bool, true, false, List, subst, arith, refl, sym}
-use Rattle.std.specs.Prelude.{Option, Some, None, MatchOption, IfSome, ◌&&◌, not, is_some, option_map, unwrap_or, if◌then◌else◌}
+use Rattle.std.specs.Prelude.{Option, Some, None, IfSome, ◌&&◌, not, is_some, option_map, unwrap_or, if◌then◌else◌}
 use Rattle.dmr_pdu.specs.declared.slots.Slot.{Slot}
 use Rattle.dmr_pdu.specs.declared.pdu.Pdu.{Pdu}
 use Rattle.dmr_plan.specs.declared.settings.Settings.{Settings}
 use Rattle.dmr_access.specs.Fill.{aloha_pdu, fill_of, is_late_due}
 use Rattle.dmr_calls.specs.declared.call.Call.{Call}
 use Rattle.dmr_calls.specs.declared.call.Standing.{Standing}
-use Rattle.dmr_calls.specs.After.{is_group_at, place_after}
-use Rattle.dmr_calls.proofs.AfterLemmas.{IsGroupOn, IsTurn, NonePass, turn_of, turn_stands}
+use Rattle.dmr_calls.specs.Calls.{call_on}
+use Rattle.dmr_calls.proofs.Laws.{next_stands}
 use Rattle.dmr_pool.specs.Free.{control_slot}
 use Rattle.dmr_core.specs.declared.event.Event.TheVariants.{Poll}
 use Rattle.dmr_core.specs.declared.act.Act.{Act}
@@ -43,17 +43,15 @@ late_grant plan call = either call.group refl
     either false e = rw e refl
 
 -- the late entry, if the next Fill has one, is of a talkgroup call that stands
-entry_stands : (plan : Settings) (calls : List Standing) (from : ℕ) (b : Bool) (o : Option Call) → MatchOption o (NonePass (is_group_at calls) 0 32) (IsTurn calls from) → IfSome (if b then option_map (λ (call : Call). grant_pdu plan call true) o else None) (IsLateOf plan calls)
-entry_stands plan calls from true None none = tt
-entry_stands plan calls from true (Some call) turn =
-    let on : IsGroupOn calls call.slot call = turn_stands calls from call turn in
-    record { call = call; stands = on.stands; group = on.group; is = refl }
-entry_stands plan calls from false o turn = tt
+entry_stands : (plan : Settings) (calls : List Standing) (b : Bool) (o : Option Call) → IfSome o (λ call. (call_on calls call.slot ≡ Some call) × (call.group ≡ true)) → IfSome (if b then option_map (λ (call : Call). grant_pdu plan call true) o else None) (IsLateOf plan calls)
+entry_stands plan calls true None none = tt
+entry_stands plan calls true (Some call) next = record { call = call; stands = next.0; group = next.1; is = refl }
+entry_stands plan calls false o next = tt
 
 pub late_stands : (plan : Settings) (now : Facts) → IfSome (late_entry plan now) (IsLateOf plan now.calls)
 unfolding late_entry
 late_stands plan now =
-    entry_stands plan now.calls (place_after (last_slot plan now)) (is_late_due now.fills && not (is_some now.moving)) (next_call plan now) (turn_of now.calls (last_slot plan now))
+    entry_stands plan now.calls (is_late_due now.fills && not (is_some now.moving)) (next_call plan now) (next_stands now.calls (last_slot plan now))
 
 -- a fill that is a grant is of a call that stands
 late_names : (plan : Settings) (calls : List Standing) (slot : Slot) (pdu : Pdu) → slot ≡ control_slot plan → IsLateOf plan calls pdu → MayName plan calls slot pdu (is_grant pdu)

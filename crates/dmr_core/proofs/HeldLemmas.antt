@@ -7,6 +7,7 @@ use Rattle.dmr_pdu.specs.declared.slots.Slot.{Slot}
 use Rattle.dmr_calls.specs.declared.call.Call.{Call}
 use Rattle.dmr_calls.specs.declared.call.Standing.{Standing}
 use Rattle.dmr_calls.specs.Calls.{is_slot, just_begun, one_tick_older, with_activity, on_other_slots, on_other_carriers}
+use Rattle.dmr_pool.specs.Limits.{slots_of_site}
 use Rattle.dmr_pool.specs.Slots.{IsSlot, place, is_slot_held, held_without_carrier}
 use Rattle.dmr_core.specs.Words.{stands_on}
 use Rattle.dmr_core.specs.Held.{HoldsCalls}
@@ -151,5 +152,5 @@ none zero i = refl
 none (suc n) zero = refl
 none (suc n) (suc i) = none n i
 
-pub at_first : HoldsCalls (replicate 32 false) []
-at_first s is = none 32 (place s)
+pub at_first : HoldsCalls (replicate slots_of_site false) []
+at_first s is = none slots_of_site (place s)

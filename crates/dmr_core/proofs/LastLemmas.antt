@@ -1,5 +1,5 @@
 -- Registrations and carriers stand exactly where the last opener or closer is an opener.
-use Rattle.std.proofs.Common.{◌≡◌, ◌<◌, ℕ, List, [], ◌∷◌, ◌++◌, Bool, true, false, refl, sym, ◌∙◌, ap, arith, filter, length, length-set}
+use Rattle.std.proofs.Common.{◌≡◌, ◌<◌, ℕ, List, [], ◌∷◌, ◌++◌, Bool, true, false, refl, sym, ◌∙◌, ap, subst, arith, filter, length, length-set}
 use Rattle.std.specs.Prelude.{fold, Option, Some, None, unwrap_or, if◌then◌else◌, cond, ◌||◌, ◌&&◌, not, ◌==◌, slice_set, slice_index_or}
 use Rattle.std.specs.List.{list_any}
 use Rattle.std.proofs.lemmas.Bool.Decides.{nat_tests}
@@ -90,11 +90,11 @@ no_word : (acts : List Act) → last_word {X = Bool} no_act acts ≡ None
 no_word [] = refl
 no_word (act ∷ acts) = rw (no_word acts) refl
 
-set_one : (up : List Bool) (d c : ℕ) (there : Bool) → c < length up → slice_index_or (if there then slice_set up d true else up) c false ≡ unwrap_or (if (d == c) && there then Some true else None) (slice_index_or up c false)
+set_one : (up : List Bool) (d c : ℕ) (there : Bool) → (d ≡ c → there ≡ true → c < length up) → slice_index_or (if there then slice_set up d true else up) c false ≡ unwrap_or (if (d == c) && there then Some true else None) (slice_index_or up c false)
 set_one up d c true h = either (d == c) refl
   where
     either : (b : Bool) → (d == c) ≡ b → slice_index_or (slice_set up d true) c false ≡ unwrap_or (if b && true then Some true else None) (slice_index_or up c false)
-    either true e = let same : d ≡ c = equal_numbers d c e in rw same (get_or-set_same up c true false h)
+    either true e = let same : d ≡ c = equal_numbers d c e in let within : c < length up = h same refl in rw same (get_or-set_same up c true false within)
     either false e = get_or-set_other up d c true false (other_number c d (flipped d c e))
 set_one up d c false h = either (d == c)
   where
@@ -109,8 +109,8 @@ clear_one up d c = either (d == c) refl
     either true e = let same : d ≡ c = equal_numbers d c e in rw same (cleared up c)
     either false e = get_or-set_other up d c false false (other_number c d (flipped d c e))
 
-one_event : (plan : Settings) (up : List Bool) (event : Event) (c : ℕ) → c < length up → slice_index_or (up_by_event plan up event) c false ≡ unwrap_or (of_carrier plan c event) (slice_index_or up c false)
-one_event plan up (Up d) c h = set_one up d c (has_carrier plan d) h
+one_event : (plan : Settings) (up : List Bool) (event : Event) (c : ℕ) → (has_carrier plan c ≡ true → c < length up) → slice_index_or (up_by_event plan up event) c false ≡ unwrap_or (of_carrier plan c event) (slice_index_or up c false)
+one_event plan up (Up d) c h = set_one up d c (has_carrier plan d) (λ same there. h (subst (λ (n : ℕ). has_carrier plan n ≡ true) same there))
 one_event plan up (Lost d) c h = clear_one up d c
 one_event plan up _ c h = refl
 
@@ -130,11 +130,11 @@ length-since plan up (entry ∷ earlier) =
     ∙ length-event plan (since (up_by_event plan) same_as_before up earlier) entry.event
     ∙ length-since plan up earlier
 
-pub up_by_last : (plan : Settings) (facts : Facts) (journal : List Entry) (c : ℕ) → c < length facts.up → is_up (facts_after plan facts journal) c ≡ stands (of_carrier plan c) no_act (is_up facts c) journal
+pub up_by_last : (plan : Settings) (facts : Facts) (journal : List Entry) (c : ℕ) → (has_carrier plan c ≡ true → c < length facts.up) → is_up (facts_after plan facts journal) c ≡ stands (of_carrier plan c) no_act (is_up facts c) journal
 up_by_last plan facts [] c h = refl
 up_by_last plan facts (entry ∷ earlier) c h =
     let before : List Bool = since (up_by_event plan) same_as_before facts.up earlier in
-    let within : c < length before = omega (arith, length-since plan facts.up earlier) in
+    let within : has_carrier plan c ≡ true → c < length before = λ there. omega (arith, length-since plan facts.up earlier, h there) in
     ap (λ (xs : List Bool). slice_index_or xs c false) (same_up entry.acts.list (up_by_event plan before entry.event))
     ∙ one_event plan before entry.event c within
     ∙ ap (λ b. unwrap_or (of_carrier plan c entry.event) b) (up_by_last plan facts earlier c h)

@@ -1,9 +1,10 @@
 -- Groups, lines and limits, after each act.
 use Rattle.std.proofs.Common.{◌≡◌, ◌≤◌, ℕ, List, [], ◌∷◌, ◌++◌, Bool, true, false, refl, arith, filter, length, get_or, ◌≢◌}
-use Rattle.std.specs.List.{list_any}
+use Rattle.std.specs.List.{list_any, All}
 use Rattle.std.specs.Prelude.{◌&&◌, not, ◌==◌, ◌||◌}
 use Rattle.std.proofs.lemmas.Bool.Decides.{nat_tests}
 use Rattle.std.proofs.lemmas.List.{length-append}
+use Rattle.std.proofs.lemmas.List.Elements.{All-filter, All-push}
 use Rattle.std.proofs.lemmas.List.Folds.{list_any_at}
 use Rattle.std.proofs.lemmas.List.Kept.{AllPairs-filter}
 use Rattle.std.proofs.lemmas.List.Quantifiers.{all_pairs_push}
@@ -12,6 +13,7 @@ use Rattle.dmr_plan.specs.Plan.{lists_group}
 use Rattle.dmr_registry.specs.Radios.{AreDistinct}
 use Rattle.dmr_calls.specs.declared.ask.Asking.{Asking}
 use Rattle.dmr_calls.specs.declared.line.Line.{Line}
+use Rattle.dmr_calls.specs.declared.call.Standing.{Standing}
 use Rattle.dmr_calls.specs.Asks.{new_asking, others_than}
 use Rattle.dmr_calls.specs.Lines.{has_group_line}
 use Rattle.dmr_calls.specs.Calls.{is_slot, just_begun}
@@ -78,6 +80,23 @@ pub few_radios-done : (plan : Settings) (now : Facts) (act : Act) → IsSound pl
 few_radios-done plan now (Joined q) h may = omega (arith, may.1, length-append now.registered (q ∷ []))
 few_radios-done plan now (Left q) h may = omega (arith, h.few_radios, length-filter_le (λ r. not (r == q)) now.registered)
 few_radios-done plan now act h may = h.few_radios
+
+-- ticks are counted up to a limit
+abbrev pub IsCounted : Standing → Type 0
+IsCounted s = (s.age ≤ 65535) × (s.quiet ≤ 65535)
+
+abbrev pub IsWaitCounted : Asking → Type 0
+IsWaitCounted a = a.waited ≤ 65535
+
+pub ages-done : (plan : Settings) (now : Facts) (act : Act) → IsSound plan now → All IsCounted (facts_after_act now act).calls
+ages-done plan now (Began call) h = All-push IsCounted now.calls (just_begun call) h.ages (omega arith, omega arith)
+ages-done plan now (Ended slot) h = All-filter (λ s. not (is_slot s.call.slot slot)) IsCounted now.calls h.ages
+ages-done plan now act h = h.ages
+
+pub waits-done : (plan : Settings) (now : Facts) (act : Act) → IsSound plan now → All IsWaitCounted (facts_after_act now act).asks
+waits-done plan now (Asked a) h = All-push IsWaitCounted (others_than a.source now.asks) (new_asking a) (All-filter (λ x. not (x.ask.source == a.source)) IsWaitCounted now.asks h.waits) (omega arith)
+waits-done plan now (AskOver q) h = All-filter (λ x. not (x.ask.source == q)) IsWaitCounted now.asks h.waits
+waits-done plan now act h = h.waits
 
 -- no radio is registered twice
 equal : (a b : ℕ) → a ≡ b → (a == b) ≡ true

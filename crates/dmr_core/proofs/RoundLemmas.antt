@@ -1,6 +1,6 @@
 -- Going round places, how many are passed before one's turn.
 use Rattle.std.proofs.Common.{◌≡◌, ◌≢◌, ◌<◌, ◌≤◌, ◌+◌, ◌-◌, ◌⊎◌, inl, inr, ℕ, zero, suc, List, [], ◌∷◌, Bool, true, false, refl, sym, ◌∙◌, ap, arith, length, filter}
-use Rattle.std.specs.Prelude.{cond, ◌&&◌, Some, find, option_map}
+use Rattle.std.specs.Prelude.{◌/◌, ◌%◌, cond, ◌&&◌, Some, find, option_map}
 use Rattle.std.specs.Option.{option_map_or}
 use Rattle.std.proofs.lemmas.Bool.{cases_lt}
 use Rattle.dmr_pdu.specs.declared.slots.Slot.{Slot}
@@ -8,10 +8,20 @@ use Rattle.dmr_calls.specs.declared.call.Call.{Call}
 use Rattle.dmr_calls.specs.declared.call.Standing.{Standing}
 use Rattle.dmr_calls.specs.Calls.{is_slot}
 use Rattle.dmr_pdu.specs.Slots.{place, slot_at}
-use Rattle.dmr_calls.specs.After.{is_group_at}
-use Rattle.dmr_calls.proofs.AfterLemmas.{IsFirst, NonePass, place-slot_at}
+use Rattle.dmr_calls.specs.After.{is_group_at, IsNext, NonePass}
 use Rattle.dmr_core.specs.Turns.{talkgroup_calls}
 use Rattle.dmr_core.proofs.SlotsStaySound.{same_slot, true_false}
+
+-- a slot is the one at its place
+pub slot_at-place : (slot : Slot) → slot.slot < 2 → slot_at (place slot) ≡ slot
+slot_at-place slot small =
+    let carrier : place slot / 2 ≡ slot.carrier = omega (arith, small) in
+    let number : place slot % 2 ≡ slot.slot = omega (arith, small) in
+    λ i. record { carrier = carrier i; slot = number i }
+
+-- a place is that of its slot
+place-slot_at : (k : ℕ) → place (slot_at k) ≡ k
+place-slot_at k = omega arith
 
 -- one where the test passes
 abbrev pub one : Bool → ℕ
@@ -100,7 +110,7 @@ less a b low other = either (cases_lt a b)
     either (inr above) = absurd (other (omega (arith, low, above)))
 
 -- when it is another's turn, one is nearer
-pub nearer : (g : ℕ → Bool) (from t d at : ℕ) → t < 32 → g t ≡ true → at ≢ t → IsFirst g from 32 at ⊎ (NonePass g from 32 × IsFirst g 0 32 at) → IsWithin g from t d → IsWithin g (at + 1) t (d - 1)
+pub nearer : (g : ℕ → Bool) (from t d at : ℕ) → t < 32 → g t ≡ true → at ≢ t → IsNext g from at → IsWithin g from t d → IsWithin g (at + 1) t (d - 1)
 nearer g from t d at small h other (inl first) (inl low) =
     let near : at ≤ t = not_before g from t at h low.0 first.before in
     let before : at < t = less at t near other in

@@ -14,8 +14,7 @@ use Rattle.dmr_calls.specs.declared.call.Call.{Call}
 use Rattle.dmr_calls.specs.declared.call.Standing.{Standing}
 use Rattle.dmr_calls.specs.Calls.{call_on}
 use Rattle.dmr_pdu.specs.Slots.{place, slot_at}
-use Rattle.dmr_calls.specs.After.{is_group_at, place_after}
-use Rattle.dmr_calls.proofs.AfterLemmas.{IsFirst, IsGroupOn, IsTurn, NonePass, at_place, slot_at-place, turn_of, turn_stands, place-slot_at}
+use Rattle.dmr_calls.specs.After.{group_after, is_group_at, is_group_on, place_after, HasNoGroupCall, IsNext, IsTurn}
 use Rattle.dmr_core.specs.declared.event.Event.{Event}
 use Rattle.dmr_core.specs.declared.event.Event.TheVariants.{Active, Lost, Say, Tick, Up}
 use Rattle.dmr_core.specs.declared.command.Command.TheVariants.{Move, Stay}
@@ -46,7 +45,11 @@ use Rattle.dmr_core.proofs.ActsAreSafe.{sound_after}
 use Rattle.dmr_core.proofs.LastOpenerLemmas.{call_noted}
 use Rattle.dmr_core.proofs.PlansAreKnown.{plan_known}
 use Rattle.dmr_core.proofs.ChannelLemmas.{channel_known}
-use Rattle.dmr_core.proofs.RoundLemmas.{IsWithin, at_first, between, few_places, nearer, some_left}
+use Rattle.dmr_core.proofs.RoundLemmas.{IsWithin, at_first, between, few_places, nearer, slot_at-place, some_left}
+
+-- what dmr_calls says of the next talkgroup call
+abbrev TakeTurns : Type 0
+TakeTurns = (calls : List Standing) (last : Option Slot) → MatchOption (group_after calls last) (HasNoGroupCall calls) (IsTurn calls (place_after last))
 
 -- a fill is the late entry that is due
 pub fills_turn : (plan : Settings) (now : Facts) (act : Act) → IsSound plan now → MayDo plan now act → FillsInTurn plan now act
@@ -134,7 +137,9 @@ record IsTarget (calls : List Standing) (call : Call) : Type 0 where
   pub within : place call.slot < 32
 
 target_there : (calls : List Standing) (call : Call) → IsTarget calls call → is_group_at calls (place call.slot) ≡ true
-target_there calls call h = at_place calls call.slot true h.small (rw h.stands h.group)
+target_there calls call h =
+    let on : is_group_on calls call.slot ≡ true = rw h.stands h.group in
+    subst (λ (s : Slot). is_group_on calls s ≡ true) (sym (slot_at-place call.slot h.small)) on
 
 -- before the fourth the next number counts
 counted_on : (k : ℕ) → k < 4 → k ≢ 3 → next_fill_count k ≡ k + 1
@@ -162,109 +167,104 @@ not_due plan calls t most n now slot pdu due few entry h =
 
 -- a late entry: it is the target's, or its turn is nearer
 due_turn : (plan : Settings) (calls : List Standing) (most n : ℕ) (call other : Call) (now : Facts) (slot : Slot) (pdu : Pdu) → IsPlan plan → IsSound plan now → IsTarget calls call → is_late_due now.fills ≡ true → pdu ≡ grant_pdu plan other true → IsTurn now.calls (place_after (last_slot plan now)) other → IsGoing plan calls (place call.slot) most n now → (pdu ≡ grant_pdu plan call true) ⊎ IsGoing plan calls (place call.slot) most (n + 1) (facts_after_act now (Fill slot pdu))
-due_turn plan calls most n call other now slot pdu p sound target due is turn h = either (turn.at == place call.slot) refl
+due_turn plan calls most n call other now slot pdu p sound target due is turn h = either (place other.slot == place call.slot) refl
   where
-    on : IsGroupOn now.calls other.slot other
-    on = turn_stands now.calls (place_after (last_slot plan now)) other turn
+    payload : IsPayload plan now.up other.slot
+    payload = sound.payload other.slot (call_stands now.calls other.slot other turn.stands).0
 
-    at : place other.slot ≡ turn.at
-    at = ap place turn.on.there ∙ place-slot_at turn.at
-
-    there : has_carrier plan other.slot.carrier ≡ true
-    there = (sound.payload other.slot (call_stands now.calls other.slot other on.stands).0).known
-
-    same_call : turn.at ≡ place call.slot → other ≡ call
+    same_call : place other.slot ≡ place call.slot → other ≡ call
     same_call e =
-        let slots : other.slot ≡ call.slot = turn.on.there ∙ ap slot_at e ∙ slot_at-place call.slot target.small in
+        let slots : other.slot ≡ call.slot = sym (slot_at-place other.slot payload.small) ∙ ap slot_at e ∙ slot_at-place call.slot target.small in
         let mine : call_on now.calls call.slot ≡ Some call = h.same call.slot ∙ target.stands in
-        let yours : call_on now.calls call.slot ≡ Some other = subst (λ (s : Slot). call_on now.calls s ≡ Some other) slots on.stands in
+        let yours : call_on now.calls call.slot ≡ Some other = subst (λ (s : Slot). call_on now.calls s ≡ Some other) slots turn.stands in
         cc
 
     late : late_by_act now.late (Fill slot pdu) ≡ Some (record { channel = lpcn_of plan other.slot.carrier; slot = other.slot.slot })
-    late = subst (λ (x : Pdu). late_by_act now.late (Fill slot x) ≡ Some (record { channel = lpcn_of plan other.slot.carrier; slot = other.slot.slot })) (sym is) (named_by plan now.late slot other on.group)
+    late = subst (λ (x : Pdu). late_by_act now.late (Fill slot x) ≡ Some (record { channel = lpcn_of plan other.slot.carrier; slot = other.slot.slot })) (sym is) (named_by plan now.late slot other turn.group)
 
     last : last_slot plan (facts_after_act now (Fill slot pdu)) ≡ Some other.slot
-    last = ap (option_and_then (slot_named plan)) late ∙ named_slot plan other.slot p there
+    last = ap (option_and_then (slot_named plan)) late ∙ named_slot plan other.slot p payload.known
 
-    behind : place_after (last_slot plan (facts_after_act now (Fill slot pdu))) ≡ turn.at + 1
-    behind = ap place_after last ∙ ap (λ (k : ℕ). k + 1) at
+    behind : place_after (last_slot plan (facts_after_act now (Fill slot pdu))) ≡ place other.slot + 1
+    behind = ap place_after last
 
-    around : IsFirst (is_group_at calls) (place_after (last_slot plan now)) 32 turn.at ⊎ (NonePass (is_group_at calls) (place_after (last_slot plan now)) 32 × IsFirst (is_group_at calls) 0 32 turn.at)
-    around = subst (λ (g : ℕ → Bool). IsFirst g (place_after (last_slot plan now)) 32 turn.at ⊎ (NonePass g (place_after (last_slot plan now)) 32 × IsFirst g 0 32 turn.at)) (same_test now.calls calls h.same) turn.turn
+    around : IsNext (is_group_at calls) (place_after (last_slot plan now)) (place other.slot)
+    around = subst (λ (g : ℕ → Bool). IsNext g (place_after (last_slot plan now)) (place other.slot)) (same_test now.calls calls h.same) turn.turn
 
     three : now.fills ≡ 3
     three = equal_numbers now.fills 3 due
 
-    either : (b : Bool) → (turn.at == place call.slot) ≡ b → (pdu ≡ grant_pdu plan call true) ⊎ IsGoing plan calls (place call.slot) most (n + 1) (facts_after_act now (Fill slot pdu))
-    either true e = inl (is ∙ ap (λ (c : Call). grant_pdu plan c true) (same_call (equal_numbers turn.at (place call.slot) e)))
+    either : (b : Bool) → (place other.slot == place call.slot) ≡ b → (pdu ≡ grant_pdu plan call true) ⊎ IsGoing plan calls (place call.slot) most (n + 1) (facts_after_act now (Fill slot pdu))
+    either true e = inl (is ∙ ap (λ (c : Call). grant_pdu plan c true) (same_call (equal_numbers (place other.slot) (place call.slot) e)))
     either false e = inr (record {
       still = h.still;
       same = h.same;
       d = h.d - 1;
       near = subst (λ (from : ℕ). IsWithin (is_group_at calls) from (place call.slot) (h.d - 1)) (sym behind)
-          (nearer (is_group_at calls) (place_after (last_slot plan now)) (place call.slot) h.d turn.at target.within (target_there calls call target) (other_number turn.at (place call.slot) e) around h.near);
+          (nearer (is_group_at calls) (place_after (last_slot plan now)) (place call.slot) h.d (place other.slot) target.within (target_there calls call target) (other_number (place other.slot) (place call.slot) e) around h.near);
       few = omega (arith, h.few, three, some_left (is_group_at calls) (place_after (last_slot plan now)) (place call.slot) h.d (target_there calls call target) h.near);
     })
 
 -- a fill where a late entry is due
-due_step : (plan : Settings) (calls : List Standing) (most n : ℕ) (call : Call) (now : Facts) (slot : Slot) (pdu : Pdu) → IsPlan plan → IsSound plan now → IsTarget calls call → is_late_due now.fills ≡ true → late_entry_of_fill pdu ≡ late_entry plan now → IsGoing plan calls (place call.slot) most n now → (pdu ≡ grant_pdu plan call true) ⊎ IsGoing plan calls (place call.slot) most (n + 1) (facts_after_act now (Fill slot pdu))
+due_step : TakeTurns → (plan : Settings) (calls : List Standing) (most n : ℕ) (call : Call) (now : Facts) (slot : Slot) (pdu : Pdu) → IsPlan plan → IsSound plan now → IsTarget calls call → is_late_due now.fills ≡ true → late_entry_of_fill pdu ≡ late_entry plan now → IsGoing plan calls (place call.slot) most n now → (pdu ≡ grant_pdu plan call true) ⊎ IsGoing plan calls (place call.slot) most (n + 1) (facts_after_act now (Fill slot pdu))
 unfolding late_entry
-due_step plan calls most n call now slot pdu p sound target due entry h = either (next_call plan now) refl (turn_of now.calls (last_slot plan now))
+due_step turns plan calls most n call now slot pdu p sound target due entry h = either (next_call plan now) refl (turns now.calls (last_slot plan now))
   where
-    either : (o : Option Call) → next_call plan now ≡ o → MatchOption o (NonePass (is_group_at now.calls) 0 32) (IsTurn now.calls (place_after (last_slot plan now))) → (pdu ≡ grant_pdu plan call true) ⊎ IsGoing plan calls (place call.slot) most (n + 1) (facts_after_act now (Fill slot pdu))
+    either : (o : Option Call) → next_call plan now ≡ o → MatchOption o (HasNoGroupCall now.calls) (IsTurn now.calls (place_after (last_slot plan now))) → (pdu ≡ grant_pdu plan call true) ⊎ IsGoing plan calls (place call.slot) most (n + 1) (facts_after_act now (Fill slot pdu))
     either None e none =
-        let there : is_group_at now.calls (place call.slot) ≡ true = subst (λ (g : ℕ → Bool). g (place call.slot) ≡ true) (sym (same_test now.calls calls h.same)) (target_there calls call target) in
-        true_false _ there (none (place call.slot) (omega arith) target.within)
+        let here : call_on now.calls call.slot ≡ Some call = h.same call.slot ∙ target.stands in
+        let on : is_group_on now.calls call.slot ≡ true = rw here target.group in
+        true_false _ on (none call.slot (omega (arith, target.within), target.small))
     either (Some other) e turn =
         let some : late_entry plan now ≡ Some (grant_pdu plan other true) = rw (due, h.still, e) refl in
         due_turn plan calls most n call other now slot pdu p sound target due (entry_is pdu (grant_pdu plan other true) (entry ∙ some)) turn h
 
-fill_step : (plan : Settings) (calls : List Standing) (most n : ℕ) (call : Call) (now : Facts) (slot : Slot) (pdu : Pdu) → IsPlan plan → IsSound plan now → IsTarget calls call → late_entry_of_fill pdu ≡ late_entry plan now → IsGoing plan calls (place call.slot) most n now → (pdu ≡ grant_pdu plan call true) ⊎ IsGoing plan calls (place call.slot) most (n + 1) (facts_after_act now (Fill slot pdu))
-fill_step plan calls most n call now slot pdu p sound target entry h = either (is_late_due now.fills) refl
+fill_step : TakeTurns → (plan : Settings) (calls : List Standing) (most n : ℕ) (call : Call) (now : Facts) (slot : Slot) (pdu : Pdu) → IsPlan plan → IsSound plan now → IsTarget calls call → late_entry_of_fill pdu ≡ late_entry plan now → IsGoing plan calls (place call.slot) most n now → (pdu ≡ grant_pdu plan call true) ⊎ IsGoing plan calls (place call.slot) most (n + 1) (facts_after_act now (Fill slot pdu))
+fill_step turns plan calls most n call now slot pdu p sound target entry h = either (is_late_due now.fills) refl
   where
     either : (b : Bool) → is_late_due now.fills ≡ b → (pdu ≡ grant_pdu plan call true) ⊎ IsGoing plan calls (place call.slot) most (n + 1) (facts_after_act now (Fill slot pdu))
-    either true e = due_step plan calls most n call now slot pdu p sound target e entry h
+    either true e = due_step turns plan calls most n call now slot pdu p sound target e entry h
     either false e = inr (not_due plan calls (place call.slot) most n now slot pdu e sound.counted entry h)
 
 -- so many Fills, said otherwise
 again : (plan : Settings) (calls : List Standing) (t most n m : ℕ) (now : Facts) → n ≡ m → IsGoing plan calls t most n now → IsGoing plan calls t most m now
 again plan calls t most n m now same h = subst (λ (k : ℕ). IsGoing plan calls t most k now) same h
 
-acts_go : (plan : Settings) (calls : List Standing) (most n : ℕ) (call : Call) (now : Facts) (acts : List Act) → IsPlan plan → IsTarget calls call → IsSound plan now → AllMayDo plan now acts → list_all is_steady_act acts ≡ true → IsGoing plan calls (place call.slot) most n now → HasFillOf (grant_pdu plan call true) acts ⊎ IsGoing plan calls (place call.slot) most (n + total fill_in acts) (fold facts_after_act now acts)
-acts_go plan calls most n call now [] p target sound may steady h = inr (again plan calls (place call.slot) most n (n + 0) now (omega arith) h)
-acts_go plan calls most n call now (Fill slot pdu ∷ acts) p target sound may steady h =
-    elim (fill_step plan calls most n call now slot pdu p sound target may.0.late h) [
+acts_go : TakeTurns → (plan : Settings) (calls : List Standing) (most n : ℕ) (call : Call) (now : Facts) (acts : List Act) → IsPlan plan → IsTarget calls call → IsSound plan now → AllMayDo plan now acts → list_all is_steady_act acts ≡ true → IsGoing plan calls (place call.slot) most n now → HasFillOf (grant_pdu plan call true) acts ⊎ IsGoing plan calls (place call.slot) most (n + total fill_in acts) (fold facts_after_act now acts)
+acts_go turns plan calls most n call now [] p target sound may steady h = inr (again plan calls (place call.slot) most n (n + 0) now (omega arith) h)
+acts_go turns plan calls most n call now (Fill slot pdu ∷ acts) p target sound may steady h =
+    elim (fill_step turns plan calls most n call now slot pdu p sound target may.0.late h) [
       | inl named ↦ inl (inl named)
-      | inr going ↦ elim (acts_go plan calls most (n + 1) call (facts_after_act now (Fill slot pdu)) acts p target (sound-done plan now (Fill slot pdu) (plan_known plan p) sound may.0) may.1 (and_true true (list_all is_steady_act acts) steady).1 going) [
+      | inr going ↦ elim (acts_go turns plan calls most (n + 1) call (facts_after_act now (Fill slot pdu)) acts p target (sound-done plan now (Fill slot pdu) (plan_known plan p) sound may.0) may.1 (and_true true (list_all is_steady_act acts) steady).1 going) [
         | inl later ↦ inl (inr later)
         | inr left ↦ inr (again plan calls (place call.slot) most (n + 1 + total fill_in acts) (n + (1 + total fill_in acts)) (fold facts_after_act (facts_after_act now (Fill slot pdu)) acts) (omega arith) left)
       ]
     ]
-acts_go plan calls most n call now (Began other ∷ acts) p target sound may steady h = cc
-acts_go plan calls most n call now (Ended other ∷ acts) p target sound may steady h = cc
-acts_go plan calls most n call now (act ∷ acts) p target sound may steady h =
-    elim (acts_go plan calls most n call (facts_after_act now act) acts p target (sound-done plan now act (plan_known plan p) sound may.0) may.1 (and_true true (list_all is_steady_act acts) steady).1 (record { still = h.still; same = h.same; d = h.d; near = h.near; few = h.few })) [
+acts_go turns plan calls most n call now (Began other ∷ acts) p target sound may steady h = cc
+acts_go turns plan calls most n call now (Ended other ∷ acts) p target sound may steady h = cc
+acts_go turns plan calls most n call now (act ∷ acts) p target sound may steady h =
+    elim (acts_go turns plan calls most n call (facts_after_act now act) acts p target (sound-done plan now act (plan_known plan p) sound may.0) may.1 (and_true true (list_all is_steady_act acts) steady).1 (record { still = h.still; same = h.same; d = h.d; near = h.near; few = h.few })) [
       | inl later ↦ inl (inr later)
       | inr left ↦ inr (again plan calls (place call.slot) most (n + total fill_in acts) (n + (0 + total fill_in acts)) (fold facts_after_act (facts_after_act now act) acts) (omega arith) left)
     ]
 
-goes : (plan : Settings) (facts : Facts) (call : Call) (journal : List Entry) → IsPlan plan → IsSound plan facts → IsLegal plan facts journal → IsTarget facts.calls call → is_steady journal ≡ true → facts.moving ≡ None → IsFilledWith (grant_pdu plan call true) journal ⊎ IsGoing plan facts.calls (place call.slot) (talkgroup_calls facts.calls) (fills_in journal) (facts_after plan facts journal)
-goes plan facts call [] p sound legal target steady still = inr (record {
+goes : TakeTurns → (plan : Settings) (facts : Facts) (call : Call) (journal : List Entry) → IsPlan plan → IsSound plan facts → IsLegal plan facts journal → IsTarget facts.calls call → is_steady journal ≡ true → facts.moving ≡ None → IsFilledWith (grant_pdu plan call true) journal ⊎ IsGoing plan facts.calls (place call.slot) (talkgroup_calls facts.calls) (fills_in journal) (facts_after plan facts journal)
+goes turns plan facts call [] p sound legal target steady still = inr (record {
   still = still;
   same = λ slot. refl;
   d = between (is_group_at facts.calls) 0 32;
   near = at_first (is_group_at facts.calls) (place_after (last_slot plan facts)) (place call.slot) target.within;
   few = omega (arith, few_places facts.calls);
 })
-goes plan facts call (entry ∷ earlier) p sound legal target steady still =
+goes turns plan facts call (entry ∷ earlier) p sound legal target steady still =
     let now : Facts = facts_after plan facts earlier in
     let before : IsSound plan now = sound_after plan facts earlier (plan_known plan p) sound legal.1 in
     let both = and_true (is_steady_event entry.event && list_all is_steady_act entry.acts.list) (is_steady earlier) steady in
     let here = and_true (is_steady_event entry.event) (list_all is_steady_act entry.acts.list) both.0 in
     let may : AllMayDo plan (facts_after_event plan now entry.event) entry.acts.list = subst (λ (acts : Acts). AllMayDo plan (facts_after_event plan now entry.event) acts.list) (sym legal.0) (acts_may plan now entry.event (plan_known plan p) before) in
-    elim (goes plan facts call earlier p sound legal.1 target both.1 still) [
+    elim (goes turns plan facts call earlier p sound legal.1 target both.1 still) [
       | inl named ↦ inl (inr named)
-      | inr going ↦ elim (acts_go plan facts.calls (talkgroup_calls facts.calls) (fills_in earlier) call (facts_after_event plan now entry.event) entry.acts.list p target (sound-noted plan now entry.event (plan_known plan p) before) may here.1 (going_event plan facts.calls (place call.slot) (talkgroup_calls facts.calls) (fills_in earlier) now entry.event here.0 going)) [
+      | inr going ↦ elim (acts_go turns plan facts.calls (talkgroup_calls facts.calls) (fills_in earlier) call (facts_after_event plan now entry.event) entry.acts.list p target (sound-noted plan now entry.event (plan_known plan p) before) may here.1 (going_event plan facts.calls (place call.slot) (talkgroup_calls facts.calls) (fills_in earlier) now entry.event here.0 going)) [
         | inl named ↦ inl (inl named)
         | inr left ↦ inr (subst (IsGoing plan facts.calls (place call.slot) (talkgroup_calls facts.calls) (fills_in (entry ∷ earlier))) (sym (facts_after-step plan facts entry earlier)) left)
       ]
@@ -276,10 +276,10 @@ target_is plan facts call p sound stands group =
     let payload : IsPayload plan facts.up call.slot = sound.payload call.slot (call_stands facts.calls call.slot call stands).0 in
     record { stands = stands; group = group; small = payload.small; within = omega (arith, payload.small, p.numbers call.slot.carrier payload.known) }
 
-pub named_within : (plan : Settings) (facts : Facts) (journal : List Entry) (call : Call) → IsPlan plan → IsSound plan facts → IsLegal plan facts journal → is_steady journal ≡ true → facts.moving ≡ None → call_on facts.calls call.slot ≡ Some call → call.group ≡ true → 4 * talkgroup_calls facts.calls ≤ fills_in journal → IsFilledWith (grant_pdu plan call true) journal
-named_within plan facts journal call p sound legal steady still stands group enough =
+pub named_within : TakeTurns → (plan : Settings) (facts : Facts) (journal : List Entry) (call : Call) → IsPlan plan → IsSound plan facts → IsLegal plan facts journal → is_steady journal ≡ true → facts.moving ≡ None → call_on facts.calls call.slot ≡ Some call → call.group ≡ true → 4 * talkgroup_calls facts.calls ≤ fills_in journal → IsFilledWith (grant_pdu plan call true) journal
+named_within turns plan facts journal call p sound legal steady still stands group enough =
     let target : IsTarget facts.calls call = target_is plan facts call (plan_known plan p) sound stands group in
-    elim (goes plan facts call journal p sound legal target steady still) [
+    elim (goes turns plan facts call journal p sound legal target steady still) [
       | inl named ↦ named
       | inr going ↦ absurd (omega (arith, enough, going.few, (sound_after plan facts journal (plan_known plan p) sound legal).counted, some_left (is_group_at facts.calls) (place_after (last_slot plan (facts_after plan facts journal))) (place call.slot) going.d (target_there facts.calls call target) going.near))
     ]

@@ -1,6 +1,7 @@
 -- How many Noises the backoff counts, said of the events and the noise numbers that stood before them.
 use Rattle.std.specs.Prelude.{ℕ, ◌+◌, ◌-◌, List, [], ◌∷◌, Bool, false, ◌==◌, if◌then◌else◌, take, sum}
 use Rattle.dmr_plan.specs.declared.settings.Settings.{Settings}
+use Rattle.dmr_access.specs.Limits.{polls_of_window}
 use Rattle.dmr_pool.specs.Free.{is_control}
 use Rattle.dmr_core.specs.declared.event.Event.{Event}
 use Rattle.dmr_core.specs.declared.event.Event.TheVariants.{Up, Noise, Poll}
@@ -36,4 +37,4 @@ noises_within plan before (entry ∷ earlier) polls = noises_with_event plan pol
 
 -- the Noises on the control slot after the later of its carrier's last Up and the 32nd last of its Polls
 abbrev pub recent_noises : Settings → List ℕ → List Entry → ℕ
-recent_noises plan before journal = noises_within plan before journal 31
+recent_noises plan before journal = noises_within plan before journal (polls_of_window - 1)

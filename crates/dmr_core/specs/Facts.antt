@@ -13,6 +13,7 @@ use Rattle.dmr_calls.specs.declared.call.Standing.{Standing}
 use Rattle.dmr_calls.specs.Asks.{new_asking, waited_more, others_than}
 use Rattle.dmr_calls.specs.Lines.{without_line}
 use Rattle.dmr_calls.specs.Calls.{just_begun, one_tick_older, with_activity, on_other_slots, on_other_carriers}
+use Rattle.dmr_pool.specs.Limits.{carriers_of_site, slots_of_site}
 use Rattle.dmr_pool.specs.Slots.{outboxes_without_carrier, outboxes_with_pdu, outboxes_after_send}
 use Rattle.dmr_pool.specs.Free.{is_control}
 use Rattle.dmr_core.specs.declared.event.Event.{Event}
@@ -195,4 +196,4 @@ facts_after_act facts act = record {
 
 -- what stands at first: nothing
 abbrev pub no_facts : Facts
-no_facts = record { up = replicate 16 false; registered = []; asks = []; lines = []; calls = []; outboxes = replicate 32 []; noise = []; moving = None; fills = 0; late = None }
+no_facts = record { up = replicate carriers_of_site false; registered = []; asks = []; lines = []; calls = []; outboxes = replicate slots_of_site []; noise = []; moving = None; fills = 0; late = None }

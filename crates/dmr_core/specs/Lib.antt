@@ -1,3 +1,4 @@
+pub mod Limits
 pub mod Facts
 pub mod Words
 pub mod Late

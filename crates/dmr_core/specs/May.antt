@@ -9,9 +9,9 @@ use Rattle.dmr_calls.specs.declared.call.Call.{Call}
 use Rattle.dmr_calls.specs.declared.call.Standing.{Standing}
 use Rattle.dmr_calls.specs.Asks.{others_than}
 use Rattle.dmr_calls.specs.Calls.{call_on}
-use Rattle.dmr_registry.specs.declared.registry.TheConstants.{MOST_RADIOS}
-use Rattle.dmr_calls.specs.declared.calls.TheConstants.{MOST_ASKS, MOST_CALLS, MOST_LINES}
-use Rattle.dmr_pool.specs.declared.outbox.TheConstants.{MOST_PDUS_OF_A_SLOT}
+use Rattle.dmr_registry.specs.Limits.{most_radios}
+use Rattle.dmr_calls.specs.Limits.{most_asks, most_calls, most_lines}
+use Rattle.dmr_pool.specs.Limits.{most_pdus_of_a_slot}
 use Rattle.dmr_pool.specs.Free.{control_slot}
 use Rattle.dmr_core.specs.declared.act.Act.{Act}
 use Rattle.dmr_core.specs.declared.act.Act.TheVariants.{Asked, Began, Fill, Joined, Left, Lined, Queue, Send}
@@ -47,7 +47,7 @@ pub record MayQueue (plan : Settings) (now : Facts) (slot : Slot) (pdu : Pdu) : 
   pub up : is_up now slot.carrier ≡ true
   pub small : slot.slot < 2
   pub none : stands_on now.calls slot ≡ false
-  pub room : length (outbox now slot) < MOST_PDUS_OF_A_SLOT
+  pub room : length (outbox now slot) < most_pdus_of_a_slot
   pub names : MayName plan now.calls slot pdu (is_grant pdu)
 
 -- a new call or line: its parties are registered and not engaged, its group is listed
@@ -60,7 +60,7 @@ pub record MayEngage (plan : Settings) (now : Facts) (asks : List Asking) (group
 pub record MayBegin (plan : Settings) (now : Facts) (call : Call) : Type 0 where
   pub free : is_free plan now call.slot ≡ true
   pub small : call.slot.slot < 2
-  pub few : length now.calls < MOST_CALLS
+  pub few : length now.calls < most_calls
   pub engage : MayEngage plan now now.asks call.group call.source call.target
 
 -- what each act needs
@@ -68,10 +68,10 @@ abbrev pub MayDo : Settings → Facts → Act → Type 0
 MayDo plan now (Queue slot pdu) = MayQueue plan now slot pdu
 MayDo plan now (Send slot pdu) = (is_up now slot.carrier ≡ true) × (slot.slot < 2) × (slice_get (outbox now slot) 0 ≡ Some pdu)
 MayDo plan now (Fill slot pdu) = MayFill plan now slot pdu
-MayDo plan now (Joined r) = (is_registered now r ≡ false) × (length now.registered < MOST_RADIOS)
+MayDo plan now (Joined r) = (is_registered now r ≡ false) × (length now.registered < most_radios)
 MayDo plan now (Left r) = engagements now.calls now.asks now.lines r ≡ 0
-MayDo plan now (Asked ask) = (is_up now plan.control ≡ true) × (length (others_than ask.source now.asks) < MOST_ASKS) × MayEngage plan now (others_than ask.source now.asks) false ask.source ask.target
-MayDo plan now (Lined l) = (is_up now plan.control ≡ true) × (length now.lines < MOST_LINES) × MayEngage plan now now.asks l.group l.source l.target
+MayDo plan now (Asked ask) = (is_up now plan.control ≡ true) × (length (others_than ask.source now.asks) < most_asks) × MayEngage plan now (others_than ask.source now.asks) false ask.source ask.target
+MayDo plan now (Lined l) = (is_up now plan.control ≡ true) × (length now.lines < most_lines) × MayEngage plan now now.asks l.group l.source l.target
 MayDo plan now (Began call) = MayBegin plan now call
 MayDo plan now _ = Unit {0}
 

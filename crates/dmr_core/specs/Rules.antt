@@ -8,14 +8,14 @@ use Rattle.dmr_pdu.specs.Kinds.{registration as registration_kind, cancel as can
 use Rattle.dmr_pdu.specs.Reasons.{not_supported, perm_user_refused, transient_sys_refused, noreg_ms_away, sysbusy_refused, call_cancel_refused, reg_refused, reg_denied, ms_not_registered, called_party_busy, group_not_allowed, ms_accepted, message_accepted, reg_accepted, queued_for_resource, wait}
 use Rattle.dmr_plan.specs.declared.settings.Settings.{Settings}
 use Rattle.dmr_plan.specs.Plan.{lists_radio, lists_group}
-use Rattle.dmr_registry.specs.declared.registry.TheConstants.{MOST_RADIOS}
+use Rattle.dmr_registry.specs.Limits.{most_radios}
 use Rattle.dmr_registry.specs.Least.{least_from}
 use Rattle.dmr_access.specs.Fill.{fill_of, is_late_due}
 use Rattle.dmr_calls.specs.declared.ask.Ask.{Ask}
 use Rattle.dmr_calls.specs.declared.line.Line.{Line}
 use Rattle.dmr_calls.specs.declared.call.Call.{Call}
 use Rattle.dmr_calls.specs.declared.call.Standing.{Standing}
-use Rattle.dmr_calls.specs.declared.calls.TheConstants.{MOST_ASKS, MOST_LINES}
+use Rattle.dmr_calls.specs.Limits.{most_asks, most_lines}
 use Rattle.dmr_calls.specs.Asks.{ask_of, ask_to, has_own_ask}
 use Rattle.dmr_calls.specs.Lines.{first_line, page_of_lines, line_of, line_to, has_group_line, has_own_group_line, has_own_line}
 use Rattle.dmr_calls.specs.Calls.{call_on, group_call, own_group_call, own_call}
@@ -93,14 +93,14 @@ acts_for_registration plan now q =
     if is_leaving plan q.options then acts_for_leaving plan now q else
     if not (lists_radio plan q.source) then ack plan q.source q.target reg_denied else
     if is_registered now q.source then ack plan q.source q.target reg_accepted else
-    if nat_le MOST_RADIOS (length now.registered) then ack plan q.source q.target reg_refused else
+    if nat_le most_radios (length now.registered) then ack plan q.source q.target reg_refused else
     (Joined q.source ∷ ack plan q.source q.target reg_accepted)
 
 -- a call where a slot is free and no line stands, else a line, else neither
 unfoldable pub acts_for_new_call : Settings → Facts → Line → List Act
 acts_for_new_call plan now line =
     option_map_or (λ (slot : Slot). begin plan (call_of_line line slot)) (slot_for_new plan now)
-    (if nat_lt (length now.lines) MOST_LINES then Lined line ∷ ack plan line.source line.target queued_for_resource else ack plan line.source line.target sysbusy_refused)
+    (if nat_lt (length now.lines) most_lines then Lined line ∷ ack plan line.source line.target queued_for_resource else ack plan line.source line.target sysbusy_refused)
 
 -- a talkgroup request
 unfoldable pub acts_for_talkgroup_request : Settings → Facts → Request → List Act
@@ -127,7 +127,7 @@ acts_for_individual_request plan now q =
     if is_engaged now q.source then ack plan q.source q.target transient_sys_refused else
     if not (is_registered now q.target) then ack plan q.source q.target noreg_ms_away else
     if is_engaged now q.target then ack plan q.source q.target called_party_busy else
-    if nat_lt (length now.asks) MOST_ASKS
+    if nat_lt (length now.asks) most_asks
     then Asked (record { source = q.source; target = q.target; options = q.options; attempt = 1 }) ∷ ack plan q.source q.target wait
     ++ ahoy plan (record { source = q.source; target = q.target; options = q.options; attempt = 1 })
     else ack plan q.source q.target sysbusy_refused)

@@ -1,6 +1,6 @@
 -- What stands on a site fits together.
 use Rattle.std.specs.Prelude.{◌≡◌, ◌≤◌, ◌<◌, ℕ, ◌+◌, length, List, [], ◌∷◌, Bool, true, false, not, cond, ◌==◌, ◌&&◌, ◌||◌, Some, None, slice_index_or}
-use Rattle.std.specs.List.{list_any, list_all}
+use Rattle.std.specs.List.{list_any, list_all, All}
 use Rattle.dmr_pdu.specs.declared.slots.Slot.{Slot}
 use Rattle.dmr_pdu.specs.declared.pdu.Pdu.{Pdu}
 use Rattle.dmr_pdu.specs.declared.pdu.Pdu.TheVariants.{PvGrant, TvGrant}
@@ -13,9 +13,10 @@ use Rattle.dmr_calls.specs.declared.call.Call.{Call}
 use Rattle.dmr_calls.specs.declared.call.Standing.{Standing}
 use Rattle.dmr_calls.specs.Calls.{call_on}
 use Rattle.dmr_calls.specs.Lines.{has_group_line}
-use Rattle.dmr_registry.specs.declared.registry.TheConstants.{MOST_RADIOS}
-use Rattle.dmr_calls.specs.declared.calls.TheConstants.{MOST_ASKS, MOST_CALLS, MOST_LINES}
-use Rattle.dmr_pool.specs.declared.outbox.TheConstants.{MOST_PDUS_OF_A_SLOT}
+use Rattle.dmr_registry.specs.Limits.{most_radios}
+use Rattle.dmr_calls.specs.Limits.{most_asks, most_calls, most_lines, most_ticks}
+use Rattle.dmr_access.specs.Limits.{polls_of_window, late_entry_interval}
+use Rattle.dmr_pool.specs.Limits.{carriers_of_site, slots_of_site, most_pdus_of_a_slot}
 use Rattle.dmr_pool.specs.Free.{control_slot, is_control}
 use Rattle.dmr_core.specs.Facts.{Facts, has_carrier}
 use Rattle.dmr_core.specs.Words.{is_up, outbox, lpcn_of, is_registered, stands_on}
@@ -76,8 +77,8 @@ pub record IsPayload (plan : Settings) (up : List Bool) (slot : Slot) : Type 0 w
 -- what the facts of a site always keep
 pub record IsSound (plan : Settings) (facts : Facts) : Type 0 where
   -- there are 16 carrier numbers and 32 slots, and only carriers of the plan are up
-  pub carriers : length facts.up ≡ 16
-  pub slots : length facts.outboxes ≡ 32
+  pub carriers : length facts.up ≡ carriers_of_site
+  pub slots : length facts.outboxes ≡ slots_of_site
   pub known : (c : ℕ) → is_up facts c ≡ true → has_carrier plan c ≡ true
   -- calls stand on distinct payload slots whose outboxes are empty; asks and lines only while the control carrier is up
   pub apart : AreOnDistinctSlots facts.calls
@@ -97,15 +98,18 @@ pub record IsSound (plan : Settings) (facts : Facts) : Type 0 where
   pub elsewhere : (slot : Slot) → slot.slot < 2 → is_control plan slot ≡ false → list_any is_grant (outbox facts slot) ≡ false
   pub own : (slot : Slot) (call : Call) → call_on facts.calls slot ≡ Some call → list_all (is_own plan call) (outbox facts (control_slot plan)) ≡ true
   -- limits
-  pub few_calls : length facts.calls ≤ MOST_CALLS
-  pub few_asks : length facts.asks ≤ MOST_ASKS
-  pub few_lines : length facts.lines ≤ MOST_LINES
-  pub few_radios : length facts.registered ≤ MOST_RADIOS
-  pub few_waiting : (slot : Slot) → slot.slot < 2 → length (outbox facts slot) ≤ MOST_PDUS_OF_A_SLOT
+  pub few_calls : length facts.calls ≤ most_calls
+  pub few_asks : length facts.asks ≤ most_asks
+  pub few_lines : length facts.lines ≤ most_lines
+  pub few_radios : length facts.registered ≤ most_radios
+  pub few_waiting : (slot : Slot) → slot.slot < 2 → length (outbox facts slot) ≤ most_pdus_of_a_slot
+  -- ages, quiet times and waiting times are counted up to 65,535 ticks
+  pub ages : All (λ s. (s.age ≤ most_ticks) × (s.quiet ≤ most_ticks)) facts.calls
+  pub waits : All (λ a. a.waited ≤ most_ticks) facts.asks
   -- there are noise numbers exactly while the control carrier is up
   pub noiseless : is_up facts plan.control ≡ false → facts.noise ≡ []
-  pub window : is_up facts plan.control ≡ true → length facts.noise ≡ 32
+  pub window : is_up facts plan.control ≡ true → length facts.noise ≡ polls_of_window
   -- Fills are counted modulo 4, and none, nor a late entry, while the control carrier is down
-  pub counted : facts.fills < 4
+  pub counted : facts.fills < late_entry_interval
   pub unfilled : is_up facts plan.control ≡ false → facts.fills ≡ 0
   pub unnamed : is_up facts plan.control ≡ false → facts.late ≡ None

@@ -14,7 +14,7 @@ use Rattle.dmr_calls.specs.Standings.{Standings}
 use Rattle.dmr_calls.specs.Engaged.{is_engaged as is_engaged_in}
 use Rattle.dmr_pool.specs.Slots.{box, is_up as is_up_in}
 use Rattle.dmr_pool.specs.Free.{control_slot, is_empty, is_free_by, lowest_free_by}
-use Rattle.dmr_core.specs.declared.machine.slots.TheConstants.{MOST_WITH_ROOM}
+use Rattle.dmr_core.specs.Limits.{most_with_room}
 use Rattle.dmr_core.specs.Facts.{Facts}
 
 -- the carrier is up
@@ -27,7 +27,7 @@ outbox now slot = box now.outboxes slot
 
 -- at most 56 PDUs wait for the control slot
 abbrev pub has_room : Settings → Facts → Bool
-has_room plan now = nat_le (length (outbox now (control_slot plan))) MOST_WITH_ROOM
+has_room plan now = nat_le (length (outbox now (control_slot plan))) most_with_room
 
 -- the channel of a carrier, 1 for one that the plan does not have
 abbrev pub lpcn_of : Settings → ℕ → ℕ

@@ -14,13 +14,13 @@ pub struct LineNo {
 
 impl Model for LineNo {
     ghost use Rattle.std.specs.Prelude.{ℕ, ◌≤◌};
-    ghost use Rattle.dmr_calls.specs.declared.calls.TheConstants.{MOST_LINES};
+    ghost use Rattle.dmr_calls.specs.Limits.{most_lines};
 
     ghost Value = { ℕ };
 
     ghost view = { λ n. n.number };
 
-    ghost invariant = { λ n. (1 ≤ n.number) × (n.number ≤ MOST_LINES) };
+    ghost invariant = { λ n. (1 ≤ n.number) × (n.number ≤ most_lines) };
 
     ghost inverse = { λ n. record { number = n } };
 }

@@ -6,11 +6,13 @@ ghost use Rattle.dmr_plan.specs.IsPlan.{IsPlan};
 ghost use Rattle.dmr_pdu.specs.declared.slots.Slot.{Slot};
 ghost use Rattle.dmr_calls.specs.declared.ask.Ask.{Ask};
 ghost use Rattle.dmr_calls.specs.declared.call.Call.{Call};
+ghost use Rattle.dmr_calls.specs.Limits.{most_ticks};
 ghost use Rattle.dmr_calls.specs.Asks.{ask_of};
 ghost use Rattle.dmr_calls.specs.Lines.{line_of};
 ghost use Rattle.dmr_calls.specs.Calls.{call_on, is_slot};
 ghost use Rattle.dmr_core.specs.declared.event.Event.{Event};
 ghost use Rattle.dmr_core.specs.declared.entry.Entry.{Entry};
+ghost use Rattle.dmr_core.specs.Limits.{most_with_room};
 ghost use Rattle.dmr_core.specs.Facts.{Facts, facts_after, has_carrier, facts_after_event, no_facts};
 ghost use Rattle.dmr_core.specs.Words.{is_registered, is_up, outbox};
 ghost use Rattle.dmr_core.specs.Rules.{acts_of, grant_pdu};
@@ -19,6 +21,7 @@ ghost use Rattle.dmr_core.specs.Sound.{IsSound};
 ghost use Rattle.dmr_core.specs.May.{AllMayDo};
 ghost use Rattle.dmr_core.specs.Counts.{AreFewActs};
 ghost use Rattle.dmr_core.specs.Laws.{BeginsOnFree, GrantsKnown, QuietAfterReset, SendsOwn, Throughout};
+ghost use Rattle.dmr_access.specs.Limits.{late_entry_interval};
 ghost use Rattle.dmr_access.specs.Noise.{backoff_of};
 ghost use Rattle.dmr_core.specs.Backoff.{recent_noises};
 ghost use Rattle.dmr_core.specs.Ages.{age_on, quiet_on, waited_of, begins_on, stirs_on, asked_in, ticks_since};
@@ -27,6 +30,15 @@ ghost use Rattle.dmr_core.specs.Down.{IsOfNoCarrier};
 ghost use Rattle.dmr_core.specs.Waiting.{queued_by, sent_by, since_turn};
 ghost use Rattle.dmr_core.specs.Turns.{FillsInTurn, NamesStanding, IsFilledWith, fills_in, fills_since, is_steady, talkgroup_calls};
 ghost use Rattle.dmr_core.specs.Last.{stands, closed_with, no_event, no_act, of_ask, of_call, of_carrier, of_late, of_line, of_move, of_registration};
+
+use crate::machine::MOST_WITH_ROOM;
+use dmr_calls::talkgroup_calls_take_turns;
+
+/// The constant is the number that the profile states: with at most 56 PDUs in the control slot's outbox there is room for
+/// the answer to a request.
+pub fn limits_are_stated()
+    ensures { MOST_WITH_ROOM ≡ most_with_room }
+{}
 
 /// The journal of some events is legal, and each legal journal with these events has its answers.
 pub fn one_legal_journal()
@@ -61,10 +73,13 @@ pub fn each_act_is_safe()
 /// an operator's `move` and `stay`; the ask of a radio, by Asked and AskOver and the control carrier's Up and Lost; the line of
 /// a radio, by Lined and Unlined and the same; the call on a slot, by Began and Ended and its carrier's Up and Lost; the slot
 /// of the last late entry, by a Fill that is a grant to a talkgroup and the control carrier's Up and Lost. The first four and
-/// the last are so in every journal, legal or not.
+/// the last are so in every journal, legal or not. Whether a carrier is up is so for every carrier number if the plan is accepted
+/// and the facts are sound, as those of a site are (`up`). For other facts it is so for each number that has a place in them, and
+/// for each that the plan does not have (`up_within`).
 pub fn decided_by_the_last()
     ensures registered { (plan : Settings) (facts : Facts) (journal : List Entry) (radio : ℕ) → is_registered (facts_after plan facts journal) radio ≡ stands no_event (of_registration radio) (is_registered facts radio) journal }
-    ensures up { (plan : Settings) (facts : Facts) (journal : List Entry) (carrier : ℕ) → carrier < length facts.up → is_up (facts_after plan facts journal) carrier ≡ stands (of_carrier plan carrier) no_act (is_up facts carrier) journal }
+    ensures up { (plan : Settings) (facts : Facts) (journal : List Entry) (carrier : ℕ) → IsPlan plan → IsSound plan facts → is_up (facts_after plan facts journal) carrier ≡ stands (of_carrier plan carrier) no_act (is_up facts carrier) journal }
+    ensures up_within { (plan : Settings) (facts : Facts) (journal : List Entry) (carrier : ℕ) → (has_carrier plan carrier ≡ true → carrier < length facts.up) → is_up (facts_after plan facts journal) carrier ≡ stands (of_carrier plan carrier) no_act (is_up facts carrier) journal }
     ensures moving { (plan : Settings) (facts : Facts) (journal : List Entry) → (facts_after plan facts journal).moving ≡ stands of_move no_act facts.moving journal }
     ensures ask { (plan : Settings) (facts : Facts) (journal : List Entry) (radio : ℕ) → ask_of (facts_after plan facts journal).asks radio ≡ stands (closed_with plan.control) (of_ask radio) (ask_of facts.asks radio) journal }
     ensures line { (plan : Settings) (facts : Facts) (journal : List Entry) (radio : ℕ) → IsPlan plan → IsSound plan facts → IsLegal plan facts journal → line_of (facts_after plan facts journal).lines radio ≡ stands (closed_with plan.control) (of_line radio) (line_of facts.lines radio) journal }
@@ -79,9 +94,11 @@ pub fn decided_by_the_last()
 pub fn late_entries_take_turns()
     ensures due { (plan : Settings) (facts : Facts) (journal : List Entry) → IsPlan plan → IsSound plan facts → IsLegal plan facts journal → Throughout plan facts (FillsInTurn plan) journal }
     ensures stands { (plan : Settings) (facts : Facts) (journal : List Entry) → IsPlan plan → IsSound plan facts → IsLegal plan facts journal → Throughout plan facts (NamesStanding plan) journal }
-    ensures counted { (plan : Settings) (facts : Facts) (journal : List Entry) → facts.fills < 4 → (facts_after plan facts journal).fills ≡ fills_since plan facts.fills journal % 4 }
-    ensures named { (plan : Settings) (facts : Facts) (journal : List Entry) (call : Call) → IsPlan plan → IsSound plan facts → IsLegal plan facts journal → is_steady journal ≡ true → facts.moving ≡ None → call_on facts.calls call.slot ≡ Some call → call.group ≡ true → 4 * talkgroup_calls facts.calls ≤ fills_in journal → IsFilledWith (grant_pdu plan call true) journal }
-{}
+    ensures counted { (plan : Settings) (facts : Facts) (journal : List Entry) → facts.fills < late_entry_interval → (facts_after plan facts journal).fills ≡ fills_since plan facts.fills journal % late_entry_interval }
+    ensures named { (plan : Settings) (facts : Facts) (journal : List Entry) (call : Call) → IsPlan plan → IsSound plan facts → IsLegal plan facts journal → is_steady journal ≡ true → facts.moving ≡ None → call_on facts.calls call.slot ≡ Some call → call.group ≡ true → late_entry_interval * talkgroup_calls facts.calls ≤ fills_in journal → IsFilledWith (grant_pdu plan call true) journal }
+{
+    talkgroup_calls_take_turns();
+}
 
 /// What was queued on a slot since its carrier last came up or was lost is what was sent there since then, in the same
 /// order, followed by what waits. Where it never did, what waited at first stands in front. So nothing is sent twice, lost,
@@ -102,12 +119,14 @@ pub fn backoff_counts_noises()
 }
 
 /// The age of a call is the ticks since it began, its quiet time those since it began or there last was activity on its slot,
-/// whichever came later, and the waiting time of an ask those since its last C_AHOY; for what stood before, what it was then,
-/// at most 65,535, and all ticks since. Each is kept to 65,535. The last is so in every journal, legal or not.
+/// whichever came later, and the waiting time of an ask those since its last C_AHOY. If that was before the journal begins, it is
+/// what was counted at its beginning, and all ticks since. Each is counted up to 65,535 ticks; sound facts, as those of a site
+/// are, never have more (`before`). The clause on waiting times holds in every journal, legal or not.
 pub fn ages_count_ticks()
-    ensures age { (plan : Settings) (facts : Facts) (journal : List Entry) (slot : Slot) (call : Call) → IsPlan plan → IsSound plan facts → IsLegal plan facts journal → age_on facts.calls slot ≤ 65535 → call_on (facts_after plan facts journal).calls slot ≡ Some call → age_on (facts_after plan facts journal).calls slot ≡ min 65535 (ticks_since (begins_on slot) (age_on facts.calls slot) journal) }
-    ensures quiet { (plan : Settings) (facts : Facts) (journal : List Entry) (slot : Slot) (call : Call) → IsPlan plan → IsSound plan facts → IsLegal plan facts journal → quiet_on facts.calls slot ≤ 65535 → call_on (facts_after plan facts journal).calls slot ≡ Some call → quiet_on (facts_after plan facts journal).calls slot ≡ min 65535 (ticks_since (stirs_on slot) (quiet_on facts.calls slot) journal) }
-    ensures waited { (plan : Settings) (facts : Facts) (journal : List Entry) (radio : ℕ) (ask : Ask) → waited_of facts.asks radio ≤ 65535 → ask_of (facts_after plan facts journal).asks radio ≡ Some ask → waited_of (facts_after plan facts journal).asks radio ≡ min 65535 (ticks_since (asked_in radio) (waited_of facts.asks radio) journal) }
+    ensures age { (plan : Settings) (facts : Facts) (journal : List Entry) (slot : Slot) (call : Call) → IsPlan plan → IsSound plan facts → IsLegal plan facts journal → call_on (facts_after plan facts journal).calls slot ≡ Some call → age_on (facts_after plan facts journal).calls slot ≡ min most_ticks (ticks_since (begins_on slot) (age_on facts.calls slot) journal) }
+    ensures quiet { (plan : Settings) (facts : Facts) (journal : List Entry) (slot : Slot) (call : Call) → IsPlan plan → IsSound plan facts → IsLegal plan facts journal → call_on (facts_after plan facts journal).calls slot ≡ Some call → quiet_on (facts_after plan facts journal).calls slot ≡ min most_ticks (ticks_since (stirs_on slot) (quiet_on facts.calls slot) journal) }
+    ensures waited { (plan : Settings) (facts : Facts) (journal : List Entry) (radio : ℕ) (ask : Ask) → waited_of facts.asks radio ≤ most_ticks → ask_of (facts_after plan facts journal).asks radio ≡ Some ask → waited_of (facts_after plan facts journal).asks radio ≡ min most_ticks (ticks_since (asked_in radio) (waited_of facts.asks radio) journal) }
+    ensures before { (plan : Settings) (facts : Facts) (slot : Slot) (radio : ℕ) → IsSound plan facts → (age_on facts.calls slot ≤ most_ticks) × (quiet_on facts.calls slot ≤ most_ticks) × (waited_of facts.asks radio ≤ most_ticks) }
 {}
 
 /// Registered radios stand in the order of joining, asks in that of their last C_AHOY, lines in that of lining, and calls in

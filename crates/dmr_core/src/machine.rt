@@ -29,6 +29,7 @@ use dmr_pdu::{BoundedList, CarrierNo, Lpcn, OutOfMemory, Pdu, Slot};
 use dmr_plan::Plan;
 use dmr_pool::Pool;
 use dmr_registry::Registry;
+pub use slots::MOST_WITH_ROOM;
 use std::alloc::Global;
 use std::marker::Model;
 

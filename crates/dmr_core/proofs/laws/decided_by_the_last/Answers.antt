@@ -1,3 +1,4 @@
+use Rattle.std.proofs.Common.{arith}
 use Rattle.dmr_core.proofs.LastLemmas.{registered_by_last, up_by_last}
 use Rattle.dmr_core.proofs.LastOpenerLemmas.{ask_by_last, call_by_last, late_by_last, line_by_last, move_by_last}
 use Rattle.dmr_core.proofs.PlansAreKnown.{plan_known}
@@ -7,7 +8,10 @@ pub returns-clause-registered : goal.returns-clause-registered
 returns-clause-registered c = registered_by_last
 
 pub returns-clause-up : goal.returns-clause-up
-returns-clause-up c = up_by_last
+returns-clause-up c = λ plan facts journal carrier p h. up_by_last plan facts journal carrier (λ there. omega (arith, (plan_known plan p).numbers carrier there, h.carriers))
+
+pub returns-clause-up_within : goal.returns-clause-up_within
+returns-clause-up_within c = up_by_last
 
 pub returns-clause-moving : goal.returns-clause-moving
 returns-clause-moving c = move_by_last

@@ -14,4 +14,4 @@ pub returns-clause-counted : goal.returns-clause-counted
 returns-clause-counted c = fills_count
 
 pub returns-clause-named : goal.returns-clause-named
-returns-clause-named c = named_within
+returns-clause-named c = named_within c.talkgroup_calls_take_turns.ensures

@@ -12,14 +12,14 @@ use Rattle.dmr_link.specs.declared.connection.Connection.TheVariants.{Closed, Wa
 use Rattle.dmr_link.specs.Meaning.{notices_at_end}
 use Rattle.dmr_core.specs.State.{SiteState as Site}
 use Rattle.dmr_link.specs.Answering.{facts_from, site_after_notices}
-use Rattle.dmr_link.specs.EngineSessions.{carrier_in, connection_in, next_in, AreDialogues}
+use Rattle.dmr_link.specs.EngineSessions.{carrier_in, connection_in, next_in, AreDialogues, IsDialogueSound}
 use Rattle.dmr_link.specs.Identities.{greatest_of, who_of}
 use Rattle.dmr_link.specs.Numbering.{frames_text, next_after_frames}
 use Rattle.dmr_link.specs.Input.{Piece}
 use Rattle.dmr_link.specs.Notices.{Notice}
 use Rattle.dmr_link.specs.Inputs.{piece_brings, piece_leaves, leaves_by, texts_by}
 use Rattle.dmr_link.specs.Session.{frames_said}
-use Rattle.dmr_link.specs.Sound.{IsConnectionSound}
+use Rattle.dmr_link.specs.Sound.{IsConnectionSound, IsNumberingOf}
 use Rattle.dmr_link.specs.State.{State, connection_of, next_of, AreConnections}
 use Rattle.dmr_frames.specs.declared.version.Version.{Version}
 use Rattle.dmr_link.proofs.PastsStandForEngines.{who_carrier, who_greatest, get_or-all_same}
@@ -41,6 +41,10 @@ sessions_connect plan sessions are = record {
   sixteen = length-map sessions connection_in ∙ are.sixteen;
   sound = λ c. let P : Connection → Type 0 = IsConnectionSound (greatest_of plan) in subst P (sym (read_connection sessions c)) (are.sound c);
 }
+
+pub sessions_number : (plan : Settings) (sessions : List (Option Dialogue)) → AreDialogues plan sessions →
+    (c : ℕ) → IsNumberingOf (get_or (map connection_in sessions) c Closed) (get_or (map next_in sessions) c None)
+sessions_number plan sessions are c = rw (read_connection sessions c, read_next sessions c) (are.numbered c)
 
 -- ---- new ones
 
@@ -85,13 +89,19 @@ begun_all plan sessions are = record {
   own = are.own;
   sound = λ c.
       let P : Connection → Type 0 = IsConnectionSound (greatest_of plan) in
-      subst P (sym (sym (read_connection sessions c) ∙ ap (λ (ks : List Connection). get_or ks c Closed) are.none ∙ get_or-all_same {A = Connection} 16 c Closed)) tt;
+      subst P (sym (closed c)) tt;
+  numbered = λ c.
+      let P : Connection → Type 0 = λ k. IsNumberingOf k (next_in (get_or sessions c None)) in
+      subst P (sym (closed c)) tt;
 }
+  where
+    closed : (c : ℕ) → connection_in (get_or sessions c None) ≡ Closed
+    closed c = sym (read_connection sessions c) ∙ ap (λ (ks : List Connection). get_or ks c Closed) are.none ∙ get_or-all_same {A = Connection} 16 c Closed
 
 -- ---- one of them goes on
 
 pub sessions_set : (plan : Settings) (sessions : List (Option Dialogue)) (c : ℕ) (old new : Dialogue) → c < 16 → AreDialogues plan sessions →
-    get_or sessions c None ≡ Some old → new.session.who ≡ old.session.who → IsConnectionSound old.session.who.greatest new.session.connection → AreDialogues plan (set sessions c (Some new))
+    get_or sessions c None ≡ Some old → new.session.who ≡ old.session.who → IsDialogueSound new → AreDialogues plan (set sessions c (Some new))
 sessions_set plan sessions c old new small are at same sound = record {
   sixteen = length-set sessions c (Some new) ∙ are.sixteen;
   own = λ d few.
@@ -103,8 +113,14 @@ sessions_set plan sessions c old new small are at same sound = record {
       let P : Connection → Type 0 = IsConnectionSound (greatest_of plan) in
       let Q : Version → Type 0 = λ greatest. IsConnectionSound greatest new.session.connection in
       ⊎_elim
-      (λ (here : d ≡ c). subst P (sym (ap connection_in (read_here d here))) (subst Q its_greatest sound))
+      (λ (here : d ≡ c). subst P (sym (ap connection_in (read_here d here))) (subst Q (ap (λ (w : CarrierIdentity). w.greatest) same ∙ its_greatest) sound.0))
       (λ (other : d ≡ c → ⊥). subst P (sym (ap connection_in (get_or-set_other sessions c d (Some new) None other))) (are.sound d))
+      (cases_eq d c);
+  numbered = λ d.
+      let P : Option Dialogue → Type 0 = λ o. IsNumberingOf (connection_in o) (next_in o) in
+      ⊎_elim
+      (λ (here : d ≡ c). subst P (sym (read_here d here)) sound.1)
+      (λ (other : d ≡ c → ⊥). subst P (sym (get_or-set_other sessions c d (Some new) None other)) (are.numbered d))
       (cases_eq d c);
 }
   where
@@ -188,19 +204,20 @@ module _ (site later : Site) (sessions : List (Option Dialogue)) (console : List
       ∙ some_leaves site.plan site.facts sessions console n small are piece old its_session new (facts_from site.plan site.facts (piece_brings old.session.who old.session.connection piece)) left counted refl
       ∙ (λ i. leaves_by (view i) (who_of (view i).plan (same i)) piece)
 
-  pub session_stays : (new : Dialogue) → new.session.who ≡ old.session.who → IsConnectionSound old.session.who.greatest new.session.connection → AreDialogues later.plan (set sessions n (Some new))
+  pub session_stays : (new : Dialogue) → new.session.who ≡ old.session.who → IsDialogueSound new → AreDialogues later.plan (set sessions n (Some new))
   session_stays new whose sound =
       let P : Settings → Type 0 = λ plan. AreDialogues plan (set sessions n (Some new)) in
       subst P (sym (ap (λ (x : Site). x.plan) brought)) (sessions_set site.plan sessions n old new small are its_session whose sound)
 
 -- a dialogue that stays its carrier's, and sound
 pub dialogues_stay : (plan later : Settings) (sessions : List (Option Dialogue)) (n : ℕ) → n < 16 → AreDialogues plan sessions → (found : Option Dialogue) → found ≡ get_or sessions n found → (old : Dialogue) → found ≡ Some old →
-    (new : Dialogue) → later ≡ plan → new.session.who ≡ old.session.who → (IsConnectionSound old.session.who.greatest old.session.connection → IsConnectionSound old.session.who.greatest new.session.connection) → AreDialogues later (set sessions n (Some new))
+    (new : Dialogue) → later ≡ plan → new.session.who ≡ old.session.who → (IsDialogueSound old → IsDialogueSound new) → AreDialogues later (set sessions n (Some new))
 dialogues_stay plan later sessions n small are found read old is new kept whose stays =
     let P : Settings → Type 0 = λ p. AreDialogues p (set sessions n (Some new)) in
     let Q : Version → Type 0 = λ greatest. IsConnectionSound greatest old.session.connection in
     let R : Connection → Type 0 = IsConnectionSound (greatest_of plan) in
-    subst P (sym kept) (sessions_set plan sessions n old new small are at whose (stays (subst Q (sym its_greatest) (subst R (ap connection_in at) (are.sound n)))))
+    let N : Option Dialogue → Type 0 = λ o. IsNumberingOf (connection_in o) (next_in o) in
+    subst P (sym kept) (sessions_set plan sessions n old new small are at whose (stays (subst Q (sym its_greatest) (subst R (ap connection_in at) (are.sound n)), subst N at (are.numbered n))))
   where
     at : get_or sessions n None ≡ Some old
     at = sym (get_or_read sessions n found (omega (arith, are.sixteen)) read None) ∙ is

@@ -1,5 +1,5 @@
 -- What octets bring and put out: the next one, and those behind it.
-use Rattle.std.proofs.Common.{◌≡◌, ℕ, ◌+◌, ◌<◌, ◌≤◌, List, ◌∷◌, ◌++◌, Option, Some, None, length, drop, drop-cons, get_or, sym, ap, ◌∙◌, append_assoc, arith, add-one}
+use Rattle.std.proofs.Common.{◌≡◌, ℕ, ◌+◌, ◌<◌, ◌≤◌, Bool, List, ◌∷◌, ◌++◌, Option, Some, None, length, drop, drop-cons, get_or, sym, ap, ◌∙◌, append_assoc, arith, add-one}
 use Rattle.std.proofs.lemmas.List.Sums.{fold-append}
 use Rattle.dmr_core.specs.State.{SiteState as Site}
 use Rattle.dmr_frames.specs.declared.frame.FrameOut.{FrameOut}
@@ -9,7 +9,7 @@ use Rattle.dmr_link.specs.Answering.{facts_after_notice, site_after_notices}
 use Rattle.dmr_link.specs.Meaning.{list_of_notice}
 use Rattle.dmr_link.specs.Notices.{Notice}
 use Rattle.dmr_link.specs.Numbering.{frames_text, next_after_frames}
-use Rattle.dmr_link.specs.Room.{most_in}
+use Rattle.dmr_link.specs.Room.{most_in, numbered_after_all}
 use Rattle.dmr_link.specs.Session.{frames_said}
 use Rattle.dmr_link.specs.Steps.{notice_of_octet, connection_after_octet, notices_of_octets, connection_after_octets}
 use Rattle.dmr_link.proofs.NumberingLemmas.{frames_text-append, next_after_frames-append}
@@ -22,9 +22,10 @@ from_here octets i inside = drop-cons octets i 0 inside ∙ ap (λ (n : ℕ). ge
 site-append : (site : Site) (a b : List Notice) → site_after_notices site (a ++ b) ≡ site_after_notices (site_after_notices site a) b
 site-append site a b = (λ i. record { plan = site.plan; facts = fold-append (facts_after_notice site.plan) site.facts a b i })
 
-most-append : (notice : Option Notice) (more : List Notice) → most_in (list_of_notice notice ++ more) ≡ most_in (list_of_notice notice) + most_in more
-most-append None more = omega arith
-most-append (Some notice) more = omega arith
+most-append : (numbered : Bool) (notice : Option Notice) (more : List Notice) →
+    most_in numbered (list_of_notice notice ++ more) ≡ most_in numbered (list_of_notice notice) + most_in (numbered_after_all numbered (list_of_notice notice)) more
+most-append numbered None more = omega arith
+most-append numbered (Some notice) more = omega arith
 
 -- whose octets they are, where the connection stood, what the octet brought, and where it left the connection
 module _ (who whose : CarrierIdentity) (same : whose ≡ who) (k later : Connection) (octets : List ℕ) (i : ℕ) (inside : i < length octets) (brought : Option Notice)
@@ -47,11 +48,14 @@ module _ (who whose : CarrierIdentity) (same : whose ≡ who) (k later : Connect
       ∙ sym (ap (connection_after_octets who k) (from_here octets i inside))
       ∙ e
 
-  pub most_goes : most_in before ≡ most_in (list_of_notice brought) + most_in behind
-  most_goes = ap most_in notices_go ∙ most-append brought behind
+  pub most_goes : (numbered : Bool) → most_in numbered before ≡ most_in numbered (list_of_notice brought) + most_in (numbered_after_all numbered (list_of_notice brought)) behind
+  most_goes numbered = ap (most_in numbered) notices_go ∙ most-append numbered brought behind
 
-  pub room_goes : (len more room rest : ℕ) → more ≤ len + most_in (list_of_notice brought) → rest ≡ room → len + most_in before ≤ room → more + most_in behind ≤ rest
-  room_goes len more room rest put kept fits = omega (arith, most_goes, put, kept, fits)
+  pub room_goes : (numbered then : Bool) → then ≡ numbered_after_all numbered (list_of_notice brought) → (len more room rest : ℕ) → more ≤ len + most_in numbered (list_of_notice brought) → rest ≡ room →
+      len + most_in numbered before ≤ room → more + most_in then behind ≤ rest
+  room_goes numbered then at len more room rest put kept fits =
+      let left : most_in then behind ≡ most_in (numbered_after_all numbered (list_of_notice brought)) behind = ap (λ (b : Bool). most_in b behind) at in
+      omega (arith, most_goes numbered, left, put, kept, fits)
 
   -- and what the site did with it
   module _ (site new : Site) (told : new ≡ site_after_notices site (list_of_notice brought)) where

@@ -1,22 +1,34 @@
 -- Room for what octets put out.
-use Rattle.std.proofs.Common.{◌≡◌, ℕ, ◌+◌, ◌-◌, ◌^◌, ◌<◌, ◌≤◌, min, List, length, drop, get_or, refl, sym, ap, ◌∙◌, arith}
+use Rattle.std.proofs.Common.{◌≡◌, Bool, true, false, ℕ, ◌+◌, ◌-◌, ◌*◌, ◌^◌, ◌<◌, ◌≤◌, min, List, [], ◌∷◌, Option, Some, None, length, drop, get_or, refl, sym, ap, ◌∙◌, arith}
+use Rattle.std.specs.Prelude.{is_some}
+use Rattle.std.proofs.lemmas.Bool.{false≢true}
 use Rattle.std.proofs.lemmas.List.{drop_all}
+use Rattle.std.proofs.lemmas.List.FromFn.{length-map-range_with_len}
+use Rattle.dmr_bits.specs.Bits.{bits_value}
+use Rattle.dmr_bits.specs.Words.{word_bit, word_octets}
+use Rattle.dmr_burst.specs.Functions.{burst_of}
+use Rattle.dmr_core.specs.declared.act.Act.{Act}
+use Rattle.dmr_core.specs.declared.act.Act.TheVariants as act
+use Rattle.dmr_frames.specs.declared.frame.FrameOut.{FrameOut}
+use Rattle.dmr_frames.specs.declared.frame.FrameOut.TheVariants as out
 use Rattle.dmr_link.specs.declared.connection.CarrierIdentity.{CarrierIdentity}
 use Rattle.dmr_link.specs.declared.connection.Connection.{Connection}
 use Rattle.dmr_link.specs.declared.connection.Connection.TheVariants.{Closed, Waiting, Running}
 use Rattle.dmr_link.specs.declared.connection.Turn.{Turn}
 use Rattle.dmr_link.specs.Meaning.{list_of_notice}
-use Rattle.dmr_link.specs.Room.{most_in}
+use Rattle.dmr_link.specs.Numbering.{frame_text}
+use Rattle.dmr_link.specs.Room.{length_of_tx, most_to_poll, most_in, numbered_after_all}
+use Rattle.dmr_link.specs.Session.{transmissions}
 use Rattle.dmr_link.specs.Steps.{notice_of_octet, connection_after_octet, notices_of_octets}
 use Rattle.dmr_link.specs.Turns.{turn_at, brings_on}
 use Rattle.dmr_link.proofs.OneOctetMore.{most_goes}
 
 -- all octets were counted
-pub room_whole : (room : ℕ) (who : CarrierIdentity) (trial : Connection) (octets : List ℕ) (i whole : ℕ) → length octets ≤ i → room ≤ 2 ^ 64 - 1 →
-    min (room + most_in (notices_of_octets who trial (drop i octets))) (2 ^ 64 - 1) ≡ whole → room ≡ whole
-room_whole room who trial octets i whole past fits e =
-    let none : most_in (notices_of_octets who trial (drop i octets)) ≡ 0 = ap (λ (xs : List ℕ). most_in (notices_of_octets who trial xs)) (drop_all i octets past) in
-    counted room (most_in (notices_of_octets who trial (drop i octets))) whole none fits e
+pub room_whole : (room : ℕ) (who : CarrierIdentity) (numbered : Bool) (trial : Connection) (octets : List ℕ) (i whole : ℕ) → length octets ≤ i → room ≤ 2 ^ 64 - 1 →
+    min (room + most_in numbered (notices_of_octets who trial (drop i octets))) (2 ^ 64 - 1) ≡ whole → room ≡ whole
+room_whole room who numbered trial octets i whole past fits e =
+    let none : most_in numbered (notices_of_octets who trial (drop i octets)) ≡ 0 = ap (λ (xs : List ℕ). most_in numbered (notices_of_octets who trial xs)) (drop_all i octets past) in
+    counted room (most_in numbered (notices_of_octets who trial (drop i octets))) whole none fits e
   where
     counted : (room more whole : ℕ) → more ≡ 0 → room ≤ 2 ^ 64 - 1 → min (room + more) (2 ^ 64 - 1) ≡ whole → room ≡ whole
     counted room more whole none fits e = omega (arith, none, fits, e)
@@ -28,12 +40,67 @@ turn_brings who (Waiting rest) x = refl
 turn_brings who (Running rest newest) x = refl
 
 -- one octet more was counted
-pub room_more : (who : CarrierIdentity) (k later : Connection) (octets : List ℕ) (i : ℕ) (turn : Turn) (room most more whole : ℕ) → i < length octets → turn ≡ turn_at k (get_or octets i 0) →
-    later ≡ connection_after_octet who k (get_or octets i 0) → most ≡ most_in (list_of_notice (brings_on who turn)) → more ≡ min (room + most) (2 ^ 64 - 1) →
-    min (room + most_in (notices_of_octets who k (drop i octets))) (2 ^ 64 - 1) ≡ whole → min (more + most_in (notices_of_octets who later (drop (i + 1) octets))) (2 ^ 64 - 1) ≡ whole
-room_more who k later octets i turn room most more whole inside at left counted sum e =
+pub room_more : (who : CarrierIdentity) (numbered then : Bool) (k later : Connection) (octets : List ℕ) (i : ℕ) (turn : Turn) (room most more whole : ℕ) → i < length octets → turn ≡ turn_at k (get_or octets i 0) →
+    later ≡ connection_after_octet who k (get_or octets i 0) → then ≡ numbered_after_all numbered (list_of_notice (brings_on who turn)) → most ≡ most_in numbered (list_of_notice (brings_on who turn)) → more ≡ min (room + most) (2 ^ 64 - 1) →
+    min (room + most_in numbered (notices_of_octets who k (drop i octets))) (2 ^ 64 - 1) ≡ whole → min (more + most_in then (notices_of_octets who later (drop (i + 1) octets))) (2 ^ 64 - 1) ≡ whole
+room_more who numbered then k later octets i turn room most more whole inside at left begun counted sum e =
     let brings : brings_on who turn ≡ notice_of_octet who k (get_or octets i 0) = ap (brings_on who) at ∙ turn_brings who k (get_or octets i 0) in
-    added room most more whole _ _ (most_goes who who refl k later octets i inside (brings_on who turn) brings left ∙ ap (λ (n : ℕ). n + most_in (notices_of_octets who later (drop (i + 1) octets))) (sym counted)) sum e
+    added room most more whole _ _
+    (most_goes who who refl k later octets i inside (brings_on who turn) brings left numbered
+    ∙ (λ j. sym counted j + most_in (sym begun j) (notices_of_octets who later (drop (i + 1) octets)))) sum e
   where
     added : (room most more whole all rest : ℕ) → all ≡ most + rest → more ≡ min (room + most) (2 ^ 64 - 1) → min (room + all) (2 ^ 64 - 1) ≡ whole → min (more + rest) (2 ^ 64 - 1) ≡ whole
     added room most more whole all rest parts sum e = omega (arith, parts, sum, e)
+
+-- ---- a TX is as long as its version says
+
+abbrev head_or : FrameOut → List FrameOut → FrameOut
+head_or f [] = f
+head_or f (g ∷ gs) = g
+
+tx_long : (next : Option ℕ) (slot : ℕ) (word : List Bool) → length (frame_text next (out.Tx None slot word)) ≡ length_of_tx (is_some next)
+unfolding bits_value word_octets
+tx_long None slot word = let long : length (word_octets word) ≡ 25 = length-map-range_with_len (λ k. bits_value (word_bit word) (8 * k) 8) 0 25 in omega (arith, long)
+tx_long (Some n) slot word = let long : length (word_octets word) ≡ 25 = length-map-range_with_len (λ k. bits_value (word_bit word) (8 * k) 8) 0 25 in omega (arith, long)
+
+module _ (next : Option ℕ) (octets : List ℕ) (f : FrameOut) (spelled : octets ≡ frame_text next f) where
+  sent : (slot : ℕ) (word : List Bool) → out.Tx None slot word ∷ [] ≡ f ∷ [] → length octets ≡ length_of_tx (is_some next)
+  sent slot word is = ap (λ (xs : List ℕ). length xs) (spelled ∙ ap (frame_text next) (sym (ap (head_or f) is))) ∙ tx_long next slot word
+
+  nothing : [] ≡ f ∷ [] → length octets ≡ length_of_tx (is_some next)
+  nothing is = let none : 0 ≡ 1 = ap (λ (fs : List FrameOut). length fs) is in omega (arith, none)
+
+  -- the octets of an act's TX
+  pub tx_length : (act : Act) → transmissions act ≡ f ∷ [] → length octets ≡ length_of_tx (is_some next)
+  tx_length (act.Send slot pdu) is = sent slot.slot (burst_of pdu) is
+  tx_length (act.Fill slot pdu) is = sent slot.slot (burst_of pdu) is
+  tx_length (act.Queue slot pdu) is = nothing is
+  tx_length (act.Joined radio) is = nothing is
+  tx_length (act.Left radio) is = nothing is
+  tx_length (act.Asked ask) is = nothing is
+  tx_length (act.AskOver radio) is = nothing is
+  tx_length (act.Lined line) is = nothing is
+  tx_length (act.Unlined radio) is = nothing is
+  tx_length (act.Began call) is = nothing is
+  tx_length (act.Ended slot) is = nothing is
+
+-- ---- the TX of two slots, and DONE
+
+-- one more TX was put out
+pub few_more : (b c : Bool) → c ≡ b → (len now later i : ℕ) → later ≤ now + length_of_tx c → now ≤ len + length_of_tx b * i → later ≤ len + length_of_tx b * (i + 1)
+few_more true true same len now later i put was = omega (arith, put, was)
+few_more false false same len now later i put was = omega (arith, put, was)
+few_more true false same len now later i put was = absurd (false≢true same)
+few_more false true same len now later i put was = absurd (false≢true (sym same))
+
+-- there is room for the next one
+pub room_at_turn : (b c : Bool) → c ≡ b → (len now cap left i n : ℕ) → i < n → n ≤ 2 → now ≤ len + length_of_tx b * i → len + most_to_poll b ≤ cap → left ≡ cap → now + length_of_tx c ≤ left
+room_at_turn true true same len now cap left i n at few was fits kept = omega (arith, at, few, was, fits, kept)
+room_at_turn false false same len now cap left i n at few was fits kept = omega (arith, at, few, was, fits, kept)
+room_at_turn true false same len now cap left i n at few was fits kept = absurd (false≢true same)
+room_at_turn false true same len now cap left i n at few was fits kept = absurd (false≢true (sym same))
+
+-- and for DONE, of two octets, behind all of them
+pub few_all : (b : Bool) (len now i n : ℕ) → i ≤ n → n ≤ 2 → now ≤ len + length_of_tx b * i → now + 2 ≤ len + most_to_poll b
+few_all true len now i n at few was = omega (arith, at, few, was)
+few_all false len now i n at few was = omega (arith, at, few, was)

@@ -12,7 +12,7 @@ use Rattle.dmr_link.specs.Numbering.{next_after_frames}
 use Rattle.dmr_link.specs.Session.{frames_said}
 use Rattle.dmr_link.specs.Steps.{notices_of_octets, connection_after_octets}
 use Rattle.dmr_link.specs.Identities.{greatest_of, who_of}
-use Rattle.dmr_link.specs.Sound.{IsConnectionSound}
+use Rattle.dmr_link.specs.Sound.{IsConnectionSound, IsNumberingOf}
 
 -- the connection of a dialogue, if there is one
 abbrev pub connection_in : Option Dialogue → Connection
@@ -39,11 +39,16 @@ dialogue_after site d octets =
     dialogue_on d.session.who (connection_after_octets d.session.who d.session.connection octets)
     (next_after_frames d.numbering (frames_said site.plan site.facts (notices_of_octets d.session.who d.session.connection octets)))
 
+-- its connection is sound, and its next TX has a number of the connection's version
+abbrev pub IsDialogueSound : Dialogue → Type 0
+IsDialogueSound d = IsConnectionSound d.session.who.greatest d.session.connection × IsNumberingOf d.session.connection d.numbering
+
 -- a carrier of the plan has one, which is for it, and is sound
 pub record AreDialogues (plan : Settings) (dialogues : List (Option Dialogue)) : Type 0 where
   pub sixteen : length dialogues ≡ 16
   pub own : (carrier : ℕ) → carrier < 16 → carrier_in (slice_index_or dialogues carrier None) ≡ who_of plan carrier
   pub sound : (carrier : ℕ) → IsConnectionSound (greatest_of plan) (connection_in (slice_index_or dialogues carrier None))
+  pub numbered : (carrier : ℕ) → IsNumberingOf (connection_in (slice_index_or dialogues carrier None)) (next_in (slice_index_or dialogues carrier None))
 
 -- none of them has a connection, nor a number
 abbrev pub AreUnconnected : List (Option Dialogue) → Type 0

@@ -75,7 +75,7 @@ fn is_version(who: &CarrierIdentity, version: u8) -> bool
 
 /// Whether the first frame of a connection is the HELLO that it should be: of a version that is served, with the carrier's own number and
 /// channel.
-fn accepts(who: &CarrierIdentity, frame: &FrameIn) -> bool
+pub fn accepts(who: &CarrierIdentity, frame: &FrameIn) -> bool
     ensures { result ≡ is_accepted who.now frame.now }
 {
     match frame {

@@ -1,6 +1,6 @@
 //! The numbers of a connection's TX frames, which the frames get as they go out.
 
-ghost use Rattle.std.specs.Prelude.{◌≡◌, ◌+◌, ◌%◌, None, option_map};
+ghost use Rattle.std.specs.Prelude.{◌≡◌, ◌+◌, ◌%◌, None, is_some, option_map};
 ghost use Rattle.dmr_link.specs.Numbering.{first_number, frame_text, next_after};
 
 use arrayvec::ArrayVec;
@@ -63,6 +63,13 @@ impl Numbering {
             }
             _ => write_frame(frame),
         }
+    }
+
+    /// Returns whether TX are numbered.
+    pub fn is_on(self) -> bool
+        ensures { result ≡ is_some self }
+    {
+        self.next.is_some()
     }
 
     /// One TX more has gone out.

@@ -1,41 +1,90 @@
-//! How much a carrier's octets can put out, found out before anything is done with them.
+//! How much octets can put out, found out before anything is done with them, and the room that a text makes for it. Nothing else in this
+//! crate makes a text grow.
 
-ghost use Rattle.std.specs.Prelude.{◌≡◌, ◌^◌, ◌-◌, min};
+ghost use Rattle.std.specs.Prelude.{◌≡◌, ◌+◌, ◌<◌, ◌≤◌, ◌^◌, ◌-◌, min, vec_len, vec_capacity, OnOk, OnErr};
 ghost use Rattle.dmr_link.specs.Meaning.{list_of_notice};
-ghost use Rattle.dmr_link.specs.Room.{most_in};
+ghost use Rattle.dmr_link.specs.Room.{MakesRoom, most_in, most_to_hello, most_to_poll, numbered_after_all};
 ghost use Rattle.dmr_link.specs.Steps.{notices_of_octets};
 ghost use Rattle.dmr_link.specs.Turns.{brings_on};
 
-use crate::connection::{CarrierIdentity, Connection, Turn};
-use dmr_frames::{FrameIn, LONGEST_FRAME, Step};
+use crate::connection::{CarrierIdentity, Connection, Turn, accepts};
+use dmr_frames::{FrameIn, Step, Version};
+use dmr_pdu::OutOfMemory;
 
 /// The octets of WELCOME, and of REFUSED, which answer a HELLO: type, length, and a version or a refusal.
-pub const ANSWER_TO_HELLO: usize = 3;
+const ANSWER_TO_HELLO: usize = 3;
 
-/// The most octets that answer a POLL: a TX in each of two slots, and DONE, which has its type and its length.
-pub const ANSWER_TO_POLL: usize = 2 * LONGEST_FRAME + 2;
+/// Returns the most octets that answer a POLL: a TX in each of two slots, and DONE. A TX is one octet longer if it has a number.
+fn most_for_poll(numbered: bool) -> usize
+    ensures { result ≡ most_to_poll numbered }
+{
+    if numbered { 60 } else { 58 }
+}
 
-/// The most octets that are put out for what an octet completes.
-fn most(turn: &Turn, who: &CarrierIdentity) -> usize
-    ensures { result ≡ most_in (list_of_notice (brings_on who.now turn.now)) }
+/// Returns the most octets that answer what an octet completes, if TX are numbered or not until then.
+fn most(turn: &Turn, who: &CarrierIdentity, numbered: bool) -> usize
+    ensures { result ≡ most_in numbered (list_of_notice (brings_on who.now turn.now)) }
 {
     match turn {
         Turn::Waiting(Step::Frame(FrameIn::Hello { .. })) => ANSWER_TO_HELLO,
-        Turn::Running(_, Step::Frame(FrameIn::Poll)) => ANSWER_TO_POLL,
+        Turn::Running(_, Step::Frame(FrameIn::Poll)) => most_for_poll(numbered),
         _ => 0,
     }
 }
 
-/// The most octets that are put out for octets of a connection: what each frame that they complete can put out, and nothing
-/// where no connection is open. A number of octets that is too large for a `usize` is its greatest value.
-pub fn room_for(who: &CarrierIdentity, connection: &Connection, octets: &[u8]) -> usize
-    ensures { result ≡ min (most_in (notices_of_octets who.now connection.now octets.now)) (2 ^ 64 - 1) }
+/// Returns whether TX are numbered from then on: the version of a HELLO that is accepted says so.
+fn is_numbered_after(turn: &Turn, who: &CarrierIdentity, numbered: bool) -> bool
+    ensures { result ≡ numbered_after_all numbered (list_of_notice (brings_on who.now turn.now)) }
+{
+    match turn {
+        Turn::Waiting(Step::Frame(frame)) if accepts(who, frame) => {
+            match who.greatest.chosen_by(frame) {
+                Version::V1 => false,
+                Version::V2 => true,
+            }
+        }
+        _ => numbered,
+    }
+}
+
+/// Returns the most octets that answer octets of a connection: what each frame that they complete can put out, and 0 if no connection is
+/// open. `numbered` says whether the connection's TX are numbered. A number that is too large for a `usize` is its greatest value.
+pub fn room_for(
+    who: &CarrierIdentity,
+    connection: &Connection,
+    numbered: bool,
+    octets: &[u8],
+) -> usize
+    ensures { result ≡ min (most_in numbered (notices_of_octets who.now connection.now octets.now)) (2 ^ 64 - 1) }
 {
     let mut trial = connection.fork();
+    let mut numbered = numbered;
     let mut room: usize = 0;
     for octet in octets {
         let turn = trial.advance(who, *octet);
-        room = room.saturating_add(most(&turn, who));
+        room = room.saturating_add(most(&turn, who, numbered));
+        numbered = is_numbered_after(&turn, who, numbered);
     }
     room
+}
+
+/// Makes room behind a text's octets for `octets` more. A text that grows does so by its own length if that is more, so that a text
+/// that is put together from many pieces is not copied at each of them; if the system refuses so much, by what is needed. `Err`: it
+/// refused that too, and the text is as it was.
+pub fn make_room(text: &mut Vec<u8>, octets: usize) -> Result<(), OutOfMemory>
+    ensures items { text.new.items ≡ text.old.items }
+    ensures length { vec_len text.new ≡ vec_len text.old }
+    ensures made { OnOk result (MakesRoom (vec_len text.old) octets (vec_capacity text.old) (vec_capacity text.new)) }
+    ensures fits { OnOk result (vec_len text.new + octets ≤ vec_capacity text.new) }
+    ensures refused { OnErr result (vec_capacity text.old < vec_len text.old + octets) }
+    ensures kept { OnErr result (vec_capacity text.new ≡ vec_capacity text.old) }
+{
+    let length = text.len();
+    if octets <= text.capacity() - length {
+        return Ok(());
+    }
+    if text.reserve_exact(length.max(octets)).is_ok() {
+        return Ok(());
+    }
+    text.reserve_exact(octets)
 }

@@ -5,6 +5,6 @@ use Rattle.dmr_link.proofs.room.room_for.Given as goal
 
 abbrev pub invariant-loop-octet : goal.invariant-loop-octet
 invariant-loop-octet l = record {
-  room : min (l.room + most_in (notices_of_octets l.who l.trial (drop l.octet-index l.octets))) (2 ^ 64 - 1) ≡ min (most_in (notices_of_octets l.who l.connection l.octets)) (2 ^ 64 - 1);
+  room : min (l.room + most_in l.numbered (notices_of_octets l.who l.trial (drop l.octet-index l.octets))) (2 ^ 64 - 1) ≡ min (most_in l.initial.numbered (notices_of_octets l.who l.connection l.octets)) (2 ^ 64 - 1);
   fits : l.room ≤ 2 ^ 64 - 1;
 }

@@ -1,7 +1,10 @@
-use Rattle.std.proofs.Common.{ap, subst, ◌∙◌}
+use Rattle.std.proofs.Common.{ℕ, Option, sym, ap, subst, ◌∙◌}
+use Rattle.std.specs.Prelude.{is_some, option_map}
+use Rattle.dmr_link.specs.Notices.{carrier_notice}
 use Rattle.dmr_link.specs.declared.carrier_session.CarrierSession.{CarrierSession}
 use Rattle.dmr_link.specs.declared.connection.CarrierIdentity.{CarrierIdentity}
 use Rattle.dmr_link.specs.Sound.{IsConnectionSound}
+use Rattle.dmr_link.proofs.NumbersFollowVersions.{numbered_said, numbering_stays}
 use Rattle.dmr_link.proofs.OneOctetMore.{connection_goes, site_goes, items_go, next_goes, room_goes}
 use Rattle.dmr_link.proofs.session.feed.Goals as goal
 
@@ -15,15 +18,24 @@ loop-octet-preserved c =
     let later = c.receive-received.new.self.connection in
     let octets = c.args.octets.now in
     let i = c.loop-octet.octet-index in
-    let P : CarrierIdentity → Type 0 = λ w. IsConnectionSound w.greatest k → IsConnectionSound w.greatest later in
+    let next = c.loop-octet.dialogue.numbering in
+    let site = c.loop-octet.site in
+    let whose_then = ap (λ (s : CarrierSession). s.who) c.receive-received.ensures.session in
+    let P : CarrierIdentity → Type 0 = λ w. IsConnectionSound w.greatest later in
     record {
-      who = ap (λ (s : CarrierSession). s.who) c.receive-received.ensures.session ∙ same;
+      who = whose_then ∙ same;
       connection = connection_goes who whose same k later octets i c.loop-octet-test.true _ c.receive-received.ensures.notice left _ c.loop-octet.invariant.connection;
-      sound = λ is. subst P same c.receive-received.ensures.sound (c.loop-octet.invariant.sound is);
+      sound = λ is.
+          let was = c.loop-octet.invariant.sound is in (
+            subst P (sym whose_then) (c.receive-received.ensures.sound was.0),
+            numbering_stays whose site.plan site.facts next k later _ _ c.perform.new.numbering c.receive-received.ensures.notice left c.perform.ensures.next was.0 was.1,
+          );
       site = site_goes who whose same k later octets i c.loop-octet-test.true _ c.receive-received.ensures.notice left c.loop-octet.site c.perform.new.site c.perform.ensures.site _ c.loop-octet.invariant.site;
       items = items_go who whose same k later octets i c.loop-octet-test.true _ c.receive-received.ensures.notice left c.loop-octet.site c.perform.new.site c.perform.ensures.site c.loop-octet.dialogue.numbering c.perform.new.numbering c.perform.ensures.next
           c.loop-octet.text.items c.perform.new.text.items _ c.perform.ensures.items c.loop-octet.invariant.items;
       next = next_goes who whose same k later octets i c.loop-octet-test.true _ c.receive-received.ensures.notice left c.loop-octet.site c.perform.new.site c.perform.ensures.site c.loop-octet.dialogue.numbering c.perform.new.numbering c.perform.ensures.next
           _ c.loop-octet.invariant.next;
-      room = room_goes who whose same k later octets i c.loop-octet-test.true _ c.receive-received.ensures.notice left _ _ _ _ c.perform.ensures.few c.perform.ensures.room c.loop-octet.invariant.room;
+      fits = room_goes who whose same k later octets i c.loop-octet-test.true _ c.receive-received.ensures.notice left _ _ (ap (λ (n : Option ℕ). is_some n) c.perform.ensures.next ∙ numbered_said site.plan site.facts next (option_map carrier_notice c.receive-received.result.notice)) _ _ _ _
+          c.perform.ensures.few c.perform.ensures.room c.loop-octet.invariant.fits;
+      room = c.perform.ensures.room ∙ c.loop-octet.invariant.room;
     }

@@ -1,0 +1,87 @@
+"""Plays the carriers of a site, and the radios that they hear, against a controller that serves it over TCP; checks what comes back.
+
+    carriers --site site.toml                               against a controller that runs, on the ports of the site file
+    carriers --site site.toml --program build/dmr_trunk     starts the controller, on loopback, and stops it again
+
+Each carrier sends HELLO and then polls, every 60 ms as on the air (--fast: as soon as the last poll is answered). Radios register, call talkgroups
+and one another, answer when they are called, and talk for a while; up to three bits of each burst are flipped. Carriers speak the greatest version
+of the link that the site file serves (--link-version: another one). In version 2 they retransmit one RX in ten.
+
+The tool checks that every burst that comes is a codeword with its check, in version 2 with the next number; that each registration is acknowledged,
+and no more often than it was asked for; that the backoff says what noise was sent; that no slot is granted to a call while another holds it; and that
+each poll is answered. It prints counts, how long the answer to a poll took, and the controller's share of one processor. The status is 0 if all
+checks held. A late grant, also a late entry, is counted apart from those that begin a call, and radios that hear one listen. A grant may wait until
+its call has ended and been cleared: that is not a fault, and it is counted too.
+
+With --program and --faults things go wrong all the time but for the beginning and the end: connections break off within frames; carriers stop reading,
+fall silent, or send no frames; the controller is stopped and continued, and kept short of descriptors and memory. Polls that were lost are counted by
+why, and no others may be lost; in the end everybody is served.
+"""
+import argparse
+import signal
+import sys
+from collections.abc import Sequence
+
+from temzaar.frames import VERSIONS
+from temzaar.player import Play
+from temzaar.process import Controller, Process
+from temzaar.sitefile import Site
+from temzaar.trouble import TroubledPlay
+
+
+def read_words(words: Sequence[str] | None) -> argparse.Namespace:
+    """The words of the command line."""
+    parser = argparse.ArgumentParser(description=__doc__, formatter_class=argparse.RawDescriptionHelpFormatter)
+    parser.add_argument("--site", required=True, help="the site file")
+    parser.add_argument("--program", help="start this controller, on loopback, and stop it again")
+    parser.add_argument("--pid", type=int, help="the process of a controller that runs, to print its share of a processor")
+    parser.add_argument("--port", type=int, default=17100, help="with --program: the console's port; the carriers' follow (17100)")
+    parser.add_argument("--carriers", type=int, default=16, help="how many of the site's carriers (16)")
+    parser.add_argument("--link-version", type=int, choices=VERSIONS, help="the version of the link that carriers speak (the greatest that the site file serves)")
+    parser.add_argument("--radios", type=int, default=64, help="how many radios (64)")
+    parser.add_argument("--seconds", type=float, default=30, help="how long (30)")
+    parser.add_argument("--polls", type=int, default=0, help="end after this many polls; 0: no such end")
+    parser.add_argument("--fast", action="store_true", help="poll as soon as the last poll is answered")
+    parser.add_argument("--seed", type=int, default=1, help="of what radios do at random (1)")
+    parser.add_argument("--faults", action="store_true", help="with --program: let things go wrong")
+    parser.add_argument("--troubles", type=float, default=2.0, help="with --faults: how many a second (2)")
+    options = parser.parse_args(words)
+    if options.faults and not options.program:
+        parser.error("--faults wants --program")
+    changes = {"term_entries": 5000} if options.faults else {}
+    options.served = Site(options.site, options.carriers, options.port if options.program else None, **changes)
+    if (options.link_version or 0) > options.served.link_version:
+        parser.error(f"--link-version: the site file serves versions up to {options.served.link_version}")
+    return options
+
+
+def play_site(options: argparse.Namespace, controller: Controller | None) -> int:
+    """Plays, and prints how it went. The status."""
+    play = TroubledPlay(options.served, options, controller) if options.faults and controller else Play(options.served, options)
+    if controller and not controller.wait_for("console: listening"):
+        print("FAULT: the controller does not listen:", *controller.notes, sep="\n")
+        return 1
+    process = controller or (Process(options.pid) if options.pid else None)
+    before = process.seconds() if process else 0
+    seconds = play.run()
+    share = (process.seconds() - before) / seconds if process else None
+    in_order = play.report(seconds, share)
+    if isinstance(play, TroubledPlay):
+        play.print_ends()
+    if controller and not controller.runs():
+        print("FAULT: the controller ended:", *controller.notes[-3:], sep="\n")
+        return 1
+    return 0 if in_order else 1
+
+
+def main(words: Sequence[str] | None = None) -> int:
+    """Runs the command. The status."""
+    options = read_words(words)
+    # the controller is stopped, however this ends
+    signal.signal(signal.SIGTERM, lambda *_: sys.exit(1))
+    controller = Controller(options.program, options.served) if options.program else None
+    try:
+        return play_site(options, controller)
+    finally:
+        if controller:
+            controller.stop()

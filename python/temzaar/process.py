@@ -1,0 +1,128 @@
+"""A controller that a tool starts: to serve a site, or to replay a script."""
+import os
+import re
+import signal
+import socket
+import subprocess
+import tempfile
+import threading
+import time
+from collections.abc import Sequence
+from typing import Any
+
+from temzaar.script import SessionFault
+from temzaar.sitefile import Site
+
+
+class Process:
+    """What the system says of a process that runs."""
+
+    def __init__(self, pid: int) -> None:
+        self.pid = pid
+
+    def seconds(self) -> float:
+        """The processor seconds that it has used."""
+        with open(f"/proc/{self.pid}/stat", encoding="utf-8") as it:
+            stat = it.read().rpartition(")")[2].split()
+        return (int(stat[11]) + int(stat[12])) / os.sysconf("SC_CLK_TCK")
+
+    def memory(self) -> int:
+        """The memory that it holds, in KiB."""
+        with open(f"/proc/{self.pid}/status", encoding="utf-8") as it:
+            return int(re.findall(r"VmRSS:\s+(\d+)", it.read())[0])
+
+    def addresses(self) -> int:
+        """The octets of its address space."""
+        with open(f"/proc/{self.pid}/status", encoding="utf-8") as it:
+            return int(re.findall(r"VmSize:\s+(\d+)", it.read())[0]) * 1024
+
+    def descriptors(self) -> int:
+        """How many file descriptors it has open."""
+        return len(os.listdir(f"/proc/{self.pid}/fd"))
+
+
+class Controller(Process):
+    """The controller, serving a site until it is stopped. `notes` has the lines of its standard error, as they come."""
+
+    def __init__(self, program: str, site: Site, words: Sequence[str] = (), **options: Any) -> None:
+        """Starts it, with further words of its command line; `options` go to `subprocess.Popen`."""
+        self.folder = tempfile.TemporaryDirectory()
+        path = os.path.join(self.folder.name, "site.toml")
+        with open(path, "w", encoding="utf-8") as it:
+            it.write(site.text())
+        self.notes: list[str] = []
+        # as deploy/dmr_trunk.service has it: the memory of a term goes back to the system when the term ends
+        environment = {**os.environ, "MALLOC_MMAP_THRESHOLD_": "262144"}
+        command = [program, "--site", path, "--serve", *words]
+        self.process = subprocess.Popen(command, stderr=subprocess.PIPE, text=True, env=environment, **options)
+        self.reader = threading.Thread(target=self._read_notes, daemon=True)
+        self.reader.start()
+        super().__init__(self.process.pid)
+
+    def _read_notes(self) -> None:
+        assert self.process.stderr
+        for line in self.process.stderr:
+            self.notes.append(line.rstrip("\n"))
+
+    def wait_for(self, pattern: str, seconds: float = 10, since: int = 0) -> bool:
+        """Waits until a note, from number `since` on, has the pattern. Whether one did in time."""
+        until = time.monotonic() + seconds
+        while time.monotonic() < until:
+            if any(re.search(pattern, note) for note in list(self.notes)[since:]):
+                return True
+            time.sleep(0.02)
+        return False
+
+    def wait_until_served(self) -> None:
+        """Waits until the console listens, the last of the ports. SessionFault: it does not within half a minute."""
+        if not self.wait_for("console: listening", 30):
+            raise SessionFault("the controller does not listen: " + "; ".join(self.notes))
+
+    def runs(self) -> bool:
+        """Whether it still runs."""
+        return self.process.poll() is None
+
+    def stop(self) -> None:
+        """Stops it, and waits for its end."""
+        if self.runs():
+            self.process.send_signal(signal.SIGTERM)
+        try:
+            self.process.wait(10)
+        except subprocess.TimeoutExpired:
+            self.process.kill()
+            self.process.wait()
+        self.reader.join(5)
+        if self.process.stderr:
+            self.process.stderr.close()
+        self.folder.cleanup()
+
+    def __enter__(self) -> "Controller":
+        return self
+
+    def __exit__(self, *_: object) -> None:
+        self.stop()
+
+
+def connect(address: str, port: int, seconds: float = 10.0) -> socket.socket:
+    """A connection; tried again until the port listens, or the time is up."""
+    until = time.monotonic() + seconds
+    while True:
+        try:
+            stream = socket.create_connection((address, port), timeout=seconds)
+            stream.setsockopt(socket.IPPROTO_TCP, socket.TCP_NODELAY, 1)
+            return stream
+        except ConnectionRefusedError:
+            if time.monotonic() > until:
+                raise
+            time.sleep(0.05)
+
+
+def replay(program: str, site: str, script: str) -> str:
+    """What the controller prints when it replays the text of a script. SessionFault: it cannot be run, or refuses the script."""
+    try:
+        done = subprocess.run([program, "--site", site, "--script", "/dev/stdin"], input=script.encode("utf-8"), capture_output=True, check=False)
+    except OSError as fault:
+        raise SessionFault(f"cannot run {program}: {fault.strerror}") from fault
+    if done.returncode:
+        raise SessionFault(done.stderr.decode("utf-8", "replace").strip() or f"{program} ended with status {done.returncode}")
+    return done.stdout.decode("utf-8", "replace")

@@ -1,0 +1,134 @@
+"""What `dmr_decode` has to say of scripts, replays and PDUs, from docs/FORMATS.md alone."""
+import random
+from typing import NamedTuple
+
+from temzaar import code, pdus
+from temzaar.frames import FROM_CARRIER, REFUSALS, TO_CARRIER, Cutter, Frame, FrameType, Link, active
+from temzaar.script import split_connection
+
+MOST_FLIPS = 3
+
+
+class Flipped(NamedTuple):
+    """What a burst was made of: ten octets, and the places that were flipped."""
+    octets: bytes
+    places: list[int]
+
+
+class Traffic(NamedTuple):
+    """A script, and what its bursts were made of."""
+    script: str
+    known: dict[bytes, Flipped]
+
+
+def corrected_lines(places: list[int]) -> list[str]:
+    """What is said of flipped places."""
+    cells = []
+    for place in sorted(it for it in places if it):
+        row, column = code.cell_at(place)
+        cells.append(f" place {place} (row {row}, column {column})")
+    lines = ["      mended:" + ",".join(cells)] if cells else []
+    return lines + (["      place 0, which is outside the code, is 1"] if 0 in places else [])
+
+
+def word_lines(word: bytes, known: dict[bytes, Flipped]) -> list[str]:
+    """What is said of a word."""
+    octets = code.octets_of(word)
+    if octets:
+        return ["      " + pdus.read(octets).in_words(octets)]
+    if word in known:
+        made = known[word]
+        return ["      " + pdus.read(made.octets).in_words(made.octets), *corrected_lines(made.places)]
+    return ["      means nothing: no codeword within 3 flipped bits"]
+
+
+def frame_lines(place: int, frame: Frame, known: dict[bytes, Flipped]) -> list[str]:
+    """What is said of a frame that begins at a place of a stream."""
+    kind, body = frame
+    if kind in (FrameType.RX, FrameType.TX):
+        number, slot, word = frame.burst()
+        numbered = "" if number is None else f" number={number}"
+        return [f"{place:>4}  {kind.name}{numbered} slot={slot}", *word_lines(word, known)]
+    said = {
+        FrameType.HELLO: lambda: f" version={body[0]} carrier={body[1]} lpcn={int.from_bytes(body[2:], 'big')}",
+        FrameType.ACTIVE: lambda: f" slot={body[0]}",
+        FrameType.WELCOME: lambda: f" version={body[0]}",
+        FrameType.REFUSED: lambda: f" reason={REFUSALS[body[0]]}",
+    }.get(kind, lambda: "")()
+    return [f"{place:>4}  {kind.name}{said}"]
+
+
+def script_text(script: str, known: dict[bytes, Flipped]) -> str:
+    """What is said of a script: each line, and the frames that end in it."""
+    said: list[str] = []
+    cutters: dict[str, Cutter] = {}
+    places: dict[str, int] = {}
+    for line in script.split("\n")[:-1]:
+        said.append(line)
+        words = line.split(" ")
+        if words[0] == "open":
+            cutters[words[1]], places[words[1]] = Cutter(FROM_CARRIER), 0
+        elif words[0] == "bytes":
+            for frame in cutters[words[1]].feed(bytes.fromhex(words[2])):
+                said += frame_lines(places[words[1]], frame, known)
+                places[words[1]] += len(frame.octets())
+    return "\n".join(said) + "\n"
+
+
+def replay_text(printed: str, known: dict[bytes, Flipped]) -> str:
+    """What is said of a printed replay."""
+    said = []
+    for line in printed.split("\n")[:-1]:
+        words = line.split(" ")
+        said.append(" ".join(words[:2]) if words[0] == "carrier" else line)
+        octets, place = bytes.fromhex(words[2]) if words[0] == "carrier" and words[2] != "-" else b"", 0
+        while octets:
+            piece, octets = split_connection(octets)
+            for frame in Cutter(TO_CARRIER).feed(piece):
+                said += frame_lines(place, frame, known)
+                place += len(frame.octets())
+    return "\n".join(said) + "\n"
+
+
+def random_pdu(name: str, draws: random.Random) -> bytes:
+    """A PDU whose fields are drawn; one in two is 0."""
+    values = {}
+    for field in pdus.LAYOUTS[name].fields:
+        if field.name:
+            values[field.name] = draws.randrange(1, 4095) if field.name == "lpcn" else draws.choice((0, draws.getrandbits(field.width)))
+    return pdus.write(name, **values)
+
+
+def listed_reasons() -> list[int]:
+    """The reasons row by row of the document's table, which has two columns of them."""
+    reasons = sorted(pdus.REASONS)
+    half = len(reasons) // 2
+    return [reason for row in zip(reasons[:half], reasons[half:], strict=True) for reason in row]
+
+
+def make_traffic(draws: random.Random, each: int) -> Traffic:
+    """A script of two carriers: so many bursts of each PDU with up to three bits flipped, each reason, each kind, and noise."""
+    known: dict[bytes, Flipped] = {}
+    lines = ["open 0", "bytes 0 010401000001"]
+    drawn = [random_pdu(name, draws) for name in pdus.LAYOUTS for _ in range(each)]
+    drawn += [pdus.write("C_ACKD", reason=reason, target=1001, additional=1002) for reason in listed_reasons()]
+    drawn += [pdus.write("C_RAND", kind=kind, target=91, source=1001) for kind in pdus.KINDS]
+    for octets in drawn:
+        places = draws.sample(range(code.PLACES), draws.randrange(MOST_FLIPS + 1))
+        burst = code.burst_of(octets, places)
+        known[burst] = Flipped(octets, places)
+        lines += [f"bytes 0 021A0{draws.randrange(2)}{burst.hex().upper()}", "bytes 0 0300"]
+    noise = code.burst_of(random_pdu("C_RAND", draws), range(1, code.PLACES, 40))
+    lines += [f"bytes 0 021A00{noise.hex().upper()}0300", f"bytes 0 {active(1).hex()}", "bytes 0 0500"]
+    # some of them on a connection of version 2, each with a retransmission
+    lines += ["open 1", "bytes 1 010402010002"]
+    link = Link(2)
+    for burst in (*list(known)[-7:], noise):
+        lines += [f"bytes 1 {(link.rx(draws.randrange(2), burst) * 2).hex().upper()}", "bytes 1 0300"]
+    return Traffic("\n".join([*lines, "bytes 1 0500"]) + "\n", known)
+
+
+def stored_run() -> tuple[str, str]:
+    """The script of the stored run of `dmr_decode`, and what it prints: `crates/dmr_decode/stdin` and `stdout`."""
+    traffic = make_traffic(random.Random(1), 1)
+    return traffic.script, script_text(traffic.script, traffic.known)

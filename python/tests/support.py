@@ -1,0 +1,46 @@
+"""What the tests share: the repository's files, the controller's programs, and readers of the documents."""
+import os
+import pathlib
+import re
+import subprocess
+import sys
+import unittest
+
+TOP = pathlib.Path(__file__).resolve().parents[2]
+EXAMPLES = TOP / "examples"
+TWO_CARRIERS = str(EXAMPLES / "two_carriers.toml")
+
+
+def program(name: str) -> str:
+    """The path of a proved program: in the folder that TEMZAAR_PROGRAMS names, else in build/. SkipTest, with the reason: it is not there."""
+    path = pathlib.Path(os.environ.get("TEMZAAR_PROGRAMS") or TOP / "build") / name
+    if not path.is_file():
+        raise unittest.SkipTest(f"there is no {path}: `make build` builds it, TEMZAAR_PROGRAMS names another folder")
+    return str(path.resolve())
+
+
+def run_tool(name: str, *words: str, **options: object) -> subprocess.CompletedProcess[str]:
+    """Runs a command of tools/ to its end."""
+    return subprocess.run(tool_words(name, *words), capture_output=True, text=True, check=False, timeout=120, **options)  # type: ignore[call-overload,no-any-return]
+
+
+def tool_words(name: str, *words: str) -> list[str]:
+    """The words that run a command of tools/."""
+    return [sys.executable, str(TOP / "tools" / name), *words]
+
+
+def read_document(name: str) -> str:
+    """The text of a document in docs/."""
+    return (TOP / "docs" / name).read_text(encoding="utf-8")
+
+
+def table_rows(text: str, heading: str) -> list[list[str]]:
+    """The rows of the first table after a line that begins with `heading`."""
+    lines = text[text.index(heading):].split("\n")
+    begins = next(n for n, line in enumerate(lines) if line.startswith("|"))
+    rows = []
+    for line in lines[begins + 2:]:
+        if not line.startswith("|"):
+            break
+        rows.append([re.sub(r"`", "", cell).strip() for cell in line.strip("|").split("|")])
+    return rows

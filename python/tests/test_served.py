@@ -1,0 +1,222 @@
+"""The commands over a controller that is served on loopback. All of it is skipped where the program was not built."""
+import os
+import random
+import signal
+import socket
+import subprocess
+import tempfile
+import threading
+import time
+import unittest
+
+from temzaar import code, pdus
+from temzaar.frames import DONE, POLL, TO_CARRIER, Cutter, FrameType, Link, active, hello, welcome
+from temzaar.process import Controller, connect, replay
+from temzaar.script import Input, read_printed, read_script
+from temzaar.sitefile import Row, Site
+from tests.support import EXAMPLES, TOP, TWO_CARRIERS, program, run_tool, tool_words
+
+PORT = 17400
+# what siteview shows once the first 19 inputs of queued_call.txt have come: three calls, and a request that waits
+SHOWN = """\
+carriers 2 of 2 up   radios 4   asks 0   lines 1   calls 3   fill aloha
+
+carrier  slot 0                                  slot 1
+   0     control (C_ALOHA)                       group 91 from 1001
+   1     group 92 from 1002                      group 93 from 1003
+
+waiting for a slot
+   1     group 94 from 1004
+"""
+
+
+class Pictures(unittest.TestCase):
+    """The pictures of the documents."""
+
+    def test_they_are_those_of_the_example_scripts(self) -> None:
+        built = program("dmr_trunk")
+        for name in ("queued_call", "lost_carrier", "operator"):
+            done = run_tool("timeline", "--site", TWO_CARRIERS, "--script", str(EXAMPLES / "scripts" / f"{name}.txt"), "--program", built)
+            wanted = (TOP / "docs" / "pictures" / f"{name}.svg").read_text(encoding="utf-8")
+            self.assertTrue(done.stdout == wanted, f"{name}.svg is another picture (make pictures) {done.stderr}")
+
+
+class View(unittest.TestCase):
+    """A site in a known state, as siteview shows it."""
+
+    def test_queued_call(self) -> None:
+        site = Site(TWO_CARRIERS, first_port=PORT, hang=60000, maximum=60000)
+        with Controller(program("dmr_trunk"), site) as controller:
+            controller.wait_until_served()
+            inputs = read_script((EXAMPLES / "scripts" / "queued_call.txt").read_text(encoding="utf-8"))
+            streams = self.feed(site, inputs[:next(n for n, it in enumerate(inputs) if it.kind == "tick")])
+            done = run_tool("siteview", "--console", f"127.0.0.1:{PORT}", "--once")
+            for stream in streams.values():
+                stream.close()
+        self.assertEqual(done.stdout.partition("\n")[2], SHOWN, done.stderr)
+
+    def feed(self, site: Site, inputs: list[Input]) -> dict[int, socket.socket]:
+        """Plays the octets of a script over TCP, and reads the answer to each HELLO and POLL. The connections."""
+        streams: dict[int, socket.socket] = {}
+        for it in inputs:
+            if it.kind == "open":
+                streams[it.carrier] = connect("127.0.0.1", site.row(it.carrier)["port"])
+            elif it.kind == "bytes":
+                streams[it.carrier].sendall(it.octets)
+                if it.octets == POLL or it.octets[0] == FrameType.HELLO:
+                    streams[it.carrier].recv(4096)
+        return streams
+
+
+class Played(unittest.TestCase):
+    """Carriers and radios, for some seconds in each version of the link."""
+
+    def test_all_is_answered_right(self) -> None:
+        built = program("dmr_trunk")
+        for version in ("1", "2"):
+            done = run_tool("carriers", "--site", str(EXAMPLES / "sixteen_carriers.toml"), "--program", built, "--carriers", "4", "--radios", "12", "--seconds", "4",
+                            "--link-version", version, "--port", str(PORT + 40))
+            self.assertEqual(done.returncode, 0, done.stdout + done.stderr)
+
+
+class Relay:
+    """Passes connections on to ports that are `shift` higher, what comes from a carrier up to `latest` seconds late."""
+
+    def __init__(self, ports: list[int], shift: int, latest: float, seed: int) -> None:
+        self.random, self.shift, self.latest, self.ends = random.Random(seed), shift, latest, False
+        self.listeners = [socket.create_server(("127.0.0.1", port)) for port in ports]
+        for listener, port in zip(self.listeners, ports, strict=True):
+            threading.Thread(target=self.listen, args=(listener, port), daemon=True).start()
+
+    def listen(self, listener: socket.socket, port: int) -> None:
+        """Serves one connection after another."""
+        while not self.ends:
+            try:
+                below, _ = listener.accept()
+            except OSError:
+                return
+            above = connect("127.0.0.1", port + self.shift)
+            above.settimeout(None)
+            below.setsockopt(socket.IPPROTO_TCP, socket.TCP_NODELAY, 1)
+            other = threading.Thread(target=self.pass_on, args=(above, below, 0.0), daemon=True)
+            other.start()
+            self.pass_on(below, above, self.latest)
+            other.join(5)
+            below.close()
+            above.close()
+
+    def pass_on(self, source: socket.socket, target: socket.socket, latest: float) -> None:
+        """Passes one direction on, to its end."""
+        try:
+            while piece := source.recv(65536):
+                time.sleep(self.random.uniform(0.0, latest))
+                target.sendall(piece)
+            target.shutdown(socket.SHUT_WR)
+        except OSError:
+            pass
+
+    def close(self) -> None:
+        """Listens no more."""
+        self.ends = True
+        for listener in self.listeners:
+            listener.close()
+
+
+class Carrier:
+    """A carrier that polls, and what it received."""
+
+    def __init__(self, row: Row, version: int) -> None:
+        self.number, self.received, self.stream = row["number"], b"", connect("127.0.0.1", row["port"])
+        self.link, self.cutter = Link(version), Cutter(TO_CARRIER)
+        self.ask(hello(row["number"], row["lpcn"], version), welcome(version))
+
+    def ask(self, octets: bytes, end: bytes = DONE) -> list[bytes]:
+        """Sends octets and reads on to the end of the answer. The PDUs that came."""
+        self.stream.sendall(octets)
+        answer = b""
+        while not answer.endswith(end):
+            piece = self.stream.recv(65536)
+            if not piece:
+                raise ConnectionError(f"the controller ended the connection of carrier {self.number}")
+            answer += piece
+        self.received += answer
+        bursts = [self.link.take_tx(frame) for frame in self.cutter.feed(answer) if frame.kind == FrameType.TX]
+        return [code.octets_of(burst.word) or b"" for burst in bursts if burst]
+
+
+class Captured(unittest.TestCase):
+    """What capture writes of a session is what went over its ports. How well it finds ticks, `test_ticks` tries on sessions that are the same each time."""
+
+    TICK_MS, HANG, SHIFT = 10, 4, 100
+
+    def talk(self, site: Site, seconds: float, seed: int) -> list[Carrier]:
+        """Carriers and radios: calls to all talkgroups again and again. The control carrier speaks version 2 of the link, the other version 1."""
+        draws = random.Random(seed)
+        carriers = [Carrier(row, 2 if row["number"] == site.control else 1) for row in site.rows]
+        control = next(carrier for carrier in carriers if carrier.number == site.control)
+        radios = site.radios(8)
+        for radio in radios:
+            control.ask(control.link.rx(0, code.burst_of(pdus.random_access(pdus.REGISTRATION, site.plan["regi"], radio, site.register_options()))) + POLL)
+        ends = time.monotonic() + seconds
+        while time.monotonic() < ends:
+            for carrier in carriers:
+                octets = b"".join(active(slot) for slot in (0, 1) if draws.random() < 0.15)
+                if carrier is control and draws.random() < 0.6:
+                    octets += control.link.rx(0, code.burst_of(pdus.random_access(pdus.TALKGROUP_VOICE, draws.choice(site.plan["groups"]), draws.choice(radios))))
+                carrier.ask(octets + POLL)
+            time.sleep(draws.uniform(0.0, 0.01))
+        for carrier in carriers:
+            carrier.stream.close()
+        return carriers
+
+    def test_late_pieces(self) -> None:
+        """A controller with ticks of 10 ms, and a relay before it, so that the site takes pieces at other ticks than their times say."""
+        built, changes = program("dmr_trunk"), {"tick_ms": self.TICK_MS, "hang": self.HANG, "link_version": 2}
+        site = Site(TWO_CARRIERS, first_port=PORT + 60, **changes)
+        above = Site(TWO_CARRIERS, first_port=PORT + 60 + 2 * self.SHIFT, **changes)
+        with tempfile.TemporaryDirectory() as folder, Controller(built, above) as controller:
+            path, out = os.path.join(folder, "site.toml"), os.path.join(folder, "incident.txt")
+            with open(path, "w", encoding="utf-8") as it:
+                it.write(site.text())
+            controller.wait_until_served()
+            relay = Relay([site.console_port + self.SHIFT + n for n in range(len(site.rows) + 1)], self.SHIFT, 1.5 * self.TICK_MS / 1000, 1)
+            self.addCleanup(relay.close)
+            words = tool_words("capture", "--site", path, "--program", built, "--running", "--shift", str(self.SHIFT), "--out", out)
+            with subprocess.Popen(words, stdout=subprocess.PIPE, stderr=subprocess.PIPE, text=True) as capture:
+                self.addCleanup(capture.kill)
+                assert capture.stderr
+                self.assertIn("listening", capture.stderr.readline())
+                carriers = self.talk(site, 2.0, 1)
+                capture.send_signal(signal.SIGINT)
+                said, faults = capture.communicate(timeout=300)
+            self.assertIn(capture.returncode, (0, 3), said + faults)
+            with open(out, encoding="utf-8") as script, open(out + ".out", encoding="utf-8") as printed:
+                told, _ = read_printed(printed.read())
+                replayed = replay(built, path, script.read())
+            self.assertEqual({carrier.number: carrier.received for carrier in carriers}, told)
+            if capture.returncode == 0:
+                self.assertEqual(read_printed(replayed)[0], told)
+
+    def test_an_incident(self) -> None:
+        """Carriers that are killed while calls are active, others of version 1 after them, and an operator: captured, and replayed."""
+        built = program("dmr_trunk")
+        with tempfile.TemporaryDirectory() as folder:
+            site, path = Site(TWO_CARRIERS, first_port=PORT + 20, link_version=2), os.path.join(folder, "site.toml")
+            with open(path, "w", encoding="utf-8") as it:
+                it.write(site.text())
+            with subprocess.Popen(tool_words("capture", "--site", path, "--program", built, "--out", f"{folder}/incident.txt"), stdout=subprocess.PIPE, stderr=subprocess.PIPE, text=True) as capture:
+                self.addCleanup(capture.kill)
+                assert capture.stderr
+                self.assertIn("listening", capture.stderr.readline())
+                play = tool_words("carriers", "--site", path, "--radios", "12", "--seconds")
+                with subprocess.Popen([*play, "30"], stdout=subprocess.DEVNULL) as first:
+                    time.sleep(4)
+                    first.kill()
+                with subprocess.Popen([*play, "5", "--seed", "2", "--link-version", "1"], stdout=subprocess.DEVNULL):
+                    time.sleep(3)
+                    with connect("127.0.0.1", site.console_port) as console:
+                        console.sendall(b"status\nend 1 0\nslots\n")
+                        time.sleep(0.5)
+                capture.send_signal(signal.SIGINT)
+                said, faults = capture.communicate(timeout=300)
+            self.assertEqual(capture.returncode, 0, said + faults)

@@ -1,0 +1,91 @@
+"""The site file and the console."""
+import socket
+import threading
+import tomllib
+import unittest
+
+from temzaar.console import Console, ConsoleFault, Status, read_calls, read_lines, read_slots
+from temzaar.sitefile import Site
+from tests.support import TWO_CARRIERS
+
+
+class SiteFile(unittest.TestCase):
+    """A site and its copies."""
+
+    def test_text_reads_back(self) -> None:
+        site = Site(TWO_CARRIERS)
+        self.assertEqual(tomllib.loads(site.text()), site.plan)
+
+    def test_a_copy_on_loopback(self) -> None:
+        site = Site(TWO_CARRIERS, carriers=1, first_port=17000, hang=3, link_version=2)
+        self.assertEqual([row["number"] for row in site.rows], [site.control])
+        self.assertEqual((site.console_port, site.row(site.control)["port"], site.address, site.link_version), (17000, 17001, "127.0.0.1", 2))
+        self.assertEqual(site.plan["hang"], 3)
+
+    def test_ports_shift(self) -> None:
+        site, other = Site(TWO_CARRIERS), Site(TWO_CARRIERS)
+        other.shift_ports(10000)
+        self.assertEqual([row["port"] + 10000 for row in site.rows] + [site.console_port + 10000], [row["port"] for row in other.rows] + [other.console_port])
+
+    def test_radios_are_admitted(self) -> None:
+        site = Site(TWO_CARRIERS)
+        radios = site.radios(8)
+        self.assertEqual(len(set(radios)), 8)
+        self.assertTrue(all(any(first <= radio <= last for first, last in site.plan["radios"]) for radio in radios))
+
+
+class Replies(unittest.TestCase):
+    """What replies say."""
+
+    def test_status(self) -> None:
+        status = Status(["status carriers 1 radios 2 asks 0 lines 3 calls 4 fill move 7"])
+        self.assertEqual((status.counts["lines"], status.fill, status.is_empty()), (3, "move 7", False))
+        self.assertTrue(Status(["status carriers 0 radios 0 asks 0 lines 0 calls 0 fill aloha"]).is_empty())
+        self.assertRaises(ConsoleFault, Status, ["error unknown command"])
+
+    def test_lists(self) -> None:
+        self.assertEqual(read_slots(["slot 0 0 control", "slot 0 1 free"]), {(0, 0): "control", (0, 1): "free"})
+        self.assertEqual(read_calls(["call 1 0 group 91 from 1001"]), {(1, 0): "group 91 from 1001"})
+        self.assertEqual(read_lines(["line 1 radio 7 from 8"]), ["radio 7 from 8"])
+        self.assertRaises(ConsoleFault, read_slots, ["slot 0 control"])
+        self.assertRaises(ConsoleFault, read_lines, ["line 1 everybody from 8"])
+
+
+class Connection(unittest.TestCase):
+    """A console over a socket on loopback, its other side played here."""
+
+    def serve(self, answer: bytes) -> int:
+        """Answers one connection with these octets. The port."""
+        listener = socket.create_server(("127.0.0.1", 0))
+        self.addCleanup(listener.close)
+
+        def answer_one() -> None:
+            stream, _ = listener.accept()
+            with stream:
+                stream.recv(100)
+                for octet in answer:
+                    stream.send(bytes([octet]))
+
+        threading.Thread(target=answer_one, daemon=True).start()
+        return int(listener.getsockname()[1])
+
+    def test_one_line(self) -> None:
+        with Console("127.0.0.1", self.serve(b"ok\n")) as console:
+            self.assertEqual(console.ask("stay"), ["ok"])
+
+    def test_a_list_goes_on_to_its_end(self) -> None:
+        with Console("127.0.0.1", self.serve(b"radio 1\nradio 2\nend\n")) as console:
+            self.assertEqual(console.ask("radios 1"), ["radio 1", "radio 2"])
+
+    def test_a_list_that_is_an_error(self) -> None:
+        with Console("127.0.0.1", self.serve(b"error no carrier\n")) as console:
+            self.assertEqual(console.ask("calls 3"), ["error no carrier"])
+
+    def test_an_end_within_a_reply(self) -> None:
+        with Console("127.0.0.1", self.serve(b"stat")) as console:
+            self.assertRaisesRegex(ConsoleFault, "ended the connection", console.ask, "status")
+
+    def test_nobody_listens(self) -> None:
+        with socket.create_server(("127.0.0.1", 0)) as listener:
+            port = listener.getsockname()[1]
+        self.assertRaisesRegex(ConsoleFault, "cannot connect", Console, "127.0.0.1", port)

@@ -1,0 +1,78 @@
+"""The picture of siteview, of replies that are written down here; no terminal and no network is needed."""
+import unittest
+
+from temzaar.cli.siteview import Ages, Picture, Prompt, paint_rows, picture_rows, plain_text
+
+REPLIES = {
+    "status": ["status carriers 1 radios 4 asks 0 lines 1 calls 2 fill move 7"],
+    "slots": ["slot 0 0 control", "slot 0 1 call", "slot 1 0 call", "slot 1 1 free"],
+    "calls 0": ["call 0 1 group 91 from 1001"],
+    "calls 1": ["call 1 0 radio 1002 from 1003"],
+    "lines 1": ["line 1 group 94 from 1004"],
+}
+SHOWN = """\
+carriers 1 of 2 up   radios 4   asks 0   lines 1   calls 2   fill move 7
+
+carrier  slot 0                                  slot 1
+   0     control (C_MOVE to 7)                   group 91 from 1001
+   1     radio 1002 from 1003                    free
+
+waiting for a slot
+   1     group 94 from 1004
+"""
+
+
+class Written:
+    """A console whose replies are written down."""
+
+    def __init__(self, **changes: list[str]) -> None:
+        self.replies, self.lines = {**REPLIES, **changes}, []  # type: dict[str, list[str]], list[str]
+
+    def ask(self, line: str) -> list[str]:
+        """The reply that is written down."""
+        self.lines.append(line)
+        return self.replies[line]
+
+
+class Shown(unittest.TestCase):
+    """Pictures."""
+
+    def test_plain(self) -> None:
+        text = plain_text(picture_rows(Picture(Written()), "here", Ages(), 0))
+        self.assertTrue(text.startswith("site here   "))
+        self.assertEqual(text.partition("\n")[2], SHOWN)
+
+    def test_ages(self) -> None:
+        ages, console = Ages(), Written()
+        ages.look(Picture(console), 10.0)
+        console.replies["calls 0"] = ["call 0 1 group 92 from 1001"]
+        picture = Picture(console)
+        ages.look(picture, 20.0)
+        text = plain_text(picture_rows(picture, "here", ages, 85.0))
+        self.assertRegex(text, r"group 92 from 1001 +1:05\n")
+        self.assertRegex(text, r"radio 1002 from 1003 +>1:15")
+        self.assertRegex(text, r"group 94 from 1004 +>1:15")
+
+    def test_a_queue_that_empties_between_two_answers(self) -> None:
+        picture = Picture(Written(**{"lines 1": []}))
+        self.assertEqual(picture.lines, [])
+
+    def test_painted_rows_fit_the_terminal(self) -> None:
+        painted = paint_rows(picture_rows(Picture(Written()), "here", Ages(), 0), 20, 4)
+        self.assertEqual(painted.count("\r\n"), 4)
+        self.assertIn("carriers 1 of 2 up  \x1b[K", painted)
+
+
+class Typed(unittest.TestCase):
+    """The line below the picture."""
+
+    def test_a_line_is_asked_at_enter(self) -> None:
+        console = Written()
+        prompt = Prompt(console)
+        self.assertFalse(prompt.take_keys("slotx\x7fs\n\n"))
+        self.assertEqual((console.lines, prompt.typed, prompt.answer), (["slots"], "", []))
+        self.assertFalse(prompt.take_keys("status\n"))
+        self.assertEqual(prompt.answer, REPLIES["status"])
+
+    def test_it_is_left(self) -> None:
+        self.assertTrue(Prompt(Written()).take_keys("sta\x04"))

@@ -9,7 +9,7 @@ use Rattle.std.proofs.lemmas.List.Folds.{fold_along}
 use Rattle.std.proofs.lemmas.List.Splits.{slice_split_at, slice_split_none}
 use Rattle.std.proofs.lemmas.List.Sums.{fold-append}
 use Rattle.arrayvec.specs.ArrayVec.{ArrayVec}
-use Rattle.dmr_pdu.proofs.CuttingLemmas.{items-append}
+use Rattle.dmr_pdu.proofs.Laws.{items-append}
 use Rattle.dmr_console.specs.declared.line_cutter.LineStep.{LineStep}
 use Rattle.dmr_console.specs.declared.line_cutter.LineStep.TheVariants.{Line, TooLong}
 use Rattle.dmr_console.specs.Lines.{parts_of, all_but_last, last_of, without_cr, line_step_of, lines_in, open_in, first_octets_of_line}

@@ -6,7 +6,7 @@ use Rattle.std.proofs.lemmas.List.Concat.{flat_map-cons}
 use Rattle.std.proofs.lemmas.Grind.{flat_map-append}
 use Rattle.std.specs.List.{flat_map}
 use Rattle.std.proofs.lemmas.List.Sums.{fold-append}
-use Rattle.dmr_pdu.proofs.CuttingLemmas.{items-append}
+use Rattle.dmr_pdu.proofs.Laws.{items-append}
 use Rattle.dmr_frames.specs.declared.frame.FrameOut.{FrameOut}
 use Rattle.dmr_frames.specs.declared.frame.FrameOut.TheVariants.{Done}
 use Rattle.dmr_frames.specs.Frames.{spelling_out}

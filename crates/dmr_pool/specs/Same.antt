@@ -7,7 +7,7 @@ use Rattle.std.proofs.Common.{ap, refl, true, false}
 use Rattle.std.proofs.lemmas.Bool.Decides.{Decides-and}
 use Rattle.dmr_pdu.specs.declared.pdu.Pdu.{Pdu}
 use Rattle.dmr_pdu.specs.contracts.pdu.PduPartialEq.TheImpl as pdu_eq
-use Rattle.dmr_pdu.proofs.EqualityLemmas.{pdu_eq-Decides}
+use Rattle.dmr_pdu.proofs.Laws.{pdu_eq-Decides}
 use Rattle.dmr_plan.specs.Same.{are_same as are_same_plans, are_same-Decides as are_same_plans-Decides}
 use Rattle.dmr_pool.specs.Slots.{Slots}
 

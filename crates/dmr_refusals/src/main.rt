@@ -1,7 +1,7 @@
 //! Makes each public call of the controller's libraries that takes memory once, and says what it answered: `done`, `refused`, or
 //! `not tried` where there was no memory to get so far.
 //!
-//! `tools/refuse-memory` runs it again and again and refuses another allocation each time. A call that is refused has to answer so by
+//! `trials/refuse-memory` runs it again and again and refuses another allocation each time. A call that is refused has to answer so by
 //! the name that it has for it, and to leave what it promises: what it was handed, or what it was called on, goes on as before. Where
 //! it does not, `wrong` is said, and the exit status is 1.
 #![tactic(auto)]

@@ -14,7 +14,6 @@ use Rattle.dmr_link.specs.Session.{events_in, session_text}
 use Rattle.dmr_link.specs.State.{State, next_of}
 use Rattle.dmr_link.specs.Texts.{Texts}
 use Rattle.dmr_trunk.specs.Inputs.{put_out, operators_text}
-use Rattle.dmr_link.proofs.PastsStandForEngines.{get_or-all_same}
 
 -- the journal of some events has these events
 its_events : (plan : Settings) (facts : Facts) (events : List Event) → events_of (journal_of plan facts events) ≡ events
@@ -29,7 +28,7 @@ events plan inputs = reverse (events_in (all_mean plan no_past inputs))
 abbrev told_by : Settings → Facts → List Input → List Entry
 told_by plan facts inputs = reverse (journal_of plan facts (events plan inputs))
 
-module _ (plan : Settings) (s new : State) (outputs : Texts) (inputs : List Input) (plan_is : s.plan ≡ plan) (facts_are : s.facts ≡ no_facts) (stands : StandsFor s no_past) (uncounted : s.numbers ≡ replicate 16 None)
+module _ (plan : Settings) (s new : State) (outputs : Texts) (inputs : List Input) (plan_is : s.plan ≡ plan) (facts_are : s.facts ≡ no_facts) (stands : StandsFor s no_past) (uncounted : (carrier : ℕ) → next_of s carrier ≡ None)
     (legal : (facts : Facts) (events : List Event) → IsLegal s.plan facts (journal_of s.plan facts events)) (run : IsRun s new outputs inputs) where
   answered : IsAnswered s new outputs (all_mean s.plan no_past inputs) (journal_of s.plan s.facts (events s.plan inputs))
   answered =
@@ -40,8 +39,7 @@ module _ (plan : Settings) (s new : State) (outputs : Texts) (inputs : List Inpu
   pub run_text : (carrier : ℕ) → slice_index_or outputs.carriers carrier [] ≡ put_out plan inputs carrier
   unfolding put_out
   run_text carrier =
-      let first : next_of s carrier ≡ None = ap (λ (numbers : List (Option ℕ)). slice_index_or numbers carrier None) uncounted ∙ get_or-all_same 16 carrier None in
-      answered.texts carrier ∙ (λ i. session_text (first i) carrier (all_mean (plan_is i) no_past inputs) (told_by (plan_is i) (facts_are i) inputs))
+      answered.texts carrier ∙ (λ i. session_text (uncounted carrier i) carrier (all_mean (plan_is i) no_past inputs) (told_by (plan_is i) (facts_are i) inputs))
 
   pub run_told : outputs.console ≡ operators_text plan inputs
   unfolding operators_text

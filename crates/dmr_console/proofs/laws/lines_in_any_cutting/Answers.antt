@@ -1,5 +1,5 @@
 use Rattle.std.proofs.lemmas.List.Sums.{fold-append}
-use Rattle.dmr_pdu.proofs.CuttingLemmas.{items-append}
+use Rattle.dmr_pdu.proofs.Laws.{items-append}
 use Rattle.dmr_console.specs.Steps.{open_line_after_octet, line_brought, line_step_at}
 use Rattle.dmr_console.proofs.LineLemmas.{lines_whole, rest_whole, lines_in_pieces}
 use Rattle.dmr_console.proofs.laws.lines_in_any_cutting.Goals as goal

@@ -1,3 +1,4 @@
+use Rattle.dmr_link.proofs.LinksAccount.{over_owes}
 use Rattle.dmr_link.proofs.LinksStandForPasts.{dead_over, over_dead}
 use Rattle.dmr_link.proofs.owing.links_rest.Goals as goal
 
@@ -6,3 +7,6 @@ returns-clause-over c = dead_over
 
 pub returns-clause-dead : goal.returns-clause-dead
 returns-clause-dead c = over_dead
+
+pub returns-clause-nothing : goal.returns-clause-nothing
+returns-clause-nothing c = over_owes

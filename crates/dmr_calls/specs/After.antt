@@ -6,7 +6,7 @@ use Rattle.dmr_pdu.specs.declared.slots.Slot.{Slot}
 use Rattle.dmr_pdu.specs.Slots.{IsSlot, place, slot_at}
 use Rattle.dmr_calls.specs.declared.call.Call.{Call}
 use Rattle.dmr_calls.specs.declared.call.Standing.{Standing}
-use Rattle.dmr_calls.specs.Limits.{slots_of_site}
+use Rattle.dmr_pdu.specs.Slots.{slots_of_site}
 use Rattle.dmr_calls.specs.Calls.{call_on}
 
 -- the call on the slot is a talkgroup's

@@ -1,10 +1,6 @@
 -- The numbers of this crate's definitions, as this project's profile states them.
 use Rattle.std.specs.Prelude.{ℕ}
 
--- how many slots the 16 carriers of a site have
-abbrev pub slots_of_site : ℕ
-slots_of_site = 32
-
 -- how many asks stand at a time
 abbrev pub most_asks : ℕ
 most_asks = 32

@@ -7,7 +7,7 @@ use Rattle.dmr_pdu.specs.declared.slots.Slot.{Slot}
 use Rattle.dmr_calls.specs.declared.call.Call.{Call}
 use Rattle.dmr_calls.specs.declared.call.Standing.{Standing}
 use Rattle.dmr_calls.specs.Calls.{is_slot, just_begun, one_tick_older, with_activity, on_other_slots, on_other_carriers}
-use Rattle.dmr_pool.specs.Limits.{slots_of_site}
+use Rattle.dmr_pdu.specs.Slots.{slots_of_site}
 use Rattle.dmr_pool.specs.Slots.{IsSlot, place, is_slot_held, held_without_carrier}
 use Rattle.dmr_core.specs.Words.{stands_on}
 use Rattle.dmr_core.specs.Held.{HoldsCalls}

@@ -13,7 +13,7 @@ use Rattle.dmr_calls.specs.declared.call.Standing.{Standing}
 use Rattle.dmr_calls.specs.Asks.{new_asking, waited_more, others_than}
 use Rattle.dmr_calls.specs.Lines.{without_line}
 use Rattle.dmr_calls.specs.Calls.{just_begun, one_tick_older, with_activity, on_other_slots, on_other_carriers}
-use Rattle.dmr_pool.specs.Limits.{carriers_of_site, slots_of_site}
+use Rattle.dmr_pdu.specs.Slots.{carriers_of_site, slots_of_site}
 use Rattle.dmr_pool.specs.Slots.{outboxes_without_carrier, outboxes_with_pdu, outboxes_after_send}
 use Rattle.dmr_pool.specs.Free.{is_control}
 use Rattle.dmr_core.specs.declared.event.Event.{Event}

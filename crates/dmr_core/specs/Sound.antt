@@ -16,7 +16,8 @@ use Rattle.dmr_calls.specs.Lines.{has_group_line}
 use Rattle.dmr_registry.specs.Limits.{most_radios}
 use Rattle.dmr_calls.specs.Limits.{most_asks, most_calls, most_lines, most_ticks}
 use Rattle.dmr_access.specs.Limits.{polls_of_window, late_entry_interval}
-use Rattle.dmr_pool.specs.Limits.{carriers_of_site, slots_of_site, most_pdus_of_a_slot}
+use Rattle.dmr_pdu.specs.Slots.{carriers_of_site, slots_of_site}
+use Rattle.dmr_pool.specs.Limits.{most_pdus_of_a_slot}
 use Rattle.dmr_pool.specs.Free.{control_slot, is_control}
 use Rattle.dmr_core.specs.Facts.{Facts, has_carrier}
 use Rattle.dmr_core.specs.Words.{is_up, outbox, lpcn_of, is_registered, stands_on}

@@ -1,4 +1,3 @@
-pub mod CuttingLemmas
 pub mod EqualityLemmas
 pub mod FunctionLemmas
 pub mod LayoutLemmas

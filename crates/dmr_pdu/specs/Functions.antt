@@ -1,5 +1,5 @@
--- The octets of a PDU, and the PDU of octets, as functions. That they give what `Spells` and `Agrees` say, and nothing
--- else, is proved in proofs/FunctionLemmas; the crates above rest on that alone.
+-- The octets of a PDU, and the PDU of octets, as functions. The contract of `octets_mean_one_pdu` says that they are what `SpellsPdu` and
+-- `Agrees` say, and nothing else; the crates above rest on that alone.
 use Rattle.std.specs.Prelude.{◌==◌, ℕ, ◌+◌, ◌-◌, ◌*◌, ◌/◌, ◌%◌, ◌^◌, Bool, false, nat_lt, List, [], ◌∷◌, Option, Some, None, if◌then◌else◌, map}
 use Rattle.std.specs.List.{list_all, range_with_len}
 use Rattle.dmr_bits.specs.Bits.{bits_value, field_of}

@@ -2,9 +2,17 @@
 use Rattle.std.specs.Prelude.{ℕ, ◌+◌, ◌*◌, ◌/◌, ◌%◌, ◌<◌}
 use Rattle.dmr_pdu.specs.declared.slots.Slot.{Slot}
 
+-- how many carriers a site may have: their numbers are 0 to 15
+abbrev pub carriers_of_site : ℕ
+carriers_of_site = 16
+
+-- how many slots these carriers have, two each
+abbrev pub slots_of_site : ℕ
+slots_of_site = 32
+
 -- a slot of a carrier 0 to 15
 abbrev pub IsSlot : Slot → Type 0
-IsSlot slot = (slot.carrier < 16) × (slot.slot < 2)
+IsSlot slot = (slot.carrier < carriers_of_site) × (slot.slot < 2)
 
 -- the place of a slot among those of all carriers: by carrier, then by slot
 abbrev pub place : Slot → ℕ

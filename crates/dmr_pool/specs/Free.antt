@@ -8,7 +8,7 @@ use Rattle.dmr_pdu.specs.declared.pdu.Pdu.TheVariants.{PvGrant, TvGrant}
 use Rattle.dmr_plan.specs.declared.settings.Settings.{Settings}
 use Rattle.dmr_plan.specs.declared.carriers.CarrierRow.{CarrierRow}
 use Rattle.dmr_plan.specs.Carriers.{has_number_in, row_with}
-use Rattle.dmr_pool.specs.Limits.{slots_of_site}
+use Rattle.dmr_pdu.specs.Slots.{slots_of_site}
 use Rattle.dmr_pool.specs.Slots.{Slots, IsSlot, place, slot_at, is_up, is_slot_held, box}
 
 -- slot 0 of the control carrier

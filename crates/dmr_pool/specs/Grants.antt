@@ -8,7 +8,8 @@ use Rattle.dmr_pdu.specs.declared.pdu.Pdu.TheVariants.{PvGrant, TvGrant}
 use Rattle.dmr_plan.specs.declared.settings.Settings.{Settings}
 use Rattle.dmr_plan.specs.declared.carriers.CarrierRow.{CarrierRow}
 use Rattle.dmr_plan.specs.Carriers.{row_with}
-use Rattle.dmr_pool.specs.Limits.{slots_of_site, most_pdus_of_a_slot}
+use Rattle.dmr_pdu.specs.Slots.{slots_of_site}
+use Rattle.dmr_pool.specs.Limits.{most_pdus_of_a_slot}
 use Rattle.dmr_pool.specs.Slots.{box, slot_at}
 use Rattle.dmr_pool.specs.Free.{control_slot, is_control, names}
 

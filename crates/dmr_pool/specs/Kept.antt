@@ -1,7 +1,8 @@
 -- What the slots of every site keep.
 use Rattle.std.specs.Prelude.{◌≡◌, ◌≤◌, length}
 use Rattle.std.specs.List.{All}
-use Rattle.dmr_pool.specs.Limits.{carriers_of_site, slots_of_site, most_pdus_of_a_slot}
+use Rattle.dmr_pdu.specs.Slots.{carriers_of_site, slots_of_site}
+use Rattle.dmr_pool.specs.Limits.{most_pdus_of_a_slot}
 use Rattle.dmr_pool.specs.Slots.{Slots}
 
 -- there are 16 carrier numbers and 32 slots, and for each slot at most 64 PDUs wait

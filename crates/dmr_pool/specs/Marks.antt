@@ -2,7 +2,7 @@
 use Rattle.std.specs.Prelude.{◌≡◌, ◌≢◌, ℕ, ◌<◌, ◌==◌, Bool, true, false}
 use Rattle.std.specs.Int.{bit_at}
 use Rattle.dmr_pdu.specs.declared.slots.Slot.{Slot}
-use Rattle.dmr_pool.specs.Limits.{slots_of_site}
+use Rattle.dmr_pdu.specs.Slots.{slots_of_site}
 use Rattle.dmr_pool.specs.Slots.{Slots, IsSlot, place, slot_at}
 use Rattle.dmr_pool.specs.Free.{is_free}
 

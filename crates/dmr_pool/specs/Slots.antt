@@ -4,7 +4,7 @@ pub use Rattle.dmr_pdu.specs.Slots.{IsSlot, place, slot_at}
 use Rattle.dmr_pdu.specs.declared.slots.Slot.{Slot}
 use Rattle.dmr_pdu.specs.declared.pdu.Pdu.{Pdu}
 use Rattle.dmr_plan.specs.declared.settings.Settings.{Settings}
-use Rattle.dmr_pool.specs.Limits.{carriers_of_site, slots_of_site}
+use Rattle.dmr_pdu.specs.Slots.{carriers_of_site, slots_of_site}
 
 -- the plan, and what stands on the slots
 pub record Slots : Type 0 where

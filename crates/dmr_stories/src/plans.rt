@@ -138,6 +138,9 @@ fn write_text<D: Display>(said: &mut String, value: &D) -> Result<(), OutOfMemor
 
 #[test]
 fn tells_faults(rt: HostRuntime) -> Result<(), Fail> {
+    dmr_plan::limits_are_stated();
+    dmr_registry::limits_are_stated();
+    dmr_pool::limits_are_stated();
     for story in &STORIES {
         tell(&rt, Reader { alloc: rt.alloc() }, "site file", &[*story])?;
     }

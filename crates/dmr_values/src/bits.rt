@@ -106,3 +106,17 @@ fn pads(rt: HostRuntime) {
         assert_eq!(rt; Word196::from_octets(&octets), Err(BadPad));
     }
 }
+
+#[test]
+fn bits_under_masks(rt: HostRuntime) -> Result<(), Fail> {
+    let word = Word196::from_octets(&BURST)?;
+    for (mask, count) in [
+        ([u64::MAX; 4], 96u32),
+        ([0xFF00_0000_0000_0000, 0, 0, 0], 3),
+        ([0, u64::MAX, 0, 0], 33),
+        ([0; 4], 0),
+    ] {
+        assert_eq!(rt; word.set_under(&mask), count, "under {mask:?}");
+    }
+    Ok(())
+}

@@ -1,7 +1,7 @@
 //! Worked checks of control bursts.
 
 use dmr_bits::Octets10;
-use dmr_csbk::{check_of, open_sealed, seal};
+use dmr_csbk::{check_of, open_sealed, seal, seals_open};
 
 /// Ten octets and their check, from the format's test vectors.
 const VECTORS: [(Octets10, u16); 5] = [
@@ -33,6 +33,7 @@ fn checks(rt: HostRuntime) {
 
 #[test]
 fn seals(rt: HostRuntime) {
+    seals_open();
     let registration = [0x9F, 0x00, 0x02, 0x0E, 0xFF, 0xFE, 0xC6, 0x00, 0x03, 0xE9];
     let sealed = [
         0x9F, 0x00, 0x02, 0x0E, 0xFF, 0xFE, 0xC6, 0x00, 0x03, 0xE9, 0xC8, 0x4F,

@@ -1,11 +1,12 @@
 //! Worked octets of each kind of PDU, in both directions.
 
 use dmr_bits::Octets10;
-use dmr_pdu::{Address, Kind, Lpcn, Number, Pdu, Reason, SlotNo};
+use dmr_pdu::{Address, Kind, Lpcn, Number, Pdu, Reason, SlotNo, octets_mean_one_pdu};
 use std::process::Abort;
 
 /// That octets are read as a PDU, and that it is written as them.
 fn assert_both_ways(rt: &impl Abort, octets: Octets10, pdu: Pdu) {
+    octets_mean_one_pdu();
     let read = Pdu::from_octets(&octets);
     assert_eq!(rt; read, pdu);
     assert_eq!(rt; pdu.to_octets(), octets);

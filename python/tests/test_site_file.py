@@ -1,0 +1,123 @@
+"""docs/SITE_FILE.md, run: its key table, its texts and its example, over the controller."""
+import os
+import re
+import subprocess
+import tempfile
+import tomllib
+import unittest
+from collections.abc import Iterator
+
+from tests.support import TWO_CARRIERS, program, read_document, table_rows
+
+SITE_FILE = read_document("SITE_FILE.md")
+ARRAYS = ("address", "radios", "groups", "carrier")
+NO_CARRIER = 15
+
+
+def example() -> str:
+    """The site file of the document."""
+    lines = SITE_FILE[SITE_FILE.index("## An example"):].split("\n")[1:]
+    return "\n".join(line.removeprefix("    ") for line in lines)
+
+
+def changed(text: str, key: str, value: str | None) -> str:
+    """A site file with another value for a key, or without it."""
+    pattern = rf"^{key} = .*\n"
+    if value is None:
+        return re.sub(pattern, "", text, count=1, flags=re.M)
+    if re.search(pattern, text, re.M):
+        return re.sub(pattern, f"{key} = {value}\n", text, count=1, flags=re.M)
+    return f"{key} = {value}\n{text}"
+
+
+class Example(unittest.TestCase):
+    """The document's example is a site file, the one of the examples but for the version of the link."""
+
+    def test_example(self) -> None:
+        with open(TWO_CARRIERS, "rb") as it:
+            self.assertEqual({key: value for key, value in tomllib.loads(example()).items() if key != "link_version"},
+                             {key: value for key, value in tomllib.load(it).items() if key != "link_version"})
+
+    def test_every_key_is_in_the_table(self) -> None:
+        keys = {row[0] for row in table_rows(SITE_FILE, "| key | value | if missing")}
+        self.assertLessEqual(set(tomllib.loads(example())), keys)
+
+
+class Texts(unittest.TestCase):
+    """What the controller says of site files with one fault each."""
+
+    def setUp(self) -> None:
+        self.program = program("dmr_trunk")
+        folder = tempfile.TemporaryDirectory()
+        self.addCleanup(folder.cleanup)
+        self.path, self.script = os.path.join(folder.name, "site.toml"), os.path.join(folder.name, "script.txt")
+        with open(self.script, "w", encoding="utf-8"):
+            pass
+
+    def judged(self, text: str) -> tuple[int, str]:
+        """The status and the message for a site file."""
+        with open(self.path, "w", encoding="utf-8") as it:
+            it.write(text)
+        done = subprocess.run([self.program, "--site", self.path, "--script", self.script], capture_output=True, text=True, check=False)
+        return done.returncode, done.stderr
+
+    def expect(self, text: str, fault: str | None) -> None:
+        """A site file is taken, or refused with this fault."""
+        wanted = (1, f"dmr_trunk: site file: {fault}\n") if fault else (0, "")
+        self.assertEqual(self.judged(text), wanted, text)
+
+    def number_cases(self) -> Iterator[tuple[str, int, int]]:
+        """Each key with one number: its range in the table, without the ends that are another key's value."""
+        for key, value, *_ in table_rows(SITE_FILE, "| key | value | if missing") + table_rows(SITE_FILE, "Each `[[carrier]]` has"):
+            bounds = re.match(r"(\d+) to (\d+)", value)
+            if key not in ARRAYS and bounds:
+                yield key, int(bounds[1]), int(bounds[2])
+
+    def test_the_example_is_taken(self) -> None:
+        self.expect(example(), None)
+
+    def test_missing(self) -> None:
+        for key, _, missing, _ in table_rows(SITE_FILE, "| key | value | if missing"):
+            with self.subTest(key):
+                text = re.sub(r"\[\[carrier\]\](.|\n)*", "", example()) if key == "carrier" else changed(example(), key, None)
+                self.expect(text, f"missing {key}" if missing == "fault" else None)
+
+    def test_ranges(self) -> None:
+        others = {"regi": {16776416: "16776417"}, "tsi": {}}
+        for key, least, most in self.number_cases():
+            with self.subTest(key):
+                for value in (least - 1, most + 1):
+                    text = changed(example(), key, str(value))
+                    self.expect(text, f"out of range {key}")
+                for value in (least, most):
+                    text = changed(example(), key, others.get(key, {}).get(value, str(value)))
+                    if key == "backoff_low":
+                        text = changed(text, "backoff_high", "15")
+                    if key == "number":
+                        text = changed(text, "control", str(value))
+                    self.expect(text, None)
+
+    def test_wrong_types(self) -> None:
+        for key, *_ in self.number_cases():
+            with self.subTest(key):
+                self.expect(changed(example(), key, '"1"'), f"wrong type {key}")
+        for key, value in (("address", "[127, 0, 0]"), ("radios", "[[1]]"), ("groups", "91"), ("control", "true")):
+            self.expect(changed(example(), key, value), f"wrong type {key}")
+
+    def test_arrays_out_of_range(self) -> None:
+        for key, value in (("address", "[127, 0, 0, 256]"), ("radios", "[]"), ("radios", "[[2, 1]]"), ("radios", "[[0, 1]]"), ("groups", "[0]"),
+                           ("groups", str(list(range(1, 66)))), ("control", str(NO_CARRIER))):
+            self.expect(changed(example(), key, value), f"out of range {key}")
+
+    def test_repeated(self) -> None:
+        self.expect(changed(example(), "tsi", "0xFFFEC6"), "repeated tsi")
+        self.expect(changed(example(), "groups", "[91, 91]"), "repeated groups")
+        for key, first in (("number", "0"), ("lpcn", "1"), ("port", "7101")):
+            text = example()
+            begins = text.rindex("[[carrier]]")
+            self.expect(text[:begins] + changed(text[begins:], key, first), f"repeated {key}")
+        self.expect(changed(example(), "console_port", "7101"), "repeated port")
+
+    def test_not_toml(self) -> None:
+        for text in ("system = ", "system = 1\nsystem = 2\n" + example(), f"system = {1 << 64}\n"):
+            self.expect(text, "not TOML")

@@ -144,9 +144,13 @@ class Search:
         """Whether the best placing answers every piece as the site did."""
         return self.reach == len(self.pieces)
 
+    def is_at_bound(self) -> bool:
+        """Whether as many placings were replayed as are replayed at most."""
+        return len(self.seen) >= MOST_PLACINGS
+
     def is_exhausted(self) -> bool:
         """Whether there is nothing more to try: no placing leads further, or the bound is reached."""
-        return not self.open or len(self.seen) >= MOST_PLACINGS
+        return not self.open or self.is_at_bound()
 
 
 def place_ticks(pieces: list[Piece], seconds: float, program: Replayer) -> Search:

@@ -46,7 +46,7 @@ class Program(unittest.TestCase):
         self.expect(["replay"], text, decoded.replay_text(text, {}))
 
     def test_a_replay_of_version_2(self) -> None:
-        traffic, link = decoded.make_traffic(self.draws, 1), Link(2)
+        traffic = decoded.make_traffic(self.draws, 1)
         octets = welcome(2)
         for number, burst in enumerate(list(traffic.known)[:10]):
             octets += burst_frame(FrameType.TX, self.draws.randrange(2), burst, number) + b"\x83\0"

@@ -190,6 +190,8 @@ class Captured(unittest.TestCase):
                 capture.send_signal(signal.SIGINT)
                 said, faults = capture.communicate(timeout=300)
             self.assertIn(capture.returncode, (0, 3), said + faults)
+            if capture.returncode == 3:
+                self.assertIn("3000 placings were replayed, and no more are", said)
             with open(out, encoding="utf-8") as script, open(out + ".out", encoding="utf-8") as printed:
                 told, _ = read_printed(printed.read())
                 replayed = replay(built, path, script.read())

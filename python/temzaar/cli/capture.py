@@ -316,6 +316,7 @@ def report(options: argparse.Namespace, search: Search, replays: int) -> int:
     piece = search.pieces[search.reach]
     since = piece.time - search.pieces[0].time
     print(f"{options.out} does not replay to the same octets: from piece {search.reach + 1} on ({piece.input.line()[:40]}, {since:.2f} s after the first)")
+    print(f"{len(search.seen)} placings were replayed, " + ("and no more are" if search.is_at_bound() else "and none is left that leads further"))
     return 3
 
 

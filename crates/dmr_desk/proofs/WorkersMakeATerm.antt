@@ -12,7 +12,6 @@ use Rattle.dmr_desk.specs.declared.report.Report.{Report}
 use Rattle.dmr_desk.specs.declared.fault.CloseFault.{CloseFault}
 use Rattle.dmr_desk.specs.Audited.{IsAudited, IsFault}
 use Rattle.dmr_desk.specs.Pace.{Paced}
-use Rattle.dmr_desk.specs.Pages.{Pages, AreSoundPages}
 use Rattle.dmr_desk.specs.Refusing.{IsEarly, IsUnaudited, first_over, early_actor}
 use Rattle.dmr_desk.specs.Sitting.{Sitting, Opened, HasSeat}
 use Rattle.dmr_desk.specs.Views.{view_of}
@@ -217,22 +216,19 @@ has_seat n (suc i) (x ∷ xs) of low =
     let m : n + 1 + i ≡ n + suc i = omega arith in
     let P : ℕ → Type 0 = HasSeat (x ∷ xs) in subst P m (seat_behind x xs (n + 1 + i) (has_seat (n + 1) i xs of.1 (omega arith)))
 
-pub is_unaudited : (desk : Opened) (seats : List Sitting) (pages : Pages) (held : ℕ) (fault : CloseFault) (ss : List Stand) (ds : List Done) (before after : Option Paced) (ts : Sitting) (te : Ending) (s : Stand) (d : Done)
-    → desk.actors ≡ length ds + 2 → AreSoundPages pages → IsFault desk seats pages held fault → seats ≡ map (λ d. d.seat) ds ++ ts ∷ d.seat ∷ []
+pub is_unaudited : (desk : Opened) (seats : List Sitting) (fault : CloseFault) (ss : List Stand) (ds : List Done) (before after : Option Paced) (ts : Sitting) (te : Ending) (s : Stand) (d : Done)
+    → desk.actors ≡ length ds + 2 → IsFault desk seats fault → seats ≡ map (λ d. d.seat) ds ++ ts ∷ d.seat ∷ []
     → AllDone 0 ss ds → IsTicked (length ss) before after ts te → IsWorkDone (length ss + 1) s d → IsUnaudited (start_of_term desk.site desk.limit ss before s) fault
-is_unaudited desk seats pages held fault ss ds before after ts te s d actors kept refused es all ticked worked =
+is_unaudited desk seats fault ss ds before after ts te s d actors refused es all ticked worked =
     let all_of : AreOf 0 (map (λ x. x.seat) ds ++ ts ∷ d.seat ∷ []) = of_all 0 ss ds ts d.seat all (let e = ticked.0 in omega arith) (let e = worked.0 in omega arith) in
     let A : List Sitting → Type 0 = AreOf 0 in
     let ns : length (map (λ (x : Done). x.seat) ds) ≡ length ss = length-map ds (λ (x : Done). x.seat) ∙ all_done_length 0 ss ds all in
     let many : length seats ≡ length ss + 2 = ap length es ∙ length-append (map (λ (x : Done). x.seat) ds) (ts ∷ d.seat ∷ []) ∙ ap (λ (k : ℕ). k + 2) ns in
-    let F : ℕ → Type 0 = λ k. IsFault (record { site = desk.site; limit = desk.limit; actors = k }) seats pages held fault in
+    let F : ℕ → Type 0 = λ k. IsFault (record { site = desk.site; limit = desk.limit; actors = k }) seats fault in
     record {
       seats = seats;
-      pages = pages;
-      held = held;
       each = λ actor below.
           let z : 0 + actor ≡ actor = omega arith in
           let P : ℕ → Type 0 = HasSeat seats in subst P z (has_seat 0 actor seats (subst A (sym es) all_of) (omega arith));
-      kept = kept;
       refused = subst F (actors ∙ ap (λ (k : ℕ). k + 2) (all_done_length 0 ss ds all)) refused;
     }

@@ -8,7 +8,7 @@ use Rattle.dmr_link.specs.declared.desk.Deposit.{Deposit}
 use Rattle.dmr_desk.specs.declared.report.Report.{Report}
 use Rattle.dmr_desk.specs.declared.fault.CloseFault.{CloseFault}
 use Rattle.dmr_desk.specs.declared.fault.CloseFault.TheVariants.{SeatMissing, Differs}
-use Rattle.dmr_desk.specs.Pages.{Pages, site_after_entries}
+use Rattle.dmr_desk.specs.Pages.{AreSoundPages, site_after_entries}
 use Rattle.dmr_desk.specs.Sitting.{Sitting, Opened, HasSeat, NoneMissing}
 use Rattle.dmr_desk.specs.Views.{view_of}
 
@@ -39,10 +39,6 @@ pub record IsAudited (desk : Opened) (seats : List Sitting) (report : Report) : 
   pub gathered : AreGathered seats report.views.items
   pub actors : length report.views.items ≡ desk.actors
 
--- the book was opened with this site and this limit
-abbrev pub IsOpenedWith : Pages → SiteState → ℕ → Type 0
-IsOpenedWith pages opening limit = (pages.opening ≡ opening) × (pages.limit ≡ limit)
-
 -- the view of each actor below a number is what the journal has of it
 abbrev pub SameBelow : ℕ → List (List Deposit) → List Entry → Type 0
 SameBelow n views journal = (actor : ℕ) → actor < n → slice_get views actor ≡ Some (view_of actor journal)
@@ -52,38 +48,41 @@ abbrev pub IsDiffering : List (List Deposit) → List Entry → ℕ → Type 0
 IsDiffering views journal actor =
     (actor < length views) × (slice_get views actor ≢ Some (view_of actor journal)) × SameBelow actor views journal
 
--- why views are refused: the book is of another site or limit, or a view is not what its journal has of the actor
-abbrev pub IsOther : SiteState → ℕ → List (List Deposit) → Pages → CloseFault → Type 0
-IsOther opening limit views pages (SeatMissing actor) = ⊥
-IsOther opening limit views pages (Differs actor) = ((actor ≡ 0) × ¬ IsOpenedWith pages opening limit) ⊎ IsDiffering views pages.entries actor
-
 -- an actor below the number has no seat among these, and each of a lower number has one
 abbrev pub IsLeastMissing : List Sitting → ℕ → ℕ → Type 0
 IsLeastMissing seats actors actor = (actor < actors) × ¬ HasSeat seats actor × NoneMissing seats actor
-
--- why seats are refused: one is missing, that of the least such actor; or else there are not so many seats at this desk
-abbrev pub IsMissing : List Sitting → ℕ → ℕ → CloseFault → Type 0
-IsMissing seats actors held (SeatMissing actor) = IsLeastMissing seats actors actor
-IsMissing seats actors held (Differs actor) = (actor ≡ 0) × NoneMissing seats actors × (held ≢ actors)
-
--- what was behind the lock is this desk's: a book that was opened with its site and its limit, and the number of its seats
-abbrev pub IsOf : Opened → Pages → ℕ → Type 0
-IsOf desk pages held = IsOpenedWith pages desk.site desk.limit × (held ≡ desk.actors)
-
--- why there is no report: a seat is missing, that of the least such actor; or else what was behind the lock is not this desk's, or
--- what was deposited from an actor's seat is not what the journal has of it, the least such actor
-abbrev pub IsFault : Opened → List Sitting → Pages → ℕ → CloseFault → Type 0
-IsFault desk seats pages held (SeatMissing actor) = IsLeastMissing seats desk.actors actor
-IsFault desk seats pages held (Differs actor) =
-    NoneMissing seats desk.actors
-    × (((actor ≡ 0) × ¬ IsOf desk pages held)
-    ⊎ ((seat : Sitting) × Contains seats seat × (seat.actor ≡ actor) × (seat.deposits ≢ view_of actor pages.entries)
-    × ((other : Sitting) → Contains seats other → other.actor < actor → other.deposits ≡ view_of other.actor pages.entries)))
 
 -- how many deposits these views have together
 abbrev pub count_of_deposits : List (List Deposit) → ℕ
 count_of_deposits [] = 0
 count_of_deposits (view ∷ views) = length view + count_of_deposits views
+
+-- how many deposits were made from these seats together
+abbrev pub deposits_of_seats : List Sitting → ℕ
+deposits_of_seats [] = 0
+deposits_of_seats (seat ∷ seats) = length seat.deposits + deposits_of_seats seats
+
+-- a journal that a desk may have kept when this many events had been deposited: a site of its own plan and facts, an entry for each
+-- deposit, legal from that site, and within the limit
+pub record IsJournalFor (desk : Opened) (deposits : ℕ) (journal : List Entry) : Type 0 where
+  pub kept : AreSoundPages (record { opening = desk.site; limit = desk.limit; entries = journal })
+  pub counted : length journal ≡ deposits
+
+-- what was deposited from the seat of this actor is not what the journal has of it, and it is the least such actor
+pub record IsLeastDiffering (seats : List Sitting) (journal : List Entry) (actor : ℕ) : Type 0 where
+  pub seat : Sitting
+  pub has : Contains seats seat
+  pub own : seat.actor ≡ actor
+  pub differs : seat.deposits ≢ view_of actor journal
+  pub least : (other : Sitting) → Contains seats other → other.actor < actor → other.deposits ≡ view_of other.actor journal
+
+-- why there is no report of a desk: a seat is missing, that of the least such actor; or else each actor has its seat, there is no other
+-- seat, and what was deposited from a seat is not what a journal of this desk has of its actor, the least such actor
+abbrev pub IsFault : Opened → List Sitting → CloseFault → Type 0
+IsFault desk seats (SeatMissing actor) = IsLeastMissing seats desk.actors actor
+IsFault desk seats (Differs actor) =
+    NoneMissing seats desk.actors × (length seats ≡ desk.actors)
+    × (journal : List Entry) × IsJournalFor desk (deposits_of_seats seats) journal × IsLeastDiffering seats journal actor
 
 -- a list of seats from which one was taken out, and what is left
 pub record IsOutOf (seats : List Sitting) (seat : Sitting) (left : List Sitting) : Type 0 where
@@ -91,3 +90,4 @@ pub record IsOutOf (seats : List Sitting) (seat : Sitting) (left : List Sitting)
   pub had : Contains seats seat
   pub keeps : (other : Sitting) → Contains left other → Contains seats other
   pub others : (other : Sitting) → Contains seats other → (other ≡ seat) ⊎ Contains left other
+  pub counted : deposits_of_seats left + length seat.deposits ≡ deposits_of_seats seats

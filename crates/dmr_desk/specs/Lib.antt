@@ -1,3 +1,4 @@
+pub mod Limits
 pub mod Pages
 pub mod Views
 pub mod Sitting

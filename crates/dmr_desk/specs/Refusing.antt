@@ -12,7 +12,6 @@ use Rattle.dmr_desk.specs.declared.fault.TermFault.{TermFault}
 use Rattle.dmr_desk.specs.declared.fault.TermFault.TheVariants.{BadStations, Open, NoThread, Audit, Early}
 use Rattle.dmr_desk.specs.Audited.{IsFault}
 use Rattle.dmr_desk.specs.Opening.{IsLimit}
-use Rattle.dmr_desk.specs.Pages.{Pages, AreSoundPages}
 use Rattle.dmr_desk.specs.Sitting.{Sitting, HasSeat}
 use Rattle.dmr_desk.specs.Term.{Start, End, HasRun}
 use Rattle.dmr_desk.specs.Work.{Stand}
@@ -47,11 +46,8 @@ pub record IsEarly (start : Start) (actor : ℕ) : Type 0 where
 -- a desk that was opened with the site and the limit, and got the seats of all actors back, gave no report
 pub record IsUnaudited (start : Start) (fault : CloseFault) : Type 0 where
   pub seats : List Sitting
-  pub pages : Pages
-  pub held : ℕ
   pub each : (actor : ℕ) → actor < length start.stations + 2 → HasSeat seats actor
-  pub kept : AreSoundPages pages
-  pub refused : IsFault (record { site = start.site; limit = start.limit; actors = length start.stations + 2 }) seats pages held fault
+  pub refused : IsFault (record { site = start.site; limit = start.limit; actors = length start.stations + 2 }) seats fault
 
 -- what may be wrong where the stations are right: the first that applies
 abbrev pub IsFaultFor : Start → TermFault → Type 0

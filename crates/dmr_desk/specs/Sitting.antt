@@ -1,5 +1,7 @@
 -- Seats, and the desk that they stand round.
-use Rattle.std.specs.Prelude.{◌≡◌, ◌<◌, ◌++◌, ℕ, zero, suc, List, [], ◌∷◌, Contains}
+use Rattle.std.specs.Prelude.{◌≡◌, ◌<◌, ◌++◌, ℕ, zero, suc, false, List, [], ◌∷◌, None, Contains}
+use Rattle.dmr_plan.specs.declared.settings.Settings.{Settings}
+use Rattle.dmr_core.specs.Facts.{no_facts}
 use Rattle.dmr_core.specs.declared.event.Event.{Event}
 use Rattle.dmr_core.specs.declared.act.Acts.{Acts}
 use Rattle.dmr_core.specs.State.{SiteState}
@@ -14,11 +16,47 @@ pub record Sitting : Type 0 where
 abbrev pub seat_with_deposit : Sitting → Event → Acts → Sitting
 seat_with_deposit seat event acts = record { actor = seat.actor; deposits = seat.deposits ++ record { event = event; acts = acts } ∷ [] }
 
+-- settings that no site file gives
+abbrev pub no_settings : Settings
+no_settings = record {
+  system = 0;
+  regi = 0;
+  tsi = 0;
+  leave_bit = None;
+  aloha_sync = false;
+  aloha_version = 0;
+  aloha_offset = false;
+  aloha_active = false;
+  nrand_wait = 0;
+  hang = 0;
+  maximum = 0;
+  ahoy_wait = 0;
+  ahoy_tries = 0;
+  grant_copies = 0;
+  clear_copies = 0;
+  backoff_low = 0;
+  backoff_high = 0;
+  tick_ms = 0;
+  silence = 0;
+  term_entries = 0;
+  link_version = 0;
+  address = [];
+  console_port = 0;
+  radios = [];
+  groups = [];
+  carriers = [];
+  control = 0;
+}
+
 -- a desk: the site when it was opened, the most entries that its journal may have, and how many actors it has
 pub record Opened : Type 0 where
   pub site : SiteState
   pub limit : ℕ
   pub actors : ℕ
+
+-- a desk for nothing, which no call opens: what a ledger names where the call that makes it picks nothing
+abbrev pub unopened : Opened
+unopened = record { site = record { plan = no_settings; facts = no_facts }; limit = 0; actors = 0 }
 
 -- a seat of this actor is among them
 abbrev pub HasSeat : List Sitting → ℕ → Type 0

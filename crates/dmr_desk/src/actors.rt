@@ -5,6 +5,7 @@ ghost use Rattle.dmr_desk.specs.Term.{HasWorked, HasTicked, IsWorkDone, IsTicked
 
 use crate::at::SeatAt;
 use crate::desk::SharedDesk;
+use crate::desk_ledger::DeskLedger;
 use crate::ending::Ending;
 use crate::pace::{Pacer, work_ticker};
 use crate::seat::Seat;
@@ -56,7 +57,7 @@ impl<T: Pacer, L: Ledger> Promise<TickerWork<T, L>> for TickerKept<T> {
 }
 
 /// Serves a station from a seat that is new.
-pub fn serve_at<S: Serving, L: Ledger, R: Wait>(
+pub fn serve_at<S: Serving, L: DeskLedger, R: Wait>(
     rt: &R,
     desk: &SharedDesk<L>,
     station: S,
@@ -77,7 +78,7 @@ pub fn serve_at<S: Serving, L: Ledger, R: Wait>(
 }
 
 /// Hands in ticks from a seat that is new.
-pub fn tick_at<T: Pacer, L: Ledger, R: Wait>(
+pub fn tick_at<T: Pacer, L: DeskLedger, R: Wait>(
     rt: &R,
     desk: &SharedDesk<L>,
     pacer: T,

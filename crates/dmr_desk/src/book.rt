@@ -125,13 +125,6 @@ impl Book {
         self.journal.as_slice()
     }
 
-    /// Whether it was opened with a site of the same plan and facts, and for as many entries.
-    pub(crate) fn is_of(&self, opening: &Site, limit: usize) -> bool
-        ensures { IsTrue result ↔ ((self.now.opening ≡ opening.now) × (self.now.limit ≡ limit)) }
-    {
-        self.opening == *opening && self.limit == limit
-    }
-
     /// The site as the journal leaves it, and the journal.
     pub fn into_parts(self) -> (Site, Journal)
         ensures site { result.0 ≡ site_after_entries self.opening self.entries }

@@ -1,14 +1,17 @@
 //! The desk: a book behind a lock, and seats round it.
 
-ghost use Rattle.std.specs.Prelude.{◌≡◌, ◌≤◌, ◌+◌, ◌↔◌, ◌⊎◌, ℕ, length, true, false, IsTrue, IfOk, IfErr, OnOk};
-ghost use Rattle.dmr_desk.specs.Pages.{AreSoundPages, Pages, answer_to, pages_with_entry};
+ghost use Rattle.std.specs.Prelude.{◌≡◌, ◌≤◌, ◌+◌, ◌↔◌, ◌⊎◌, length, true, false, IsTrue, IfOk, IfErr, OnOk};
+ghost use Rattle.dmr_desk.specs.Pages.{answer_to, pages_with_entry};
 ghost use Rattle.dmr_desk.specs.Sitting.{seat_with_deposit, empty_seats};
+ghost use Rattle.dmr_desk.specs.Limits.{most_actors};
 ghost use Rattle.dmr_desk.specs.Opening.{IsLimit, IsNumber, IsRefused};
 ghost use Rattle.dmr_desk.specs.Audited.{IsAudited, IsFault};
 
 use crate::audit::{audited, gathered};
 use crate::book::Book;
+use crate::desk_ledger::DeskLedger;
 use crate::fault::{CloseFault, OpenFault};
+use crate::limits::{MOST_ACTORS, MOST_ENTRIES};
 use crate::report::Report;
 use crate::seat::Seat;
 use dmr_core::{Acts, Event, Site};
@@ -19,25 +22,22 @@ use std::marker::Model;
 use std::sync::ledger::{Blank, Ledger, Share};
 use std::sync::{Mutex, Wait, ledger};
 
-/// How many parts the ledger has that a desk is opened with: as many as it may have actors. Each seat has one part, and the lock
-/// keeps the others.
-pub const PARTS: u64 = 18;
-
 /// What the lock keeps: the book, the ledger's total, which is how many entries the book has, the parts of the ledger that no
-/// seat has, how many seats there are, and whether the desk was abandoned.
+/// seat has, how many seats there are, and whether the desk was abandoned. By its type it is of the desk that the ledger names.
 #[derive(Drop)]
-struct Locked<L: Ledger> {
+struct Locked<L: DeskLedger> {
     book: Book,
     total: ledger::Book<L>,
     rest: Share<L>,
     actors: u8,
     abandoned: bool,
+    ghost of_desk: { L.desk ≡ record { site = book.opening; limit = book.limit; actors = actors } },
     ghost counted: { length book.entries ≡ total.total },
-    ghost rest_is: { rest.parts + actors ≡ 18 },
+    ghost rest_is: { rest.parts + actors ≡ most_actors },
     ghost rest_idle: { rest.amount ≡ 0 },
 }
 
-impl<L: Ledger> Locked<L> {
+impl<L: DeskLedger> Locked<L> {
     /// Tells the site an event from a seat. `Err`: there is no room, or the desk was abandoned, and nothing has changed; it has the
     /// number of the book's entries.
     fn tell(&mut self, seat: &mut Seat<L>, event: &Event) -> Result<Acts, TermOver>
@@ -76,18 +76,12 @@ impl<L: Ledger> Locked<L> {
         self.abandoned = true;
     }
 
-    /// The report of the book and these seats, where there is one seat of each of so many actors, the book is of this site and
-    /// limit, and each seat has what the journal has of its actor.
-    fn audit(
-        self,
-        opening: &Site,
-        limit: usize,
-        number: u8,
-        seats: Vec<Seat<L>>,
-    ) -> Result<Report, CloseFault>
-        requires { L.parts ≡ 18 }
-        ensures ok { IfOk result (λ report. IsAudited (record { site = opening.now; limit = limit; actors = number }) seats.items report) }
-        ensures fault { IfErr result (λ fault. IsFault (record { site = opening.now; limit = limit; actors = number }) seats.items self.book self.actors fault) }
+    /// The report of the book and these seats. `Err`: a seat is missing, that of the least such actor; or else a seat differs from
+    /// the journal, that of the least such actor.
+    fn audit(self, seats: Vec<Seat<L>>) -> Result<Report, CloseFault>
+        requires { L.parts ≡ most_actors }
+        ensures ok { IfOk result (λ report. IsAudited (record { site = self.book.opening; limit = self.book.limit; actors = self.actors }) seats.items report) }
+        ensures fault { IfErr result (λ fault. IsFault (record { site = self.book.opening; limit = self.book.limit; actors = self.actors }) seats.items fault) }
     {
         let Locked {
             book,
@@ -96,14 +90,18 @@ impl<L: Ledger> Locked<L> {
             actors,
             ..
         } = self;
-        match gathered(seats, rest, actors, number) {
+        book.keeps();
+        match gathered(seats, rest, actors) {
             Ok((views, mut all)) => {
                 total.audit(&mut all);
-                audited(book, views, opening, limit)
+                match audited(book, views) {
+                    Ok(report) => Ok(report),
+                    Err(actor) => Err(CloseFault::Differs(actor)),
+                }
             }
-            Err(fault) => {
+            Err(actor) => {
                 drop(book);
-                Err(fault)
+                Err(CloseFault::SeatMissing(actor))
             }
         }
     }
@@ -132,29 +130,26 @@ fn seats_for<L: Ledger>(
 }
 
 /// One site that many threads tell events to, one at a time. Contracts see the site at its opening, the most entries that the
-/// journal may have, and the number of actors. What is behind the lock they cannot name; what it was is shown by the report, when
-/// the desk is closed.
+/// journal may have, and the number of actors, as the desk's ledger names them. What is behind the lock they cannot name; what it was
+/// is shown by the report, when the desk is closed.
 #[derive(Drop)]
-pub struct SharedDesk<L: Ledger> {
+pub struct SharedDesk<L: DeskLedger> {
     locked: Mutex<Locked<L>>,
-    opening: Site,
-    limit: usize,
-    actors: u8,
 }
 
-impl<L: Ledger> Model for SharedDesk<L> {
+impl<L: DeskLedger> Model for SharedDesk<L> {
     ghost use Rattle.dmr_desk.specs.Sitting.{Opened};
 
     ghost Value = { Opened };
 
-    ghost view = { λ d. record { site = d.opening; limit = d.limit; actors = d.actors } };
+    ghost view = { λ d. L.desk };
 }
 
-impl<L: Ledger> SharedDesk<L> {
+impl<L: DeskLedger> SharedDesk<L> {
     /// The desk of a site, and the seats of `actors` actors, which are numbered from 0, in this order. The journal may have
     /// `limit` entries; the journal and each seat have room for so many from the beginning. The blank is that of the ledger `L`,
-    /// of [`PARTS`] parts. `Err`: the first fault that applies, in the order of [`OpenFault`]; the site is handed back as it was,
-    /// the blank is used up.
+    /// of [`PARTS`](crate::PARTS) parts, and the ledger names this site, this limit and this number of actors ([`DeskLedger`]). `Err`: the first fault
+    /// that applies, in the order of [`OpenFault`]; the site is handed back as it was, the blank is used up.
     pub fn open(
         alloc: Global,
         blank: Blank,
@@ -164,25 +159,22 @@ impl<L: Ledger> SharedDesk<L> {
     ) -> Result<(SharedDesk<L>, Vec<Seat<L>>), (OpenFault, Site)>
         requires name { blank.name ≡ L.name }
         requires parts { blank.parts ≡ L.parts }
-        requires eighteen { blank.parts ≡ 18 }
+        requires eighteen { blank.parts ≡ most_actors }
+        requires desk { L.desk ≡ record { site = site; limit = limit; actors = actors } }
         ensures numbers { OnOk result (IsLimit limit × IsNumber actors) }
         ensures desk { IfOk result (λ opened. opened.0 ≡ record { site = site; limit = limit; actors = actors }) }
         ensures seats { IfOk result (λ opened. opened.1.items ≡ empty_seats actors) }
         ensures fault { IfErr result (λ refused. IsRefused limit actors refused.0) }
         ensures site { IfErr result (λ refused. refused.1 ≡ site) }
     {
-        if limit == 0 || limit > 100_000 {
+        if limit == 0 || limit > MOST_ENTRIES {
             return Err((OpenFault::BadLimit, site));
         }
-        if actors == 0 || actors > 18 {
+        if actors == 0 || usize::from(actors) > MOST_ACTORS {
             return Err((OpenFault::BadActors, site));
         }
-        let Ok(opening) = site.try_clone(alloc) else {
-            return Err((OpenFault::OutOfMemory, site));
-        };
         let (total, mut rest) = blank.open::<L>();
         let Ok(seats) = seats_for(alloc, &mut rest, limit, actors) else {
-            drop(opening);
             return Err((OpenFault::OutOfMemory, site));
         };
         match Book::new(alloc, site, limit) {
@@ -194,20 +186,9 @@ impl<L: Ledger> SharedDesk<L> {
                     actors,
                     abandoned: false,
                 });
-                Ok((
-                    SharedDesk {
-                        locked,
-                        opening,
-                        limit,
-                        actors,
-                    },
-                    seats,
-                ))
+                Ok((SharedDesk { locked }, seats))
             }
-            Err((_, site)) => {
-                drop(opening);
-                Err((OpenFault::OutOfMemory, site))
-            }
+            Err((_, site)) => Err((OpenFault::OutOfMemory, site)),
         }
     }
 
@@ -243,24 +224,15 @@ impl<L: Ledger> SharedDesk<L> {
 
     /// Closes the desk, with its seats in any order. The report has the site, the journal, and the view of each actor, moved out of
     /// its seat; what it says, [`reports_account`](crate::reports_account) says in one place. It takes no memory. `Err`: a seat is
-    /// missing, of the least actor of which that is so; or else a seat differs from the journal, of the least such actor, or the
-    /// book is not the desk's, as [`CloseFault`] tells. Site, journal and seats are gone then. The clause says so of some book that
-    /// keeps what every book keeps: the one that was behind the lock contracts cannot name.
+    /// missing, of the least actor of which that is so; or else a seat differs from the journal, of the least such actor. Site, journal
+    /// and seats are gone then. Of the journal from which a seat differs the clause says that it is legal from the desk's site, within
+    /// the desk's limit, and has one entry for each deposit of all seats; contracts cannot name the one that was behind the lock.
     pub fn close<R: Wait>(self, _rt: &R, seats: Vec<Seat<L>>) -> Result<Report, CloseFault>
-        requires { L.parts ≡ 18 }
+        requires { L.parts ≡ most_actors }
         ensures ok { IfOk result (λ report. IsAudited self seats.items report) }
-        ensures fault { IfErr result (λ fault. (pages : Pages) × (held : ℕ) × AreSoundPages pages × IsFault self seats.items pages held fault) }
+        ensures fault { IfErr result (λ fault. IsFault self seats.items fault) }
     {
-        let SharedDesk {
-            locked,
-            opening,
-            limit,
-            actors,
-        } = self;
-        let locked = locked.into_inner();
-        locked.book.keeps();
-        let closed = locked.audit(&opening, limit, actors, seats);
-        drop(opening);
-        closed
+        let SharedDesk { locked } = self;
+        locked.into_inner().audit(seats)
     }
 }

@@ -23,9 +23,8 @@ pub enum CloseFault {
     /// No seat of this actor, which is one of the desk's, was handed in.
     #[error("the seat of actor {0} is missing")]
     SeatMissing(u8),
-    /// What was deposited from this actor's seat is not what the journal has of the actor; or, told of actor 0, what was behind the
-    /// lock is not of the site, the limit and the number of actors that the desk was opened with. The latter is looked at since no
-    /// contract says that what comes out of a lock is what went in.
+    /// What was deposited from this actor's seat is not what the journal has of the actor. That the site, the limit and the number of
+    /// actors behind the lock are those that the desk was opened with is proved.
     #[error("the seat of actor {0} differs from the journal")]
     Differs(u8),
 }

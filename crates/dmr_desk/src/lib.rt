@@ -12,7 +12,9 @@
 //!   [`Pacer`]. [`run_term`] gives each of them a thread round one desk, waits for all, closes the desk, and gives a [`Term`].
 //!
 //! That no entry is of anybody else needs no comparison. A desk and its seats share the parts of a ledger, in which each deposit
-//! counts one; when all parts are together, the journal is exactly as long as all seats' lists.
+//! counts one; when all parts are together, the journal is exactly as long as all seats' lists. Nor does it need a comparison that what
+//! comes out of the lock is of the desk's own site, limit and number of actors: the ledger names these, as a [`DeskLedger`], and the
+//! type of what the lock keeps says that it is of the desk that its ledger names.
 //!
 //! What a worker's connections mean, all together, [`one_record`] and [`one_meaning`] say.
 #![tactic(auto)]
@@ -22,9 +24,11 @@ mod at;
 mod audit;
 mod book;
 mod desk;
+mod desk_ledger;
 mod ending;
 mod fault;
 mod laws;
+mod limits;
 mod meaning;
 mod pace;
 mod report;
@@ -39,10 +43,12 @@ mod work;
 
 pub use at::SeatAt;
 pub use book::Book;
-pub use desk::{PARTS, SharedDesk};
+pub use desk::SharedDesk;
+pub use desk_ledger::DeskLedger;
 pub use ending::Ending;
 pub use fault::{CloseFault, OpenFault, TermFault};
 pub use laws::reports_account;
+pub use limits::{MOST_ACTORS, MOST_ENTRIES, PARTS, limits_are_stated};
 pub use meaning::{one_meaning, one_record};
 pub use pace::{Pace, Pacer, work_ticker};
 pub use report::{Journal, Report, Views};

@@ -1,15 +1,18 @@
 //! Running a term.
 
 ghost use Rattle.std.specs.Prelude.{◌≡◌, ◌+◌, ◌-◌, ◌≤◌, ◌↔◌, ℕ, [], IfErr, IfOk, IsTrue, None, OnOk, Some, map, slice_get, vec_capacity, vec_len};
+ghost use Rattle.dmr_desk.specs.Limits.{most_actors};
 ghost use Rattle.dmr_desk.specs.Opening.{IsLimit};
 ghost use Rattle.dmr_desk.specs.Refusing.{AreStations, IsFaultFor, IsTermFault, carrier_of_peer, numbers_from};
 ghost use Rattle.dmr_desk.specs.Term.{IsTerm, end_of_term, start_of_term};
 ghost use Rattle.dmr_desk.specs.Work.{stand};
 
 use crate::actors::LinkWork;
-use crate::desk::{PARTS, SharedDesk};
+use crate::desk::SharedDesk;
+use crate::desk_ledger::DeskLedger;
 use crate::ending::Ending;
 use crate::fault::{OpenFault, TermFault};
+use crate::limits::PARTS;
 use crate::pace::Pacer;
 use crate::station::{ConsoleStation, Serving, Station};
 use crate::term::{Back, Term, finish, run_threads};
@@ -83,12 +86,13 @@ where
     S: Serving + Send + Drop,
     T: Pacer + Send + Drop,
     C: Serving + Send + Drop,
-    L: Ledger + Send + Sync,
+    L: DeskLedger + Send + Sync,
     R: Wait + Threads + Sync,
     requires name { blank.name ≡ L.name }
     requires parts { blank.parts ≡ L.parts }
-    requires eighteen { blank.parts ≡ 18 }
+    requires eighteen { blank.parts ≡ most_actors }
     requires few { vec_len stations ≤ 16 }
+    requires desk { L.desk ≡ record { site = site; limit = limit; actors = vec_len stations + 2 } }
     ensures term { IfOk result (λ t. IsTerm (start_of_term site limit (map (λ s. S.stand s) stations.items) (T.paced pacer) (C.stand console))
         (end_of_term t.report t.ends.items (map (λ s. S.stand s) t.stations.items) (T.paced t.pacer) (C.stand t.console))) }
     ensures shut { IfOk result (λ t. (k : ℕ) (s : _) → slice_get t.stations.items k ≡ Some s → slice_get t.ends.items k ≡ Some Ending.GateShut → S.shut s) }

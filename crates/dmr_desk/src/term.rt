@@ -2,6 +2,7 @@
 
 ghost use Rattle.std.specs.Prelude.{◌≡◌, ◌+◌, ◌≤◌, ◌<◌, ◌++◌, ◌∷◌, [], ℕ, All, List, Option, Some, IfOk, IfErr, IfSome, map, slice_get, vec_len, vec_capacity, length};
 ghost use Rattle.arrayvec.specs.ArrayVec.{array_vec_len};
+ghost use Rattle.dmr_desk.specs.Limits.{most_actors};
 ghost use Rattle.dmr_desk.specs.Pace.{Paced};
 ghost use Rattle.dmr_desk.specs.Refusing.{IsLate, early_actor, first_over};
 ghost use Rattle.dmr_desk.specs.Sitting.{empty_seats};
@@ -10,8 +11,10 @@ ghost use Rattle.dmr_desk.specs.Work.{Stand};
 
 use crate::actors::LinkWork;
 use crate::desk::SharedDesk;
+use crate::desk_ledger::DeskLedger;
 use crate::ending::Ending;
 use crate::fault::TermFault;
+use crate::limits::MOST_ACTORS;
 use crate::pace::Pacer;
 use crate::report::{Journal, Report};
 use crate::seat::Seat;
@@ -28,7 +31,7 @@ pub struct Term<S, T, C> {
     /// The site, the journal, and what each actor told the site.
     pub report: Report,
     /// Why each actor's worker ended, by number: the stations', the ticker's, the console's.
-    pub ends: ArrayVec<Ending, 18>,
+    pub ends: ArrayVec<Ending, MOST_ACTORS>,
     /// The stations, in the order in which they were handed in.
     pub stations: Vec<S>,
     /// The pacer.
@@ -50,7 +53,7 @@ fn first_told(from: u8, ends: &[Ending]) -> Option<u8>
 }
 
 /// The least actor that was told that the term is over, though the journal is below its limit.
-fn early(journal: &Journal, limit: usize, ends: &ArrayVec<Ending, 18>) -> Option<u8>
+fn early(journal: &Journal, limit: usize, ends: &ArrayVec<Ending, MOST_ACTORS>) -> Option<u8>
     ensures { result ≡ early_actor (length journal.now) limit ends.now.items }
 {
     if journal.as_slice().len() < limit {
@@ -68,14 +71,14 @@ pub struct Back<S, L: Ledger> {
     /// The seats.
     pub seats: Vec<Seat<L>>,
     /// Why each worker ended.
-    pub ends: ArrayVec<Ending, 18>,
+    pub ends: ArrayVec<Ending, MOST_ACTORS>,
 }
 
 /// Takes apart what the carriers' workers handed back, and puts it behind what is there.
 fn gather<S: Drop, L: Ledger>(mut works: Vec<LinkWork<S, L>>, back: Back<S, L>) -> Back<S, L>
     requires stations { vec_len back.stations + vec_len works ≤ vec_capacity back.stations }
     requires seats { vec_len back.seats + vec_len works ≤ vec_capacity back.seats }
-    requires ends { array_vec_len back.ends + vec_len works ≤ 18 }
+    requires ends { array_vec_len back.ends + vec_len works ≤ most_actors }
     ensures stations { result.stations.items ≡ back.stations.items ++ map (λ w. w.station) works.items }
     ensures seats { result.seats.items ≡ back.seats.items ++ map (λ w. w.seat) works.items }
     ensures ends { result.ends.items ≡ back.ends.items ++ map (λ w. w.ending) works.items }
@@ -143,9 +146,9 @@ where
     S: Serving + Drop,
     T: Pacer + Drop,
     C: Serving + Drop,
-    L: Ledger,
+    L: DeskLedger,
     R: Wait,
-    requires whole { L.parts ≡ 18 }
+    requires whole { L.parts ≡ most_actors }
     requires limit { desk.limit ≡ limit }
     requires actors { desk.actors ≡ vec_len all.carriers + 2 }
     requires few { vec_len all.carriers ≤ 16 }
@@ -210,7 +213,7 @@ where
     S: Serving + Send + Drop,
     T: Pacer + Send + Drop,
     C: Serving + Send + Drop,
-    L: Ledger + Send + Sync,
+    L: DeskLedger + Send + Sync,
     R: Wait + Threads + Sync,
     requires seats { seats.items ≡ empty_seats (vec_len stations + 2) }
     requires empty { room.items ≡ [] }

@@ -5,6 +5,7 @@ ghost use Rattle.dmr_desk.specs.Term.{AllDone, AreNew, IsWorkDone, IsNew, IsTick
 
 use crate::actors::{LinkKept, LinkWork, TickerKept, TickerWork, serve_at, tick_at};
 use crate::desk::SharedDesk;
+use crate::desk_ledger::DeskLedger;
 use crate::ending::Ending;
 use crate::pace::Pacer;
 use crate::seat::Seat;
@@ -49,7 +50,7 @@ fn run_console<'s, E, C, L, R>(
 ) -> Option<LinkWork<C, L>>
 where
     C: Serving + Send + Drop + 's,
-    L: Ledger + Send + Sync + 's,
+    L: DeskLedger + Send + Sync + 's,
     R: Wait + Threads + Sync,
     requires { seat.deposits ≡ [] }
     ensures done { IfSome result (λ r. IsWorkDone seat.actor (C.stand station) (work_done (C.stand r.station) r.seat r.ending)) }
@@ -84,7 +85,7 @@ where
     S: Serving + Send + Drop + 's,
     T: Pacer + Send + Drop + 's,
     C: Serving + Send + Drop + 's,
-    L: Ledger + Send + Sync + 's,
+    L: DeskLedger + Send + Sync + 's,
     R: Wait + Threads + Sync,
     requires pacer { others.pacer_seat.deposits ≡ [] }
     requires console { others.console_seat.deposits ≡ [] }
@@ -141,7 +142,7 @@ where
     S: Serving + Send + Drop + 's,
     T: Pacer + Send + Drop + 's,
     C: Serving + Send + Drop + 's,
-    L: Ledger + Send + Sync + 's,
+    L: DeskLedger + Send + Sync + 's,
     R: Wait + Threads + Sync,
     requires each { vec_len seats ≡ vec_len stations }
     requires new { AreNew 0 seats.items }
@@ -220,7 +221,7 @@ where
     S: Serving + Send + Drop + 's,
     T: Pacer + Send + Drop + 's,
     C: Serving + Send + Drop + 's,
-    L: Ledger + Send + Sync + 's,
+    L: DeskLedger + Send + Sync + 's,
     R: Wait + Threads + Sync,
     ensures carriers { IfSome result (λ r. AllDone 0 (map (λ s. S.stand s) crew.stations.items) (map (λ w. work_done (S.stand w.station) w.seat w.ending) r.carriers.items)) }
     ensures shut { IfSome result (λ r. All (λ w. w.ending ≡ Ending.GateShut → S.shut w.station) r.carriers.items) }
@@ -249,7 +250,7 @@ where
     S: Serving + Send + Drop,
     T: Pacer + Send + Drop,
     C: Serving + Send + Drop,
-    L: Ledger + Send + Sync,
+    L: DeskLedger + Send + Sync,
     R: Wait + Threads + Sync,
     ensures carriers { IfSome result (λ r. AllDone 0 (map (λ s. S.stand s) crew.stations.items) (map (λ w. work_done (S.stand w.station) w.seat w.ending) r.carriers.items)) }
     ensures shut { IfSome result (λ r. All (λ w. w.ending ≡ Ending.GateShut → S.shut w.station) r.carriers.items) }

@@ -5,10 +5,10 @@ ghost use Rattle.std.specs.Prelude.{◌≡◌};
 use crate::calls::{busy_site, go_on_alike};
 use crate::verdict::{Verdict, verdict_if};
 use dmr_core::Site;
-use dmr_desk::{Book, OpenFault, PARTS, SharedDesk};
+use dmr_desk::{Book, DeskLedger, OpenFault, PARTS, SharedDesk};
 use std::alloc::Global;
 use std::marker::Brand;
-use std::sync::ledger::{Blank, Ledger};
+use std::sync::ledger::Blank;
 
 /// Makes a book.
 pub fn new_book(alloc: Global) -> Verdict {
@@ -47,10 +47,11 @@ pub fn open_desk(alloc: Global) -> Verdict {
 }
 
 /// Why a desk is not opened, and its site.
-fn refused<L: Ledger>(alloc: Global, blank: Blank, site: Site) -> Option<(OpenFault, Site)>
+fn refused<L: DeskLedger>(alloc: Global, blank: Blank, site: Site) -> Option<(OpenFault, Site)>
     requires name { blank.name ≡ L.name }
     requires parts { blank.parts ≡ L.parts }
     requires eighteen { blank.parts ≡ 18 }
+    requires desk { L.desk ≡ record { site = site; limit = 100; actors = 4 } }
 {
     SharedDesk::<L>::open(alloc, blank, site, 100, 4).err()
 }

@@ -4,13 +4,13 @@ ghost use Rattle.std.specs.Prelude.{◌≡◌};
 
 use crate::site::quiet_site;
 use dmr_core::{Event, Site};
-use dmr_desk::{OpenFault, PARTS, Seat, SharedDesk};
+use dmr_desk::{DeskLedger, OpenFault, PARTS, Seat, SharedDesk};
 use dmr_link::TermOver;
 use dmr_pdu::CarrierNo;
 use std::alloc::Global;
 use std::marker::Brand;
 use std::sync::Wait;
-use std::sync::ledger::{Blank, Ledger};
+use std::sync::ledger::Blank;
 use std::test::Fail;
 
 /// Two events: carrier 0 comes up, and polls.
@@ -19,7 +19,7 @@ fn two_events() -> [Event; 2] {
 }
 
 /// The fault of a desk that is not opened, and the site that is handed back.
-fn refused<L: Ledger>(
+fn refused<L: DeskLedger>(
     alloc: Global,
     blank: Blank,
     site: Site,
@@ -29,6 +29,7 @@ fn refused<L: Ledger>(
     requires name { blank.name ≡ L.name }
     requires parts { blank.parts ≡ L.parts }
     requires eighteen { blank.parts ≡ 18 }
+    requires desk { L.desk ≡ record { site = site; limit = limit; actors = actors } }
 {
     SharedDesk::<L>::open(alloc, blank, site, limit, actors).err()
 }
@@ -84,7 +85,7 @@ fn a_desk_that_is_not_opened(rt: HostRuntime) -> Result<(), Fail> {
 
 /// Whether a desk with room for two events takes two, refuses the third with two entries, is over then and not before, and the seat
 /// keeps two.
-fn refuses_third<L: Ledger, R: Wait>(rt: &R, desk: &SharedDesk<L>, seat: &mut Seat<L>) -> bool {
+fn refuses_third<L: DeskLedger, R: Wait>(rt: &R, desk: &SharedDesk<L>, seat: &mut Seat<L>) -> bool {
     let mut refused = !desk.over(rt);
     let events = two_events();
     for event in &events {
@@ -97,7 +98,7 @@ fn refuses_third<L: Ledger, R: Wait>(rt: &R, desk: &SharedDesk<L>, seat: &mut Se
 
 /// What becomes of a desk with room for two events and one actor: whether the third was refused with two entries, the term was
 /// over then and not before, and the seat kept two; and the site and how many entries the report has.
-fn third_of_two<L: Ledger, R: Wait>(
+fn third_of_two<L: DeskLedger, R: Wait>(
     rt: &R,
     alloc: Global,
     blank: Blank,
@@ -106,6 +107,7 @@ fn third_of_two<L: Ledger, R: Wait>(
     requires name { blank.name ≡ L.name }
     requires parts { blank.parts ≡ L.parts }
     requires eighteen { blank.parts ≡ 18 }
+    requires desk { L.desk ≡ record { site = site; limit = 2; actors = 1 } }
 {
     let (desk, mut seats) = SharedDesk::<L>::open(alloc, blank, site, 2, 1).ok()?;
     let mut refused = false;

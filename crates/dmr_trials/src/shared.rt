@@ -4,14 +4,14 @@ ghost use Rattle.std.specs.Prelude.{◌≡◌};
 
 use crate::site::quiet_site;
 use dmr_core::{Command, Event, Reply, Site};
-use dmr_desk::{Book, CloseFault, OpenFault, PARTS, Report, Seat, SeatAt, SharedDesk};
+use dmr_desk::{Book, CloseFault, DeskLedger, OpenFault, PARTS, Report, Seat, SeatAt, SharedDesk};
 use dmr_link::{Desk, TermOver};
 use dmr_pdu::CarrierNo;
 use std::alloc::Global;
 use std::marker::Brand;
 use std::process::Abort;
 use std::sync::Wait;
-use std::sync::ledger::{Blank, Ledger};
+use std::sync::ledger::Blank;
 use std::test::Fail;
 use std::thread;
 use std::thread::Threads;
@@ -28,7 +28,7 @@ enum Outcome {
 }
 
 /// What becomes of a desk at which nothing is deposited, and to which only so many seats are handed back.
-fn open_and_close<L: Ledger, R: Wait>(
+fn open_and_close<L: DeskLedger, R: Wait>(
     rt: &R,
     alloc: Global,
     blank: Blank,
@@ -40,6 +40,7 @@ fn open_and_close<L: Ledger, R: Wait>(
     requires name { blank.name ≡ L.name }
     requires parts { blank.parts ≡ L.parts }
     requires eighteen { blank.parts ≡ 18 }
+    requires desk { L.desk ≡ record { site = site; limit = limit; actors = actors } }
 {
     let (desk, mut seats) = match SharedDesk::<L>::open(alloc, blank, site, limit, actors) {
         Ok(opened) => opened,
@@ -115,7 +116,7 @@ fn book_of_one_entry(rt: HostRuntime) -> Result<(), Fail> {
 }
 
 /// Deposits an event again and again from a seat, until the term is over, and gives the seat back.
-fn deposit_all<L: Ledger, R: Wait>(
+fn deposit_all<L: DeskLedger, R: Wait>(
     rt: &R,
     desk: &SharedDesk<L>,
     seat: Seat<L>,
@@ -133,7 +134,7 @@ fn deposit_all<L: Ledger, R: Wait>(
 
 /// The report of a desk at which two threads deposit at once, each an event of its own a thousand times. Where memory is
 /// wanting there is none.
-fn at_once<L: Ledger + Send + Sync, R: Wait + Threads + Sync>(
+fn at_once<L: DeskLedger + Send + Sync, R: Wait + Threads + Sync>(
     rt: &R,
     alloc: Global,
     blank: Blank,
@@ -143,6 +144,7 @@ fn at_once<L: Ledger + Send + Sync, R: Wait + Threads + Sync>(
     requires name { blank.name ≡ L.name }
     requires parts { blank.parts ≡ L.parts }
     requires eighteen { blank.parts ≡ 18 }
+    requires desk { L.desk ≡ record { site = site; limit = limit; actors = 2 } }
 {
     let Some((desk, mut seats)) = SharedDesk::<L>::open(alloc, blank, site, limit, 2).ok() else {
         return Err(CloseFault::Differs(0));
@@ -196,7 +198,7 @@ fn two_threads(rt: HostRuntime) -> Result<(), Fail> {
 }
 
 /// Asks again and again from a seat whether the term is over, until it is, and gives the seat back.
-fn wait_until_over<L: Ledger, R: Wait>(rt: &R, desk: &SharedDesk<L>, seat: Seat<L>) -> Seat<L> {
+fn wait_until_over<L: DeskLedger, R: Wait>(rt: &R, desk: &SharedDesk<L>, seat: Seat<L>) -> Seat<L> {
     let mut at = SeatAt::new(rt, desk, seat);
     for _ in rt.forever() {
         if at.over() {
@@ -207,7 +209,7 @@ fn wait_until_over<L: Ledger, R: Wait>(rt: &R, desk: &SharedDesk<L>, seat: Seat<
 }
 
 /// A desk of ten entries that is abandoned behind its first, while another thread waits for the end: what it answers, and reports.
-fn abandon_behind_one<L: Ledger + Send + Sync, R: Abort + AllocGlobal + Wait + Threads + Sync>(
+fn abandon_behind_one<L: DeskLedger + Send + Sync, R: Abort + AllocGlobal + Wait + Threads + Sync>(
     rt: &R,
     blank: Blank,
     site: Site,
@@ -215,6 +217,7 @@ fn abandon_behind_one<L: Ledger + Send + Sync, R: Abort + AllocGlobal + Wait + T
     requires name { blank.name ≡ L.name }
     requires parts { blank.parts ≡ L.parts }
     requires eighteen { blank.parts ≡ 18 }
+    requires desk { L.desk ≡ record { site = site; limit = 10; actors = 1 } }
 {
     let (desk, mut seats) = SharedDesk::<L>::open(rt.alloc(), blank, site, 10, 1)
         .ok()

@@ -44,8 +44,8 @@ returns-in-Err-clause-late g c = λ stations pacer console all ticked worked.
     let back = c.gather_all-back.ensures in
     let refused = c.in-Err.ensures.fault in
     let many : c.args.desk.actors ≡ length ds + 2 = let n = length-map ws (λ w. work_done (g.S.Serving.stand w.station) w.seat w.ending) in let r = c.requires.actors in omega arith in
-    is_unaudited c.args.desk _ refused.0 refused.1 _ stations ds pacer _ last_tick.seat last_tick.ending console (work_done (g.C.Serving.stand last.station) last.seat last.ending)
-    many refused.2 refused.3
+    is_unaudited c.args.desk _ _ stations ds pacer _ last_tick.seat last_tick.ending console (work_done (g.C.Serving.stand last.station) last.seat last.ending)
+    many refused
     (back.seats ∙ ap (λ x. x ++ last_tick.seat ∷ last.seat ∷ []) (map_parts _ _ _ ws (λ w. refl)))
     all ticked worked
 

@@ -1,10 +1,10 @@
 -- The ticker's steps.
 use Rattle.std.proofs.Common.{◌≡◌, ℕ, ◌+◌, inl, inr, List, [], ◌∷◌, ◌++◌, Option, Some, None, refl, sym, ◌∙◌, ap, append_assoc, length, length-append, arith}
 use Rattle.std.proofs.lemmas.List.{append-nil}
+use Rattle.std.proofs.lemmas.List.Elements.{All-nil, All-push}
 use Rattle.dmr_core.specs.declared.act.Acts.{Acts}
 use Rattle.dmr_core.specs.declared.event.Event.TheVariants.{Tick}
 use Rattle.dmr_link.specs.declared.desk.Deposit.{Deposit}
-use Rattle.dmr_link.proofs.ListLemmas.{all-append}
 use Rattle.dmr_desk.specs.declared.ending.Ending.TheVariants as ending
 use Rattle.dmr_desk.specs.declared.pace.Pace.TheVariants as pace
 use Rattle.dmr_desk.specs.Pace.{Paced, FollowsPace, Gave, SaysFinished, Ticking, Ticks}
@@ -32,7 +32,7 @@ gave_nothing None = tt
 gave_nothing (Some p) = omega arith
 
 pub ticking_from : (p : Option Paced) (calls : List Deposit) → Ticking p calls p calls
-ticking_from p calls = ([], sym (append-nil calls), tt, gave_nothing p)
+ticking_from p calls = ([], sym (append-nil calls), All-nil (λ (d : Deposit). d.event ≡ Tick), gave_nothing p)
 
 pub one_tick : (before after next : Option Paced) (calls calls1 calls2 later : List Deposit) (a : Acts) → Ticking before calls after calls1
     → FollowsPace after pace.Tick next → calls2 ≡ calls1 → later ≡ calls2 ++ record { event = Tick; acts = a } ∷ [] → Ticking before calls next later
@@ -41,7 +41,7 @@ one_tick before after next calls calls1 calls2 later a b f same e =
     let l : length (b.0 ++ d ∷ []) ≡ length b.0 + 1 = length-append b.0 (d ∷ []) in (
       b.0 ++ d ∷ [],
       e ∙ ap (λ (c : List Deposit). c ++ d ∷ []) (same ∙ b.1) ∙ append_assoc calls b.0 (d ∷ []),
-      all-append (λ (d : Deposit). d.event ≡ Tick) b.0 (d ∷ []) b.2 (refl, tt),
+      All-push (λ (d : Deposit). d.event ≡ Tick) b.0 d b.2 refl,
       rw l (gave_one_more before after next (length b.0) b.3 f),
     )
 

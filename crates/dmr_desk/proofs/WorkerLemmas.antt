@@ -12,227 +12,10 @@ use Rattle.dmr_link.specs.Happenings.{Happening, Answered, Handed, Passed, answe
 use Rattle.dmr_link.specs.Passages.{Passage, Passes}
 use Rattle.dmr_link.specs.Peers.{is_going}
 use Rattle.dmr_link.specs.Recorded.{sessions_after_silence}
-use Rattle.dmr_link.specs.Sessions.{How, Going, InputOver, ReadFaulty, WriteFaulty, CutAfter, how_then, Session, new_session, with_how, with_calls, Hearing, hearing_at, in_writing, took, hearing_after_answer, hearing_after_answers, IsQuiet, IsOver, StandsFor, sessions_after, is_kept, is_lost, how_cut, cut_past, EndsAs, Happens, Serves, Cuts}
+use Rattle.dmr_link.specs.Sessions.{How, Going, InputOver, ReadFaulty, WriteFaulty, CutAfter, how_then, Session, new_session, with_how, with_calls, Hearing, hearing_at, in_writing, took, hearing_after_answer, hearing_after_answers, IsQuiet, IsOver, StandsFor, sessions_after, is_kept, is_lost, how_cut, cut_past, EndsAs, Sides, Happens, Serves, Cuts}
 use Rattle.dmr_link.specs.Talks.{is_live}
-use Rattle.dmr_link.proofs.LinksStandForPasts.{dead_over, over_dead}
-use Rattle.dmr_link.proofs.StepsFollow.{happens_more, happens_none}
 use Rattle.dmr_desk.specs.declared.ending.Ending.TheVariants as ending
 use Rattle.dmr_desk.specs.Work.{Stand, Moment, moment, sides_at, Answers, Turns, Doing, Asked, Served, Waited, happened_in, happened_of, with_newest_deposits, past_then, past_after, deposits_of_sessions, IsAsk, StopsAt, IsCall, IsOrderly, Went, WorksUntil, IsAboutToWait as IsWaiting, Going as IsGoing}
-
--- ---- one step more
-
-went_nowhere : (m : Moment) → Went m m []
-went_nowhere m = record {
-  who = refl;
-  happens = happens_none (sides_at m.at m.calls);
-  stands = λ past h. h;
-  view = λ past h. sym (append-nil (deposits_of_sessions past));
-  orderly = λ past h. tt;
-}
-
-pub going_from : (m : Moment) → IsGoing m m
-going_from m = ([], went_nowhere m, λ live. tt)
-
-deposits_both : (xs ys : List Happening) → deposits_in (xs ++ ys) ≡ deposits_in xs ++ deposits_in ys
-deposits_both [] ys = refl
-deposits_both (Answered a ∷ xs) ys = deposits_both xs ys
-deposits_both (Handed d ∷ xs) ys = ap (λ (r : List Deposit). d ∷ r) (deposits_both xs ys)
-deposits_both (Passed p ∷ xs) ys = deposits_both xs ys
-
--- one more step
-went_on : (m n o : Moment) (ds : List Doing) (d : Doing) → Went m n ds → o.at.talk.who ≡ n.at.talk.who → Happens (sides_at n.at n.calls) (happened_in d) (sides_at o.at o.calls)
-    → ((past : List Session) → StandsFor n.at.talk past → StandsFor o.at.talk (past_then past d))
-    → ((past : List Session) → StandsFor n.at.talk past → deposits_of_sessions (past_then past d) ≡ deposits_of_sessions past ++ deposits_in (happened_in d))
-    → ((past : List Session) → StandsFor n.at.talk (past_after past ds) → IsOrderly m.at.talk.who past ds → IsOrderly m.at.talk.who past (d ∷ ds))
-    → Went m o (d ∷ ds)
-went_on m n o ds d w who happens stands view orderly = record {
-  who = who ∙ w.who;
-  happens = happens_more (sides_at m.at m.calls) (sides_at n.at n.calls) (sides_at o.at o.calls) (happened_of ds) (happened_in d) w.happens happens;
-  stands = λ past h. stands (past_after past ds) (w.stands past h);
-  view = λ past h.
-      view (past_after past ds) (w.stands past h)
-      ∙ ap (λ (c : List Deposit). c ++ deposits_in (happened_in d)) (w.view past h)
-      ∙ append_assoc (deposits_of_sessions past) (deposits_in (happened_of ds)) (deposits_in (happened_in d))
-      ∙ ap (λ (c : List Deposit). deposits_of_sessions past ++ c) (sym (deposits_both (happened_of ds) (happened_in d)));
-  orderly = λ past h. orderly past (w.stands past h) (w.orderly past h);
-}
-
--- ---- what happened in a step
-
-passes_none : (before after : Option (List Passage)) → after ≡ before → Passes before [] after
-passes_none before after same = record { follows = λ whole e. (whole, sym same ∙ e, sym (append-nil whole)) }
-
-no_answers : (deposits : List Deposit) → answers_in (map Handed deposits) ≡ []
-no_answers [] = refl
-no_answers (d ∷ deposits) = no_answers deposits
-
-all_deposits : (deposits : List Deposit) → deposits_in (map Handed deposits) ≡ deposits
-all_deposits [] = refl
-all_deposits (d ∷ deposits) = ap (λ (r : List Deposit). d ∷ r) (all_deposits deposits)
-
-no_passages : (deposits : List Deposit) → passages_in (map Handed deposits) ≡ []
-no_passages [] = refl
-no_passages (d ∷ deposits) = no_passages deposits
-
--- the port gave an answer, and the desk took these
-answered : (n o : Moment) (x : Answer) (deposits : List Deposit) → Tells n.at.told (x ∷ []) o.at.told → o.at.passed ≡ n.at.passed → o.calls ≡ n.calls ++ deposits
-    → Happens (sides_at n.at n.calls) (Answered x ∷ map Handed deposits) (sides_at o.at o.calls)
-answered n o x deposits told passed desk =
-    let P : List Answer → Type 0 = λ r. Tells n.at.told (x ∷ r) o.at.told in
-    let Q : List Passage → Type 0 = λ r. Passes n.at.passed r o.at.passed in
-    record {
-      port = subst P (sym (no_answers deposits)) told;
-      desk = desk ∙ ap (λ (r : List Deposit). n.calls ++ r) (sym (all_deposits deposits));
-      gate = subst Q (sym (no_passages deposits)) (passes_none n.at.passed o.at.passed passed);
-    }
-
--- ---- what the desk took, in one list
-
-either : (t : Bool) (a b : Hearing) (calls : List Deposit) → a.session.calls ≡ calls → b.session.calls ≡ calls → (cond t a b).session.calls ≡ calls
-either true a b calls p q = p
-either false a b calls p q = q
-
-took_calls : (s : Session) (octets : List ℕ) → (took s octets).session.calls ≡ s.calls
-took_calls s [] = refl
-took_calls s (x ∷ octets) = refl
-
-heard_calls : (h : Hearing) (a : Answer) → (hearing_after_answer h a).session.calls ≡ h.session.calls
-heard_calls h Opened = refl
-heard_calls h NotYet = refl
-heard_calls h Finished = refl
-heard_calls h (Came octets) = refl
-heard_calls h InputEnded = refl
-heard_calls h ReadInterrupted = either (nat_lt h.row 16) (hearing_at h.session (h.row + 1)) (hearing_at (with_how h.session ReadFaulty) 0) h.session.calls refl refl
-heard_calls h ReadBlocked = refl
-heard_calls h ReadFailed = refl
-heard_calls h (Took octets) = took_calls h.session octets
-heard_calls h WriteInterrupted = either (nat_lt h.writing 16) (in_writing h.session (h.writing + 1)) (hearing_at (with_how h.session WriteFaulty) 0) h.session.calls refl refl
-heard_calls h WriteBlocked = refl
-heard_calls h WriteFailed = refl
-heard_calls h Again = refl
-heard_calls h Silent = refl
-
-all_calls : (h : Hearing) (answers : List Answer) → (hearing_after_answers h answers).session.calls ≡ h.session.calls
-all_calls h [] = refl
-all_calls h (a ∷ answers) = all_calls (hearing_after_answer h a) answers ∙ heard_calls h a
-
-ask_view : (past : List Session) (x : Answer) → IsAsk x → deposits_of_sessions (past_then past (Asked x)) ≡ deposits_of_sessions past ++ []
-ask_view past Opened is = refl
-ask_view past NotYet is = sym (append-nil (deposits_of_sessions past))
-ask_view past Finished is = sym (append-nil (deposits_of_sessions past))
-ask_view past x is = absurd is
-
--- a live link has a connection
-serve_view : (l : Talk) (past : List Session) (answers : List Answer) (deposits : List Deposit) → is_live l ≡ true → StandsFor l past
-    → deposits_of_sessions (sessions_after past answers deposits) ≡ deposits_of_sessions past ++ deposits
-serve_view l [] answers deposits live h = let dead : is_live l ≡ false = over_dead l h.0 in absurd (cc (dead, live))
-serve_view l (s ∷ ss) answers deposits live h =
-    ap (λ (c : List Deposit). deposits_of_sessions ss ++ (c ++ deposits)) (all_calls (hearing_at s 0) answers) ∙ sym (append_assoc (deposits_of_sessions ss) s.calls deposits)
-
-silent_view : (l : Talk) (past : List Session) (deposits : List Deposit) → is_live l ≡ true → StandsFor l past → deposits_of_sessions (with_newest_deposits (sessions_after_silence past) deposits) ≡ deposits_of_sessions past ++ deposits
-silent_view l [] deposits live h = let dead : is_live l ≡ false = over_dead l h.0 in absurd (cc (dead, live))
-silent_view l (s ∷ ss) deposits live h = sym (append_assoc (deposits_of_sessions ss) s.calls deposits)
-
--- ---- an ask
-
-went_asking : (m n o : Moment) (g : IsGoing m n) (x : Answer) → is_live n.at.talk ≡ false → IsAsk x → o.at.talk.who ≡ n.at.talk.who → Tells n.at.told (x ∷ []) o.at.told → o.at.passed ≡ n.at.passed → o.calls ≡ n.calls
-    → ((past : List Session) → StandsFor n.at.talk past → StandsFor o.at.talk (past_then past (Asked x))) → Went m o (Asked x ∷ g.0)
-went_asking m n o g x dead is who told passed desk stands =
-    went_on m n o g.0 (Asked x) g.1 who (answered n o x [] told passed (desk ∙ sym (append-nil n.calls))) stands
-    (λ past h. ask_view past x is)
-    (λ past h orderly. (is, (n.at.talk, dead_over n.at.talk dead, h), orderly))
-
-still_stands : (l k : Talk) (past : List Session) → k ≡ l → StandsFor l past → StandsFor k past
-still_stands l k past same h = let P : Talk → Type 0 = λ t. StandsFor t past in subst P (sym same) h
-
-pub went_ready : (m n : Moment) (mid o : Stand) → IsGoing m n → is_live n.at.talk ≡ false → Answers n.at Opened mid → Turns mid o
-    → ((past : List Session) → StandsFor mid.talk past → StandsFor o.talk (new_session ∷ past)) → IsGoing m (moment o n.calls)
-went_ready m n mid o g dead answers turns stands =
-    let P : Option (List Answer) → Type 0 = λ told. Tells n.at.told (Opened ∷ []) told in (
-      Asked Opened ∷ g.0,
-      went_asking m n (moment o n.calls) g Opened dead tt (turns.who ∙ ap (λ (l : Talk). l.who) answers.talk) (subst P (sym turns.told) answers.told) (turns.passed ∙ answers.passed) refl
-          (λ past h. stands past (still_stands n.at.talk mid.talk past answers.talk h)),
-      λ live. tt,
-    )
-
-pub went_not_yet : (m n : Moment) (o : Stand) → IsGoing m n → is_live n.at.talk ≡ false → Answers n.at NotYet o → IsGoing m (moment o n.calls)
-went_not_yet m n o g dead answers = (
-  Asked NotYet ∷ g.0,
-  went_asking m n (moment o n.calls) g NotYet dead tt (ap (λ (l : Talk). l.who) answers.talk) answers.told answers.passed refl (λ past h. still_stands n.at.talk o.talk past answers.talk h),
-  λ live. let e : is_live o.talk ≡ false = ap is_live answers.talk ∙ dead in absurd (cc (e, live)),
-)
-
-pub went_finished : (m n : Moment) (o : Stand) → IsGoing m n → is_live n.at.talk ≡ false → Answers n.at Finished o → WorksUntil m (moment o n.calls) ending.Finished
-went_finished m n o g dead answers = (
-  Asked Finished ∷ g.0,
-  went_asking m n (moment o n.calls) g Finished dead tt (ap (λ (l : Talk). l.who) answers.talk) answers.told answers.passed refl (λ past h. still_stands n.at.talk o.talk past answers.talk h),
-  (tt, subst IsOver (sym answers.talk) (dead_over n.at.talk dead)),
-)
-
--- ---- a call of serve
-
-stops_at : (e : Ended) (l : Talk) (answers : List Answer) → EndsAs e l answers → StopsAt e answers
-stops_at ended.Idle l answers h = h.2
-stops_at ended.Paused l answers h = h.2
-stops_at ended.TermOver l answers h = tt
-stops_at ended.GateShut l answers h = tt
-stops_at ended.Closed l answers h = tt
-stops_at ended.ReadFault l answers h = tt
-stops_at ended.WriteFault l answers h = tt
-stops_at (ended.BadFrame why) l answers h = tt
-
-was_call : (n o : Moment) (who : Peer) (past : List Session) (e : Ended) (s : Serves n.at.talk o.at.talk (sides_at n.at n.calls) (sides_at o.at o.calls) e) → n.at.talk.who ≡ who → StandsFor n.at.talk past → IsCall who past s.happened e
-was_call n o who past e s same h =
-    let P : Peer → Type 0 = λ p. IsCall p past s.happened e in
-    let is : IsCall n.at.talk.who past s.happened e = record {
-      wire = s.wire;
-      few = s.few;
-      order = s.order;
-      passages = s.passages;
-      turns = λ t ts e. s.turns t ts (subst (StandsFor n.at.talk) e h);
-      rested = λ t ts e. s.rested t ts (subst (StandsFor n.at.talk) e h);
-      stops = stops_at e o.at.talk (answers_in s.happened) s.ends;
-    } in
-    subst P same is
-
-went_serving : (m n o : Moment) (e : Ended) (g : IsGoing m n) → is_live n.at.talk ≡ true → (s : Serves n.at.talk o.at.talk (sides_at n.at n.calls) (sides_at o.at o.calls) e) → Went m o (Served s.happened e ∷ g.0)
-went_serving m n o e g live s =
-    went_on m n o g.0 (Served s.happened e) g.1 s.same s.happens s.stands
-    (λ past h. serve_view n.at.talk past (answers_in s.happened) (deposits_in s.happened) live h)
-    (λ past h orderly. (was_call n o m.at.talk.who (past_after past g.0) e s g.1.who h, g.2 live, orderly))
-
-pub went_idle : (m n o : Moment) → IsGoing m n → is_live n.at.talk ≡ true → Serves n.at.talk o.at.talk (sides_at n.at n.calls) (sides_at o.at o.calls) ended.Idle → IsWaiting m o
-went_idle m n o g live s = (Served s.happened ended.Idle ∷ g.0, went_serving m n o ended.Idle g live s, tt, s.ends.0, s.ends.1)
-
-pub went_paused : (m n o : Moment) → IsGoing m n → is_live n.at.talk ≡ true → Serves n.at.talk o.at.talk (sides_at n.at n.calls) (sides_at o.at o.calls) ended.Paused → IsGoing m o
-went_paused m n o g live s = (Served s.happened ended.Paused ∷ g.0, went_serving m n o ended.Paused g live s, λ alive. tt)
-
-pub went_refused : (m n o : Moment) → IsGoing m n → is_live n.at.talk ≡ true → Serves n.at.talk o.at.talk (sides_at n.at n.calls) (sides_at o.at o.calls) ended.TermOver → WorksUntil m o ending.TermOver
-went_refused m n o g live s = (Served s.happened ended.TermOver ∷ g.0, went_serving m n o ended.TermOver g live s, tt)
-
-pub went_shut : (m n o : Moment) → IsGoing m n → is_live n.at.talk ≡ true → Serves n.at.talk o.at.talk (sides_at n.at n.calls) (sides_at o.at o.calls) ended.GateShut → WorksUntil m o ending.GateShut
-went_shut m n o g live s = (Served s.happened ended.GateShut ∷ g.0, went_serving m n o ended.GateShut g live s, tt)
-
--- the endings of a connection, and no other
-closing_over : (e : Ended) (l : Talk) (answers : List Answer) → (e ≡ ended.Idle → ⊥) → (e ≡ ended.TermOver → ⊥) → (e ≡ ended.GateShut → ⊥) → (e ≡ ended.Paused → ⊥) → EndsAs e l answers → IsOver l
-closing_over ended.Idle l answers a b c d h = absurd (a refl)
-closing_over ended.TermOver l answers a b c d h = absurd (b refl)
-closing_over ended.GateShut l answers a b c d h = absurd (c refl)
-closing_over ended.Paused l answers a b c d h = absurd (d refl)
-closing_over ended.Closed l answers a b c d h = h.0
-closing_over ended.ReadFault l answers a b c d h = h.0
-closing_over ended.WriteFault l answers a b c d h = h.0
-closing_over (ended.BadFrame why) l answers a b c d h = h.0
-
-pub went_closed : (m n o : Moment) (e : Ended) → IsGoing m n → is_live n.at.talk ≡ true → Serves n.at.talk o.at.talk (sides_at n.at n.calls) (sides_at o.at o.calls) e
-    → (e ≡ ended.Idle → ⊥) → (e ≡ ended.TermOver → ⊥) → (e ≡ ended.GateShut → ⊥) → (e ≡ ended.Paused → ⊥) → IsGoing m o
-went_closed m n o e g live s a b c d = (
-  Served s.happened e ∷ g.0,
-  went_serving m n o e g live s,
-  λ alive. let dead : is_live o.at.talk ≡ false = over_dead o.at.talk (closing_over e o.at.talk (answers_in s.happened) a b c d s.ends) in absurd (cc (dead, alive)),
-)
-
--- ---- a wait
 
 going_live : (b kept lost : Bool) → (b ≡ false → ⊥) → (b || kept || lost) ≡ true
 going_live true kept lost h = refl
@@ -241,52 +24,275 @@ going_live false kept lost h = absurd (h refl)
 pub quiet_live : (l : Talk) → IsQuiet l → is_live l ≡ true
 quiet_live l h = going_live (is_going l.connection) (is_kept l.kept) (is_lost l.lost) h.stays
 
-pub went_again : (m n : Moment) (o : Stand) → IsWaiting m n → Answers n.at Again o → IsGoing m (moment o n.calls)
-went_again m n o g answers = (
-  Waited Again [] ∷ g.0,
-  went_on m n (moment o n.calls) g.0 (Waited Again []) g.1 (ap (λ (l : Talk). l.who) answers.talk) (answered n (moment o n.calls) Again [] answers.told answers.passed (sym (append-nil n.calls)))
-      (λ past h. still_stands n.at.talk o.talk past answers.talk h)
-      (λ past h. sym (append-nil (deposits_of_sessions past)))
-      (λ past h orderly. (refl, g.2, orderly)),
-  λ live. tt,
-)
+-- what is known of every link, and of what happened in one step and then in another
+pub record LinkLaws : Type 0 where
+  pub dead_over : (l : Talk) → is_live l ≡ false → IsOver l
+  pub over_dead : (l : Talk) → IsOver l → is_live l ≡ false
+  pub happens_none : (x : Sides) → Happens x [] x
+  pub happens_more : (x y z : Sides) (first second : List Happening) → Happens x first y → Happens y second z → Happens x (first ++ second) z
 
-cut_how : (l : Talk) (s : Session) (how : How) → l.kept ≡ None → l.unread ≡ [] → how_cut l s how ≡ how_then how (CutAfter (length s.came) false)
-cut_how l s Going kept unread =
-    let none : length s.came - 0 ≡ length s.came = omega arith in
-    (λ i. CutAfter (length s.came - length (unread i)) (is_kept (kept i))) ∙ ap (λ (n : ℕ). CutAfter n false) none
-cut_how l s InputOver kept unread = refl
-cut_how l s ReadFaulty kept unread = refl
-cut_how l s WriteFaulty kept unread = refl
-cut_how l s (CutAfter n b) kept unread = refl
+module _ (laws : LinkLaws) where
+  -- ---- one step more
 
--- a cut of a link that keeps nothing and has nothing unread is what silence does
-silent_cut : (l : Talk) (past : List Session) (deposits : List Deposit) → l.kept ≡ None → l.unread ≡ [] → cut_past l past deposits ≡ with_newest_deposits (sessions_after_silence past) deposits
-silent_cut l [] deposits kept unread = refl
-silent_cut l (s ∷ ss) deposits kept unread =
-    (λ i. with_calls (record { came = s.came; taken = s.taken; how = cut_how l s s.how kept unread i; is_cut = true; calls = s.calls }) deposits ∷ ss)
+  went_nowhere : (m : Moment) → Went m m []
+  went_nowhere m = record {
+    who = refl;
+    happens = laws.happens_none (sides_at m.at m.calls);
+    stands = λ past h. h;
+    view = λ past h. sym (append-nil (deposits_of_sessions past));
+    orderly = λ past h. tt;
+  }
 
-went_cutting : (m n : Moment) (o : Stand) (later : List Deposit) (g : IsWaiting m n) (mid : Stand) → Answers n.at Silent mid → Turns mid o → (k : Cuts mid.talk o.talk n.calls later)
-    → Went m (moment o later) (Waited Silent k.deposits ∷ g.0)
-went_cutting m n o later g mid answers turns k =
-    let told : Tells n.at.told (Silent ∷ []) o.told = let P : Option (List Answer) → Type 0 = λ t. Tells n.at.told (Silent ∷ []) t in subst P (sym turns.told) answers.told in
-    let kept : mid.talk.kept ≡ None = ap (λ (l : Talk). l.kept) answers.talk ∙ g.3.kept in
-    let unread : mid.talk.unread ≡ [] = ap (λ (l : Talk). l.unread) answers.talk ∙ g.4 in
-    went_on m n (moment o later) g.0 (Waited Silent k.deposits) g.1 (k.same ∙ ap (λ (l : Talk). l.who) answers.talk)
-    (answered n (moment o later) Silent k.deposits told (turns.passed ∙ answers.passed) k.desk)
-    (λ past h. let P : List Session → Type 0 = StandsFor o.talk in subst P (silent_cut mid.talk past k.deposits kept unread) (k.stands past (still_stands n.at.talk mid.talk past answers.talk h)))
-    (λ past h. silent_view n.at.talk past k.deposits (quiet_live n.at.talk g.3) h ∙ ap (λ (c : List Deposit). deposits_of_sessions past ++ c) (sym (all_deposits k.deposits)))
-    (λ past h orderly. (tt, g.2, orderly))
+  pub going_from : (m : Moment) → IsGoing m m
+  going_from m = ([], went_nowhere m, λ live. tt)
 
-pub went_cut : (m n : Moment) (o : Stand) (later : List Deposit) (mid : Stand) → IsWaiting m n → Answers n.at Silent mid → Turns mid o → Cuts mid.talk o.talk n.calls later → IsOver o.talk → IsGoing m (moment o later)
-went_cut m n o later mid g answers turns k over = (
-  Waited Silent k.deposits ∷ g.0,
-  went_cutting m n o later g mid answers turns k,
-  λ live. let dead : is_live o.talk ≡ false = over_dead o.talk over in absurd (cc (dead, live)),
-)
+  deposits_both : (xs ys : List Happening) → deposits_in (xs ++ ys) ≡ deposits_in xs ++ deposits_in ys
+  deposits_both [] ys = refl
+  deposits_both (Answered a ∷ xs) ys = deposits_both xs ys
+  deposits_both (Handed d ∷ xs) ys = ap (λ (r : List Deposit). d ∷ r) (deposits_both xs ys)
+  deposits_both (Passed p ∷ xs) ys = deposits_both xs ys
 
-pub went_cut_over : (m n : Moment) (o : Stand) (later : List Deposit) (mid : Stand) → IsWaiting m n → Answers n.at Silent mid → Turns mid o → Cuts mid.talk o.talk n.calls later → WorksUntil m (moment o later) ending.TermOver
-went_cut_over m n o later mid g answers turns k = (Waited Silent k.deposits ∷ g.0, went_cutting m n o later g mid answers turns k, tt)
+  -- one more step
+  went_on : (m n o : Moment) (ds : List Doing) (d : Doing) → Went m n ds → o.at.talk.who ≡ n.at.talk.who → Happens (sides_at n.at n.calls) (happened_in d) (sides_at o.at o.calls)
+      → ((past : List Session) → StandsFor n.at.talk past → StandsFor o.at.talk (past_then past d))
+      → ((past : List Session) → StandsFor n.at.talk past → deposits_of_sessions (past_then past d) ≡ deposits_of_sessions past ++ deposits_in (happened_in d))
+      → ((past : List Session) → StandsFor n.at.talk (past_after past ds) → IsOrderly m.at.talk.who past ds → IsOrderly m.at.talk.who past (d ∷ ds))
+      → Went m o (d ∷ ds)
+  went_on m n o ds d w who happens stands view orderly = record {
+    who = who ∙ w.who;
+    happens = laws.happens_more (sides_at m.at m.calls) (sides_at n.at n.calls) (sides_at o.at o.calls) (happened_of ds) (happened_in d) w.happens happens;
+    stands = λ past h. stands (past_after past ds) (w.stands past h);
+    view = λ past h.
+        view (past_after past ds) (w.stands past h)
+        ∙ ap (λ (c : List Deposit). c ++ deposits_in (happened_in d)) (w.view past h)
+        ∙ append_assoc (deposits_of_sessions past) (deposits_in (happened_of ds)) (deposits_in (happened_in d))
+        ∙ ap (λ (c : List Deposit). deposits_of_sessions past ++ c) (sym (deposits_both (happened_of ds) (happened_in d)));
+    orderly = λ past h. orderly past (w.stands past h) (w.orderly past h);
+  }
+
+  -- ---- what happened in a step
+
+  passes_none : (before after : Option (List Passage)) → after ≡ before → Passes before [] after
+  passes_none before after same = record { follows = λ whole e. (whole, sym same ∙ e, sym (append-nil whole)) }
+
+  no_answers : (deposits : List Deposit) → answers_in (map Handed deposits) ≡ []
+  no_answers [] = refl
+  no_answers (d ∷ deposits) = no_answers deposits
+
+  all_deposits : (deposits : List Deposit) → deposits_in (map Handed deposits) ≡ deposits
+  all_deposits [] = refl
+  all_deposits (d ∷ deposits) = ap (λ (r : List Deposit). d ∷ r) (all_deposits deposits)
+
+  no_passages : (deposits : List Deposit) → passages_in (map Handed deposits) ≡ []
+  no_passages [] = refl
+  no_passages (d ∷ deposits) = no_passages deposits
+
+  -- the port gave an answer, and the desk took these
+  answered : (n o : Moment) (x : Answer) (deposits : List Deposit) → Tells n.at.told (x ∷ []) o.at.told → o.at.passed ≡ n.at.passed → o.calls ≡ n.calls ++ deposits
+      → Happens (sides_at n.at n.calls) (Answered x ∷ map Handed deposits) (sides_at o.at o.calls)
+  answered n o x deposits told passed desk =
+      let P : List Answer → Type 0 = λ r. Tells n.at.told (x ∷ r) o.at.told in
+      let Q : List Passage → Type 0 = λ r. Passes n.at.passed r o.at.passed in
+      record {
+        port = subst P (sym (no_answers deposits)) told;
+        desk = desk ∙ ap (λ (r : List Deposit). n.calls ++ r) (sym (all_deposits deposits));
+        gate = subst Q (sym (no_passages deposits)) (passes_none n.at.passed o.at.passed passed);
+      }
+
+  -- ---- what the desk took, in one list
+
+  either : (t : Bool) (a b : Hearing) (calls : List Deposit) → a.session.calls ≡ calls → b.session.calls ≡ calls → (cond t a b).session.calls ≡ calls
+  either true a b calls p q = p
+  either false a b calls p q = q
+
+  took_calls : (s : Session) (octets : List ℕ) → (took s octets).session.calls ≡ s.calls
+  took_calls s [] = refl
+  took_calls s (x ∷ octets) = refl
+
+  heard_calls : (h : Hearing) (a : Answer) → (hearing_after_answer h a).session.calls ≡ h.session.calls
+  heard_calls h Opened = refl
+  heard_calls h NotYet = refl
+  heard_calls h Finished = refl
+  heard_calls h (Came octets) = refl
+  heard_calls h InputEnded = refl
+  heard_calls h ReadInterrupted = either (nat_lt h.row 16) (hearing_at h.session (h.row + 1)) (hearing_at (with_how h.session ReadFaulty) 0) h.session.calls refl refl
+  heard_calls h ReadBlocked = refl
+  heard_calls h ReadFailed = refl
+  heard_calls h (Took octets) = took_calls h.session octets
+  heard_calls h WriteInterrupted = either (nat_lt h.writing 16) (in_writing h.session (h.writing + 1)) (hearing_at (with_how h.session WriteFaulty) 0) h.session.calls refl refl
+  heard_calls h WriteBlocked = refl
+  heard_calls h WriteFailed = refl
+  heard_calls h Again = refl
+  heard_calls h Silent = refl
+
+  all_calls : (h : Hearing) (answers : List Answer) → (hearing_after_answers h answers).session.calls ≡ h.session.calls
+  all_calls h [] = refl
+  all_calls h (a ∷ answers) = all_calls (hearing_after_answer h a) answers ∙ heard_calls h a
+
+  ask_view : (past : List Session) (x : Answer) → IsAsk x → deposits_of_sessions (past_then past (Asked x)) ≡ deposits_of_sessions past ++ []
+  ask_view past Opened is = refl
+  ask_view past NotYet is = sym (append-nil (deposits_of_sessions past))
+  ask_view past Finished is = sym (append-nil (deposits_of_sessions past))
+  ask_view past x is = absurd is
+
+  -- a live link has a connection
+  serve_view : (l : Talk) (past : List Session) (answers : List Answer) (deposits : List Deposit) → is_live l ≡ true → StandsFor l past
+      → deposits_of_sessions (sessions_after past answers deposits) ≡ deposits_of_sessions past ++ deposits
+  serve_view l [] answers deposits live h = let dead : is_live l ≡ false = laws.over_dead l h.0 in absurd (cc (dead, live))
+  serve_view l (s ∷ ss) answers deposits live h =
+      ap (λ (c : List Deposit). deposits_of_sessions ss ++ (c ++ deposits)) (all_calls (hearing_at s 0) answers) ∙ sym (append_assoc (deposits_of_sessions ss) s.calls deposits)
+
+  silent_view : (l : Talk) (past : List Session) (deposits : List Deposit) → is_live l ≡ true → StandsFor l past → deposits_of_sessions (with_newest_deposits (sessions_after_silence past) deposits) ≡ deposits_of_sessions past ++ deposits
+  silent_view l [] deposits live h = let dead : is_live l ≡ false = laws.over_dead l h.0 in absurd (cc (dead, live))
+  silent_view l (s ∷ ss) deposits live h = sym (append_assoc (deposits_of_sessions ss) s.calls deposits)
+
+  -- ---- an ask
+
+  went_asking : (m n o : Moment) (g : IsGoing m n) (x : Answer) → is_live n.at.talk ≡ false → IsAsk x → o.at.talk.who ≡ n.at.talk.who → Tells n.at.told (x ∷ []) o.at.told → o.at.passed ≡ n.at.passed → o.calls ≡ n.calls
+      → ((past : List Session) → StandsFor n.at.talk past → StandsFor o.at.talk (past_then past (Asked x))) → Went m o (Asked x ∷ g.0)
+  went_asking m n o g x dead is who told passed desk stands =
+      went_on m n o g.0 (Asked x) g.1 who (answered n o x [] told passed (desk ∙ sym (append-nil n.calls))) stands
+      (λ past h. ask_view past x is)
+      (λ past h orderly. (is, (n.at.talk, laws.dead_over n.at.talk dead, h), orderly))
+
+  still_stands : (l k : Talk) (past : List Session) → k ≡ l → StandsFor l past → StandsFor k past
+  still_stands l k past same h = let P : Talk → Type 0 = λ t. StandsFor t past in subst P (sym same) h
+
+  pub went_ready : (m n : Moment) (mid o : Stand) → IsGoing m n → is_live n.at.talk ≡ false → Answers n.at Opened mid → Turns mid o
+      → ((past : List Session) → StandsFor mid.talk past → StandsFor o.talk (new_session ∷ past)) → IsGoing m (moment o n.calls)
+  went_ready m n mid o g dead answers turns stands =
+      let P : Option (List Answer) → Type 0 = λ told. Tells n.at.told (Opened ∷ []) told in (
+        Asked Opened ∷ g.0,
+        went_asking m n (moment o n.calls) g Opened dead tt (turns.who ∙ ap (λ (l : Talk). l.who) answers.talk) (subst P (sym turns.told) answers.told) (turns.passed ∙ answers.passed) refl
+            (λ past h. stands past (still_stands n.at.talk mid.talk past answers.talk h)),
+        λ live. tt,
+      )
+
+  pub went_not_yet : (m n : Moment) (o : Stand) → IsGoing m n → is_live n.at.talk ≡ false → Answers n.at NotYet o → IsGoing m (moment o n.calls)
+  went_not_yet m n o g dead answers = (
+    Asked NotYet ∷ g.0,
+    went_asking m n (moment o n.calls) g NotYet dead tt (ap (λ (l : Talk). l.who) answers.talk) answers.told answers.passed refl (λ past h. still_stands n.at.talk o.talk past answers.talk h),
+    λ live. let e : is_live o.talk ≡ false = ap is_live answers.talk ∙ dead in absurd (cc (e, live)),
+  )
+
+  pub went_finished : (m n : Moment) (o : Stand) → IsGoing m n → is_live n.at.talk ≡ false → Answers n.at Finished o → WorksUntil m (moment o n.calls) ending.Finished
+  went_finished m n o g dead answers = (
+    Asked Finished ∷ g.0,
+    went_asking m n (moment o n.calls) g Finished dead tt (ap (λ (l : Talk). l.who) answers.talk) answers.told answers.passed refl (λ past h. still_stands n.at.talk o.talk past answers.talk h),
+    (tt, subst IsOver (sym answers.talk) (laws.dead_over n.at.talk dead)),
+  )
+
+  -- ---- a call of serve
+
+  stops_at : (e : Ended) (l : Talk) (answers : List Answer) → EndsAs e l answers → StopsAt e answers
+  stops_at ended.Idle l answers h = h.2
+  stops_at ended.Paused l answers h = h.2
+  stops_at ended.TermOver l answers h = tt
+  stops_at ended.GateShut l answers h = tt
+  stops_at ended.Closed l answers h = tt
+  stops_at ended.ReadFault l answers h = tt
+  stops_at ended.WriteFault l answers h = tt
+  stops_at (ended.BadFrame why) l answers h = tt
+
+  was_call : (n o : Moment) (who : Peer) (past : List Session) (e : Ended) (s : Serves n.at.talk o.at.talk (sides_at n.at n.calls) (sides_at o.at o.calls) e) → n.at.talk.who ≡ who → StandsFor n.at.talk past → IsCall who past s.happened e
+  was_call n o who past e s same h =
+      let P : Peer → Type 0 = λ p. IsCall p past s.happened e in
+      let is : IsCall n.at.talk.who past s.happened e = record {
+        wire = s.wire;
+        few = s.few;
+        order = s.order;
+        passages = s.passages;
+        turns = λ t ts e. s.turns t ts (subst (StandsFor n.at.talk) e h);
+        rested = λ t ts e. s.rested t ts (subst (StandsFor n.at.talk) e h);
+        stops = stops_at e o.at.talk (answers_in s.happened) s.ends;
+      } in
+      subst P same is
+
+  went_serving : (m n o : Moment) (e : Ended) (g : IsGoing m n) → is_live n.at.talk ≡ true → (s : Serves n.at.talk o.at.talk (sides_at n.at n.calls) (sides_at o.at o.calls) e) → Went m o (Served s.happened e ∷ g.0)
+  went_serving m n o e g live s =
+      went_on m n o g.0 (Served s.happened e) g.1 s.same s.happens s.stands
+      (λ past h. serve_view n.at.talk past (answers_in s.happened) (deposits_in s.happened) live h)
+      (λ past h orderly. (was_call n o m.at.talk.who (past_after past g.0) e s g.1.who h, g.2 live, orderly))
+
+  pub went_idle : (m n o : Moment) → IsGoing m n → is_live n.at.talk ≡ true → Serves n.at.talk o.at.talk (sides_at n.at n.calls) (sides_at o.at o.calls) ended.Idle → IsWaiting m o
+  went_idle m n o g live s = (Served s.happened ended.Idle ∷ g.0, went_serving m n o ended.Idle g live s, tt, s.ends.0, s.ends.1)
+
+  pub went_paused : (m n o : Moment) → IsGoing m n → is_live n.at.talk ≡ true → Serves n.at.talk o.at.talk (sides_at n.at n.calls) (sides_at o.at o.calls) ended.Paused → IsGoing m o
+  went_paused m n o g live s = (Served s.happened ended.Paused ∷ g.0, went_serving m n o ended.Paused g live s, λ alive. tt)
+
+  pub went_refused : (m n o : Moment) → IsGoing m n → is_live n.at.talk ≡ true → Serves n.at.talk o.at.talk (sides_at n.at n.calls) (sides_at o.at o.calls) ended.TermOver → WorksUntil m o ending.TermOver
+  went_refused m n o g live s = (Served s.happened ended.TermOver ∷ g.0, went_serving m n o ended.TermOver g live s, tt)
+
+  pub went_shut : (m n o : Moment) → IsGoing m n → is_live n.at.talk ≡ true → Serves n.at.talk o.at.talk (sides_at n.at n.calls) (sides_at o.at o.calls) ended.GateShut → WorksUntil m o ending.GateShut
+  went_shut m n o g live s = (Served s.happened ended.GateShut ∷ g.0, went_serving m n o ended.GateShut g live s, tt)
+
+  -- the endings of a connection, and no other
+  closing_over : (e : Ended) (l : Talk) (answers : List Answer) → (e ≡ ended.Idle → ⊥) → (e ≡ ended.TermOver → ⊥) → (e ≡ ended.GateShut → ⊥) → (e ≡ ended.Paused → ⊥) → EndsAs e l answers → IsOver l
+  closing_over ended.Idle l answers a b c d h = absurd (a refl)
+  closing_over ended.TermOver l answers a b c d h = absurd (b refl)
+  closing_over ended.GateShut l answers a b c d h = absurd (c refl)
+  closing_over ended.Paused l answers a b c d h = absurd (d refl)
+  closing_over ended.Closed l answers a b c d h = h.0
+  closing_over ended.ReadFault l answers a b c d h = h.0
+  closing_over ended.WriteFault l answers a b c d h = h.0
+  closing_over (ended.BadFrame why) l answers a b c d h = h.0
+
+  pub went_closed : (m n o : Moment) (e : Ended) → IsGoing m n → is_live n.at.talk ≡ true → Serves n.at.talk o.at.talk (sides_at n.at n.calls) (sides_at o.at o.calls) e
+      → (e ≡ ended.Idle → ⊥) → (e ≡ ended.TermOver → ⊥) → (e ≡ ended.GateShut → ⊥) → (e ≡ ended.Paused → ⊥) → IsGoing m o
+  went_closed m n o e g live s a b c d = (
+    Served s.happened e ∷ g.0,
+    went_serving m n o e g live s,
+    λ alive. let dead : is_live o.at.talk ≡ false = laws.over_dead o.at.talk (closing_over e o.at.talk (answers_in s.happened) a b c d s.ends) in absurd (cc (dead, alive)),
+  )
+
+  -- ---- a wait
+
+  pub went_again : (m n : Moment) (o : Stand) → IsWaiting m n → Answers n.at Again o → IsGoing m (moment o n.calls)
+  went_again m n o g answers = (
+    Waited Again [] ∷ g.0,
+    went_on m n (moment o n.calls) g.0 (Waited Again []) g.1 (ap (λ (l : Talk). l.who) answers.talk) (answered n (moment o n.calls) Again [] answers.told answers.passed (sym (append-nil n.calls)))
+        (λ past h. still_stands n.at.talk o.talk past answers.talk h)
+        (λ past h. sym (append-nil (deposits_of_sessions past)))
+        (λ past h orderly. (refl, g.2, orderly)),
+    λ live. tt,
+  )
+
+  cut_how : (l : Talk) (s : Session) (how : How) → l.kept ≡ None → l.unread ≡ [] → how_cut l s how ≡ how_then how (CutAfter (length s.came) false)
+  cut_how l s Going kept unread =
+      let none : length s.came - 0 ≡ length s.came = omega arith in
+      (λ i. CutAfter (length s.came - length (unread i)) (is_kept (kept i))) ∙ ap (λ (n : ℕ). CutAfter n false) none
+  cut_how l s InputOver kept unread = refl
+  cut_how l s ReadFaulty kept unread = refl
+  cut_how l s WriteFaulty kept unread = refl
+  cut_how l s (CutAfter n b) kept unread = refl
+
+  -- a cut of a link that keeps nothing and has nothing unread is what silence does
+  silent_cut : (l : Talk) (past : List Session) (deposits : List Deposit) → l.kept ≡ None → l.unread ≡ [] → cut_past l past deposits ≡ with_newest_deposits (sessions_after_silence past) deposits
+  silent_cut l [] deposits kept unread = refl
+  silent_cut l (s ∷ ss) deposits kept unread =
+      (λ i. with_calls (record { came = s.came; taken = s.taken; how = cut_how l s s.how kept unread i; is_cut = true; calls = s.calls }) deposits ∷ ss)
+
+  went_cutting : (m n : Moment) (o : Stand) (later : List Deposit) (g : IsWaiting m n) (mid : Stand) → Answers n.at Silent mid → Turns mid o → (k : Cuts mid.talk o.talk n.calls later)
+      → Went m (moment o later) (Waited Silent k.deposits ∷ g.0)
+  went_cutting m n o later g mid answers turns k =
+      let told : Tells n.at.told (Silent ∷ []) o.told = let P : Option (List Answer) → Type 0 = λ t. Tells n.at.told (Silent ∷ []) t in subst P (sym turns.told) answers.told in
+      let kept : mid.talk.kept ≡ None = ap (λ (l : Talk). l.kept) answers.talk ∙ g.3.kept in
+      let unread : mid.talk.unread ≡ [] = ap (λ (l : Talk). l.unread) answers.talk ∙ g.4 in
+      went_on m n (moment o later) g.0 (Waited Silent k.deposits) g.1 (k.same ∙ ap (λ (l : Talk). l.who) answers.talk)
+      (answered n (moment o later) Silent k.deposits told (turns.passed ∙ answers.passed) k.desk)
+      (λ past h. let P : List Session → Type 0 = StandsFor o.talk in subst P (silent_cut mid.talk past k.deposits kept unread) (k.stands past (still_stands n.at.talk mid.talk past answers.talk h)))
+      (λ past h. silent_view n.at.talk past k.deposits (quiet_live n.at.talk g.3) h ∙ ap (λ (c : List Deposit). deposits_of_sessions past ++ c) (sym (all_deposits k.deposits)))
+      (λ past h orderly. (tt, g.2, orderly))
+
+  pub went_cut : (m n : Moment) (o : Stand) (later : List Deposit) (mid : Stand) → IsWaiting m n → Answers n.at Silent mid → Turns mid o → Cuts mid.talk o.talk n.calls later → IsOver o.talk → IsGoing m (moment o later)
+  went_cut m n o later mid g answers turns k over = (
+    Waited Silent k.deposits ∷ g.0,
+    went_cutting m n o later g mid answers turns k,
+    λ live. let dead : is_live o.talk ≡ false = laws.over_dead o.talk over in absurd (cc (dead, live)),
+  )
+
+  pub went_cut_over : (m n : Moment) (o : Stand) (later : List Deposit) (mid : Stand) → IsWaiting m n → Answers n.at Silent mid → Turns mid o → Cuts mid.talk o.talk n.calls later → WorksUntil m (moment o later) ending.TermOver
+  went_cut_over m n o later mid g answers turns k = (Waited Silent k.deposits ∷ g.0, went_cutting m n o later g mid answers turns k, tt)
 
 -- ---- the desk was asked whether the term is over
 

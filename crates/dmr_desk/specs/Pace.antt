@@ -1,6 +1,5 @@
 -- What a pacer tells, and what the ticker does.
-use Rattle.std.specs.Prelude.{◌≡◌, ℕ, ◌+◌, ◌⊎◌, Bool, true, false, List, ◌++◌, Option, Some, None, length}
-use Rattle.std.specs.List.{AllByRecursion}
+use Rattle.std.specs.Prelude.{◌≡◌, ℕ, ◌+◌, ◌⊎◌, Bool, true, false, List, ◌++◌, Option, Some, None, length, All}
 use Rattle.dmr_core.specs.declared.event.Event.TheVariants.{Tick}
 use Rattle.dmr_link.specs.declared.desk.Deposit.{Deposit}
 use Rattle.dmr_desk.specs.declared.ending.Ending.{Ending}
@@ -36,7 +35,7 @@ SaysFinished (Some p) = p.finished ≡ true
 
 -- each hands in a tick
 abbrev pub AreTicks : List Deposit → Type 0
-AreTicks deposits = AllByRecursion (λ deposit. deposit.event ≡ Tick) deposits
+AreTicks deposits = All (λ (deposit : Deposit). deposit.event ≡ Tick) deposits
 
 -- as many as the pacer gave; one that met the term's end is dropped
 abbrev pub TicksTo : Option Paced → Option Paced → ℕ → Ending → Type 0

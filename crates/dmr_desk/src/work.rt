@@ -8,7 +8,7 @@ ghost use Rattle.dmr_desk.specs.Work.{stand, moment, Going, IsAboutToWait, GoesO
 
 use crate::ending::Ending;
 use crate::station::{ConsoleStation, Serving, Station};
-use dmr_link::{Desk, Ended, Gate};
+use dmr_link::{Desk, Ended, Gate, happenings_follow, links_rest};
 use dmr_wire::{Connect, Port, Waited};
 use std::sync::Wait;
 
@@ -20,6 +20,8 @@ fn connect<S: Serving, D: Desk>(station: &mut S, desk: &mut D) -> Option<Ending>
     ensures shut { result ≡ Some Ending.GateShut → ⊥ }
     ensures over { result ≡ Some Ending.TermOver → (before : _) × D.ends before desk.new }
 {
+    links_rest();
+    happenings_follow();
     if desk.over() {
         return Some(Ending::TermOver);
     }
@@ -41,6 +43,8 @@ fn wait<S: Serving, D: Desk>(station: &mut S, desk: &mut D) -> Option<Ending>
     ensures shut { result ≡ Some Ending.GateShut → ⊥ }
     ensures over { result ≡ Some Ending.TermOver → ((before : _) × (event : AnEvent) × (over : ATermOver) × D.refuses before event over desk.new) ⊎ ((before : _) × D.ends before desk.new) }
 {
+    links_rest();
+    happenings_follow();
     if desk.over() {
         return Some(Ending::TermOver);
     }
@@ -61,6 +65,8 @@ fn serve<S: Serving, D: Desk>(station: &mut S, desk: &mut D) -> Option<Ending>
     ensures shut { result ≡ Some Ending.GateShut → S.shut station.new }
     ensures over { result ≡ Some Ending.TermOver → ((before : _) × (event : AnEvent) × (over : ATermOver) × D.refuses before event over desk.new) ⊎ ((before : _) × D.ends before desk.new) }
 {
+    links_rest();
+    happenings_follow();
     if desk.over() {
         return Some(Ending::TermOver);
     }
@@ -95,6 +101,8 @@ pub fn work<R: Wait, S: Serving, D: Desk>(rt: &R, station: &mut S, desk: &mut D)
     ensures shut { result ≡ Ending.GateShut → S.shut station.new }
     ensures over { result ≡ Ending.TermOver → ((before : _) × (event : AnEvent) × (over : ATermOver) × D.refuses before event over desk.new) ⊎ ((before : _) × D.ends before desk.new) }
 {
+    links_rest();
+    happenings_follow();
     for _ in rt.forever() {
         if let Some(ending) = go_on(station, desk) {
             return ending;

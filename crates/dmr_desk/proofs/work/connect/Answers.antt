@@ -1,24 +1,33 @@
 use Rattle.dmr_desk.specs.Work.{Stand, moment, Going}
-use Rattle.dmr_desk.proofs.WorkerLemmas.{same_calls, went_ready, went_not_yet, went_finished}
+use Rattle.dmr_desk.proofs.WorkerLemmas.{LinkLaws, same_calls, went_ready, went_not_yet, went_finished}
 use Rattle.dmr_desk.proofs.work.connect.Goals as goal
 
 pub returns-in-Ready-clause-goes : goal.returns-in-Ready-clause-goes
 returns-in-Ready-clause-goes g c = λ m h.
+    let law = c.links_rest.ensures in
+    let next = c.happenings_follow.ensures in
+    let laws : LinkLaws = record { dead_over = law.over; over_dead = law.dead; happens_none = next.none; happens_more = next.both } in
     let at : Stand = g.S.Serving.stand c.args.station.now in
     let calls = g.D.Desk.calls c.over.new.self in
     let h1 : Going m (moment at calls) = same_calls Going m at (g.D.Desk.calls c.args.desk.now) calls c.over.ensures.calls h in
-    went_ready m (moment at calls) (g.S.Serving.stand c.connect.new.self) (g.S.Serving.stand c.open.new.self) h1 c.requires c.in-Ready.ensures c.open.ensures.turns c.open.ensures.stands
+    went_ready laws m (moment at calls) (g.S.Serving.stand c.connect.new.self) (g.S.Serving.stand c.open.new.self) h1 c.requires c.in-Ready.ensures c.open.ensures.turns c.open.ensures.stands
 
 pub returns-in-NotYet-clause-goes : goal.returns-in-NotYet-clause-goes
 returns-in-NotYet-clause-goes g c = λ m h.
+    let law = c.links_rest.ensures in
+    let next = c.happenings_follow.ensures in
+    let laws : LinkLaws = record { dead_over = law.over; over_dead = law.dead; happens_none = next.none; happens_more = next.both } in
     let at : Stand = g.S.Serving.stand c.args.station.now in
     let calls = g.D.Desk.calls c.over.new.self in
     let h1 : Going m (moment at calls) = same_calls Going m at (g.D.Desk.calls c.args.desk.now) calls c.over.ensures.calls h in
-    went_not_yet m (moment at calls) (g.S.Serving.stand c.connect.new.self) h1 c.requires c.in-NotYet.ensures
+    went_not_yet laws m (moment at calls) (g.S.Serving.stand c.connect.new.self) h1 c.requires c.in-NotYet.ensures
 
 pub returns-in-Finished-clause-goes : goal.returns-in-Finished-clause-goes
 returns-in-Finished-clause-goes g c = λ m h.
+    let law = c.links_rest.ensures in
+    let next = c.happenings_follow.ensures in
+    let laws : LinkLaws = record { dead_over = law.over; over_dead = law.dead; happens_none = next.none; happens_more = next.both } in
     let at : Stand = g.S.Serving.stand c.args.station.now in
     let calls = g.D.Desk.calls c.over.new.self in
     let h1 : Going m (moment at calls) = same_calls Going m at (g.D.Desk.calls c.args.desk.now) calls c.over.ensures.calls h in
-    went_finished m (moment at calls) (g.S.Serving.stand c.connect.new.self) h1 c.requires c.in-Finished.ensures
+    went_finished laws m (moment at calls) (g.S.Serving.stand c.connect.new.self) h1 c.requires c.in-Finished.ensures

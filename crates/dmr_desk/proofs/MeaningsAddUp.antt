@@ -9,19 +9,14 @@ use Rattle.dmr_link.specs.declared.stream.Peer.{Peer}
 use Rattle.dmr_link.specs.declared.talk.Talk.{Talk}
 use Rattle.dmr_link.specs.Owed.{Accounts, notices_owed}
 use Rattle.dmr_link.specs.Session.{event_in, events_in}
-use Rattle.dmr_link.specs.Sessions.{Session, IsOver, Stands, StandsFor, WasServed, kept_of, lost_of}
-use Rattle.dmr_link.proofs.LinksAccount.{closed_brings}
+use Rattle.dmr_link.specs.Sessions.{Session, IsOver, Stands, StandsFor, WasServed}
 use Rattle.dmr_desk.specs.Meaning.{AllMean, AreAccounted, IsAccounted, IsOneMeaning}
 use Rattle.dmr_desk.specs.Work.{deposits_of_sessions}
 
--- ---- a link that is over owes nothing
-
-over_owes : (l : Talk) → IsOver l → notices_owed l ≡ []
-over_owes l over = (λ i. (kept_of (over.kept i) ++ lost_of (over.lost i)) ++ closed_brings l.connection l.unread over.connection i)
-
 -- ---- each connection
 
-module _ (laws : (l : Talk) (s : Session) → Stands l s → Accounts l s) where
+-- what each connection means, and that a link that is over owes nothing
+module _ (laws : (l : Talk) (s : Session) → Stands l s → Accounts l s) (over_owes : (l : Talk) → IsOver l → notices_owed l ≡ []) where
   newest : (l : Talk) (s : Session) (h : Stands l s) → IsAccounted l.who s (laws l s h).done (notices_owed l)
   newest l s h = let a = laws l s h in record { means = a.means; events = a.events; taken = a.taken }
 
@@ -66,7 +61,7 @@ all_events who (s ∷ ss) done owing are =
     ∙ (λ i. all_events who ss are.0 [] are.3 i ++ are.4.events i)
     ∙ sym (map-append (λ (d : Deposit). d.event) (deposits_of_sessions ss) s.calls)
 
-pub one_meaning : ((l : Talk) (s : Session) → Stands l s → Accounts l s) → (l : Talk) (past : List Session) → StandsFor l past → IsOneMeaning l past
-one_meaning laws l past h =
-    let a = accounted laws l past h in
+pub one_meaning : ((l : Talk) (s : Session) → Stands l s → Accounts l s) → ((l : Talk) → IsOver l → notices_owed l ≡ []) → (l : Talk) (past : List Session) → StandsFor l past → IsOneMeaning l past
+one_meaning laws over_owes l past h =
+    let a = accounted laws over_owes l past h in
     record { done = a.0; means = all_mean l.who past a.0 (notices_owed l) a.1; events = all_events l.who past a.0 (notices_owed l) a.1; connections = a.1 }

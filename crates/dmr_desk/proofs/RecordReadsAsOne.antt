@@ -12,7 +12,6 @@ use Rattle.dmr_link.specs.declared.stream.Peer.{Peer}
 use Rattle.dmr_link.specs.Happenings.{Happening, Handed, answers_in, deposits_in, port_answer}
 use Rattle.dmr_link.specs.Recorded.{Reading, reading_at, of_hearing, reading_after_any, reading_after_all, sessions_after_silence}
 use Rattle.dmr_link.specs.Sessions.{Session, new_session, Hearing, ReadFaulty, WriteFaulty, hearing_at, in_writing, with_how, took, hearing_after_answer, hearing_after_answers, is_wire, reads_in, AreOfWire, sessions_after}
-use Rattle.dmr_link.proofs.RecordsReadAsCalls.{at, within, Matches, matches_same, behind}
 use Rattle.dmr_desk.specs.Meaning.{in_record, read_on, IsOneRecord}
 use Rattle.dmr_desk.specs.Work.{Doing, Asked, Served, Waited, happened_in, happened_of, with_newest_deposits, past_after, IsAsk, IsWait, MayBeginServe, StopsAt, IsCall, IsOrderly}
 
@@ -85,38 +84,62 @@ none_heard row writing reads (a ∷ answers) wire =
 abbrev Begins : Reading → Type 0
 Begins r = (r.writing ≡ 0) × (((r.reads ≡ 0) × (r.row ≡ 0)) ⊎ (r.reads ≡ 64))
 
+-- a reading is where a call is: after this many reads of it, or after the reads of the call before, and before its first
+record Matches (ss : List Session) (r : Reading) (k : Hearing) (reads : ℕ) : Type 0 where
+  pub past : r.past ≡ k.session ∷ ss
+  pub writing : r.writing ≡ k.writing
+  pub reads_are : (r.reads ≡ reads) ⊎ (reads ≡ 0)
+
+-- how the answers of one call are read after an opening or a wait, and after the 64 reads of the call before
+pub record RecordLaws : Type 0 where
+  pub begun : (s : Session) (ss : List Session) (answers : List Answer) → AreOfWire answers → reads_in answers ≤ 64 →
+      reading_after_all (reading_at (s ∷ ss) 0 0 0) answers ≡ of_hearing ss (reads_in answers) (hearing_after_answers (hearing_at s 0) answers)
+  pub paused : (s : Session) (ss : List Session) (row : ℕ) (answers : List Answer) → AreOfWire answers → reads_in answers ≤ 64 →
+      (reading_after_all (reading_at (s ∷ ss) row 0 64) answers).past ≡ (hearing_after_answers (hearing_at s 0) answers).session ∷ ss
+  pub writing : (s : Session) (ss : List Session) (row : ℕ) (answers : List Answer) → AreOfWire answers → reads_in answers ≤ 64 →
+      (reading_after_all (reading_at (s ∷ ss) row 0 64) answers).writing ≡ (hearing_after_answers (hearing_at s 0) answers).writing
+  pub reads : (s : Session) (ss : List Session) (row : ℕ) (answers : List Answer) → AreOfWire answers → reads_in answers ≤ 64 →
+      ((reading_after_all (reading_at (s ∷ ss) row 0 64) answers).reads ≡ reads_in answers) ⊎ (reads_in answers ≡ 0)
+
 -- a call, from its beginning
-matched : (s : Session) (ss : List Session) (row writing reads : ℕ) (answers : List Answer) → Begins (reading_at (s ∷ ss) row writing reads) → AreOfWire answers → reads_in answers ≤ 64 →
+matched : RecordLaws → (s : Session) (ss : List Session) (row writing reads : ℕ) (answers : List Answer) → Begins (reading_at (s ∷ ss) row writing reads) → AreOfWire answers → reads_in answers ≤ 64 →
     Matches ss (reading_after_all (reading_at (s ∷ ss) row writing reads) answers) (hearing_after_answers (hearing_at s 0) answers) (reads_in answers)
-matched s ss row writing reads answers begins wire few = elim begins.1 [
-  | inl start ↦
-      let few0 : 0 + reads_in answers ≤ 64 = omega arith in
-      let same : 0 + reads_in answers ≡ reads_in answers = omega arith in
-      let here : reading_at (s ∷ ss) row writing reads ≡ of_hearing ss 0 (hearing_at s 0) = (λ i. reading_at (s ∷ ss) (start.1 i) (begins.0 i) (start.0 i)) in
-      matches_same ss (reading_after_all (reading_at (s ∷ ss) row writing reads) answers) (hearing_after_answers (hearing_at s 0) answers) (reads_in answers)
-      (ap (λ (r : Reading). reading_after_all r answers) here ∙ within ss answers (hearing_at s 0) 0 wire few0 ∙ ap (λ (n : ℕ). of_hearing ss n (hearing_after_answers (hearing_at s 0) answers)) same)
-  | inr full ↦
-      let P : Reading → Type 0 = λ r. Matches ss (reading_after_all r answers) (hearing_after_answers (hearing_at s 0) answers) (reads_in answers) in
-      let here : of_hearing ss 64 (at s row 0) ≡ reading_at (s ∷ ss) row writing reads = (λ i. reading_at (s ∷ ss) row (sym begins.0 i) (sym full i)) in
-      subst P here (behind ss answers (at s row 0) wire few)
-]
+matched laws s ss row writing reads answers begins wire few =
+    let M : Reading → Type 0 = λ r. Matches ss (reading_after_all r answers) (hearing_after_answers (hearing_at s 0) answers) (reads_in answers) in
+    elim begins.1 [
+      | inl start ↦
+          let same = laws.begun s ss answers wire few in
+          let here : reading_at (s ∷ ss) 0 0 0 ≡ reading_at (s ∷ ss) row writing reads = (λ i. reading_at (s ∷ ss) (sym start.1 i) (sym begins.0 i) (sym start.0 i)) in
+          subst M here (record {
+            past = ap (λ (r : Reading). r.past) same;
+            writing = ap (λ (r : Reading). r.writing) same;
+            reads_are = inl (ap (λ (r : Reading). r.reads) same);
+          })
+      | inr full ↦
+          let here : reading_at (s ∷ ss) row 0 64 ≡ reading_at (s ∷ ss) row writing reads = (λ i. reading_at (s ∷ ss) row (sym begins.0 i) (sym full i)) in
+          subst M here (record {
+            past = laws.paused s ss row answers wire few;
+            writing = laws.writing s ss row answers wire few;
+            reads_are = laws.reads s ss row answers wire few;
+          })
+    ]
 
 -- what a reading has of connections
 abbrev Has : Reading → List Session → Type 0
 Has r past = r.past ≡ map in_record past
 
 -- a call adds to the reading what it does to the connections; where it made its 64 reads, another may begin
-after_call : (who : Peer) (now : List Session) (row writing reads : ℕ) (happened : List Happening) (stop : Ended) → Begins (reading_at (map in_record now) row writing reads) → IsCall who now happened stop →
+after_call : RecordLaws → (who : Peer) (now : List Session) (row writing reads : ℕ) (happened : List Happening) (stop : Ended) → Begins (reading_at (map in_record now) row writing reads) → IsCall who now happened stop →
     Has (reading_after_all (reading_at (map in_record now) row writing reads) (answers_in happened)) (sessions_after now (answers_in happened) (deposits_in happened))
     × (reads_in (answers_in happened) ≡ 64 → Begins (reading_after_all (reading_at (map in_record now) row writing reads) (answers_in happened)))
-after_call who [] row writing reads happened stop begins call =
+after_call laws who [] row writing reads happened stop begins call =
     let same = none_heard row writing reads (answers_in happened) call.wire in (
       ap (λ (r : Reading). r.past) same,
       λ full. let P : Reading → Type 0 = λ r. Begins r in subst P (sym same) begins,
     )
-after_call who (s ∷ ss) row writing reads happened stop begins call =
+after_call laws who (s ∷ ss) row writing reads happened stop begins call =
     let answers = answers_in happened in
-    let m = matched (in_record s) (map in_record ss) row writing reads answers begins call.wire call.few in
+    let m = matched laws (in_record s) (map in_record ss) row writing reads answers begins call.wire call.few in
     let aside : hearing_after_answers (hearing_at (in_record s) 0) answers ≡ bare (hearing_after_answers (hearing_at s 0) answers) = bare_all (hearing_at s 0) answers in (
       m.past ∙ ap (λ (k : Hearing). k.session ∷ map in_record ss) aside,
       λ full. (
@@ -156,14 +179,14 @@ waited_more past earlier Again deposits r is f = record { has = f.has; begins = 
 waited_more past earlier Silent deposits r is f = record { has = ap sessions_after_silence f.has ∙ silent_bare (past_after past earlier) deposits; begins = λ may. absurd may }
 waited_more past earlier x deposits r is f = absurd is
 
-served_more : (who : Peer) (past : List Session) (earlier : List Doing) (happened : List Happening) (stop : Ended) (r : Reading) → IsCall who (past_after past earlier) happened stop → MayBeginServe earlier → Follows past earlier r →
+served_more : RecordLaws → (who : Peer) (past : List Session) (earlier : List Doing) (happened : List Happening) (stop : Ended) (r : Reading) → IsCall who (past_after past earlier) happened stop → MayBeginServe earlier → Follows past earlier r →
     Follows past (Served happened stop ∷ earlier) (reading_after_all r (answers_in happened))
-served_more who past earlier happened stop r call may f =
+served_more laws who past earlier happened stop r call may f =
     let now = past_after past earlier in
     let here : reading_at (map in_record now) r.row r.writing r.reads ≡ r = (λ i. reading_at (sym f.has i) r.row r.writing r.reads) in
     let P : Reading → Type 0 = λ x. Begins x in
     let Q : Reading → Type 0 = λ x. Follows past (Served happened stop ∷ earlier) (reading_after_all x (answers_in happened)) in
-    let after = after_call who now r.row r.writing r.reads happened stop (subst P (sym here) (f.begins may)) call in
+    let after = after_call laws who now r.row r.writing r.reads happened stop (subst P (sym here) (f.begins may)) call in
     subst Q here (record { has = after.0; begins = λ more. after.1 (paused_full happened stop earlier more call.stops) })
 
 -- one step more
@@ -178,34 +201,34 @@ read_more past earlier d answers r are f =
 abbrev start : List Session → Reading
 start past = reading_at (map in_record past) 0 0 0
 
-follows : (who : Peer) (past : List Session) (doings : List Doing) → IsOrderly who past doings → Follows past doings (reading_after_all (start past) (answers_in (happened_of doings)))
-follows who past [] orderly = record { has = refl; begins = λ may. (refl, inl (refl, refl)) }
-follows who past (Asked x ∷ earlier) orderly =
+follows : RecordLaws → (who : Peer) (past : List Session) (doings : List Doing) → IsOrderly who past doings → Follows past doings (reading_after_all (start past) (answers_in (happened_of doings)))
+follows laws who past [] orderly = record { has = refl; begins = λ may. (refl, inl (refl, refl)) }
+follows laws who past (Asked x ∷ earlier) orderly =
     read_more past earlier (Asked x) (x ∷ []) (start past) refl
-    (asked_more past earlier x (reading_after_all (start past) (answers_in (happened_of earlier))) orderly.0 (follows who past earlier orderly.2))
-follows who past (Served happened stop ∷ earlier) orderly =
+    (asked_more past earlier x (reading_after_all (start past) (answers_in (happened_of earlier))) orderly.0 (follows laws who past earlier orderly.2))
+follows laws who past (Served happened stop ∷ earlier) orderly =
     read_more past earlier (Served happened stop) (answers_in happened) (start past) refl
-    (served_more who past earlier happened stop (reading_after_all (start past) (answers_in (happened_of earlier))) orderly.0 orderly.1 (follows who past earlier orderly.2))
-follows who past (Waited x deposits ∷ earlier) orderly =
+    (served_more laws who past earlier happened stop (reading_after_all (start past) (answers_in (happened_of earlier))) orderly.0 orderly.1 (follows laws who past earlier orderly.2))
+follows laws who past (Waited x deposits ∷ earlier) orderly =
     read_more past earlier (Waited x deposits) (x ∷ []) (start past) (ap (λ (xs : List Answer). x ∷ xs) (no_answers deposits))
-    (waited_more past earlier x deposits (reading_after_all (start past) (answers_in (happened_of earlier))) orderly.0 (follows who past earlier orderly.2))
+    (waited_more past earlier x deposits (reading_after_all (start past) (answers_in (happened_of earlier))) orderly.0 (follows laws who past earlier orderly.2))
 
-pub one_record : (who : Peer) (past : List Session) (doings : List Doing) → IsOrderly who past doings → IsOneRecord past doings
-one_record who past doings orderly = sym (follows who past doings orderly).has
+pub one_record : RecordLaws → (who : Peer) (past : List Session) (doings : List Doing) → IsOrderly who past doings → IsOneRecord past doings
+one_record laws who past doings orderly = sym (follows laws who past doings orderly).has
 
 -- of a port that tells its record
-pub record_since : (who : Peer) (past : List Session) (doings : List Doing) (begun whole : List Answer) → IsOrderly who past doings → (before after : Option (List Answer)) → Tells before (answers_in (happened_of doings)) after →
+pub record_since : RecordLaws → (who : Peer) (past : List Session) (doings : List Doing) (begun whole : List Answer) → IsOrderly who past doings → (before after : Option (List Answer)) → Tells before (answers_in (happened_of doings)) after →
     before ≡ Some begun → after ≡ Some whole → (answers : List Answer) × (whole ≡ begun ++ answers) × (map in_record (past_after past doings) ≡ read_on past answers)
-record_since who past doings begun whole orderly before after tells some later =
+record_since laws who past doings begun whole orderly before after tells some later =
     let f = tells.follows whole later in
     let same : f.0 ≡ begun = same_Some f.0 begun (sym f.1 ∙ some) in (
       answers_in (happened_of doings),
       f.2 ∙ ap (λ (xs : List Answer). xs ++ answers_in (happened_of doings)) same,
-      one_record who past doings orderly,
+      one_record laws who past doings orderly,
     )
 
-pub whole_record : (who : Peer) (doings : List Doing) (whole : List Answer) → IsOrderly who [] doings → (before after : Option (List Answer)) → Tells before (answers_in (happened_of doings)) after →
+pub whole_record : RecordLaws → (who : Peer) (doings : List Doing) (whole : List Answer) → IsOrderly who [] doings → (before after : Option (List Answer)) → Tells before (answers_in (happened_of doings)) after →
     before ≡ Some [] → after ≡ Some whole → map in_record (past_after [] doings) ≡ read_on [] whole
-whole_record who doings whole orderly before after tells none some =
-    let r = record_since who [] doings [] whole orderly before after tells none some in
+whole_record laws who doings whole orderly before after tells none some =
+    let r = record_since laws who [] doings [] whole orderly before after tells none some in
     r.2 ∙ ap (read_on []) (sym r.1)

@@ -8,7 +8,7 @@ ghost use Rattle.dmr_link.specs.Sessions.{Session, StandsFor};
 ghost use Rattle.dmr_desk.specs.Meaning.{IsOneMeaning, IsOneRecord, in_record, read_on};
 ghost use Rattle.dmr_desk.specs.Work.{Doing, IsOrderly, Moment, Went, past_after};
 
-use dmr_link::links_account;
+use dmr_link::{links_account, links_rest, records_read};
 
 /// One record. Where a worker's steps are in order, all that its port answered in them, read in one go, gives the connections
 /// that the steps gave one after another, what a desk took of them aside. So nobody has to know where a call began to say what
@@ -21,7 +21,9 @@ pub fn one_record()
     // Where link and port were new, they are those of its whole record.
     ensures whole { (m n : Moment) (doings : List Doing) (whole : List Answer) → Went m n doings → StandsFor m.at.talk [] → m.at.told ≡ Some [] → n.at.told ≡ Some whole →
         map in_record (past_after [] doings) ≡ read_on [] whole }
-{}
+{
+    records_read();
+}
 
 /// One meaning. What came on all connections that a link stands for, one after another, means the events that the desk took of
 /// them, with the notices that are no events, and then what the link owes. Each connection took the text of its own part, or the
@@ -32,4 +34,5 @@ pub fn one_meaning()
     ensures works { (m n : Moment) (past : List Session) (doings : List Doing) → Went m n doings → StandsFor m.at.talk past → IsOneMeaning n.at.talk (past_after past doings) }
 {
     links_account();
+    links_rest();
 }

@@ -15,3 +15,5 @@ mod shared;
 mod site;
 #[cfg(test)]
 mod terms;
+#[cfg(test)]
+mod workers;

@@ -4,7 +4,7 @@
 //! of the link profile and the texts of the console; an independent coder made the one burst.
 
 mod meeting;
-mod spelling;
+pub mod spelling;
 mod stage;
 mod stories;
 

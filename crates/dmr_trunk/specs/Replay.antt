@@ -40,7 +40,7 @@ lines_to plan put_out numbers = flat_map (line_of_number plan put_out) (range_wi
 
 -- behind them the operators' text as it is
 abbrev pub printed_text : Settings → (ℕ → List ℕ) → List ℕ → List ℕ
-printed_text plan put_out operators_text = lines_to plan put_out 16 ++ operators_text
+printed_text plan put_out console = lines_to plan put_out 16 ++ console
 
 -- ---- what the files give
 
@@ -91,8 +91,8 @@ IsPrinted other old new = ⊥
 abbrev pub TellsFault : List ℕ → List ℕ → Outcome → ReplayFault → Type 0
 TellsFault site script SiteNotRead (fault.CannotRead name) = name.now ≡ site
 TellsFault site script ScriptNotRead (fault.CannotRead name) = name.now ≡ script
-TellsFault site script (NoPlan what) (fault.SiteFile operators_text) = operators_text ≡ what
-TellsFault site script (NoLine number) (fault.ScriptLine operators_text) = operators_text ≡ number
+TellsFault site script (NoPlan plan_fault) (fault.SiteFile told) = told ≡ plan_fault
+TellsFault site script (NoLine line) (fault.ScriptLine told) = told ≡ line
 TellsFault site script outcome fault.OutOfMemory = ⊤
 TellsFault site script outcome fault = ⊥
 

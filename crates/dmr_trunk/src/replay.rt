@@ -123,7 +123,7 @@ fn text_of_replay<'a>(
 pub fn plan_of<'a>(alloc: Global, site: &[u8]) -> Result<Plan, ReplayFault<'a>>
     ensures { MatchResult result
         (λ plan. plan_in site.now ≡ Ok plan)
-        (λ fault. (fault ≡ ReplayFault.OutOfMemory) ⊎ IsErrAnd (plan_in site.now) (λ operators_text. fault ≡ ReplayFault.SiteFile operators_text)) }
+        (λ fault. (fault ≡ ReplayFault.OutOfMemory) ⊎ IsErrAnd (plan_in site.now) (λ plan_fault. fault ≡ ReplayFault.SiteFile plan_fault)) }
 {
     let Ok(text) = str::from_utf8(site) else {
         return Err(ReplayFault::SiteFile(PlanFault::NotToml));
@@ -139,7 +139,7 @@ pub fn plan_of<'a>(alloc: Global, site: &[u8]) -> Result<Plan, ReplayFault<'a>>
 fn given_by<'a>(alloc: Global, script: &[u8]) -> Result<Vec<ScriptInput>, ReplayFault<'a>>
     ensures { MatchResult result
         (λ given. script_of script.now ≡ Ok (map given_as given.items))
-        (λ fault. (fault ≡ ReplayFault.OutOfMemory) ⊎ IsErrAnd (script_of script.now) (λ number. fault ≡ ReplayFault.ScriptLine number)) }
+        (λ fault. (fault ≡ ReplayFault.OutOfMemory) ⊎ IsErrAnd (script_of script.now) (λ line. fault ≡ ReplayFault.ScriptLine line)) }
 {
     match read_script(alloc, script) {
         Ok(given) => Ok(given),

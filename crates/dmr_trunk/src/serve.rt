@@ -1,6 +1,7 @@
 //! Serving: a site over TCP, term by term.
 
 ghost use Rattle.std.specs.Prelude.{◌≡◌};
+ghost use Rattle.dmr_trunk.specs.Serving.{IsListenAddress};
 
 use crate::notes::{Notes, Whose};
 use crate::pacer::ClockPacer;
@@ -12,7 +13,7 @@ use dmr_pdu::{CarrierNo, OutOfMemory};
 use dmr_plan::{CarrierRow, Plan};
 use log::Log;
 use std::alloc::Global;
-use std::net::{IpAddr, Ipv4Addr, Net, SocketAddr, SocketAddrV4};
+use std::net::{Ipv4Addr, Net, SocketAddr, SocketAddrV4};
 use std::sync::Wait;
 use std::thread::Threads;
 use std::time::Clock;
@@ -46,13 +47,14 @@ struct Standing<'a, R> {
     notes: Notes<'a, R>,
 }
 
-/// The address of a port of the plan.
-fn address_of(plan: &Plan, port: u16) -> SocketAddr {
-    match plan.address() {
-        [a, b, c, d] => SocketAddr::V4(SocketAddrV4::new(Ipv4Addr::new(*a, *b, *c, *d), port)),
-        // Every plan's address has four octets.
-        _ => SocketAddr::V4(SocketAddrV4::new(Ipv4Addr::LOCALHOST, port)),
-    }
+/// The address to listen at: the four octets of the plan's address, and the port.
+fn address_of(plan: &Plan, port: u16) -> SocketAddr
+    ensures { IsListenAddress plan.now.address port result }
+{
+    let [a, b, c, d] = plan.address() else {
+        unreachable!()
+    };
+    SocketAddr::V4(SocketAddrV4::new(Ipv4Addr::new(*a, *b, *c, *d), port))
 }
 
 /// Opens a port of the plan.

@@ -20,14 +20,19 @@ const HEARD: &[u8] =
 const ACKNOWLEDGED: [u8; 33] =
     *b"\x81\x01\x01\x82\x1A\x00\x41\xC3\x02\x8A\x48\xFC\x8F\x40\x3D\xC0\x6F\x00\xED\xA0\xF7\x83\xE4\x97\x54\x2E\x40\x5C\xB8\x3C\xB0\x83\x00";
 
-/// The site of the cases on other ports, from this one on, with ticks of 10 ms and terms of 1,000 entries.
-fn site_at(alloc: Global, ports: [u16; 3]) -> Result<Plan, Fail> {
+/// An address of the loopback network that is not the one that a site file without `address` means.
+const OTHER: [u8; 4] = [127, 0, 0, 2];
+
+/// The site of the cases at this address and on other ports, the console's first, with ticks of 10 ms and terms of 1,000 entries.
+fn site_at(alloc: Global, address: [u8; 4], ports: [u16; 3]) -> Result<Plan, Fail> {
+    let [a, b, c, d] = address;
     let [console, first, second] = ports;
     let (before, _) = SITE.split_once("tick_ms").unwrap_or((SITE, ""));
     let text = format!(in alloc;
         "{before}tick_ms = 10
 term_entries = 1000
 silence = 100
+address = [{a}, {b}, {c}, {d}]
 console_port = {console}
 radios = [[1000, 1999]]
 groups = [91, 92, 93, 94]
@@ -45,9 +50,11 @@ port = {second}
     Ok(Plan::read(alloc, text.as_str()).ok().ok_or("no plan")?)
 }
 
-/// A connection to a port that is listened on within two seconds.
-fn connect<R: Net<Stream = TcpStream> + Clock>(rt: &R, port: u16) -> io::Result<TcpStream> {
-    let address = SocketAddr::from((Ipv4Addr::LOCALHOST, port));
+/// A connection to an address that is listened on within two seconds.
+fn connect<R: Net<Stream = TcpStream> + Clock>(
+    rt: &R,
+    address: SocketAddr,
+) -> io::Result<TcpStream> {
     for _ in 0..200 {
         if let Ok(stream) = TcpStream::connect(rt, address) {
             return Ok(stream);
@@ -57,35 +64,41 @@ fn connect<R: Net<Stream = TcpStream> + Clock>(rt: &R, port: u16) -> io::Result<
     TcpStream::connect(rt, address)
 }
 
-/// What is answered to a carrier that sends this at once.
+/// What is answered to a carrier that connects to this address and sends this at once; and whether 127.0.0.1 is listened on at the
+/// same port meanwhile.
 fn answer_to<R: Net<Stream = TcpStream> + Clock>(
     rt: &R,
-    port: u16,
+    address: SocketAddr,
     octets: &[u8],
-) -> io::Result<[u8; 33]> {
-    let mut stream = connect(rt, port)?;
+) -> io::Result<([u8; 33], bool)> {
+    let mut stream = connect(rt, address)?;
+    let local = SocketAddr::from((Ipv4Addr::LOCALHOST, address.port()));
+    let is_local = TcpStream::connect(rt, local).is_ok();
     stream.write_all(octets)?;
     let mut answer = [0; 33];
     stream.read_exact(&mut answer)?;
-    Ok(answer)
+    Ok((answer, is_local))
 }
 
+/// A site is served at the address of its site file, and at no other.
 #[test]
 fn a_registration_is_acknowledged(rt: HostRuntime) -> Result<(), Fail> {
-    let plan = site_at(rt.alloc(), [17170, 17171, 17172])?;
-    let (served, answer) = thread::join(
+    let plan = site_at(rt.alloc(), OTHER, [17170, 17171, 17172])?;
+    let (served, answered) = thread::join(
         &rt,
         || serve(&rt, rt.alloc(), plan, 1),
-        || answer_to(&rt, 17171, HEARD),
+        || answer_to(&rt, SocketAddr::from((OTHER, 17171)), HEARD),
     );
+    let (answer, is_local) = answered?;
     assert!(rt; served == Ok(()));
-    assert!(rt; answer? == ACKNOWLEDGED);
+    assert!(rt; answer == ACKNOWLEDGED);
+    assert!(rt; !is_local);
     Ok(())
 }
 
 #[test]
 fn a_port_that_is_taken(rt: HostRuntime) -> Result<(), Fail> {
-    let plan = site_at(rt.alloc(), [17173, 17174, 17175])?;
+    let plan = site_at(rt.alloc(), [127, 0, 0, 1], [17173, 17174, 17175])?;
     let _taken = TcpListener::bind(&rt, SocketAddr::from((Ipv4Addr::LOCALHOST, 17175)))?;
     let served = serve(&rt, rt.alloc(), plan, 1);
     assert!(rt; served == Err(ServeFault::CannotListen(17175)));

@@ -64,9 +64,9 @@ class Placings(unittest.TestCase):
 
 
 class Controlled(unittest.TestCase):
-    """Sessions that the controller answered, with pieces that it took up to a tick and a half late."""
+    """Sessions that the controller answered, with pieces that it took up to 0.7 of a tick late."""
 
-    SEEDS, ROUNDS = range(3), 60
+    SEEDS, ROUNDS, LATE = (0, 1, 3), 100, 0.7
 
     def test_ticks_are_found(self) -> None:
         built, site = program("dmr_trunk"), Site(TWO_CARRIERS, tick_ms=10, hang=HANG, link_version=2)
@@ -76,7 +76,7 @@ class Controlled(unittest.TestCase):
                 it.write(site.text())
             for seed in self.SEEDS:
                 with self.subTest(seed=seed):
-                    pieces = record_session(site, Program(built, path), seed, self.ROUNDS)
+                    pieces = record_session(site, Program(built, path), seed, self.ROUNDS, self.LATE)
                     bursts = [frame.burst().word for piece in pieces for frame in self.frames(piece) if frame.kind == FrameType.TX]
                     clears = sum(pdus.read(code.octets_of(word) or bytes(10)).name == "P_CLEAR" for word in bursts)
                     self.assertGreaterEqual(clears, 10, "too few calls ended by the clock to say anything")

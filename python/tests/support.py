@@ -12,7 +12,10 @@ TWO_CARRIERS = str(EXAMPLES / "two_carriers.toml")
 
 
 def program(name: str) -> str:
-    """The path of a proved program: in the folder that TEMZAAR_PROGRAMS names, else in build/. SkipTest, with the reason: it is not there."""
+    """The path of a proved program: in the folder that TEMZAAR_PROGRAMS names, else in build/. SkipTest, with the reason: it is not there, or the folder is
+    called `none`."""
+    if os.environ.get("TEMZAAR_PROGRAMS") == "none":
+        raise unittest.SkipTest(f"they ask {name}: `make check-programs` runs them")
     path = pathlib.Path(os.environ.get("TEMZAAR_PROGRAMS") or TOP / "build") / name
     if not path.is_file():
         raise unittest.SkipTest(f"there is no {path}: `make build` builds it, TEMZAAR_PROGRAMS names another folder")

@@ -7,7 +7,7 @@ import tomllib
 import unittest
 from collections.abc import Iterator
 
-from tests.support import TWO_CARRIERS, program, read_document, table_rows
+from tests.support import TOP, TWO_CARRIERS, program, read_document, table_rows
 
 SITE_FILE = read_document("SITE_FILE.md")
 ARRAYS = ("address", "radios", "groups", "carrier")
@@ -37,6 +37,10 @@ class Example(unittest.TestCase):
         with open(TWO_CARRIERS, "rb") as it:
             self.assertEqual({key: value for key, value in tomllib.loads(example()).items() if key != "link_version"},
                              {key: value for key, value in tomllib.load(it).items() if key != "link_version"})
+
+    def test_the_stored_run_has_the_same_site(self) -> None:
+        with open(TWO_CARRIERS, "rb") as it, open(TOP / "crates" / "dmr_trunk" / "data" / "site.toml", "rb") as other:
+            self.assertEqual(tomllib.load(it), tomllib.load(other))
 
     def test_every_key_is_in_the_table(self) -> None:
         keys = {row[0] for row in table_rows(SITE_FILE, "| key | value | if missing")}

@@ -62,8 +62,8 @@ abbrev pub deposits_of_seats : List Sitting → ℕ
 deposits_of_seats [] = 0
 deposits_of_seats (seat ∷ seats) = length seat.deposits + deposits_of_seats seats
 
--- a journal that a desk may have kept when this many events had been deposited: a site of its own plan and facts, an entry for each
--- deposit, legal from that site, and within the limit
+-- a journal that a desk may have kept when this many events had been deposited: it is legal from the desk's site, within the desk's
+-- limit, and has one entry for each deposit
 pub record IsJournalFor (desk : Opened) (deposits : ℕ) (journal : List Entry) : Type 0 where
   pub kept : AreSoundPages (record { opening = desk.site; limit = desk.limit; entries = journal })
   pub counted : length journal ≡ deposits

@@ -100,14 +100,23 @@ fn new_served(alloc: Global) -> Result<Served, Fail> {
     })
 }
 
-/// Runs the three workers at a desk for three actors, and closes the desk: why each worker ended, and the report.
+/// Why each worker ended, and the report of the desk.
+#[derive(Drop)]
+struct Worked {
+    carrier: Ending,
+    ticker: Ending,
+    console: Ending,
+    report: Report,
+}
+
+/// Runs the three workers at a desk for three actors, and closes the desk.
 fn work_over<L: DeskLedger, R: Wait>(
     rt: &R,
     alloc: Global,
     blank: Blank,
     site: Site,
     served: &mut Served,
-) -> Option<([Ending; 3], Report)>
+) -> Option<Worked>
     requires name { blank.name ≡ L.name }
     requires parts { blank.parts ≡ L.parts }
     requires eighteen { blank.parts ≡ 18 }
@@ -117,11 +126,9 @@ fn work_over<L: DeskLedger, R: Wait>(
     let mut console_at = SeatAt::new(rt, &desk, seats.pop()?);
     let mut ticker_at = SeatAt::new(rt, &desk, seats.pop()?);
     let mut carrier_at = SeatAt::new(rt, &desk, seats.pop()?);
-    let endings = [
-        work_carrier(rt, &mut served.station, &mut carrier_at),
-        work_ticker(rt, &mut served.pacer, &mut ticker_at),
-        work_console(rt, &mut served.console, &mut console_at),
-    ];
+    let carrier = work_carrier(rt, &mut served.station, &mut carrier_at);
+    let ticker = work_ticker(rt, &mut served.pacer, &mut ticker_at);
+    let console = work_console(rt, &mut served.console, &mut console_at);
     let seats = Vec::from_array(
         alloc,
         [
@@ -131,16 +138,16 @@ fn work_over<L: DeskLedger, R: Wait>(
         ],
     );
     let report = desk.close(rt, seats.ok()?).ok()?;
-    Some((endings, report))
+    Some(Worked {
+        carrier,
+        ticker,
+        console,
+        report,
+    })
 }
 
 /// Runs the three workers, over a ledger of their own.
-fn work_all<R: Wait>(
-    rt: &R,
-    alloc: Global,
-    site: Site,
-    served: &mut Served,
-) -> Option<([Ending; 3], Report)> {
+fn work_all<R: Wait>(rt: &R, alloc: Global, site: Site, served: &mut Served) -> Option<Worked> {
     work_over::<Brand, R>(rt, alloc, Blank::new(PARTS), site, served)
 }
 
@@ -150,16 +157,18 @@ fn work_all<R: Wait>(
 fn workers(rt: HostRuntime) -> Result<(), Fail> {
     let mut served = new_served(rt.alloc())?;
     let site = quiet_site(rt.alloc())?;
-    let Some((endings, report)) = work_all(&rt, rt.alloc(), site, &mut served) else {
+    let Some(worked) = work_all(&rt, rt.alloc(), site, &mut served) else {
         return Err("a report".into());
     };
+    assert_eq!(rt; worked.carrier, Ending::Finished);
+    assert_eq!(rt; worked.ticker, Ending::Finished);
+    assert_eq!(rt; worked.console, Ending::Finished);
     let Report {
         site,
         journal,
         views,
-    } = report;
+    } = worked.report;
     drop(site);
-    assert!(rt; endings == [Ending::Finished; 3]);
     assert_eq!(rt; journal.as_slice().len(), 8);
     let taken = [
         served.station.port.taken(),

@@ -1,5 +1,3 @@
-pub mod Inputs
-pub mod Script
 pub mod Words
 pub mod Replay
 pub mod Unsent

@@ -2,7 +2,7 @@
 //!
 //! `dmr_trunk --site FILE --script FILE` replays a script over the site of a site file and prints what was put out for
 //! each carrier. `dmr_trunk --site FILE --serve` serves the site over TCP. The words are read in `words`, files come from
-//! `files`, and scripts are read in `script`; `replay` runs a script's inputs through the engine of `dmr_link`. `serve` opens a
+//! `files`, and `dmr_replay` runs a script's inputs through the engine of `dmr_link`. `serve` opens a
 //! `port` for each carrier and for operators, has a `pacer` for the ticks, and runs terms of `dmr_desk` over them; what it does
 //! is said in `notes`.
 #![tactic(auto)]
@@ -12,10 +12,8 @@ mod files;
 mod notes;
 mod pacer;
 mod port;
-mod replay;
 #[cfg(test)]
 mod rows;
-mod script;
 mod serve;
 mod serving;
 mod status;
@@ -26,11 +24,11 @@ ghost use Rattle.std.specs.Prelude.{◌≡◌, IfOk, map, string_bytes};
 ghost use Rattle.dmr_trunk.specs.Replay.{AreReplayed, HasPlan, IsJobDone, IsReplayed, IsReplayedBySome, IsStatus};
 
 use crate::files::{FileSource, SystemFiles, slice_of};
-use crate::replay::replay;
 use crate::serving::serve_file;
 use crate::status::{out_of_memory, words_refused};
 use crate::words::{Job, choose};
 use dmr_pdu::OutOfMemory;
+use dmr_replay::replay;
 use log::Log;
 use std::alloc::Global;
 use std::io::Write;

@@ -19,9 +19,9 @@ mod sites;
 mod talkgroup_calls;
 mod three_flips;
 
-use crate::replay::replay;
 use dmr_burst::write;
 use dmr_pdu::{Address, Kind, Number, OutOfMemory, Pdu};
+use dmr_replay::replay;
 use std::alloc::Global;
 use std::process::Abort;
 

@@ -4,11 +4,11 @@ ghost use Rattle.std.specs.Prelude.{◌≡◌, ◌⊎◌, IfOk, option_map};
 ghost use Rattle.dmr_trunk.specs.Replay.{IsPlanned, IsStatus};
 ghost use Rattle.dmr_trunk.specs.Serving.{status_of_fault};
 
-use crate::replay::{ReplayFault, plan_of};
 use crate::serve::{ServeFault, serve};
-use crate::status::{AUDIT, FAULT, MEMORY, OK};
+use crate::status::AUDIT;
 use dmr_desk::{CloseFault, OpenFault, TermFault};
 use dmr_plan::Plan;
+use dmr_replay::{FAULT, MEMORY, OK, ReplayFault, plan_of};
 use log::Log;
 use std::alloc::Global;
 use std::fmt;

@@ -7,11 +7,12 @@ ghost use Rattle.clap.specs.declared.builder.command.Command.TheViews.{out-Comma
 ghost use Rattle.clap.specs.declared.parser.matches.ArgMatches.{ArgMatches};
 ghost use Rattle.dmr_trunk.specs.Words.{AreRefused, AskFor, HasRead, IsAsked, IsNotOne, command, faults_in, script_option, serve_flag, site_option, terms_option};
 
-use crate::status::{MEMORY, WORDS, out_of_memory, words_refused};
+use crate::status::{WORDS, out_of_memory, words_refused};
 use clap::builder::ValueParser;
 use clap::error::ErrorKind;
 use clap::{Arg, ArgAction, ArgMatches, Command, Error};
 use dmr_pdu::OutOfMemory;
+use dmr_replay::MEMORY;
 use std::alloc::Global;
 use std::io::Write;
 

@@ -1,9 +1,9 @@
 //! What the program says to files that cannot be read, to site files and to words.
 
-use crate::replay::replay;
 use crate::rows::{Answer, SITE, site_with};
 use crate::words::{Job, choose};
 use dmr_pdu::OutOfMemory;
+use dmr_replay::replay;
 use std::io;
 use std::io::Write;
 use std::process::Abort;

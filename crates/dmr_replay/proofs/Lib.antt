@@ -1,0 +1,4 @@
+pub mod EngineLemmas
+pub mod ScriptLemmas
+pub mod ScriptCases
+pub mod ReplayLemmas

@@ -1,0 +1,77 @@
+-- What a replay prints, one carrier number more; site files that are texts; and the faults that are told.
+use Rattle.std.proofs.Common.{◌≡◌, ℕ, ◌+◌, List, [], ◌∷◌, ◌++◌, Bool, true, false, map, arith, refl, sym, subst, ap, ◌∙◌, ◌⊎◌, inl, inr}
+use Rattle.std.specs.Prelude.{flat_map, IsErrAnd, Option, Result, Ok, Err, if◌then◌else◌}
+use Rattle.std.specs.List.{range_with_len}
+use Rattle.std.proofs.lemmas.Grind.{flat_map-append}
+use Rattle.std.specs.Str.{IsUtf8, is_utf8}
+use Rattle.std.proofs.lemmas.Str.{IsUtf8-from_is_utf8, is_utf8-from_IsUtf8}
+use Rattle.std.proofs.lemmas.List.{append-nil}
+use Rattle.std.proofs.lemmas.List.Folds.{flat_map-map}
+use Rattle.std.proofs.lemmas.List.FromFn.{map-range_with_len_more}
+use Rattle.dmr_plan.specs.declared.settings.Settings.{Settings}
+use Rattle.dmr_plan.specs.Carriers.{has_number_in}
+use Rattle.dmr_plan.specs.declared.fault.PlanFault.{PlanFault}
+use Rattle.dmr_plan.specs.declared.fault.PlanFault.TheVariants.{NotToml}
+use Rattle.dmr_plan.specs.Plan.{plan_of_text}
+use Rattle.dmr_replay.specs.declared.replaying.ReplayFault.{ReplayFault}
+use Rattle.dmr_replay.specs.declared.replaying.ReplayFault.TheVariants.{SiteFile, ScriptLine, OutOfMemory}
+use Rattle.dmr_replay.specs.Script.{Given}
+use Rattle.dmr_replay.specs.Replay.{Outcome, Prints, SiteNotRead, NoPlan, ScriptNotRead, NoLine, TellsFault, carrier_line, line_of_number, lines_to, of_lines, of_plan, plan_in}
+
+lines_more : (plan : Settings) (put_out : ℕ → List ℕ) (number : ℕ) → lines_to plan put_out (number + 1) ≡ lines_to plan put_out number ++ line_of_number plan put_out number
+lines_more plan put_out number =
+    let line : ℕ → List ℕ = line_of_number plan put_out in
+    sym (flat_map-map (λ x. x) line (range_with_len 0 (number + 1)))
+    ∙ ap (flat_map (λ x. x)) (map-range_with_len_more line 0 number number (omega arith))
+    ∙ flat_map-append (λ x. x) (map line (range_with_len 0 number)) (line number ∷ [])
+    ∙ ap (λ (before : List ℕ). before ++ (line number ++ [])) (flat_map-map (λ x. x) line (range_with_len 0 number))
+    ∙ ap (λ (after : List ℕ). lines_to plan put_out number ++ after) (append-nil (line number))
+
+module _ (plan : Settings) (put_out : ℕ → List ℕ) (number : ℕ) (before : List ℕ) (before_is : before ≡ lines_to plan put_out number) where
+  -- a number that the plan has
+  pub shown_more : (after line : List ℕ) → has_number_in plan.carriers number ≡ true → after ≡ before ++ line → line ≡ carrier_line number (put_out number) → after ≡ lines_to plan put_out (number + 1)
+  shown_more after line there after_is line_is =
+      after_is ∙ (λ k. before_is k ++ line_is k)
+      ∙ ap (λ (b : Bool). lines_to plan put_out number ++ (if b then carrier_line number (put_out number) else [])) (sym there)
+      ∙ sym (lines_more plan put_out number)
+
+  -- a number that it doesn't have
+  pub passed_over : (after : List ℕ) → has_number_in plan.carriers number ≡ false → after ≡ before → after ≡ lines_to plan put_out (number + 1)
+  passed_over after missing after_is =
+      after_is ∙ before_is ∙ sym (append-nil (lines_to plan put_out number))
+      ∙ ap (λ (b : Bool). lines_to plan put_out number ++ (if b then carrier_line number (put_out number) else [])) (sym missing)
+      ∙ sym (lines_more plan put_out number)
+
+-- a site file that is a text
+pub plan_in_text : (site : List ℕ) → IsUtf8 site → plan_in site ≡ plan_of_text site
+plan_in_text site is = ap (λ (b : Bool). if b then plan_of_text site else Err NotToml) (is_utf8-from_IsUtf8 site is)
+
+-- and one that is none
+pub plan_in_no_text : (site : List ℕ) → ¬ IsUtf8 site → plan_in site ≡ Err NotToml
+plan_in_no_text site isnt = either (is_utf8 site) (λ (told : is_utf8 site ≡ true). isnt (IsUtf8-from_is_utf8 site told))
+  where
+    either : (b : Bool) → (b ≡ true → ⊥) → (if b then plan_of_text site else Err NotToml) ≡ Err NotToml
+    either true none = absurd (none refl)
+    either false none = refl
+
+-- the faults that are told, one after the other
+module _ (site_name script_name : List ℕ) (fault : ReplayFault) where
+  memory_told : (found : Outcome) → TellsFault site_name script_name found OutOfMemory
+  memory_told SiteNotRead = tt
+  memory_told ScriptNotRead = tt
+  memory_told (NoPlan told) = tt
+  memory_told (NoLine number) = tt
+  memory_told (Prints text) = tt
+
+  pub no_plan : (read : Result Settings PlanFault) (script : Option (List ℕ)) → (fault ≡ OutOfMemory) ⊎ IsErrAnd read (λ told. fault ≡ SiteFile told) → TellsFault site_name script_name (of_plan read script) fault
+  no_plan read script (inl memory) = subst (TellsFault site_name script_name (of_plan read script)) (sym memory) (memory_told (of_plan read script))
+  no_plan (Err told) script (inr is) = subst (TellsFault site_name script_name (NoPlan told)) (sym is) refl
+  no_plan (Ok plan) script (inr is) = absurd is
+
+  pub no_lines : (plan : Settings) (read : Result (List Given) ℕ) → (fault ≡ OutOfMemory) ⊎ IsErrAnd read (λ number. fault ≡ ScriptLine number) → TellsFault site_name script_name (of_lines plan read) fault
+  no_lines plan read (inl memory) = subst (TellsFault site_name script_name (of_lines plan read)) (sym memory) (memory_told (of_lines plan read))
+  no_lines plan (Err number) (inr is) = subst (TellsFault site_name script_name (NoLine number)) (sym is) refl
+  no_lines plan (Ok given) (inr is) = absurd is
+
+  pub no_memory : (found : Outcome) → fault ≡ OutOfMemory → TellsFault site_name script_name found fault
+  no_memory found memory = subst (TellsFault site_name script_name found) (sym memory) (memory_told found)

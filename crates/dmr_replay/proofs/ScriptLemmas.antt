@@ -1,0 +1,58 @@
+-- What is still to be read of a script: one line more.
+use Rattle.std.proofs.Common.{◌≡◌, ℕ, ◌+◌, ◌<◌, ◌≤◌, true, false, List, [], ◌∷◌, ◌++◌, Some, None, Result, Ok, Err, length, drop, slice_index_or, refl, sym, ap, ◌∙◌, append_assoc, zero-add, arith}
+use Rattle.std.specs.Prelude.{find}
+use Rattle.std.specs.List.{enumerate_from, filter_map}
+use Rattle.std.proofs.lemmas.List.FromFn.{length-enumerate_from, get_or-enumerate_from}
+use Rattle.std.proofs.lemmas.List.{append-nil, drop_more, drop_all}
+use Rattle.dmr_replay.specs.Script.{Given, given_at, given_by_line, is_faulty_line, is_skipped, unless_fault}
+
+-- what a script gives of which the last lines, from number n on, are still to be read, and the earlier ones gave these
+abbrev pub answer : List Given → ℕ → List (List ℕ) → Result (List Given) ℕ
+answer given n lines =
+    unless_fault (find (λ line. is_faulty_line line.1) (enumerate_from n lines)) (given ++ filter_map given_at (enumerate_from n lines))
+
+skipped-cons : (given : List Given) (n : ℕ) (line : List ℕ) (lines : List (List ℕ)) → is_skipped line ≡ true → answer given n (line ∷ lines) ≡ answer given (n + 1) lines
+skipped-cons given n line lines skipped = rw skipped refl
+
+gives-cons : (given : List Given) (n : ℕ) (line : List ℕ) (lines : List (List ℕ)) (input : Given) → is_skipped line ≡ false → given_by_line line ≡ Some input
+    → answer given n (line ∷ lines) ≡ answer (given ++ input ∷ []) (n + 1) lines
+gives-cons given n line lines input skipped gives = rw (skipped, gives, append_assoc) refl
+
+fault-cons : (given : List Given) (n : ℕ) (line : List ℕ) (lines : List (List ℕ)) → is_skipped line ≡ false → given_by_line line ≡ None → answer given n (line ∷ lines) ≡ Err n
+fault-cons given n line lines skipped gives = rw (skipped, gives) refl
+
+module _ (given : List Given) (k : ℕ) (line : List ℕ) (lines : List (List ℕ)) (here : (k < length lines) × (line ≡ slice_index_or lines k line)) (whole : Result (List Given) ℕ) (before : answer given (k + 1) (drop k lines) ≡ whole) where
+  next : drop k lines ≡ line ∷ drop (k + 1) lines
+  next = drop_more lines k line here.0 ∙ ap (λ (l : List ℕ). l ∷ drop (k + 1) lines) (sym here.1)
+
+  same : answer given (k + 1) (line ∷ drop (k + 1) lines) ≡ whole
+  same = ap (answer given (k + 1)) (sym next) ∙ before
+
+  -- a line that gives nothing
+  pub skips : (more : ℕ) → more ≡ k + 1 → is_skipped line ≡ true → answer given (more + 1) (drop more lines) ≡ whole
+  skips more is skipped =
+      ap (λ (m : ℕ). answer given (m + 1) (drop m lines)) is ∙ sym (skipped-cons given (k + 1) line (drop (k + 1) lines) skipped) ∙ same
+
+  -- a line that gives an input
+  pub gives : (more : ℕ) → more ≡ k + 1 → (input : Given) (given_more : List Given) → given_more ≡ given ++ input ∷ []
+      → is_skipped line ≡ false → given_by_line line ≡ Some input → answer given_more (more + 1) (drop more lines) ≡ whole
+  gives more is input given_more given_is skipped some =
+      ap (λ (m : ℕ). answer given_more (m + 1) (drop m lines)) is
+      ∙ ap (λ (g : List Given). answer g (k + 1 + 1) (drop (k + 1) lines)) given_is
+      ∙ sym (gives-cons given (k + 1) line (drop (k + 1) lines) input skipped some) ∙ same
+
+  -- a line at fault
+  pub faults : is_skipped line ≡ false → given_by_line line ≡ None → whole ≡ Err (k + 1)
+  faults skipped none = sym same ∙ fault-cons given (k + 1) line (drop (k + 1) lines) skipped none
+
+-- no line is left
+pub ends : (given : List Given) (k : ℕ) (lines : List (List ℕ)) (whole : Result (List Given) ℕ) → length lines ≤ k → answer given (k + 1) (drop k lines) ≡ whole → whole ≡ Ok given
+ends given k lines whole all before = sym before ∙ ap (answer given (k + 1)) (drop_all k lines all) ∙ ap (λ (l : List Given). Ok l) (append-nil given)
+
+-- a numbered line of a list of lines
+pub line_at : (lines : List (List ℕ)) (k index : ℕ) (line : List ℕ) → (k < length (enumerate_from 0 lines)) × ((index, line) ≡ slice_index_or (enumerate_from 0 lines) k (index, line))
+    → (index ≡ k) × ((k < length lines) × (line ≡ slice_index_or lines k line))
+line_at lines k index line at =
+    let lt : k < length lines = omega (arith, length-enumerate_from 0 lines, at.0) in
+    let pair : (index, line) ≡ (0 + k, slice_index_or lines k line) = at.1 ∙ get_or-enumerate_from 0 lines k (index, line) lt in
+    (ap (λ (p : ℕ × List ℕ). p.0) pair ∙ zero-add k, (lt, ap (λ (p : ℕ × List ℕ). p.1) pair))

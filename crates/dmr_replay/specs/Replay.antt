@@ -1,0 +1,98 @@
+-- What a replay prints, or why it prints nothing.
+use Rattle.std.specs.Prelude.{◌≡◌, ◌⊎◌, ⊤, ℕ, Bool, true, false, List, [], ◌∷◌, ◌++◌, Option, Some, None, Result, Ok, Err, IsOk, if◌then◌else◌, codes, flat_map}
+use Rattle.std.specs.List.{range_with_len}
+use Rattle.std.specs.Fmt.{decimal}
+use Rattle.std.specs.Io.KnownBytes.{Appends}
+use Rattle.std.specs.Str.{is_utf8}
+use Rattle.hex.specs.Hex.{encode_upper}
+use Rattle.dmr_plan.specs.declared.fault.PlanFault.{PlanFault}
+use Rattle.dmr_plan.specs.declared.fault.PlanFault.TheVariants.{NotToml}
+use Rattle.dmr_plan.specs.declared.settings.Settings.{Settings}
+use Rattle.dmr_plan.specs.Carriers.{has_number_in}
+use Rattle.dmr_plan.specs.Plan.{plan_of_text}
+use Rattle.dmr_replay.specs.declared.replaying.ReplayFault.{ReplayFault}
+use Rattle.dmr_replay.specs.declared.replaying.ReplayFault.TheVariants as fault
+use Rattle.dmr_replay.specs.Inputs.{put_out, operators_text}
+use Rattle.dmr_replay.specs.Script.{Given, inputs_of_script, script_of}
+
+-- ---- the text
+
+-- octets in upper case hexadecimal digits; `-` where there are none
+abbrev pub digits_or_dash : List ℕ → List ℕ
+digits_or_dash [] = codes "-"
+digits_or_dash (octet ∷ octets) = encode_upper (octet ∷ octets)
+
+-- the line of a carrier, for the octets that were put out for it
+abbrev pub carrier_line : ℕ → List ℕ → List ℕ
+carrier_line number octets = codes "carrier " ++ decimal number ++ codes " " ++ digits_or_dash octets ++ codes "\n"
+
+-- the line of a carrier that the plan has; nothing for a number that it doesn't have
+abbrev pub line_of_number : Settings → (ℕ → List ℕ) → ℕ → List ℕ
+line_of_number plan put_out number = if has_number_in plan.carriers number then carrier_line number (put_out number) else []
+
+-- a line per carrier of the plan, by number
+abbrev pub lines_to : Settings → (ℕ → List ℕ) → ℕ → List ℕ
+lines_to plan put_out numbers = flat_map (line_of_number plan put_out) (range_with_len 0 numbers)
+
+-- behind them the operators' text as it is
+abbrev pub printed_text : Settings → (ℕ → List ℕ) → List ℕ → List ℕ
+printed_text plan put_out console = lines_to plan put_out 16 ++ console
+
+-- ---- what the files give
+
+-- a text that is printed, or the first fault, the site file's before the script's
+pub data Outcome : Type 0 where
+  Prints : (text : List ℕ) → Outcome
+  SiteNotRead : Outcome
+  NoPlan : (fault : PlanFault) → Outcome
+  ScriptNotRead : Outcome
+  NoLine : (number : ℕ) → Outcome
+
+-- the plan of a site file, or its first fault; octets that aren't UTF-8 are no TOML
+abbrev pub plan_in : List ℕ → Result Settings PlanFault
+plan_in site = if is_utf8 site then plan_of_text site else Err NotToml
+
+-- what the lines of a script put out, or the number of the one that is none
+abbrev pub of_lines : Settings → Result (List Given) ℕ → Outcome
+of_lines plan (Err number) = NoLine number
+of_lines plan (Ok given) = Prints (printed_text plan (put_out plan (inputs_of_script given)) (operators_text plan (inputs_of_script given)))
+
+-- what a script gives, if it could be read
+abbrev pub of_script : Settings → Option (List ℕ) → Outcome
+of_script plan None = ScriptNotRead
+of_script plan (Some script) = of_lines plan (script_of script)
+
+-- what a plan and a script give, or the fault of the site file
+abbrev pub of_plan : Result Settings PlanFault → Option (List ℕ) → Outcome
+of_plan (Err fault) script = NoPlan fault
+of_plan (Ok plan) script = of_script plan script
+
+-- the octets of the two files, or none where one could not be read
+abbrev pub outcome : Option (List ℕ) → Option (List ℕ) → Outcome
+outcome None script = SiteNotRead
+outcome (Some site) script = of_plan (plan_in site) script
+
+-- ---- what is told of it
+
+abbrev pub is_printed : Outcome → Bool
+is_printed (Prints text) = true
+is_printed other = false
+
+-- the writer got the text whole, and there is one
+abbrev pub IsPrinted : Outcome → Option (List ℕ) → Option (List ℕ) → Type 0
+IsPrinted (Prints text) old new = Appends old new text
+IsPrinted other old new = ⊥
+
+-- the fault that is told is the first one, with the name of the file that could not be read; want of memory may be told always
+abbrev pub TellsFault : List ℕ → List ℕ → Outcome → ReplayFault → Type 0
+TellsFault site script SiteNotRead (fault.CannotRead name) = name.now ≡ site
+TellsFault site script ScriptNotRead (fault.CannotRead name) = name.now ≡ script
+TellsFault site script (NoPlan plan_fault) (fault.SiteFile told) = told ≡ plan_fault
+TellsFault site script (NoLine line) (fault.ScriptLine told) = told ≡ line
+TellsFault site script outcome fault.OutOfMemory = ⊤
+TellsFault site script outcome fault = ⊥
+
+-- the exit status of a fault: 4 for want of memory, else 1
+abbrev pub status_of : ReplayFault → ℕ
+status_of fault.OutOfMemory = 4
+status_of fault = 1

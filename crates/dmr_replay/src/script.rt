@@ -1,0 +1,245 @@
+//! Scripts: what comes to a site, line by line.
+//!
+//! A script is octets. Its lines are what stands between its LFs, so the last line may end with an LF or without; empty
+//! lines and lines that begin with `#` are skipped. The words of a line are separated by one space, but a line that begins
+//! with `say ` has all that stands behind that space as its text.
+
+ghost use Rattle.std.specs.Prelude.{◌≡◌, ◌≤◌, ◌++◌, ◌∷◌, [], ℕ, Ok, Err, IfOk, IfSome, map, option_map};
+ghost use Rattle.dmr_link.specs.Input.{input_of};
+ghost use Rattle.dmr_replay.specs.Script.{arrival, carrier_of_word, input_of_cut, given_as, given_by, given_by_line, is_skipped, number_of_word, octets_of_word, input_of_open, script_of, input_of_text, input_of_tick, count_of_ticks as times_of_word, words_of_script_line};
+
+use dmr_console::number_in;
+use dmr_link::Input;
+use dmr_pdu::{CarrierNo, OutOfMemory};
+use std::alloc::Global;
+
+/// The most ticks that a line gives.
+const MOST_TICKS: u32 = 100_000;
+
+/// What a line of a script gives.
+#[derive(Drop)]
+pub enum ScriptInput {
+    /// `open C`: the connection of carrier C begins.
+    Open(CarrierNo),
+    /// `bytes C HEX`: octets, at least one, that came from carrier C.
+    Bytes(CarrierNo, Vec<u8>),
+    /// `cut C`: the connection of carrier C is cut.
+    Cut(CarrierNo),
+    /// `tick` and `tick N`: so many ticks of the site's clock, 1 to 100,000.
+    Tick(u32),
+    /// `say TEXT` and `text HEX`: octets that came from an operator; those of TEXT end with an LF.
+    Text(Vec<u8>),
+}
+
+/// Why a script was not read.
+#[derive(Clone, Copy, Debug, PartialEq, Eq)]
+pub enum ScriptFault {
+    /// The line of this number, counted from 1 over all lines, is no line of a script.
+    Line(usize),
+    /// Memory ran out.
+    OutOfMemory,
+}
+
+impl ScriptInput {
+    /// The input that the line gives.
+    pub fn as_input(&self) -> Input<'_>
+        ensures { input_of result ≡ (given_as self.entry.now).input }
+    {
+        match self {
+            ScriptInput::Open(carrier) => Input::Open(*carrier),
+            ScriptInput::Bytes(carrier, octets) => Input::Bytes(*carrier, octets.as_slice()),
+            ScriptInput::Cut(carrier) => Input::Cut(*carrier),
+            ScriptInput::Tick(_) => Input::Tick,
+            ScriptInput::Text(octets) => Input::Text(octets.as_slice()),
+        }
+    }
+
+    /// How often it gives it.
+    pub fn times(&self) -> u32
+        ensures { result ≡ (given_as self.now).times }
+    {
+        match self {
+            ScriptInput::Tick(times) => *times,
+            _ => 1,
+        }
+    }
+}
+
+/// What the lines of a script give, in their order, or the number of the first line that is at fault.
+pub fn read_script(alloc: Global, script: &[u8]) -> Result<Vec<ScriptInput>, ScriptFault>
+    // That is what all lines give, and none is at fault.
+    ensures lines { IfOk result (λ given. script_of script.now ≡ Ok (map given_as given.items)) }
+    // A script is refused by the number of its first line that is at fault, unless memory runs out.
+    ensures fault { (number : ℕ) → result ≡ Err (ScriptFault.Line number) → script_of script.now ≡ Err number }
+{
+    let mut given = Vec::new(alloc);
+    for (index, line) in script.split(|octet| *octet == b'\n').enumerate() {
+        if !is_skipped(line) {
+            match given_in(alloc, line) {
+                Ok(Some(input)) => {
+                    if given.push(input).is_err() {
+                        return Err(ScriptFault::OutOfMemory);
+                    }
+                }
+                Ok(None) => return Err(ScriptFault::Line(index + 1)),
+                Err(OutOfMemory) => return Err(ScriptFault::OutOfMemory),
+            }
+        }
+    }
+    Ok(given)
+}
+
+/// Whether a line gives nothing and is no fault: an empty line or a comment.
+fn is_skipped(line: &[u8]) -> bool
+    ensures { result ≡ is_skipped line.now }
+{
+    match line {
+        [] => true,
+        [octet, ..] => *octet == b'#',
+    }
+}
+
+/// What a line that is not skipped gives; None where it is no line of a script.
+fn given_in(alloc: Global, line: &[u8]) -> Result<Option<ScriptInput>, OutOfMemory>
+    ensures { IfOk result (λ input. option_map given_as input ≡ given_by_line line.now) }
+{
+    match line.strip_prefix(b"say ") {
+        Some(text) => Ok(Some(ScriptInput::Text(ended(alloc, text)?))),
+        None => {
+            let words = words_of(alloc, line)?;
+            given_by(alloc, words.as_slice())
+        }
+    }
+}
+
+/// A text and an LF.
+fn ended(alloc: Global, text: &[u8]) -> Result<Vec<u8>, OutOfMemory>
+    ensures { IfOk result (λ line. line.items ≡ text.now ++ 10 ∷ []) }
+{
+    let mut line = Vec::new(alloc);
+    line.extend_from_slice(text)?;
+    line.push(b'\n')?;
+    Ok(line)
+}
+
+/// The words of a line.
+fn words_of(alloc: Global, line: &[u8]) -> Result<Vec<&[u8]>, OutOfMemory>
+    ensures { IfOk result (λ words. map (λ word. word.now) words.items ≡ words_of_script_line line.now) }
+{
+    line.split(|octet| *octet == b' ').collect(alloc)
+}
+
+/// What words give; None where they are no words of a script.
+fn given_by(alloc: Global, words: &[&[u8]]) -> Result<Option<ScriptInput>, OutOfMemory>
+    ensures { IfOk result (λ input. option_map given_as input ≡ given_by (map (λ word. word.now) words.now)) }
+{
+    let [name, arguments @ ..] = words else {
+        return Ok(None);
+    };
+    if *name == b"open".as_slice() {
+        Ok(opening(arguments))
+    } else if *name == b"bytes".as_slice() {
+        arrival(alloc, arguments)
+    } else if *name == b"cut".as_slice() {
+        Ok(cutting(arguments))
+    } else if *name == b"tick".as_slice() {
+        Ok(ticking(arguments))
+    } else if *name == b"text".as_slice() {
+        telling(alloc, arguments)
+    } else {
+        Ok(None)
+    }
+}
+
+/// What the words behind `open` give: one word, C.
+fn opening(words: &[&[u8]]) -> Option<ScriptInput>
+    ensures { option_map given_as result ≡ input_of_open (map (λ word. word.now) words.now) }
+{
+    match words {
+        [carrier] => carrier_of(carrier).map(|carrier| ScriptInput::Open(carrier)),
+        _ => None,
+    }
+}
+
+/// What the words behind `cut` give: one word, C.
+fn cutting(words: &[&[u8]]) -> Option<ScriptInput>
+    ensures { option_map given_as result ≡ input_of_cut (map (λ word. word.now) words.now) }
+{
+    match words {
+        [carrier] => carrier_of(carrier).map(|carrier| ScriptInput::Cut(carrier)),
+        _ => None,
+    }
+}
+
+/// What the words behind `tick` give: none, or one, N.
+fn ticking(words: &[&[u8]]) -> Option<ScriptInput>
+    ensures { option_map given_as result ≡ input_of_tick (map (λ word. word.now) words.now) }
+{
+    match words {
+        [] => Some(ScriptInput::Tick(1)),
+        [times] => times_of(times).map(|times| ScriptInput::Tick(times)),
+        _ => None,
+    }
+}
+
+/// What the words behind `bytes` give: two words, C and HEX.
+fn arrival(alloc: Global, words: &[&[u8]]) -> Result<Option<ScriptInput>, OutOfMemory>
+    ensures { IfOk result (λ input. option_map given_as input ≡ arrival (map (λ word. word.now) words.now)) }
+{
+    let [carrier, digits] = words else {
+        return Ok(None);
+    };
+    let Some(carrier) = carrier_of(carrier) else {
+        return Ok(None);
+    };
+    let octets = octets_of(alloc, digits)?;
+    Ok(octets.map(|octets| ScriptInput::Bytes(carrier, octets)))
+}
+
+/// What the words behind `text` give: one word, HEX.
+fn telling(alloc: Global, words: &[&[u8]]) -> Result<Option<ScriptInput>, OutOfMemory>
+    ensures { IfOk result (λ input. option_map given_as input ≡ input_of_text (map (λ word. word.now) words.now)) }
+{
+    let [digits] = words else {
+        return Ok(None);
+    };
+    let octets = octets_of(alloc, digits)?;
+    Ok(octets.map(|octets| ScriptInput::Text(octets)))
+}
+
+/// A number from `least` to `most` in decimal digits, with no leading zero.
+fn number_of(least: u32, most: u32, word: &[u8]) -> Option<u32>
+    ensures value { result ≡ number_of_word least most word.now }
+    ensures most { IfSome result (λ number. number ≤ most) }
+{
+    match word {
+        [b'0', _, ..] => None,
+        _ => number_in(least, most, word),
+    }
+}
+
+/// A carrier's number: 0 to 15.
+fn carrier_of(word: &[u8]) -> Option<CarrierNo>
+    ensures { result ≡ carrier_of_word word.now }
+{
+    let number = number_of(0, 15, word)?;
+    Some(CarrierNo::new(number))
+}
+
+/// A number of ticks: 1 to 100,000.
+fn times_of(word: &[u8]) -> Option<u32>
+    ensures { result ≡ times_of_word word.now }
+{
+    number_of(1, MOST_TICKS, word)
+}
+
+/// Octets in hexadecimal digits of either case, at least one octet.
+fn octets_of(alloc: Global, word: &[u8]) -> Result<Option<Vec<u8>>, OutOfMemory>
+    ensures { IfOk result (λ octets. option_map (λ o. o.items) octets ≡ octets_of_word word.now) }
+{
+    match hex::decode(alloc, word) {
+        Ok(octets) if !octets.is_empty() => Ok(Some(octets)),
+        Err(hex::FromHexError::OutOfMemory) => Err(OutOfMemory),
+        _ => Ok(None),
+    }
+}

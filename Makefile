@@ -70,9 +70,9 @@ build/dmr_trunk build/dmr_decode build/dmr_refusals:
 
 serve-check: build/dmr_trunk ## the proved program serves sixteen carriers on loopback for half a minute, in each version of the link; what comes back is checked. FAULTS=1: ten minutes of trouble
 ifdef FAULTS
-	tools/carriers --site examples/sixteen_carriers.toml --program build/dmr_trunk --faults --seconds 600
+	tools/carriers --site sites/sixteen_carriers.toml --program build/dmr_trunk --faults --seconds 600
 else
-	for version in 2 1; do tools/carriers --site examples/sixteen_carriers.toml --program build/dmr_trunk --link-version $$version --seconds 30 --polls 10000 || exit; done
+	for version in 2 1; do tools/carriers --site sites/sixteen_carriers.toml --program build/dmr_trunk --link-version $$version --seconds 30 --polls 10000 || exit; done
 endif
 
 serve-hostile: build/dmr_trunk ## the proved program served to carriers and strangers that behave badly (some minutes)
@@ -85,7 +85,7 @@ tools-check: build/dmr_trunk build/dmr_decode ## the tests of the tools, over th
 	PYTHONPATH=python TEMZAAR_PROGRAMS=build python3 -m unittest discover -s python
 
 pictures: build/dmr_trunk ## draws the pictures of the example scripts in docs/pictures again
-	for name in queued_call lost_carrier operator; do tools/timeline --site examples/two_carriers.toml --script examples/scripts/$$name.txt --program build/dmr_trunk --out docs/pictures/$$name.svg || exit; done
+	for name in queued_call lost_carrier operator; do tools/timeline --site sites/two_carriers.toml --script examples/scripts/$$name.txt --program build/dmr_trunk --out docs/pictures/$$name.svg || exit; done
 
 trusted: ## lists the definitions that a reader has to believe, in docs/TRUSTED.md
 	ci/trusted-definitions >docs/TRUSTED.md
@@ -113,5 +113,5 @@ install: build/dmr_trunk build/dmr_decode build/dmr_trunk.1 ## the programs, too
 	install -D -m 644 build/dmr_trunk.1 $(DESTDIR)$(PREFIX)/share/man/man1/dmr_trunk.1
 	sed 's|@PREFIX@|$(PREFIX)|' deploy/dmr_trunk.service >$(DESTDIR)$(PREFIX)/lib/systemd/system/dmr_trunk.service
 	install -m 644 docs/OPERATING.md docs/SITE_FILE.md docs/FORMATS.md LICENSE-APACHE LICENSE-MIT $(DESTDIR)$(PREFIX)/share/doc/dmr_trunk
-	install -m 644 examples/*.toml $(DESTDIR)$(PREFIX)/share/doc/dmr_trunk/examples
+	install -m 644 sites/*.toml $(DESTDIR)$(PREFIX)/share/doc/dmr_trunk/examples
 	install -m 644 examples/scripts/*.txt $(DESTDIR)$(PREFIX)/share/doc/dmr_trunk/examples/scripts

@@ -7,8 +7,8 @@ import sys
 import unittest
 
 TOP = pathlib.Path(__file__).resolve().parents[2]
-EXAMPLES = TOP / "examples"
-TWO_CARRIERS = str(EXAMPLES / "two_carriers.toml")
+EXAMPLES, SITES = TOP / "examples", TOP / "sites"
+TWO_CARRIERS = str(SITES / "two_carriers.toml")
 
 
 def program(name: str) -> str:

@@ -1,6 +1,6 @@
 """The cases in cases/, over the controller and over the package's reader of sessions.
 
-A case begins with a line `== NAME`. Lines `without KEY` and `with KEY = VALUE` change the site, which is examples/two_carriers.toml. After `-- script`
+A case begins with a line `== NAME`. Lines `without KEY` and `with KEY = VALUE` change the site, which is sites/two_carriers.toml. After `-- script`
 comes what is replayed, after `-- printed` what the replay prints. Lines that begin with `#` before the script are comments. The outputs were worked out
 from the documents, apart from the controller's code.
 """

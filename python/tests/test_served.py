@@ -14,7 +14,7 @@ from temzaar.frames import DONE, POLL, TO_CARRIER, Cutter, FrameType, Link, acti
 from temzaar.process import Controller, connect, replay
 from temzaar.script import Input, read_printed, read_script
 from temzaar.sitefile import Row, Site
-from tests.support import EXAMPLES, TOP, TWO_CARRIERS, program, run_tool, tool_words
+from tests.support import EXAMPLES, SITES, TOP, TWO_CARRIERS, program, run_tool, tool_words
 
 PORT = 17400
 # what siteview shows once the first 19 inputs of queued_call.txt have come: three calls, and a request that waits
@@ -74,7 +74,7 @@ class Played(unittest.TestCase):
     def test_all_is_answered_right(self) -> None:
         built = program("dmr_trunk")
         for version in ("1", "2"):
-            done = run_tool("carriers", "--site", str(EXAMPLES / "sixteen_carriers.toml"), "--program", built, "--carriers", "4", "--radios", "12", "--seconds", "4",
+            done = run_tool("carriers", "--site", str(SITES / "sixteen_carriers.toml"), "--program", built, "--carriers", "4", "--radios", "12", "--seconds", "4",
                             "--link-version", version, "--port", str(PORT + 40))
             self.assertEqual(done.returncode, 0, done.stdout + done.stderr)
 

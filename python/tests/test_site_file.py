@@ -12,6 +12,8 @@ from tests.support import TOP, TWO_CARRIERS, program, read_document, table_rows
 SITE_FILE = read_document("SITE_FILE.md")
 ARRAYS = ("address", "radios", "groups", "carrier")
 NO_CARRIER = 15
+# Tests and programs that cannot read a file: their `SITE` is the text of one.
+SITES_IN_CRATES = ("dmr_refusals/src/calls.rt", "dmr_stories/src/site_file.rt", "dmr_trials/src/site.rt", "dmr_trunk/src/rows.rt")
 
 
 def example() -> str:
@@ -31,7 +33,7 @@ def changed(text: str, key: str, value: str | None) -> str:
 
 
 class Example(unittest.TestCase):
-    """The document's example is a site file, the one of the examples but for the version of the link."""
+    """The document's example is a site file, that of two carriers but for the version of the link. The copies of this site are the same."""
 
     def test_example(self) -> None:
         with open(TWO_CARRIERS, "rb") as it:
@@ -40,7 +42,17 @@ class Example(unittest.TestCase):
 
     def test_the_stored_run_has_the_same_site(self) -> None:
         with open(TWO_CARRIERS, "rb") as it, open(TOP / "crates" / "dmr_trunk" / "data" / "site.toml", "rb") as other:
-            self.assertEqual(tomllib.load(it), tomllib.load(other))
+            self.assertEqual(it.read(), other.read())
+
+    def test_the_crates_have_the_same_site(self) -> None:
+        with open(TWO_CARRIERS, "rb") as it:
+            wanted = tomllib.load(it)
+        for source in SITES_IN_CRATES:
+            with self.subTest(source):
+                text = (TOP / "crates" / source).read_text(encoding="utf-8")
+                literal = re.search(r'const SITE: &str =\s+"((?:[^"\\]|\\.|\\\n)*)"', text)
+                assert literal
+                self.assertEqual(tomllib.loads(literal[1].replace("\\\n", "").replace("\\n", "\n")), wanted)
 
     def test_every_key_is_in_the_table(self) -> None:
         keys = {row[0] for row in table_rows(SITE_FILE, "| key | value | if missing")}

@@ -87,7 +87,7 @@ REASONS = {
     0xA0: Reason("Queued_For_Resource", "queued"),
     0xE0: Reason("Wait", "wait"),
 }
-MS_ACCEPTED, REG_ACCEPTED = 0x44, 0x62
+MS_ACCEPTED, REG_ACCEPTED, REG_REFUSED = 0x44, 0x62, 0x2A
 
 
 @dataclass(frozen=True)

@@ -1,83 +1,98 @@
-"""The cases in cases/, over the controller and over the package's reader of sessions.
-
-A case begins with a line `== NAME`. Lines `without KEY` and `with KEY = VALUE` change the site, which is sites/two_carriers.toml. After `-- script`
-comes what is replayed, after `-- printed` what the replay prints. Lines that begin with `#` before the script are comments. The outputs were worked out
-from the documents, apart from the controller's code.
-"""
-import os
-import re
+"""The cases in cases/, over the reader of their texts, over the package's reader of sessions, and over the controller."""
+import pathlib
+import subprocess
 import tempfile
-import tomllib
 import unittest
-from collections.abc import Iterator
-from typing import NamedTuple
 
-from temzaar import pdus
-from temzaar.process import replay
-from temzaar.script import Replay, read_printed, read_script
-from temzaar.sitefile import Site
-from tests.support import TOP, TWO_CARRIERS, program
-
-
-class Case(NamedTuple):
-    """A case: its file and name, the lines that change the site, the script, and what its replay prints."""
-    name: str
-    changes: list[str]
-    script: str
-    printed: str
-
-    def site(self) -> Site:
-        """The site of the case."""
-        site = Site(TWO_CARRIERS)
-        for line in self.changes:
-            if line.startswith("without "):
-                del site.plan[line.removeprefix("without ")]
-            else:
-                site.plan.update(tomllib.loads(line.removeprefix("with ")))
-        return site
-
-
-def read_cases() -> Iterator[Case]:
-    """The cases of all files."""
-    for path in sorted((TOP / "cases").glob("*.txt")):
-        for text in re.split(r"^== ", path.read_text(encoding="utf-8"), flags=re.M)[1:]:
-            head, script, printed = re.split(r"^-- (?:script|printed)\n", text, flags=re.M)
-            name, *lines = head.strip().split("\n")
-            changes = [line for line in lines if line and not line.startswith("#")]
-            yield Case(f"{path.stem}: {name}", changes, script, printed.rstrip("\n") + "\n")
-
+from temzaar import code, pdus
+from temzaar.frames import DONE, POLL, FrameType, burst_frame, hello, rx, welcome
+from temzaar.script import Input, Replay, read_printed, read_script
+from tests.cases import SCRIPT_FILE, SITE_FILE, Case, CaseFault, Changes, octets_of, plain, read_case, read_cases
+from tests.support import program
 
 CASES = list(read_cases())
+
+
+class Reading(unittest.TestCase):
+    """What a text is read as."""
+
+    def test_notes_go_and_lines_are_continued(self) -> None:
+        text = "# a\n\nopen 0  # b\ncarrier 0\n  81 01  # c\n  82\ncarrier 1 -\nsay  a \r\n b"
+        self.assertEqual(plain(text), "# a\n\nopen 0\ncarrier 0 810182\ncarrier 1 -\nsay  a \r\n b")
+
+    def test_lines_spell_octets(self) -> None:
+        self.assertEqual(octets_of("open 0\n\n% open\\090\\0D\\0A\n%repeat 3\ntick\n% \\FF\n%end\n% cut 0\n"), b"open 0\n\nopen\t0\r\n" + 3 * b"tick\n\xFF" + b"cut 0")
+        self.assertEqual(octets_of(""), b"")
+
+    def test_a_case(self) -> None:
+        case = read_case("file", "a name\n# why\nwithout leave_bit\nwith hang = 7\nin every cutting\n-- script\ntick  # one\n-- printed\n-- fault\nno\n-- status 3\n\n")
+        self.assertEqual((case.full_name, case.site_name, case.is_cut), ("file: a name", "two_carriers, without leave_bit, with hang = 7", True))
+        self.assertEqual((case.script, case.printed, case.answer()), ("tick\n", "", "no\nstatus 3\n"))
+        self.assertIn("hang = 7\n", case.site or "")
+        self.assertNotIn("leave_bit", case.site or "")
+
+    def test_files_that_cannot_be_read(self) -> None:
+        case = read_case("file", "a name\nno site file\n-- printed\n")
+        self.assertEqual((case.site, case.script), (None, None))
+
+    def test_lines_of_no_case(self) -> None:
+        for text in ("a name\nwithin\n-- script\n", "a name\n-- scripts\n"):
+            with self.subTest(text), self.assertRaises(CaseFault):
+                read_case("file", text)
 
 
 class Sessions(unittest.TestCase):
     """What is printed answers the script: the package reads both as one session."""
 
     def test_each_is_a_session(self) -> None:
-        self.assertGreaterEqual(len(CASES), 18)
-        for case in CASES:
-            with self.subTest(case.name):
+        taken = [case for case in CASES if case.status == 0]
+        self.assertGreaterEqual(len(taken), 130)
+        for case in taken:
+            with self.subTest(case.full_name):
                 carriers, told = read_printed(case.printed)
-                events = Replay(read_script(case.script), carriers).events
-                self.assertEqual(told, "")
+                script = octets_of(case.script or "").decode()
+                events = Replay(read_script(script), carriers).events
+                self.assertEqual(bool(told), any(it.what == "said" and "\n" in it.text for it in events))
                 self.assertTrue(all(pdus.read(it.octets).name != pdus.OTHER for it in events if it.what == "sent"))
 
     def test_every_registration_is_answered_once(self) -> None:
-        case = next(it for it in CASES if it.name == "registration: clean_registration")
+        case = next(it for it in CASES if it.full_name == "registration: clean registration")
         carriers, _ = read_printed(case.printed)
-        sent = [pdus.read(it.octets) for it in Replay(read_script(case.script), carriers).events if it.what == "sent"]
+        sent = [pdus.read(it.octets) for it in Replay(read_script(case.script or ""), carriers).events if it.what == "sent"]
         self.assertEqual([(it.name, it["reason"]) for it in sent if it.name == "C_ACKD"], [("C_ACKD", pdus.REG_ACCEPTED)])
 
 
 class Controlled(unittest.TestCase):
-    """The controller prints what each case says."""
+    """The controller prints what each case says. The gate's run of dmr_cases says the same of the library that both stand on, in every cutting too."""
+
+    def setUp(self) -> None:
+        self.program = program("dmr_trunk")
+
+    def answer(self, site: bytes | None, script: bytes | None) -> str:
+        """What a replay prints, its fault and its status, as a case says it. None is a file that is not there."""
+        with tempfile.TemporaryDirectory() as folder:
+            for name, octets in ((SITE_FILE, site), (SCRIPT_FILE, script)):
+                if octets is not None:
+                    pathlib.Path(folder, name).write_bytes(octets)
+            done = subprocess.run([self.program, "--site", SITE_FILE, "--script", SCRIPT_FILE], cwd=folder, capture_output=True, check=False)
+        return Case("", "", "", None, printed=done.stdout.decode(), fault=done.stderr.decode(), status=done.returncode).answer()
 
     def test_each_replays(self) -> None:
-        built = program("dmr_trunk")
-        with tempfile.TemporaryDirectory() as folder:
-            path = os.path.join(folder, "site.toml")
-            for case in CASES:
-                with self.subTest(case.name):
-                    with open(path, "w", encoding="utf-8") as it:
-                        it.write(case.site().text())
-                    self.assertEqual(replay(built, path, case.script), case.printed)
+        for case in CASES:
+            with self.subTest(case.full_name):
+                site, script = (None if text is None else octets_of(text) for text in (case.site, case.script))
+                self.assertEqual(self.answer(site, script), case.answer())
+
+    def test_a_registry_that_is_full(self) -> None:
+        """4,096 radios are registered, and the next is refused. Each is answered at its poll."""
+        regi = 0xFFFEC6
+        lines, sent = [Input("open", 0), Input("bytes", 0, hello(0, 1))], welcome(1)
+        for radio in range(1, 4098):
+            request = pdus.random_access(pdus.REGISTRATION, regi, radio, 1)
+            reason = pdus.REG_ACCEPTED if radio <= 4096 else pdus.REG_REFUSED
+            answer = pdus.write("C_ACKD", reason=reason, target=radio, additional=regi)
+            lines += [Input("bytes", 0, rx(0, code.burst_of(request))), Input("bytes", 0, POLL)]
+            sent += burst_frame(FrameType.TX, 0, code.burst_of(answer)) + DONE
+        site = Changes(lines=["with radios = [[1, 5000]]"]).text()
+        script = "".join(f"{line.line()}\n" for line in lines)
+        self.assertEqual(self.answer(site.encode(), script.encode()), f"carrier 0 {sent.hex().upper()}\ncarrier 1 -\n")

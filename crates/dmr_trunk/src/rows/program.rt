@@ -1,12 +1,10 @@
-//! What the program says to files that cannot be read, to site files and to words.
+//! What the words ask for, what the program says to words that are refused, and an output that takes nothing.
 
-use crate::rows::{Answer, SITE, site_with};
+use crate::rows::SITE;
 use crate::words::{Job, choose};
-use dmr_pdu::OutOfMemory;
 use dmr_replay::replay;
 use std::io;
 use std::io::Write;
-use std::process::Abort;
 
 /// A writer that takes nothing.
 #[derive(Drop)]
@@ -20,137 +18,6 @@ impl Write for Refusing {
     fn flush(&mut self) -> io::Result<()> {
         Err(io::Error::from(io::ErrorKind::BrokenPipe))
     }
-}
-
-/// Wants a replay of no input to print nothing, say this and end with this status.
-fn check_fault(
-    rt: &(impl Abort + AllocGlobal),
-    site: Option<&[u8]>,
-    script: Option<&[u8]>,
-    said: &[u8],
-    status: u8,
-) {
-    let mut out = Vec::new(rt.alloc());
-    let mut err = Vec::new(rt.alloc());
-    let ended = replay(
-        rt.alloc(),
-        "the.toml",
-        site,
-        "the.txt",
-        script,
-        &mut out,
-        &mut err,
-    );
-    let answer = Answer {
-        printed: out,
-        fault: err,
-        status: ended,
-    };
-    answer.check(rt, "a fault", b"", said, status);
-}
-
-#[test]
-fn files_that_cannot_be_read(rt: HostRuntime) {
-    check_fault(
-        &rt,
-        None,
-        Some(b""),
-        b"dmr_trunk: cannot read the.toml\n",
-        1,
-    );
-    check_fault(
-        &rt,
-        Some(SITE.as_bytes()),
-        None,
-        b"dmr_trunk: cannot read the.txt\n",
-        1,
-    );
-    // The site file is judged first.
-    check_fault(&rt, None, None, b"dmr_trunk: cannot read the.toml\n", 1);
-    check_fault(
-        &rt,
-        Some(b"system = "),
-        None,
-        b"dmr_trunk: site file: not TOML\n",
-        1,
-    );
-}
-
-#[test]
-fn site_files(rt: HostRuntime) {
-    let script = Some(b"nothing of a script".as_slice());
-    check_fault(
-        &rt,
-        Some(b""),
-        script,
-        b"dmr_trunk: site file: missing system\n",
-        1,
-    );
-    check_fault(
-        &rt,
-        Some(b"system = 65536"),
-        script,
-        b"dmr_trunk: site file: out of range system\n",
-        1,
-    );
-    check_fault(
-        &rt,
-        Some(b"system = true"),
-        script,
-        b"dmr_trunk: site file: wrong type system\n",
-        1,
-    );
-    let repeated = b"system = 0\nregi = 0xFFFEC6\ntsi = 0xFFFEC6";
-    check_fault(
-        &rt,
-        Some(repeated),
-        script,
-        b"dmr_trunk: site file: repeated tsi\n",
-        1,
-    );
-    // Octets that are not UTF-8.
-    check_fault(
-        &rt,
-        Some(b"# \xFF"),
-        script,
-        b"dmr_trunk: site file: not TOML\n",
-        1,
-    );
-}
-
-/// A fault of a site: a piece of the text of `SITE`, what stands in its place, and what is said.
-type SiteFault = (&'static str, &'static str, &'static [u8]);
-
-static SITE_FAULTS: [SiteFault; 4] = [
-    (
-        "lpcn = 2",
-        "lpcn = 4095",
-        b"dmr_trunk: site file: out of range lpcn\n",
-    ),
-    (
-        "number = 1",
-        "number = 0",
-        b"dmr_trunk: site file: repeated number\n",
-    ),
-    (
-        "regi = 0xFFFEC6\n",
-        "",
-        b"dmr_trunk: site file: missing regi\n",
-    ),
-    (
-        "[[carrier]]",
-        "link_version = 3\n[[carrier]]",
-        b"dmr_trunk: site file: out of range link_version\n",
-    ),
-];
-
-#[test]
-fn faults_of_a_site(rt: HostRuntime) -> Result<(), OutOfMemory> {
-    for (old, new, said) in &SITE_FAULTS {
-        let site = site_with(rt.alloc(), *old, *new)?;
-        check_fault(&rt, Some(site.as_bytes()), Some(b"open 0\n"), *said, 1);
-    }
-    Ok(())
 }
 
 #[test]

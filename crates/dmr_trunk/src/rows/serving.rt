@@ -23,7 +23,7 @@ const ACKNOWLEDGED: [u8; 33] =
 /// An address of the loopback network that is not the one that a site file without `address` means.
 const OTHER: [u8; 4] = [127, 0, 0, 2];
 
-/// The site of the cases at this address and on other ports, the console's first, with ticks of 10 ms and terms of 1,000 entries.
+/// The site at this address and on other ports, the console's first, with ticks of 10 ms and terms of 1,000 entries.
 fn site_at(alloc: Global, address: [u8; 4], ports: [u16; 3]) -> Result<Plan, Fail> {
     let [a, b, c, d] = address;
     let [console, first, second] = ports;

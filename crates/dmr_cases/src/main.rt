@@ -1,0 +1,36 @@
+//! Replays cases: reads sites and scripts from standard input, and prints for each script what its replay prints.
+//!
+//! `ci/stored-cases` writes such a text from the files in `cases/`, and what this program has to print for it. `sections` says
+//! what a text is; `cases` replays its scripts; `cutting` hands the octets of a connection in piece by piece.
+//!
+//! A text that is no list of cases ends the program with status 1, and so does an allocation that fails.
+#![tactic(auto)]
+
+mod cases;
+mod cutting;
+mod sections;
+
+use crate::cases::print_cases;
+use crate::sections::CaseFault;
+use std::io;
+use std::io::{BufWriter, Eprint, Write};
+use std::process::ExitCode;
+
+/// Reads a text from standard input, and prints what its cases print.
+fn run<R: AllocGlobal + Input + Print>(rt: &R) -> Result<(), CaseFault> {
+    let text = io::read_to_string(rt.alloc(), rt.reader())?;
+    let mut out = BufWriter::new(rt.alloc(), io::writer(rt))?;
+    let done = print_cases(rt.alloc(), text.as_str(), &mut out);
+    out.flush()?;
+    done
+}
+
+fn main(rt: HostRuntime) -> io::Result<ExitCode> {
+    match run(&rt) {
+        Ok(()) => Ok(ExitCode::from(0)),
+        Err(fault) => {
+            eprintln!(rt; "dmr_cases: {fault}")?;
+            Ok(ExitCode::from(1))
+        }
+    }
+}

@@ -1,0 +1,191 @@
+"""The worked cases in cases/: what is replayed over which site, and what the replay prints. cases/README.md says how their texts are read."""
+import itertools
+import re
+import tomllib
+from collections.abc import Iterator
+from dataclasses import dataclass, field
+
+from temzaar.sitefile import Site
+from tests.support import SITES, TOP
+
+FOLDER = TOP / "cases"
+USUAL_SITE = "two_carriers"
+# What a fault calls the two files.
+SITE_FILE, SCRIPT_FILE = "the.toml", "the.txt"
+
+
+class CaseFault(Exception):
+    """A text of cases that cannot be read. The text says which case, and why."""
+
+
+def without_note(line: str) -> str:
+    """A line without its note, which begins with two spaces and a `#`."""
+    return line.partition("  # ")[0]
+
+
+def plain(text: str) -> str:
+    """A text without what is in it for a reader's sake.
+
+    A line that begins with two spaces continues the line before it: the first such line is set off by one space, and the words of all are joined. A note
+    after a line is left out. All else stays as it is.
+    """
+    lines: list[str] = []
+    continued = False
+    for line in text.split("\n"):
+        if line.startswith("  ") and lines:
+            words = without_note(line.removeprefix("  ")).replace(" ", "")
+            lines[-1] += words if continued else f" {words}"
+            continued = True
+        else:
+            lines.append(without_note(line))
+            continued = False
+    return "\n".join(lines)
+
+
+def unescape(text: str) -> bytes:
+    """The octets of a text in which `\\HH` is an octet in two hexadecimal digits."""
+    first, *others = text.split("\\")
+    return first.encode() + b"".join(bytes.fromhex(piece[:2]) + piece[2:].encode() for piece in others)
+
+
+def octets_of(text: str) -> bytes:
+    """The octets that the lines of a site file or of a script spell: a line spells its own and an LF, but for `% TEXT` and `%repeat N` .. `%end`."""
+    octets, begun, times = bytearray(), 0, 0
+    for line in text.split("\n")[:-1]:
+        if line.startswith("% "):
+            octets += unescape(line.removeprefix("% "))
+        elif line.startswith("%repeat "):
+            begun, times = len(octets), int(line.removeprefix("%repeat "))
+        elif line == "%end":
+            octets += octets[begun:] * (times - 1)
+        else:
+            octets += line.encode() + b"\n"
+    return bytes(octets)
+
+
+@dataclass
+class Case:
+    """A case: its file and name, the site file and the script as lines, and what the replay prints.
+
+    `site` is called `site_name`. `site` or `script` is None if that file cannot be read. `fault` is what goes to standard error. With `is_cut` the script is
+    replayed in every cutting.
+    """
+    file: str
+    name: str
+    site_name: str
+    site: str | None
+    script: str | None = None
+    printed: str = ""
+    fault: str = ""
+    status: int = 0
+    is_cut: bool = False
+
+    @property
+    def full_name(self) -> str:
+        """The file and the name."""
+        return f"{self.file}: {self.name}"
+
+    def answer(self) -> str:
+        """What the replay prints to standard output; if it is refused, standard error and the status as lines after that."""
+        return self.printed + (f"{self.fault}status {self.status}\n" if self.status else "")
+
+
+@dataclass
+class Changes:
+    """How the site of a case differs from a file of sites/."""
+    name: str = USUAL_SITE
+    lines: list[str] = field(default_factory=list)
+
+    def site_name(self) -> str:
+        """What the changed site is called."""
+        return ", ".join([self.name, *self.lines])
+
+    def text(self) -> str:
+        """The changed site file."""
+        site = Site(str(SITES / f"{self.name}.toml"))
+        for line in self.lines:
+            if line.startswith("without "):
+                del site.plan[line.removeprefix("without ")]
+            else:
+                site.plan.update(tomllib.loads(line.removeprefix("with ")))
+        return site.text()
+
+
+def read_head(file: str, lines: list[str]) -> Case:
+    """A case from its lines before the first section. CaseFault: a line is none of a case."""
+    name, *others = lines
+    changes, case = Changes(), Case(file, name, "", None)
+    for line in others:
+        if line.startswith("site "):
+            changes.name = line.removeprefix("site ")
+        elif line.startswith(("with ", "without ")):
+            changes.lines.append(line)
+        elif line == "in every cutting":
+            case.is_cut = True
+        elif line == "no site file":
+            case.site_name = "none"
+        elif line and not line.startswith("#"):
+            raise CaseFault(f"{case.full_name}: {line}")
+    if not case.site_name:
+        case.site_name, case.site = changes.site_name(), changes.text()
+    return case
+
+
+def read_section(case: Case, heading: str, text: str) -> None:
+    """Adds a section to a case. CaseFault: there is no such section."""
+    word, _, rest = heading.partition(" ")
+    if word == "site":
+        case.site_name, case.site = f"that of {case.full_name}", text
+    elif word == "script":
+        case.script = plain(text)
+    elif word == "printed":
+        case.printed = plain(text)
+    elif word == "fault":
+        case.fault = text
+    elif word == "status":
+        case.status = int(rest)
+    else:
+        raise CaseFault(f"{case.full_name}: -- {heading}")
+
+
+def read_case(file: str, text: str) -> Case:
+    """The case of a text, which begins with its name."""
+    head, *sections = re.split(r"^-- ", text.rstrip("\n") + "\n", flags=re.M)
+    case = read_head(file, head.rstrip("\n").split("\n"))
+    for section in sections:
+        heading, _, lines = section.partition("\n")
+        read_section(case, heading, lines)
+    return case
+
+
+def read_cases() -> Iterator[Case]:
+    """The cases of all files, by file. CaseFault: a text cannot be read, or two cases of a file have the same name."""
+    for path in sorted(FOLDER.glob("*.txt")):
+        names = set()
+        for text in re.split(r"^== ", path.read_text(encoding="utf-8"), flags=re.M)[1:]:
+            case = read_case(path.stem, text)
+            if case.name in names:
+                raise CaseFault(f"{case.full_name}: twice")
+            names.add(case.name)
+            yield case
+
+
+def word_of(case: Case) -> str:
+    """The word of a case's section in the stored run."""
+    if case.script is None:
+        return "no-script"
+    return "cuttings" if case.is_cut else "case"
+
+
+def stored_run() -> tuple[str, str]:
+    """The standard input of dmr_cases, in which each site is followed by its cases, and what the program prints for it."""
+    taken: list[str] = []
+    printed: list[str] = []
+    cases = sorted(read_cases(), key=lambda case: case.site_name)
+    for name, group in itertools.groupby(cases, key=lambda case: case.site_name):
+        for number, case in enumerate(group):
+            if number == 0:
+                taken.append(f"%% no-site {name}\n" if case.site is None else f"%% site {name}\n{case.site}")
+            taken.append(f"%% {word_of(case)} {case.full_name}\n{case.script or ''}")
+            printed.append(f"== {case.full_name}\n{case.answer()}")
+    return "".join(taken), "".join(printed)

@@ -14,8 +14,8 @@ use Rattle.dmr_frames.specs.declared.cutter.Step.TheVariants.{Need, Frame, Fault
 use Rattle.dmr_frames.specs.declared.version.Version.{Version}
 use Rattle.dmr_frames.specs.declared.version.Version.TheVariants.{V1, V2}
 use Rattle.dmr_frames.specs.declared.version.FrameTable.{FrameTable}
-use Rattle.dmr_frames.specs.Versions.{version_of, table_after, table_after_frames}
-use Rattle.dmr_frames.specs.Frames.{IsNumbered, IsFrame, burst_octets, version_by, burst_length, spelling}
+use Rattle.dmr_frames.specs.Versions.{version_by, version_of, table_after, table_after_frames}
+use Rattle.dmr_frames.specs.Frames.{IsNumbered, IsFrame, burst_octets, burst_length, spelling}
 use Rattle.dmr_frames.specs.Rest.{Rest, Open, Faulty}
 use Rattle.dmr_frames.specs.Stream.{IsOpen, IsFaulty, Reads, AreFrames, IsStep}
 use Rattle.dmr_frames.specs.Shape.{AreSmall}

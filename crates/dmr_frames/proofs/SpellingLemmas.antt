@@ -7,7 +7,8 @@ use Rattle.dmr_frames.specs.declared.frame.FrameIn.TheVariants.{Hello, Rx, Poll,
 use Rattle.dmr_frames.specs.declared.frame.FrameOut.{FrameOut}
 use Rattle.dmr_frames.specs.declared.frame.FrameOut.TheVariants.{Welcome, Tx, Done, Refused}
 use Rattle.dmr_frames.specs.declared.frame.Refusal.TheVariants.{BadVersion, WrongCarrier}
-use Rattle.dmr_frames.specs.Frames.{IsFrameOut, burst_length, burst_octets, spelling, spelling_out, version_by}
+use Rattle.dmr_frames.specs.Frames.{IsFrameOut, burst_length, burst_octets, spelling, spelling_out}
+use Rattle.dmr_frames.specs.Versions.{version_by}
 use Rattle.dmr_frames.specs.Limits.{longest_frame}
 use Rattle.dmr_frames.proofs.StreamLemmas.{same_bursts}
 

@@ -8,10 +8,10 @@ use Rattle.dmr_frames.specs.declared.frame.Cause.{Cause}
 use Rattle.dmr_bits.specs.Words.{word_octets, word_of}
 use Rattle.dmr_frames.specs.declared.version.Version.{Version}
 use Rattle.dmr_frames.specs.declared.version.FrameTable.{FrameTable}
-use Rattle.dmr_frames.specs.Frames.{IsFrame, spelling, burst_length, version_by, burst_octets}
+use Rattle.dmr_frames.specs.Frames.{IsFrame, spelling, burst_length, burst_octets}
 use Rattle.dmr_frames.specs.Rest.{Rest, Open, Faulty}
 use Rattle.dmr_frames.specs.Stream.{Begins, IsOpen, IsFaulty, IsRest, Reads, AreFrames, fault_at}
-use Rattle.dmr_frames.specs.Versions.{version_of, table_after, table_after_frames}
+use Rattle.dmr_frames.specs.Versions.{version_by, version_of, table_after, table_after_frames}
 use Rattle.dmr_bits.proofs.Laws.{word_octets-octets, word_of-word_octets}
 
 -- two ways to part a list: one front goes on to the other

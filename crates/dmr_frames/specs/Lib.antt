@@ -1,4 +1,5 @@
 pub mod Versions
+pub mod Table
 pub mod Frames
 pub mod Rest
 pub mod Stream

@@ -1,64 +1,77 @@
 -- What each octet brings, from the rest that it meets.
-use Rattle.std.specs.Prelude.{ℕ, ◌+◌, ◌*◌, List, [], ◌∷◌, ◌++◌, length, nat_lt, ◌==◌, ◌||◌, not, Option, Some, None, if◌then◌else◌}
+use Rattle.std.specs.Prelude.{ℕ, ◌+◌, ◌*◌, Bool, true, false, List, [], ◌∷◌, ◌++◌, length, nat_lt, ◌==◌, not, Option, Some, None, is_some, if◌then◌else◌}
 use Rattle.std.specs.List.{flat_map, fold, scan}
-use Rattle.dmr_bits.specs.Bits.{field_of}
 use Rattle.dmr_bits.specs.Words.{word_of}
 use Rattle.dmr_frames.specs.declared.frame.FrameIn.{FrameIn}
 use Rattle.dmr_frames.specs.declared.frame.FrameIn.TheVariants.{Hello, Rx, Poll, Active, Bye}
-use Rattle.dmr_frames.specs.declared.frame.Cause.TheVariants.{UnknownType, BadLength, BadSlot, BadPad}
+use Rattle.dmr_frames.specs.declared.frame.Cause.{Cause}
+use Rattle.dmr_frames.specs.declared.frame.Cause.TheVariants.{UnknownType, BadLength}
 use Rattle.dmr_frames.specs.declared.cutter.Step.{Step}
 use Rattle.dmr_frames.specs.declared.cutter.Step.TheVariants.{Need, Frame, Fault}
+use Rattle.dmr_frames.specs.declared.table.FrameKind.{FrameKind}
+use Rattle.dmr_frames.specs.declared.table.FrameKind.TheVariants as kind
 use Rattle.dmr_frames.specs.declared.version.Version.{Version}
-use Rattle.dmr_frames.specs.declared.version.Version.TheVariants.{V1, V2}
 use Rattle.dmr_frames.specs.declared.version.FrameTable.{FrameTable}
-use Rattle.dmr_frames.specs.Frames.{body_length}
 use Rattle.dmr_frames.specs.Rest.{Rest, Open, Faulty}
-use Rattle.dmr_frames.specs.Versions.{version_of, table_after}
+use Rattle.dmr_frames.specs.Table.{frame_row, body_length, body_fault, carrier_kind}
+use Rattle.dmr_frames.specs.Versions.{has_numbers, version_of, table_after}
 
--- at a type octet
-unfoldable pub type_step : ℕ → Step
-type_step x = if x == 0 || nat_lt 5 x then Fault UnknownType else Need
+-- the body of a HELLO
+unfoldable pub hello_step : List ℕ → Step
+hello_step (version ∷ carrier ∷ high ∷ low ∷ []) = Frame (Hello version carrier (256 * high + low))
+hello_step body = Need
 
--- at a length octet
-unfoldable pub length_step : Version → ℕ → ℕ → Step
+-- a slot and a word, behind their number
+unfoldable pub burst_step : Option ℕ → List ℕ → Step
+burst_step number [] = Need
+burst_step number (slot ∷ octets) = Frame (Rx number slot (word_of octets))
+
+-- the body of an RX, which begins with a number where bursts are numbered
+unfoldable pub rx_step : Bool → List ℕ → Step
+rx_step false body = burst_step None body
+rx_step true [] = Need
+rx_step true (number ∷ body) = burst_step (Some number) body
+
+-- the body of an ACTIVE
+unfoldable pub active_step : List ℕ → Step
+active_step (slot ∷ []) = Frame (Active slot)
+active_step body = Need
+
+-- a whole body in which no octet is a fault
+unfoldable pub whole_step : Version → FrameKind → List ℕ → Step
+whole_step version kind.Hello body = hello_step body
+whole_step version kind.Rx body = rx_step (has_numbers version) body
+whole_step version kind.Poll body = Frame Poll
+whole_step version kind.Active body = active_step body
+whole_step version kind.Bye body = Frame Bye
+whole_step version other body = Need
+
+-- at a length octet: a frame without a body ends there
+unfoldable pub length_step : Version → FrameKind → ℕ → Step
 length_step version kind x =
     if not (x == body_length version kind) then Fault BadLength else
-    if kind == 3 then Frame Poll else
-    if kind == 5 then Frame Bye else Need
+    if x == 0 then whole_step version kind [] else Need
 
--- in the body of a HELLO
-unfoldable pub hello_step : List ℕ → ℕ → Step
-hello_step (version ∷ carrier ∷ high ∷ []) x = Frame (Hello version carrier (256 * high + x))
-hello_step _ x = Need
-
--- in the body of an RX, at its slot or in its word
-unfoldable pub burst_step : Option ℕ → List ℕ → ℕ → Step
-burst_step number [] x = if nat_lt x 2 then Need else Fault BadSlot
-burst_step number (slot ∷ octets) x =
-    if nat_lt (length octets) 24 then Need else
-    if field_of (octets ++ x ∷ []) 196 4 == 0 then Frame (Rx number slot (word_of (octets ++ x ∷ []))) else Fault BadPad
-
--- in the body of an RX, which in version 2 begins with a number
-unfoldable pub rx_step : Version → List ℕ → ℕ → Step
-rx_step V1 body x = burst_step None body x
-rx_step V2 [] x = Need
-rx_step V2 (number ∷ body) x = burst_step (Some number) body x
-
--- at the slot of an ACTIVE
-unfoldable pub active_step : ℕ → Step
-active_step x = if nat_lt x 2 then Frame (Active x) else Fault BadSlot
+-- at an octet that is a fault, or is none
+abbrev pub unless_fault : Option Cause → Step → Step
+unless_fault None step = step
+unless_fault (Some cause) step = Fault cause
 
 -- at an octet of a body
-unfoldable pub body_step : Version → ℕ → List ℕ → ℕ → Step
-body_step version kind body x =
-    if kind == 1 then hello_step body x else
-    if kind == 2 then rx_step version body x else active_step x
+unfoldable pub body_step : Version → FrameKind → List ℕ → ℕ → Step
+body_step version kind body x = unless_fault (body_fault version (frame_row kind).body (length body) x)
+    (if nat_lt (length body + 1) (body_length version kind) then Need else whole_step version kind (body ++ x ∷ []))
+
+-- at the octet that follows a type octet, of this frame or of none, and those behind it
+unfoldable pub kind_step : Version → Option FrameKind → List ℕ → ℕ → Step
+kind_step version None rest x = Fault UnknownType
+kind_step version (Some kind) [] x = length_step version kind x
+kind_step version (Some kind) (n ∷ body) x = body_step version kind body x
 
 -- at the octet that follows an open rest
 unfoldable pub step_at : Version → List ℕ → ℕ → Step
-step_at version [] x = type_step x
-step_at version (kind ∷ []) x = length_step version kind x
-step_at version (kind ∷ n ∷ body) x = body_step version kind body x
+step_at version [] x = if is_some (carrier_kind version x) then Need else Fault UnknownType
+step_at version (octet ∷ rest) x = kind_step version (carrier_kind version octet) rest x
 
 -- what an octet brings
 abbrev pub step_from : Rest → ℕ → Step

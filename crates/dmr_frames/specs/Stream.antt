@@ -7,11 +7,10 @@ use Rattle.dmr_frames.specs.declared.frame.Cause.TheVariants.{UnknownType, BadLe
 use Rattle.dmr_frames.specs.declared.cutter.Step.{Step}
 use Rattle.dmr_frames.specs.declared.cutter.Step.TheVariants.{Need, Frame, Fault}
 use Rattle.dmr_frames.specs.declared.version.Version.{Version}
-use Rattle.dmr_frames.specs.declared.version.Version.TheVariants.{V1, V2}
 use Rattle.dmr_frames.specs.declared.version.FrameTable.{FrameTable}
 use Rattle.dmr_frames.specs.Frames.{IsFrame, spelling, burst_length}
 use Rattle.dmr_frames.specs.Rest.{Rest, Open, Faulty}
-use Rattle.dmr_frames.specs.Versions.{version_of, table_after, table_after_frames}
+use Rattle.dmr_frames.specs.Versions.{has_numbers, version_of, table_after, table_after_frames}
 
 -- the spelling of some frame of this version begins so
 abbrev pub Begins : Version → List ℕ → Type 0
@@ -23,8 +22,7 @@ IsOpen version q = (f : FrameIn) × (x : ℕ) × (more : List ℕ) × IsFrame ve
 
 -- the place of the slot in an RX, counted from 0; that of an ACTIVE stands at place 2 in each version
 abbrev pub slot_place : Version → ℕ
-slot_place V1 = 2
-slot_place V2 = 3
+slot_place version = if has_numbers version then 3 else 2
 
 -- the fault that comes after so many octets of a frame
 abbrev pub fault_at : Version → ℕ → Option Cause

@@ -1,5 +1,5 @@
 -- The versions of the link format, and which one the frames of a connection are of.
-use Rattle.std.specs.Prelude.{ℕ, ◌==◌, List, Option, Some, None, if◌then◌else◌, fold}
+use Rattle.std.specs.Prelude.{ℕ, ◌==◌, Bool, true, false, List, Option, Some, None, if◌then◌else◌, fold}
 use Rattle.dmr_frames.specs.declared.frame.FrameIn.{FrameIn}
 use Rattle.dmr_frames.specs.declared.frame.FrameIn.TheVariants.{Hello}
 use Rattle.dmr_frames.specs.declared.version.Version.{Version}
@@ -11,6 +11,22 @@ use Rattle.dmr_frames.specs.declared.version.FrameTable.TheVariants.{First, Late
 abbrev pub version_octet : Version → ℕ
 version_octet V1 = 0x01
 version_octet V2 = 0x02
+
+-- whether bursts have numbers in a version
+abbrev pub has_numbers : Version → Bool
+has_numbers V1 = false
+has_numbers V2 = true
+
+-- whether what exists since one version exists in another
+abbrev pub is_since : Version → Version → Bool
+is_since V1 version = true
+is_since V2 V1 = false
+is_since V2 V2 = true
+
+-- the first version in which a burst is told so: with a number, or with none
+abbrev pub version_by : Option ℕ → Version
+version_by None = V1
+version_by (Some number) = V2
 
 -- version 2, where versions up to this one are served
 abbrev pub second_within : Version → Option Version

@@ -1,18 +1,18 @@
 //! Cuts a carrier's octets into frames.
 
-ghost use Rattle.std.specs.Prelude.{◌≡◌, ◌==◌, ℕ, ◌<◌, List, [], ◌∷◌, ◌++◌, length, if◌then◌else◌};
+ghost use Rattle.std.specs.Prelude.{◌≡◌, ℕ, ◌<◌, List, [], ◌∷◌, ◌++◌, length};
 ghost use Rattle.dmr_bits.specs.Bits.{field_of};
 ghost use Rattle.dmr_bits.specs.Words.{word_of};
 ghost use Rattle.dmr_frames.specs.Rest.{Open};
-ghost use Rattle.dmr_frames.specs.Shape.{IsShape, IsRxBody, IsBurst};
+ghost use Rattle.dmr_frames.specs.Shape.{IsShape, IsBegun, IsWhole, IsRxBody, IsBurst, IsActiveBody};
 ghost use Rattle.dmr_frames.specs.declared.frame.FrameIn.{FrameIn};
 ghost use Rattle.dmr_frames.specs.declared.version.FrameTable.{FrameTable};
 ghost use Rattle.dmr_frames.specs.Stream.{Reads};
 ghost use Rattle.dmr_frames.specs.Reading.{frame_of, step_from, rest_after_octet};
-ghost use Rattle.dmr_frames.specs.Reading.{step_at, type_step, length_step, body_step, hello_step, rx_step, burst_step, active_step};
+ghost use Rattle.dmr_frames.specs.Reading.{step_at, length_step, body_step, whole_step, hello_step, rx_step, burst_step, active_step};
 
 use crate::frame::{Cause, FrameIn, LONGEST_FRAME};
-use crate::frame_type::{ACTIVE, BYE, HELLO, POLL, RX, length_octet};
+use crate::table::FrameKind;
 use crate::version::{FrameTable, Version};
 use dmr_bits::Word196;
 use dmr_pdu::SlotNo;
@@ -129,140 +129,154 @@ impl Cutter {
     }
 }
 
-/// What an octet brings after those of a frame that has begun.
-#[tactic(auto, unfolding(crate::specs::Reading::step_at))]
+/// Returns what an octet brings after those of a frame that has begun.
+#[tactic(auto, unfolding(crate::specs::Reading::step_at, crate::specs::Reading::kind_step))]
 fn read_octet(version: Version, begun: &[u8], octet: u8) -> Step
     requires { IsShape version begun.now }
     ensures { result ≡ step_at version begun.now octet }
 {
-    match begun {
-        [] => read_type(octet),
-        [kind] => read_length(version, *kind, octet),
-        [kind, _, body @ ..] => read_body(version, *kind, body, octet),
+    let [first, rest @ ..] = begun else {
+        return read_type(version, octet);
+    };
+    let Some(kind) = FrameKind::from_carrier(version, *first) else {
+        return Step::Fault(Cause::UnknownType);
+    };
+    match rest {
+        [] => read_length(version, kind, octet),
+        [_, body @ ..] => read_body(version, kind, body, octet),
     }
 }
 
-/// A type octet. No carrier's frame consists of its type alone.
-#[tactic(auto, unfolding(crate::specs::Reading::type_step))]
-fn read_type(octet: u8) -> Step
-    ensures { result ≡ type_step octet }
+/// Returns what a type octet brings. No carrier's frame consists of its type alone.
+#[tactic(auto, unfolding(crate::specs::Reading::step_at))]
+fn read_type(version: Version, octet: u8) -> Step
+    ensures { result ≡ step_at version [] octet }
 {
-    if octet < HELLO || octet > BYE {
-        Step::Fault(Cause::UnknownType)
-    } else {
-        Step::Need
+    match FrameKind::from_carrier(version, octet) {
+        Some(_) => Step::Need,
+        None => Step::Fault(Cause::UnknownType),
     }
 }
 
-/// The length octet of a frame of this type in this version, which ends a frame that has no body.
+/// Returns what the length octet of a frame brings in this version. It ends a frame that has no body.
 #[tactic(auto, unfolding(crate::specs::Reading::length_step))]
-fn read_length(version: Version, kind: u8, octet: u8) -> Step
+fn read_length(version: Version, kind: FrameKind, octet: u8) -> Step
     ensures { result ≡ length_step version kind octet }
 {
-    if octet != length_octet(version, kind) {
+    if octet != kind.body_length(version) {
         return Step::Fault(Cause::BadLength);
     }
-    match kind {
-        POLL => Step::Frame(FrameIn::Poll),
-        BYE => Step::Frame(FrameIn::Bye),
-        _ => Step::Need,
+    if octet > 0 {
+        return Step::Need;
     }
+    read_whole(version, kind, &[])
 }
 
-/// An octet of a body, which follows these octets of it.
+/// Returns what an octet of a body brings, which follows these octets of it.
 #[tactic(auto, unfolding(crate::specs::Reading::body_step))]
-fn read_body(version: Version, kind: u8, body: &[u8], octet: u8) -> Step
-    requires { kind ≡ 2 → IsRxBody version body.now }
+fn read_body(version: Version, kind: FrameKind, body: &[u8], octet: u8) -> Step
+    requires { IsBegun version kind body.now }
     ensures { result ≡ body_step version kind body.now octet }
 {
+    let place = body.len();
+    if let Some(cause) = kind.fault_at(version, place, octet) {
+        return Step::Fault(cause);
+    }
+    if place + 1 < usize::from(kind.body_length(version)) {
+        return Step::Need;
+    }
+    let mut whole = [0; LONGEST_FRAME];
+    whole[..place].copy_from_slice(body);
+    whole[place] = octet;
+    read_whole(version, kind, &whole[..place + 1])
+}
+
+/// Returns the frame of a whole body.
+#[tactic(auto, unfolding(crate::specs::Reading::whole_step))]
+fn read_whole(version: Version, kind: FrameKind, body: &[u8]) -> Step
+    requires { IsWhole version kind body.now }
+    ensures { result ≡ whole_step version kind body.now }
+{
     match kind {
-        HELLO => read_hello(body, octet),
-        RX => read_rx(version, body, octet),
-        _ => read_active(octet),
+        FrameKind::Hello => read_hello(body),
+        FrameKind::Rx => read_rx(version.has_numbers(), body),
+        FrameKind::Poll => Step::Frame(FrameIn::Poll),
+        FrameKind::Active => read_active(body),
+        FrameKind::Bye => Step::Frame(FrameIn::Bye),
+        _ => Step::Need,
     }
 }
 
-/// An octet of a HELLO's body.
+/// Returns the HELLO that has this body.
 #[tactic(auto, unfolding(crate::specs::Reading::hello_step))]
-fn read_hello(body: &[u8], octet: u8) -> Step
-    ensures { result ≡ hello_step body.now octet }
+fn read_hello(body: &[u8]) -> Step
+    ensures { result ≡ hello_step body.now }
 {
     match body {
-        [version, carrier, high] => Step::Frame(FrameIn::Hello {
+        [version, carrier, high, low] => Step::Frame(FrameIn::Hello {
             version: *version,
             carrier: *carrier,
-            lpcn: 256 * u16::from(*high) + u16::from(octet),
+            lpcn: 256 * u16::from(*high) + u16::from(*low),
         }),
         _ => Step::Need,
     }
 }
 
-/// An octet of an RX's body, which in version 2 begins with a number.
+/// Returns the RX that has this body, which begins with a number where bursts are numbered.
 #[tactic(auto, unfolding(crate::specs::Reading::rx_step))]
-fn read_rx(version: Version, body: &[u8], octet: u8) -> Step
-    requires { IsRxBody version body.now }
-    ensures { result ≡ rx_step version body.now octet }
+fn read_rx(numbered: bool, body: &[u8]) -> Step
+    requires { IsRxBody numbered body.now }
+    ensures { result ≡ rx_step numbered body.now }
 {
-    match version {
-        Version::V1 => read_burst(None, body, octet),
-        Version::V2 => match body {
-            [] => Step::Need,
-            [number, burst @ ..] => read_burst(Some(*number), burst, octet),
-        },
+    if !numbered {
+        return read_burst(None, body);
     }
-}
-
-/// An octet of a burst behind its number, if it has one: the slot, or one of the word's 25.
-#[tactic(auto, unfolding(crate::specs::Reading::burst_step))]
-fn read_burst(number: Option<u8>, body: &[u8], octet: u8) -> Step
-    requires { IsBurst body.now }
-    ensures { result ≡ burst_step number body.now octet }
-{
     match body {
-        [] => {
-            if octet < 2 {
-                Step::Need
-            } else {
-                Step::Fault(Cause::BadSlot)
-            }
-        }
-        [slot, octets @ ..] => {
-            if octets.len() < 24 {
-                Step::Need
-            } else {
-                read_last(number, *slot, octets, octet)
-            }
-        }
+        [number, burst @ ..] => read_burst(Some(*number), burst),
+        [] => Step::Need,
     }
 }
 
-/// The last octet of an RX, which follows the slot and 24 octets.
-fn read_last(number: Option<u8>, slot: u8, octets: &[u8], octet: u8) -> Step
-    requires slot { slot < 2 }
-    requires len { length octets.now ≡ 24 }
-    ensures { let whole = octets.now ++ octet ∷ [] in
-        result ≡ (if field_of whole 196 4 == 0 then Step.Frame (FrameIn.Rx number slot (word_of whole)) else Step.Fault Cause.BadPad) }
+/// Returns the RX of a slot and a word, behind the number, if there is one.
+#[tactic(auto, unfolding(crate::specs::Reading::burst_step))]
+fn read_burst(number: Option<u8>, burst: &[u8]) -> Step
+    requires { IsBurst burst.now }
+    ensures { result ≡ burst_step number burst.now }
+{
+    let [slot, octets @ ..] = burst else {
+        return Step::Need;
+    };
+    Step::Frame(FrameIn::Rx {
+        number,
+        slot: SlotNo::new(u32::from(*slot)),
+        word: read_word(octets),
+    })
+}
+
+/// Returns the word that 25 octets begin with, whose last four bits are 0.
+fn read_word(octets: &[u8]) -> Word196
+    requires length { length octets.now ≡ 25 }
+    requires pad { field_of octets.now 196 4 ≡ 0 }
+    ensures { result ≡ word_of octets.now }
 {
     let mut whole = [0; 25];
-    whole[..24].copy_from_slice(octets);
-    whole[24] = octet;
+    whole.copy_from_slice(octets);
     match Word196::from_octets(&whole) {
-        Ok(word) => Step::Frame(FrameIn::Rx {
-            number,
-            slot: SlotNo::new(u32::from(slot)),
-            word,
-        }),
-        Err(_) => Step::Fault(Cause::BadPad),
+        Ok(word) => word,
+        Err(_) => Word196::zero(),
     }
 }
 
-/// The slot of an ACTIVE.
+/// Returns the ACTIVE that has this body.
 #[tactic(auto, unfolding(crate::specs::Reading::active_step))]
-fn read_active(octet: u8) -> Step
-    ensures { result ≡ active_step octet }
+fn read_active(body: &[u8]) -> Step
+    requires { IsActiveBody body.now }
+    ensures { result ≡ active_step body.now }
 {
-    match SlotNo::try_new(u32::from(octet)) {
-        Some(slot) => Step::Frame(FrameIn::Active { slot }),
-        None => Step::Fault(Cause::BadSlot),
+    match body {
+        [slot] => Step::Frame(FrameIn::Active {
+            slot: SlotNo::new(u32::from(*slot)),
+        }),
+        _ => Step::Need,
     }
 }

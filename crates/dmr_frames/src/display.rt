@@ -6,25 +6,25 @@ use std::fmt;
 /// The frame's name and what it carries, but for the word of an RX.
 impl fmt::Display for FrameIn {
     fn fmt<W: fmt::Write>(&self, f: &mut fmt::Formatter<W>) -> fmt::Result {
+        f.write_str(self.kind().name())?;
         match self {
             FrameIn::Hello {
                 version,
                 carrier,
                 lpcn,
-            } => write!(f, "HELLO version={version} carrier={carrier} lpcn={lpcn}"),
+            } => write!(f, " version={version} carrier={carrier} lpcn={lpcn}"),
             FrameIn::Rx {
                 number: Some(number),
                 slot,
                 word: _,
-            } => write!(f, "RX number={number} slot={slot}"),
+            } => write!(f, " number={number} slot={slot}"),
             FrameIn::Rx {
                 number: None,
                 slot,
                 word: _,
-            } => write!(f, "RX slot={slot}"),
-            FrameIn::Poll => write!(f, "POLL"),
-            FrameIn::Active { slot } => write!(f, "ACTIVE slot={slot}"),
-            FrameIn::Bye => write!(f, "BYE"),
+            } => write!(f, " slot={slot}"),
+            FrameIn::Active { slot } => write!(f, " slot={slot}"),
+            FrameIn::Poll | FrameIn::Bye => Ok(()),
         }
     }
 }
@@ -42,20 +42,21 @@ impl fmt::Display for Refusal {
 /// The frame's name and what it carries, but for the word of a TX.
 impl fmt::Display for FrameOut {
     fn fmt<W: fmt::Write>(&self, f: &mut fmt::Formatter<W>) -> fmt::Result {
+        f.write_str(self.kind().name())?;
         match self {
-            FrameOut::Welcome { version } => write!(f, "WELCOME version={version}"),
+            FrameOut::Welcome { version } => write!(f, " version={version}"),
             FrameOut::Tx {
                 number: Some(number),
                 slot,
                 word: _,
-            } => write!(f, "TX number={number} slot={slot}"),
+            } => write!(f, " number={number} slot={slot}"),
             FrameOut::Tx {
                 number: None,
                 slot,
                 word: _,
-            } => write!(f, "TX slot={slot}"),
-            FrameOut::Done => write!(f, "DONE"),
-            FrameOut::Refused(refusal) => write!(f, "REFUSED reason={refusal}"),
+            } => write!(f, " slot={slot}"),
+            FrameOut::Done => Ok(()),
+            FrameOut::Refused(refusal) => write!(f, " reason={refusal}"),
         }
     }
 }

@@ -11,8 +11,8 @@
 mod cutter;
 mod display;
 mod frame;
-mod frame_type;
 mod law;
+mod table;
 mod version;
 mod whole;
 mod write;
@@ -20,6 +20,7 @@ mod write;
 pub use cutter::{Cutter, Step};
 pub use frame::{Cause, FrameIn, FrameOut, LONGEST_FRAME, Refusal};
 pub use law::{limits_are_stated, one_reading, spellings_part};
+pub use table::{Field, FrameKind, FrameRow};
 pub use version::{FrameTable, Version};
 pub use whole::whole_frame;
 pub use write::write_frame;

@@ -1,11 +1,11 @@
 //! The versions of the link format (this project's profile).
 
 ghost use Rattle.std.specs.Prelude.{◌≡◌};
-ghost use Rattle.dmr_frames.specs.Versions.{chosen_by, version_named, version_octet, version_of, table_after};
+ghost use Rattle.dmr_frames.specs.Versions.{chosen_by, has_numbers, is_since, version_by, version_named, version_octet, version_of, table_after};
 
 use crate::frame::FrameIn;
 
-/// A version of the link format. They differ in RX and TX alone.
+/// A version of the link format. They differ in RX and TX alone: in whether bursts have numbers.
 #[derive(Clone, Copy, Debug, PartialEq, Eq)]
 pub enum Version {
     /// Version 1: bursts have no number.
@@ -15,6 +15,36 @@ pub enum Version {
 }
 
 impl Version {
+    /// The newest version.
+    pub const NEWEST: Version = Version::V2;
+
+    /// Returns whether bursts have numbers in this version: a number octet before the slot of each RX and TX.
+    pub fn has_numbers(self) -> bool
+        ensures { result ≡ has_numbers self }
+    {
+        match self {
+            Version::V1 => false,
+            Version::V2 => true,
+        }
+    }
+
+    /// Returns whether what exists since a version exists in this one.
+    pub fn is_since(self, since: Version) -> bool
+        ensures { result ≡ is_since since self }
+    {
+        self.octet() >= since.octet()
+    }
+
+    /// Returns the first version in which a burst is told so, with a number or with none.
+    pub fn by_number(number: Option<u8>) -> Version
+        ensures { result ≡ version_by number }
+    {
+        match number {
+            None => Version::V1,
+            Some(_) => Version::V2,
+        }
+    }
+
     /// The octet that names it, in HELLO and in WELCOME: 1 or 2.
     pub fn octet(self) -> u8
         ensures { result ≡ version_octet self }

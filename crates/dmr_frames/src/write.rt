@@ -1,36 +1,40 @@
 //! Spells the frames that go to a carrier.
 
 ghost use Rattle.std.specs.Prelude.{◌≡◌, [], ◌∷◌};
-ghost use Rattle.dmr_frames.specs.Frames.{burst_octets, frame_octets, spelling_out, version_by};
+ghost use Rattle.dmr_frames.specs.Frames.{burst_octets, frame_octets, plain_octets, spelling_out};
+ghost use Rattle.dmr_frames.specs.Versions.{version_by};
 
 use crate::frame::{FrameOut, LONGEST_FRAME, Refusal};
-use crate::frame_type::{DONE, REFUSED, TX, WELCOME, length_octet};
+use crate::table::FrameKind;
 use crate::version::Version;
 use arrayvec::ArrayVec;
 use dmr_pdu::SlotNo;
 
-/// A frame's first two octets: its type and its length in this version.
-fn head_of(version: Version, kind: u8) -> ArrayVec<u8, LONGEST_FRAME>
+/// Returns a frame's first two octets: its type and its length in this version.
+fn head_of(version: Version, kind: FrameKind) -> ArrayVec<u8, LONGEST_FRAME>
     ensures { result.items ≡ frame_octets version kind [] }
 {
     let mut octets = ArrayVec::new();
-    octets.push(kind);
-    octets.push(length_octet(version, kind));
+    octets.push(kind.row().octet);
+    octets.push(kind.body_length(version));
     octets
 }
 
-/// The octets of a TX up to its word: type and length, the number in version 2, and the slot.
-fn burst_head(number: Option<u8>, slot: SlotNo) -> ArrayVec<u8, LONGEST_FRAME>
-    ensures { result.items ≡ frame_octets (version_by number) 0x82 (burst_octets number slot []) }
+/// Returns the first two octets of a frame that has the same octets in each version.
+fn plain_head(kind: FrameKind) -> ArrayVec<u8, LONGEST_FRAME>
+    ensures { result.items ≡ plain_octets kind [] }
 {
-    let mut octets = match number {
-        None => head_of(Version::V1, TX),
-        Some(number) => {
-            let mut octets = head_of(Version::V2, TX);
-            octets.push(number);
-            octets
-        }
-    };
+    head_of(kind.row().since, kind)
+}
+
+/// Returns the octets of a TX up to its word: type and length, the number, if it has one, and the slot.
+fn burst_head(number: Option<u8>, slot: SlotNo) -> ArrayVec<u8, LONGEST_FRAME>
+    ensures { result.items ≡ frame_octets (version_by number) FrameKind.Tx (burst_octets number slot []) }
+{
+    let mut octets = head_of(Version::by_number(number), FrameKind::Tx);
+    if let Some(number) = number {
+        octets.push(number);
+    }
     octets.push(slot.get() as u8);
     octets
 }
@@ -41,7 +45,7 @@ pub fn write_frame(frame: &FrameOut) -> ArrayVec<u8, LONGEST_FRAME>
 {
     match frame {
         FrameOut::Welcome { version } => {
-            let mut octets = head_of(Version::V1, WELCOME);
+            let mut octets = plain_head(FrameKind::Welcome);
             octets.push(*version);
             octets
         }
@@ -52,9 +56,9 @@ pub fn write_frame(frame: &FrameOut) -> ArrayVec<u8, LONGEST_FRAME>
             }
             octets
         }
-        FrameOut::Done => head_of(Version::V1, DONE),
+        FrameOut::Done => plain_head(FrameKind::Done),
         FrameOut::Refused(refusal) => {
-            let mut octets = head_of(Version::V1, REFUSED);
+            let mut octets = plain_head(FrameKind::Refused);
             octets.push(match refusal {
                 Refusal::BadVersion => 0x01,
                 Refusal::WrongCarrier => 0x02,

@@ -1,4 +1,6 @@
 pub mod LastOctetLemmas
+pub mod TableLemmas
+pub mod BodyLemmas
 pub mod ShapeLemmas
 pub mod StepLemmas
 pub mod StreamLemmas

@@ -1,26 +1,24 @@
 -- How a reading goes on, and what the octets of a frame, and those of a frame that has begun, bring to a rest of nothing.
-use Rattle.std.proofs.Common.{◌≡◌, ℕ, ◌/◌, ◌%◌, ◌<◌, Option, Some, None, List, [], ◌∷◌, ◌++◌, refl, sym, ap, ◌∙◌, arith, append_assoc, subst, All}
+use Rattle.std.proofs.Common.{◌≡◌, ℕ, ◌<◌, List, [], ◌∷◌, ◌++◌, refl, sym, ap, ◌∙◌, append_assoc, subst, All}
 use Rattle.std.specs.List.{flat_map}
 use Rattle.std.proofs.lemmas.List.{append-nil, flat_map_more}
 use Rattle.std.proofs.lemmas.List.Sums.{fold_push}
 use Rattle.std.proofs.lemmas.List.Elements.{All-head, All-tail, All-from_get_or}
-use Rattle.dmr_bits.specs.Words.{word_octets}
-use Rattle.dmr_bits.proofs.Laws.{word_octets-octets}
 use Rattle.dmr_frames.specs.declared.frame.FrameIn.{FrameIn}
-use Rattle.dmr_frames.specs.declared.frame.FrameIn.TheVariants.{Hello, Rx, Poll, Active, Bye}
+use Rattle.dmr_frames.specs.declared.frame.FrameIn.TheVariants.{Poll}
 use Rattle.dmr_frames.specs.declared.frame.Cause.{Cause}
 use Rattle.dmr_frames.specs.declared.cutter.Step.{Step}
 use Rattle.dmr_frames.specs.declared.cutter.Step.TheVariants.{Need, Frame, Fault}
 use Rattle.dmr_frames.specs.declared.version.Version.{Version}
-use Rattle.dmr_frames.specs.declared.version.Version.TheVariants.{V1, V2}
 use Rattle.dmr_frames.specs.declared.version.FrameTable.{FrameTable}
-use Rattle.dmr_frames.specs.Versions.{version_by, version_of, table_after, table_after_frames}
-use Rattle.dmr_frames.specs.Frames.{IsNumbered, IsFrame, burst_octets, burst_length, spelling}
+use Rattle.dmr_frames.specs.Versions.{version_of, table_after, table_after_frames}
+use Rattle.dmr_frames.specs.Frames.{IsFrame, spelling}
 use Rattle.dmr_frames.specs.Rest.{Rest, Open, Faulty}
 use Rattle.dmr_frames.specs.Stream.{IsOpen, IsFaulty, Reads, AreFrames, IsStep}
 use Rattle.dmr_frames.specs.Shape.{AreSmall}
 use Rattle.dmr_frames.specs.Reading.{step_at, step_from, rest_after_octet, rest_after, frame_of, frames_from, rest_after_octets}
-use Rattle.dmr_frames.proofs.ShapeLemmas.{small-cons, small-front}
+use Rattle.dmr_frames.proofs.TableLemmas.{small-front}
+use Rattle.dmr_frames.proofs.BodyLemmas.{spelling-small}
 use Rattle.dmr_frames.proofs.StreamLemmas.{readings-same}
 use Rattle.dmr_frames.proofs.StepLemmas.{step_sound}
 
@@ -108,26 +106,6 @@ pub reads_all : (table : FrameTable) (octets : List ℕ) → All (λ x. x < 256)
 reads_all table octets small = reads_more table [] [] (Open table []) octets small (reads_nothing table)
 
 -- ---- frames whose octets are known
-
-none_small : AreSmall []
-none_small = λ k. omega arith
-
-burst-small : (v : Version) (number : Option ℕ) (slot : ℕ) (octets : List ℕ) → IsNumbered v number → slot < 2 → AreSmall octets → AreSmall (burst_length (version_by number) ∷ burst_octets number slot octets)
-burst-small v None slot octets is lt h = small-cons 26 (slot ∷ octets) (omega arith) (small-cons slot octets (omega arith) h)
-burst-small V1 (Some n) slot octets is lt h = absurd is
-burst-small V2 (Some n) slot octets is lt h = small-cons 27 (n ∷ slot ∷ octets) (omega arith) (small-cons n (slot ∷ octets) is (small-cons slot octets (omega arith) h))
-
--- the octets of a frame are octets
-pub spelling-small : (v : Version) (f : FrameIn) → IsFrame v f → AreSmall (spelling f)
-spelling-small version (Hello v c l) is =
-    small-cons 1 (4 ∷ v ∷ c ∷ (l / 256) ∷ (l % 256) ∷ []) (omega arith) (small-cons 4 (v ∷ c ∷ (l / 256) ∷ (l % 256) ∷ []) (omega arith)
-    (small-cons v (c ∷ (l / 256) ∷ (l % 256) ∷ []) is.0 (small-cons c ((l / 256) ∷ (l % 256) ∷ []) is.1
-    (small-cons (l / 256) ((l % 256) ∷ []) (omega (arith, is.2)) (small-cons (l % 256) [] (omega arith) none_small)))))
-spelling-small version (Rx number slot word) is =
-    small-cons 2 (burst_length (version_by number) ∷ burst_octets number slot (word_octets word)) (omega arith) (burst-small version number slot (word_octets word) is.0 is.1 (word_octets-octets word).small)
-spelling-small version Poll is = small-cons 3 (0 ∷ []) (omega arith) (small-cons 0 [] (omega arith) none_small)
-spelling-small version (Active slot) is = small-cons 4 (1 ∷ slot ∷ []) (omega arith) (small-cons 1 (slot ∷ []) (omega arith) (small-cons slot [] (omega (arith, is)) none_small))
-spelling-small version Bye is = small-cons 5 (0 ∷ []) (omega arith) (small-cons 0 [] (omega arith) none_small)
 
 pub open-small : (v : Version) (q : List ℕ) → IsOpen v q → AreSmall q
 open-small v q (f, x, more, is, e) = let P : List ℕ → Type 0 = λ xs. AreSmall xs in small-front q (x ∷ more) (subst P (sym e) (spelling-small v f is))

@@ -1,18 +1,16 @@
 -- Two readings of one stream are one.
-use Rattle.std.proofs.Common.{◌≡◌, ℕ, ◌/◌, ◌%◌, Bool, List, [], ◌∷◌, ◌++◌, length, refl, sym, ap, ◌∙◌, arith, ⊎_elim, inl, inr, ◌⊎◌, length-append, append_assoc, subst, Option, Some, None, get_or, take, drop}
+use Rattle.std.proofs.Common.{◌≡◌, ℕ, List, [], ◌∷◌, ◌++◌, length, refl, sym, ap, ◌∙◌, arith, ⊎_elim, inl, inr, ◌⊎◌, length-append, append_assoc, subst, Some}
 use Rattle.std.specs.List.{flat_map}
-use Rattle.std.proofs.lemmas.List.{append-nil, take_at, drop_at}
+use Rattle.std.proofs.lemmas.List.{append-nil}
 use Rattle.dmr_frames.specs.declared.frame.FrameIn.{FrameIn}
-use Rattle.dmr_frames.specs.declared.frame.FrameIn.TheVariants.{Hello, Rx, Poll, Active, Bye}
 use Rattle.dmr_frames.specs.declared.frame.Cause.{Cause}
-use Rattle.dmr_bits.specs.Words.{word_octets, word_of}
 use Rattle.dmr_frames.specs.declared.version.Version.{Version}
 use Rattle.dmr_frames.specs.declared.version.FrameTable.{FrameTable}
-use Rattle.dmr_frames.specs.Frames.{IsFrame, spelling, burst_length, burst_octets}
+use Rattle.dmr_frames.specs.Frames.{IsFrame, spelling}
 use Rattle.dmr_frames.specs.Rest.{Rest, Open, Faulty}
 use Rattle.dmr_frames.specs.Stream.{Begins, IsOpen, IsFaulty, IsRest, Reads, AreFrames, fault_at}
-use Rattle.dmr_frames.specs.Versions.{version_by, version_of, table_after, table_after_frames}
-use Rattle.dmr_bits.proofs.Laws.{word_octets-octets, word_of-word_octets}
+use Rattle.dmr_frames.specs.Versions.{has_numbers, version_of, table_after, table_after_frames}
+use Rattle.dmr_frames.proofs.BodyLemmas.{spelled_once}
 
 -- two ways to part a list: one front goes on to the other
 pub append_cases : {A : Type 0} (a b c d : List A) → a ++ b ≡ c ++ d → ((m : List A) × (c ≡ a ++ m) × (b ≡ m ++ d)) ⊎ ((m : List A) × (a ≡ c ++ m) × (d ≡ m ++ b))
@@ -22,66 +20,6 @@ append_cases (x ∷ a) b (y ∷ c) d e =
     let head : x ≡ y = cc in
     let tail : a ++ b ≡ c ++ d = cc in
     ⊎_elim (λ h. inl (h.0, (λ i. (sym head i) ∷ (h.1 i)), h.2)) (λ h. inr (h.0, (λ i. (head i) ∷ (h.1 i)), h.2)) (append_cases a b c d tail)
-
-pub same_words : (v w : List Bool) (x y : List ℕ) → length v ≡ 196 → length w ≡ 196 → word_octets v ++ x ≡ word_octets w ++ y → (v ≡ w) × (x ≡ y)
-same_words v w x y lv lw e =
-    let front : word_octets v ≡ word_octets w = sym (take_at (word_octets v) x 25 (word_octets-octets v).len) ∙ ap (take 25) e ∙ take_at (word_octets w) y 25 (word_octets-octets w).len in
-    let back : x ≡ y = sym (drop_at (word_octets v) x 25 (word_octets-octets v).len) ∙ ap (drop 25) e ∙ drop_at (word_octets w) y 25 (word_octets-octets w).len in
-    (sym (word_of-word_octets v lv) ∙ ap word_of front ∙ word_of-word_octets w lw, back)
-
-abbrev first_octet : List ℕ → ℕ
-first_octet octets = get_or octets 0 0
-
--- two bursts, behind their type: whether each has a number is told by its length octet
-pub same_bursts : (m n : Option ℕ) (s t : ℕ) (v w : List Bool) (x y : List ℕ) → length v ≡ 196 → length w ≡ 196 →
-    burst_length (version_by m) ∷ (burst_octets m s (word_octets v) ++ x) ≡ burst_length (version_by n) ∷ (burst_octets n t (word_octets w) ++ y) → (m ≡ n) × (s ≡ t) × (v ≡ w) × (x ≡ y)
-same_bursts None None s t v w x y lv lw e =
-    let es : s ≡ t = cc in
-    let ew : word_octets v ++ x ≡ word_octets w ++ y = cc in
-    let same : (v ≡ w) × (x ≡ y) = same_words v w x y lv lw ew in
-    (refl, es, same.0, same.1)
-same_bursts None (Some n) s t v w x y lv lw e = absurd (omega (arith, ap first_octet e))
-same_bursts (Some m) None s t v w x y lv lw e = absurd (omega (arith, ap first_octet e))
-same_bursts (Some m) (Some n) s t v w x y lv lw e =
-    let en : m ≡ n = cc in
-    let es : s ≡ t = cc in
-    let ew : word_octets v ++ x ≡ word_octets w ++ y = cc in
-    let same : (v ≡ w) × (x ≡ y) = same_words v w x y lv lw ew in
-    (ap Some en, es, same.0, same.1)
-
--- no spelling goes on to another, of whichever versions the two are
-pub spelled_once : (d k : Version) (f g : FrameIn) (x y : List ℕ) → IsFrame d f → IsFrame k g → spelling f ++ x ≡ spelling g ++ y → (f ≡ g) × (x ≡ y)
-spelled_once d k (Hello v c l) (Hello v' c' l') x y hf hg e =
-    let ev : v ≡ v' = cc in let ec : c ≡ c' = cc in let eh : l / 256 ≡ l' / 256 = cc in let el : l % 256 ≡ l' % 256 = cc in
-    let same : l ≡ l' = omega arith in
-    ((λ i. Hello (ev i) (ec i) (same i)), cc)
-spelled_once d k (Hello v c l) (Rx number' slot' word') x y hf hg e = cc
-spelled_once d k (Hello v c l) Poll x y hf hg e = cc
-spelled_once d k (Hello v c l) (Active s') x y hf hg e = cc
-spelled_once d k (Hello v c l) Bye x y hf hg e = cc
-spelled_once d k (Rx number slot word) (Hello v' c' l') x y hf hg e = cc
-spelled_once d k (Rx number slot word) (Rx number' slot' word') x y hf hg e =
-    let behind : burst_length (version_by number) ∷ (burst_octets number slot (word_octets word) ++ x) ≡ burst_length (version_by number') ∷ (burst_octets number' slot' (word_octets word') ++ y) = cc in
-    let same : (number ≡ number') × (slot ≡ slot') × (word ≡ word') × (x ≡ y) = same_bursts number number' slot slot' word word' x y hf.2 hg.2 behind in
-    ((λ i. Rx (same.0 i) (same.1 i) (same.2 i)), same.3)
-spelled_once d k (Rx number slot word) Poll x y hf hg e = cc
-spelled_once d k (Rx number slot word) (Active s') x y hf hg e = cc
-spelled_once d k (Rx number slot word) Bye x y hf hg e = cc
-spelled_once d k Poll (Hello v' c' l') x y hf hg e = cc
-spelled_once d k Poll (Rx number' slot' word') x y hf hg e = cc
-spelled_once d k Poll Poll x y hf hg e = (refl, cc)
-spelled_once d k Poll (Active s') x y hf hg e = cc
-spelled_once d k Poll Bye x y hf hg e = cc
-spelled_once d k (Active s) (Hello v' c' l') x y hf hg e = cc
-spelled_once d k (Active s) (Rx number' slot' word') x y hf hg e = cc
-spelled_once d k (Active s) Poll x y hf hg e = cc
-spelled_once d k (Active s) (Active s') x y hf hg e = let es : s ≡ s' = cc in (ap Active es, cc)
-spelled_once d k (Active s) Bye x y hf hg e = cc
-spelled_once d k Bye (Hello v' c' l') x y hf hg e = cc
-spelled_once d k Bye (Rx number' slot' word') x y hf hg e = cc
-spelled_once d k Bye Poll x y hf hg e = cc
-spelled_once d k Bye (Active s') x y hf hg e = cc
-spelled_once d k Bye Bye x y hf hg e = (refl, cc)
 
 -- an open rest begins with no whole spelling
 pub open_no_spelling : (v : Version) (q : List ℕ) (g : FrameIn) (y : List ℕ) → IsFrame v g → q ≡ spelling g ++ y → IsOpen v q → ⊥
@@ -146,7 +84,7 @@ same_front v octets c d g h =
     (append_cases g.front (g.octet ∷ g.more) h.front (h.octet ∷ h.more) (sym g.whole ∙ h.whole))
 
 same_cause : (v : Version) (octets : List ℕ) (c d : Cause) → IsFaulty v octets c → IsFaulty v octets d → c ≡ d
-same_cause v octets c d g h = some_same c d (sym g.cause_is ∙ ap (λ (q : List ℕ). fault_at v (length q)) (same_front v octets c d g h) ∙ h.cause_is)
+same_cause v octets c d g h = some_same c d (sym g.cause_is ∙ ap (λ (q : List ℕ). fault_at (has_numbers v) (length q)) (same_front v octets c d g h) ∙ h.cause_is)
 
 moved_faulty : (v : Version) (a b : List ℕ) (c : Cause) → a ≡ b → IsFaulty v a c → IsFaulty v b c
 moved_faulty v a b c e h = let P : List ℕ → Type 0 = λ xs. IsFaulty v xs c in subst P e h

@@ -13,13 +13,9 @@ use Rattle.dmr_frames.specs.declared.version.Version.{Version}
 use Rattle.dmr_frames.specs.Table.{frame_row, body_length}
 use Rattle.dmr_frames.specs.Versions.{has_numbers, version_by}
 
--- how many octets tell of a burst: its slot and its word, and its number before them in a version that numbers bursts
-abbrev pub burst_length : Version → ℕ
-burst_length version = body_length version kind.Rx
-
 -- a frame: its type, its length, its body
 abbrev pub frame_octets : Version → FrameKind → List ℕ → List ℕ
-frame_octets version kind body = (frame_row kind).octet ∷ body_length version kind ∷ body
+frame_octets version kind body = (frame_row kind).octet ∷ body_length (has_numbers version) kind ∷ body
 
 -- a frame whose octets are the same in each version that has it
 abbrev pub plain_octets : FrameKind → List ℕ → List ℕ

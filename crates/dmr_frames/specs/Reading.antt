@@ -13,7 +13,7 @@ use Rattle.dmr_frames.specs.declared.table.FrameKind.TheVariants as kind
 use Rattle.dmr_frames.specs.declared.version.Version.{Version}
 use Rattle.dmr_frames.specs.declared.version.FrameTable.{FrameTable}
 use Rattle.dmr_frames.specs.Rest.{Rest, Open, Faulty}
-use Rattle.dmr_frames.specs.Table.{frame_row, body_length, body_fault, carrier_kind}
+use Rattle.dmr_frames.specs.Table.{body_length, body_fault, carrier_kind}
 use Rattle.dmr_frames.specs.Versions.{has_numbers, version_of, table_after}
 
 -- the body of a HELLO
@@ -38,19 +38,19 @@ active_step (slot ∷ []) = Frame (Active slot)
 active_step body = Need
 
 -- a whole body in which no octet is a fault
-unfoldable pub whole_step : Version → FrameKind → List ℕ → Step
-whole_step version kind.Hello body = hello_step body
-whole_step version kind.Rx body = rx_step (has_numbers version) body
-whole_step version kind.Poll body = Frame Poll
-whole_step version kind.Active body = active_step body
-whole_step version kind.Bye body = Frame Bye
-whole_step version other body = Need
+unfoldable pub whole_step : Bool → FrameKind → List ℕ → Step
+whole_step numbered kind.Hello body = hello_step body
+whole_step numbered kind.Rx body = rx_step numbered body
+whole_step numbered kind.Poll body = Frame Poll
+whole_step numbered kind.Active body = active_step body
+whole_step numbered kind.Bye body = Frame Bye
+whole_step numbered other body = Need
 
 -- at a length octet: a frame without a body ends there
-unfoldable pub length_step : Version → FrameKind → ℕ → Step
-length_step version kind x =
-    if not (x == body_length version kind) then Fault BadLength else
-    if x == 0 then whole_step version kind [] else Need
+unfoldable pub length_step : Bool → FrameKind → ℕ → Step
+length_step numbered kind x =
+    if not (x == body_length numbered kind) then Fault BadLength else
+    if x == 0 then whole_step numbered kind [] else Need
 
 -- at an octet that is a fault, or is none
 abbrev pub unless_fault : Option Cause → Step → Step
@@ -58,20 +58,20 @@ unless_fault None step = step
 unless_fault (Some cause) step = Fault cause
 
 -- at an octet of a body
-unfoldable pub body_step : Version → FrameKind → List ℕ → ℕ → Step
-body_step version kind body x = unless_fault (body_fault version (frame_row kind).body (length body) x)
-    (if nat_lt (length body + 1) (body_length version kind) then Need else whole_step version kind (body ++ x ∷ []))
+unfoldable pub body_step : Bool → FrameKind → List ℕ → ℕ → Step
+body_step numbered kind body x = unless_fault (body_fault numbered kind (length body) x)
+    (if nat_lt (length body + 1) (body_length numbered kind) then Need else whole_step numbered kind (body ++ x ∷ []))
 
--- at the octet that follows a type octet, of this frame or of none, and those behind it
-unfoldable pub kind_step : Version → Option FrameKind → List ℕ → ℕ → Step
-kind_step version None rest x = Fault UnknownType
-kind_step version (Some kind) [] x = length_step version kind x
-kind_step version (Some kind) (n ∷ body) x = body_step version kind body x
+-- at an octet behind the type octet of this frame and these octets
+unfoldable pub kind_step : Bool → Option FrameKind → List ℕ → ℕ → Step
+kind_step numbered None rest x = Fault UnknownType
+kind_step numbered (Some kind) [] x = length_step numbered kind x
+kind_step numbered (Some kind) (n ∷ body) x = body_step numbered kind body x
 
 -- at the octet that follows an open rest
 unfoldable pub step_at : Version → List ℕ → ℕ → Step
 step_at version [] x = if is_some (carrier_kind version x) then Need else Fault UnknownType
-step_at version (octet ∷ rest) x = kind_step version (carrier_kind version octet) rest x
+step_at version (octet ∷ rest) x = kind_step (has_numbers version) (carrier_kind version octet) rest x
 
 -- what an octet brings
 abbrev pub step_from : Rest → ℕ → Step

@@ -3,27 +3,28 @@ use Rattle.std.specs.Prelude.{◌≡◌, ℕ, ◌<◌, Bool, true, false, List, 
 use Rattle.dmr_bits.specs.Bits.{field_of}
 use Rattle.dmr_frames.specs.declared.table.FrameKind.{FrameKind}
 use Rattle.dmr_frames.specs.declared.version.Version.{Version}
-use Rattle.dmr_frames.specs.Table.{frame_row, body_length, body_fault, carrier_kind}
+use Rattle.dmr_frames.specs.Table.{body_length, body_fault, carrier_kind}
+use Rattle.dmr_frames.specs.Versions.{has_numbers}
 
 -- every number is an octet's
 abbrev pub AreSmall : List ℕ → Type 0
 AreSmall xs = (k : ℕ) → slice_index xs k < 256
 
 -- no octet of a body is a fault
-abbrev pub AreFitting : Version → FrameKind → List ℕ → Type 0
-AreFitting version kind body = (k : ℕ) → k < length body → body_fault version (frame_row kind).body k (slice_index body k) ≡ None
+abbrev pub AreFitting : Bool → FrameKind → List ℕ → Type 0
+AreFitting numbered kind body = (k : ℕ) → k < length body → body_fault numbered kind k (slice_index body k) ≡ None
 
 -- a body that has begun, without a fault
-pub record IsBegun (version : Version) (kind : FrameKind) (body : List ℕ) : Type 0 where
-  pub short : length body < body_length version kind
+pub record IsBegun (numbered : Bool) (kind : FrameKind) (body : List ℕ) : Type 0 where
+  pub short : length body < body_length numbered kind
   pub small : AreSmall body
-  pub fitting : AreFitting version kind body
+  pub fitting : AreFitting numbered kind body
 
 -- a whole body, without a fault
-pub record IsWhole (version : Version) (kind : FrameKind) (body : List ℕ) : Type 0 where
-  pub all : length body ≡ body_length version kind
+pub record IsWhole (numbered : Bool) (kind : FrameKind) (body : List ℕ) : Type 0 where
+  pub all : length body ≡ body_length numbered kind
   pub small : AreSmall body
-  pub fitting : AreFitting version kind body
+  pub fitting : AreFitting numbered kind body
 
 -- a slot and the octets of a word
 abbrev pub IsBurst : List ℕ → Type 0
@@ -42,12 +43,12 @@ IsActiveBody [] = ⊥
 IsActiveBody (slot ∷ more) = slot < 2
 
 -- octets from which a frame can follow, behind the type octet of this frame
-abbrev pub IsShapeOf : Version → Option FrameKind → List ℕ → Type 0
-IsShapeOf version None rest = ⊥
-IsShapeOf version (Some kind) [] = Unit {0}
-IsShapeOf version (Some kind) (n ∷ body) = (n ≡ body_length version kind) × IsBegun version kind body
+abbrev pub IsShapeOf : Bool → Option FrameKind → List ℕ → Type 0
+IsShapeOf numbered None rest = ⊥
+IsShapeOf numbered (Some kind) [] = Unit {0}
+IsShapeOf numbered (Some kind) (n ∷ body) = (n ≡ body_length numbered kind) × IsBegun numbered kind body
 
 -- octets from which a frame can follow
 abbrev pub IsShape : Version → List ℕ → Type 0
 IsShape version [] = Unit {0}
-IsShape version (octet ∷ rest) = IsShapeOf version (carrier_kind version octet) rest
+IsShape version (octet ∷ rest) = IsShapeOf (has_numbers version) (carrier_kind version octet) rest

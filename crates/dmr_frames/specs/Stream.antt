@@ -1,14 +1,16 @@
 -- A stream of octets: frames, and a rest. The first frame chooses the version of those behind it.
-use Rattle.std.specs.Prelude.{◌≡◌, ℕ, ◌+◌, List, [], ◌∷◌, ◌++◌, length, Option, Some, None, if◌then◌else◌, ◌==◌, ◌||◌}
+use Rattle.std.specs.Prelude.{◌≡◌, ℕ, ◌+◌, Bool, List, [], ◌∷◌, ◌++◌, length, Option, Some, None, if◌then◌else◌, ◌==◌, ◌||◌}
 use Rattle.std.specs.List.{flat_map}
 use Rattle.dmr_frames.specs.declared.frame.FrameIn.{FrameIn}
 use Rattle.dmr_frames.specs.declared.frame.Cause.{Cause}
 use Rattle.dmr_frames.specs.declared.frame.Cause.TheVariants.{UnknownType, BadLength, BadSlot, BadPad}
 use Rattle.dmr_frames.specs.declared.cutter.Step.{Step}
 use Rattle.dmr_frames.specs.declared.cutter.Step.TheVariants.{Need, Frame, Fault}
+use Rattle.dmr_frames.specs.declared.table.FrameKind.TheVariants as kind
 use Rattle.dmr_frames.specs.declared.version.Version.{Version}
 use Rattle.dmr_frames.specs.declared.version.FrameTable.{FrameTable}
-use Rattle.dmr_frames.specs.Frames.{IsFrame, spelling, burst_length}
+use Rattle.dmr_frames.specs.Frames.{IsFrame, spelling}
+use Rattle.dmr_frames.specs.Table.{body_length}
 use Rattle.dmr_frames.specs.Rest.{Rest, Open, Faulty}
 use Rattle.dmr_frames.specs.Versions.{has_numbers, version_of, table_after, table_after_frames}
 
@@ -21,16 +23,16 @@ abbrev pub IsOpen : Version → List ℕ → Type 0
 IsOpen version q = (f : FrameIn) × (x : ℕ) × (more : List ℕ) × IsFrame version f × (q ++ x ∷ more ≡ spelling f)
 
 -- the place of the slot in an RX, counted from 0; that of an ACTIVE stands at place 2 in each version
-abbrev pub slot_place : Version → ℕ
-slot_place version = if has_numbers version then 3 else 2
+abbrev pub slot_place : Bool → ℕ
+slot_place numbered = if numbered then 3 else 2
 
 -- the fault that comes after so many octets of a frame
-abbrev pub fault_at : Version → ℕ → Option Cause
-fault_at version n =
+abbrev pub fault_at : Bool → ℕ → Option Cause
+fault_at numbered n =
     if n == 0 then Some UnknownType else
     if n == 1 then Some BadLength else
-    if n == 2 || n == slot_place version then Some BadSlot else
-    if n == burst_length version + 1 then Some BadPad else None
+    if n == 2 || n == slot_place numbered then Some BadSlot else
+    if n == body_length numbered kind.Rx + 1 then Some BadPad else None
 
 -- a proper prefix of a spelling, one octet with which no spelling begins, and anything
 pub record IsFaulty (version : Version) (octets : List ℕ) (cause : Cause) : Type 0 where
@@ -40,7 +42,7 @@ pub record IsFaulty (version : Version) (octets : List ℕ) (cause : Cause) : Ty
   pub whole : octets ≡ front ++ octet ∷ more
   pub open_front : IsOpen version front
   pub no_frame : Begins version (front ++ octet ∷ []) → ⊥
-  pub cause_is : fault_at version (length front) ≡ Some cause
+  pub cause_is : fault_at (has_numbers version) (length front) ≡ Some cause
 
 -- octets behind the last whole frame, by the table there, and what they are
 abbrev pub IsRest : FrameTable → List ℕ → Rest → Type 0
@@ -63,4 +65,4 @@ pub record Reads (table : FrameTable) (octets : List ℕ) (frames : List FrameIn
 abbrev pub IsStep : Version → List ℕ → ℕ → Step → Type 0
 IsStep version q x Need = IsOpen version (q ++ x ∷ [])
 IsStep version q x (Frame f) = IsFrame version f × (q ++ x ∷ [] ≡ spelling f)
-IsStep version q x (Fault cause) = (Begins version (q ++ x ∷ []) → ⊥) × (fault_at version (length q) ≡ Some cause)
+IsStep version q x (Fault cause) = (Begins version (q ++ x ∷ []) → ⊥) × (fault_at (has_numbers version) (length q) ≡ Some cause)

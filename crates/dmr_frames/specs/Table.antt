@@ -8,7 +8,7 @@ use Rattle.dmr_frames.specs.declared.table.FrameKind.{FrameKind}
 use Rattle.dmr_frames.specs.declared.table.FrameKind.TheVariants as kind
 use Rattle.dmr_frames.specs.declared.version.Version.{Version}
 use Rattle.dmr_frames.specs.declared.version.Version.TheVariants.{V1}
-use Rattle.dmr_frames.specs.Versions.{has_numbers, is_since}
+use Rattle.dmr_frames.specs.Versions.{is_since}
 
 -- a row of the table
 pub record Row : Type 0 where
@@ -36,6 +36,10 @@ frame_row kind.Refused = row 0x84 (codes "REFUSED") V1 (field.Reason ∷ [])
 abbrev pub carrier_kinds : List FrameKind
 carrier_kinds = kind.Hello ∷ kind.Rx ∷ kind.Poll ∷ kind.Active ∷ kind.Bye ∷ []
 
+-- the frames that go to a carrier
+abbrev pub site_kinds : List FrameKind
+site_kinds = kind.Welcome ∷ kind.Tx ∷ kind.Done ∷ kind.Refused ∷ []
+
 -- the frame, of these, that has a type octet in a version
 abbrev pub kind_among : Version → List FrameKind → ℕ → Option FrameKind
 kind_among version [] octet = None
@@ -46,21 +50,25 @@ kind_among version (kind ∷ kinds) octet =
 abbrev pub carrier_kind : Version → ℕ → Option FrameKind
 carrier_kind version octet = kind_among version carrier_kinds octet
 
--- how many octets a field has: a number none in a version that doesn't number bursts
-abbrev pub field_length : Version → Field → ℕ
-field_length version field.Lpcn = 2
-field_length version field.Number = if has_numbers version then 1 else 0
-field_length version field.Word = 25
-field_length version other = 1
+-- the frame to a carrier that has a type octet in a version
+abbrev pub site_kind : Version → ℕ → Option FrameKind
+site_kind version octet = kind_among version site_kinds octet
+
+-- how many octets a field has: a number none where bursts are not numbered
+abbrev pub field_length : Bool → Field → ℕ
+field_length numbered field.Lpcn = 2
+field_length numbered field.Number = if numbered then 1 else 0
+field_length numbered field.Word = 25
+field_length numbered other = 1
 
 -- how many octets fields have together
-abbrev pub fields_length : Version → List Field → ℕ
-fields_length version [] = 0
-fields_length version (field ∷ fields) = field_length version field + fields_length version fields
+abbrev pub fields_length : Bool → List Field → ℕ
+fields_length numbered [] = 0
+fields_length numbered (field ∷ fields) = field_length numbered field + fields_length numbered fields
 
 -- how many octets a frame has behind its length octet
-abbrev pub body_length : Version → FrameKind → ℕ
-body_length version kind = fields_length version (frame_row kind).body
+abbrev pub body_length : Bool → FrameKind → ℕ
+body_length numbered kind = fields_length numbered (frame_row kind).body
 
 -- what is wrong with an octet at a place of a field: a slot is 0 or 1, and the last four bits of a word's octets are 0
 abbrev pub field_fault : Field → ℕ → ℕ → Option Cause
@@ -68,8 +76,12 @@ field_fault field.Slot place octet = if nat_lt octet 2 then None else Some BadSl
 field_fault field.Word place octet = if place == 24 then (if octet % 16 == 0 then None else Some BadPad) else None
 field_fault other place octet = None
 
--- what is wrong with an octet at a place of a body
-abbrev pub body_fault : Version → List Field → ℕ → ℕ → Option Cause
-body_fault version [] place octet = None
-body_fault version (field ∷ fields) place octet =
-    if nat_lt place (field_length version field) then field_fault field place octet else body_fault version fields (place - field_length version field) octet
+-- what is wrong with an octet at a place of fields
+abbrev pub fields_fault : Bool → List Field → ℕ → ℕ → Option Cause
+fields_fault numbered [] place octet = None
+fields_fault numbered (field ∷ fields) place octet =
+    if nat_lt place (field_length numbered field) then field_fault field place octet else fields_fault numbered fields (place - field_length numbered field) octet
+
+-- what is wrong with an octet at a place of a frame's body
+abbrev pub body_fault : Bool → FrameKind → ℕ → ℕ → Option Cause
+body_fault numbered kind place octet = fields_fault numbered (frame_row kind).body place octet

@@ -4,6 +4,7 @@ ghost use Rattle.std.specs.Prelude.{◌≡◌, ℕ, ◌<◌, List, [], ◌∷◌
 ghost use Rattle.dmr_bits.specs.Bits.{field_of};
 ghost use Rattle.dmr_bits.specs.Words.{word_of};
 ghost use Rattle.dmr_frames.specs.Rest.{Open};
+ghost use Rattle.dmr_frames.specs.Versions.{has_numbers};
 ghost use Rattle.dmr_frames.specs.Shape.{IsShape, IsBegun, IsWhole, IsRxBody, IsBurst, IsActiveBody};
 ghost use Rattle.dmr_frames.specs.declared.frame.FrameIn.{FrameIn};
 ghost use Rattle.dmr_frames.specs.declared.version.FrameTable.{FrameTable};
@@ -161,7 +162,7 @@ fn read_type(version: Version, octet: u8) -> Step
 /// Returns what the length octet of a frame brings in this version. It ends a frame that has no body.
 #[tactic(auto, unfolding(crate::specs::Reading::length_step))]
 fn read_length(version: Version, kind: FrameKind, octet: u8) -> Step
-    ensures { result ≡ length_step version kind octet }
+    ensures { result ≡ length_step (has_numbers version) kind octet }
 {
     if octet != kind.body_length(version) {
         return Step::Fault(Cause::BadLength);
@@ -175,8 +176,8 @@ fn read_length(version: Version, kind: FrameKind, octet: u8) -> Step
 /// Returns what an octet of a body brings, which follows these octets of it.
 #[tactic(auto, unfolding(crate::specs::Reading::body_step))]
 fn read_body(version: Version, kind: FrameKind, body: &[u8], octet: u8) -> Step
-    requires { IsBegun version kind body.now }
-    ensures { result ≡ body_step version kind body.now octet }
+    requires { IsBegun (has_numbers version) kind body.now }
+    ensures { result ≡ body_step (has_numbers version) kind body.now octet }
 {
     let place = body.len();
     if let Some(cause) = kind.fault_at(version, place, octet) {
@@ -194,8 +195,8 @@ fn read_body(version: Version, kind: FrameKind, body: &[u8], octet: u8) -> Step
 /// Returns the frame of a whole body.
 #[tactic(auto, unfolding(crate::specs::Reading::whole_step))]
 fn read_whole(version: Version, kind: FrameKind, body: &[u8]) -> Step
-    requires { IsWhole version kind body.now }
-    ensures { result ≡ whole_step version kind body.now }
+    requires { IsWhole (has_numbers version) kind body.now }
+    ensures { result ≡ whole_step (has_numbers version) kind body.now }
 {
     match kind {
         FrameKind::Hello => read_hello(body),

@@ -1,5 +1,8 @@
 //! The frames of the link (versions 1 and 2 of this project's profile).
 
+ghost use Rattle.std.specs.Prelude.{◌≡◌};
+ghost use Rattle.dmr_frames.specs.Frames.{refusal_octet};
+
 use dmr_bits::Word196;
 use dmr_pdu::SlotNo;
 
@@ -42,6 +45,18 @@ pub enum Refusal {
     BadVersion,
     /// The carrier's number or its channel is not the one that belongs to the port.
     WrongCarrier,
+}
+
+impl Refusal {
+    /// Returns the octet that stands for it in REFUSED: 1 or 2.
+    pub fn octet(self) -> u8
+        ensures { result ≡ refusal_octet self }
+    {
+        match self {
+            Refusal::BadVersion => 0x01,
+            Refusal::WrongCarrier => 0x02,
+        }
+    }
 }
 
 /// A frame that goes to a carrier.

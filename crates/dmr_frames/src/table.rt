@@ -2,9 +2,11 @@
 //! of the link format that it exists since, and the fields of its body. A frame is its type octet, the number of octets in its body, and the
 //! body (this project's profile). What a field may hold is here too; what a frame means is not.
 
-ghost use Rattle.std.specs.Prelude.{◌≡◌, ◌<◌};
+ghost use Rattle.std.specs.Prelude.{◌≡◌, ◌<◌, slice_index};
+ghost use Rattle.dmr_frames.specs.Frames.{spelling, spelling_out};
 ghost use Rattle.dmr_frames.specs.declared.version.Version.{Version};
-ghost use Rattle.dmr_frames.specs.Table.{body_fault, body_length, carrier_kind, carrier_kinds, field_fault, field_length, fields_length, frame_row, kind_among};
+ghost use Rattle.dmr_frames.specs.Versions.{has_numbers};
+ghost use Rattle.dmr_frames.specs.Table.{body_fault, body_length, carrier_kind, field_fault, field_length, fields_fault, fields_length, frame_row, kind_among, site_kind};
 
 use crate::frame::{Cause, FrameIn, FrameOut};
 use crate::version::Version;
@@ -73,6 +75,14 @@ const CARRIER_KINDS: [FrameKind; 5] = [
     FrameKind::Bye,
 ];
 
+/// The frames that go to a carrier.
+const SITE_KINDS: [FrameKind; 4] = [
+    FrameKind::Welcome,
+    FrameKind::Tx,
+    FrameKind::Done,
+    FrameKind::Refused,
+];
+
 /// Returns the row of a frame that exists since version 1.
 fn row_of(octet: u8, name: &'static str, body: &'static [Field]) -> FrameRow
     ensures octet { result.octet ≡ octet }
@@ -127,9 +137,16 @@ impl FrameKind {
         find_kind(version, &CARRIER_KINDS, octet)
     }
 
+    /// Returns the frame to a carrier that has this type octet in a version.
+    pub fn to_carrier(version: Version, octet: u8) -> Option<FrameKind>
+        ensures { result ≡ site_kind version octet }
+    {
+        find_kind(version, &SITE_KINDS, octet)
+    }
+
     /// Returns the number of octets in the frame's body in a version, which is the frame's length octet.
     pub fn body_length(self, version: Version) -> u8
-        ensures length { result ≡ body_length version self }
+        ensures length { result ≡ body_length (has_numbers version) self }
         ensures longest { result < 28 }
     {
         add_lengths(version, self.row().body)
@@ -137,7 +154,7 @@ impl FrameKind {
 
     /// Returns what is wrong with this octet at a place of the frame's body, counted from 0.
     pub fn fault_at(self, version: Version, place: usize, octet: u8) -> Option<Cause>
-        ensures { result ≡ body_fault version (frame_row self).body place octet }
+        ensures { result ≡ body_fault (has_numbers version) self place octet }
     {
         find_fault(version, self.row().body, place, octet)
     }
@@ -145,8 +162,7 @@ impl FrameKind {
 
 impl FrameIn {
     /// Returns which frame it is.
-    pub fn kind(&self) -> FrameKind
-    {
+    pub fn kind(&self) -> FrameKind {
         match self {
             FrameIn::Hello { .. } => FrameKind::Hello,
             FrameIn::Rx { .. } => FrameKind::Rx,
@@ -159,8 +175,7 @@ impl FrameIn {
 
 impl FrameOut {
     /// Returns which frame it is.
-    pub fn kind(&self) -> FrameKind
-    {
+    pub fn kind(&self) -> FrameKind {
         match self {
             FrameOut::Welcome { .. } => FrameKind::Welcome,
             FrameOut::Tx { .. } => FrameKind::Tx,
@@ -173,7 +188,7 @@ impl FrameOut {
 impl Field {
     /// Returns how many octets the field has in a version.
     pub fn length(self, version: Version) -> u8
-        ensures { result ≡ field_length version self }
+        ensures { result ≡ field_length (has_numbers version) self }
     {
         match self {
             Field::Lpcn => 2,
@@ -217,8 +232,8 @@ fn find_kind(version: Version, kinds: &[FrameKind], octet: u8) -> Option<FrameKi
 
 /// Returns how many octets these fields have together in a version.
 fn add_lengths(version: Version, fields: &[Field]) -> u8
-    requires { fields_length version fields.now < 256 }
-    ensures { result ≡ fields_length version fields.now }
+    requires { fields_length (has_numbers version) fields.now < 256 }
+    ensures { result ≡ fields_length (has_numbers version) fields.now }
 {
     match fields {
         [] => 0,
@@ -228,7 +243,7 @@ fn add_lengths(version: Version, fields: &[Field]) -> u8
 
 /// Returns what is wrong with this octet at a place of a body that has these fields.
 fn find_fault(version: Version, fields: &[Field], place: usize, octet: u8) -> Option<Cause>
-    ensures { result ≡ body_fault version fields.now place octet }
+    ensures { result ≡ fields_fault (has_numbers version) fields.now place octet }
 {
     match fields {
         [] => None,

@@ -1,7 +1,8 @@
 //! The versions of the link format (this project's profile).
 
 ghost use Rattle.std.specs.Prelude.{◌≡◌};
-ghost use Rattle.dmr_frames.specs.Versions.{chosen_by, has_numbers, is_since, version_by, version_named, version_octet, version_of, table_after};
+ghost use Rattle.dmr_frames.specs.declared.version.Version.{Version};
+ghost use Rattle.dmr_frames.specs.Versions.{chosen_by, has_numbers, is_since, or_first, version_by, version_named, version_octet, version_of, table_after};
 
 use crate::frame::FrameIn;
 
@@ -15,6 +16,9 @@ pub enum Version {
 }
 
 impl Version {
+    /// Every version, the oldest first.
+    pub const ALL: [Version; 2] = [Version::V1, Version::V2];
+
     /// The newest version.
     pub const NEWEST: Version = Version::V2;
 
@@ -66,6 +70,16 @@ impl Version {
                 Version::V2 => Some(Version::V2),
             },
             _ => None,
+        }
+    }
+
+    /// Returns the version that an octet names, and version 1 if it names none.
+    pub fn named_or_first(octet: u8) -> Version
+        ensures { result ≡ or_first (version_named Version.V2 octet) }
+    {
+        match Version::NEWEST.named(octet) {
+            Some(version) => version,
+            None => Version::V1,
         }
     }
 

@@ -4,7 +4,7 @@ ghost use Rattle.std.specs.Prelude.{◌≡◌, [], ◌∷◌};
 ghost use Rattle.dmr_frames.specs.Frames.{burst_octets, frame_octets, plain_octets, spelling_out};
 ghost use Rattle.dmr_frames.specs.Versions.{version_by};
 
-use crate::frame::{FrameOut, LONGEST_FRAME, Refusal};
+use crate::frame::{FrameOut, LONGEST_FRAME};
 use crate::table::FrameKind;
 use crate::version::Version;
 use arrayvec::ArrayVec;
@@ -59,10 +59,7 @@ pub fn write_frame(frame: &FrameOut) -> ArrayVec<u8, LONGEST_FRAME>
         FrameOut::Done => plain_head(FrameKind::Done),
         FrameOut::Refused(refusal) => {
             let mut octets = plain_head(FrameKind::Refused);
-            octets.push(match refusal {
-                Refusal::BadVersion => 0x01,
-                Refusal::WrongCarrier => 0x02,
-            });
+            octets.push(refusal.octet());
             octets
         }
     }

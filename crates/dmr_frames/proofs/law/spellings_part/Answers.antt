@@ -1,4 +1,4 @@
-use Rattle.dmr_frames.proofs.StreamLemmas.{spelled_once}
+use Rattle.dmr_frames.proofs.BodyLemmas.{spelled_once}
 use Rattle.dmr_frames.proofs.SpellingLemmas.{spelled_out_once, length-spelling, length-spelling_out}
 use Rattle.dmr_frames.proofs.law.spellings_part.Goals as goal
 

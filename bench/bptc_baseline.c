@@ -11,6 +11,7 @@
  * The words are those of crates/dmr_bench: the same generator from the same seed. Prints lines "what plain packed
  * count sum": the two rates, in words a second, how many were decoded, encoded or checked, and a sum of what came out.
  */
+#define _POSIX_C_SOURCE 200809L
 #include <stdint.h>
 #include <stdio.h>
 #include <stdlib.h>

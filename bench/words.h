@@ -1,0 +1,53 @@
+/*
+ * The words that crates/dmr_bench draws: the same generator (PCG32, XSH RR) from the same seed, so that programs can be
+ * compared by counts and sums of what they answer. Not a source of randomness for anything else.
+ */
+#ifndef WORDS_H
+#define WORDS_H
+
+#include "coder.h"
+#include <time.h>
+
+typedef enum { CLEAN, FLIPS, RANDOM, KINDS } Kind;
+
+static const char *const KIND_NAMES[KINDS] = {"clean", "flips", "random"};
+
+static uint64_t generator_state, generator_increment;
+
+static inline uint32_t next_word(void) {
+    uint64_t old = generator_state;
+    uint32_t mixed = (uint32_t)((old >> 18 ^ old) >> 27);
+    int turn = old >> 59;
+    generator_state = old * 6364136223846793005ull + generator_increment;
+    return mixed >> turn | mixed << (-turn & 31);
+}
+
+static inline void seed_words(void) {
+    generator_increment = 54 << 1 | 1;
+    generator_state = 42 + generator_increment;
+    generator_state = generator_state * 6364136223846793005ull + generator_increment;
+}
+
+static inline void draw_information(uint8_t octets[12]) {
+    for (int i = 0; i < 12; i++) octets[i] = next_word() & 0xFF;
+}
+
+static inline void draw_word(Kind kind, Word *word) {
+    uint8_t octets[12];
+    draw_information(octets);
+    encode_by_nibbles(octets, word);
+    if (kind == FLIPS)
+        for (int i = 0; i < 3; i++) flip(word, next_word() % PLACES);
+    if (kind == RANDOM)
+        for (int place = 0; place < PLACES; place++)
+            if (bit_of(word, place) != (int)(next_word() % 2)) flip(word, place);
+}
+
+/* Seconds of a clock that is never set. */
+static inline double seconds_now(void) {
+    struct timespec now;
+    clock_gettime(CLOCK_MONOTONIC, &now);
+    return now.tv_sec + now.tv_nsec * 1e-9;
+}
+
+#endif

@@ -1,0 +1,368 @@
+/*
+ * Plays carriers that poll against a served site, on loopback, and prints how long the answers took. `tools/carriers` plays
+ * radios too and looks at each answer; this one looks at the frames alone, and disturbs the machine less.
+ *
+ *   load_generator [-p BASE_PORT] [-n CARRIERS] [-l FIRST_LPCN] [-L LPCN_STEP] [-v VERSION] [-s SECONDS] [-u MICROSECONDS]
+ *                  [-f] [-S] [-T THREADS] [-P PID] [-a ACTIVES] [-r POLLS] [-c CONTROL]
+ *
+ *   -u N   each carrier polls each N microseconds (60,000, the rate of the air), the carriers spread evenly
+ *   -f     as fast as it goes: the next POLL follows the DONE of the last
+ *   -S     asks the system again and again, and does not wait: then no wake-up of its own is part of a figure
+ *   -a N   N frames ACTIVE before each POLL, in the same write
+ *   -r N   every Nth POLL of the control carrier has the RX of a registration before it
+ *   -P N   reads processor time, memory, threads and context switches of the process N, which should be the server
+ *
+ * A time is from just before the write of a POLL to the last octet of its DONE read; "from due": from when the POLL was due.
+ * It is a bench: any fault of a connection ends it with status 1.
+ */
+#define _GNU_SOURCE
+#include <arpa/inet.h>
+#include <dirent.h>
+#include <errno.h>
+#include <fcntl.h>
+#include <netinet/in.h>
+#include <netinet/tcp.h>
+#include <pthread.h>
+#include <stdbool.h>
+#include <stdint.h>
+#include <stdio.h>
+#include <stdlib.h>
+#include <string.h>
+#include <sys/epoll.h>
+#include <sys/socket.h>
+#include <time.h>
+#include <unistd.h>
+
+enum { HELLO = 1, RX, POLL, ACTIVE, BYE, WELCOME = 0x81, TX, DONE, REFUSED };
+enum { STEPS = 64, BUCKETS = STEPS * 40, MOST_CARRIERS = 64, MOST_THREADS = 16, MOST_ACTIVES = 60, DIALS = 200 };
+
+static const uint64_t SECOND = 1000000000ull;
+/* The burst of the registration of radio 1001. */
+static const uint8_t REGISTRATION[25] = {0x0E, 0xB4, 0x9C, 0xDF, 0x34, 0xF2, 0x74, 0x9C, 0xEC, 0xBA, 0x5C, 0xB3, 0xB7,
+                                         0xC4, 0x0E, 0x88, 0x13, 0x8C, 0x9A, 0x38, 0xF9, 0x62, 0x48, 0xE1, 0x80};
+
+static struct {
+    int base_port, carriers, first_lpcn, lpcn_step, version, seconds, threads, actives, rx_every, control, server;
+    long period; /* microseconds */
+    bool fast, spins;
+} options = {7101, 16, 101, 2, 1, 10, 1, 0, 0, 0, 0, 60000, false, false};
+
+static __attribute__((noreturn)) void die(const char *what) {
+    perror(what);
+    exit(1);
+}
+
+static uint64_t nanoseconds_now(void) {
+    struct timespec now;
+    clock_gettime(CLOCK_MONOTONIC, &now);
+    return now.tv_sec * SECOND + now.tv_nsec;
+}
+
+/* ---- times, in buckets of 64 steps to each doubling */
+
+typedef struct {
+    uint64_t bucket[BUCKETS], count, most;
+    double sum;
+} Times;
+
+static int bucket_of(uint64_t time) {
+    int shift = time < STEPS ? 0 : 57 - __builtin_clzll(time);
+    int bucket = time < STEPS ? (int)time : (shift + 1) * STEPS + (int)((time >> shift) - STEPS);
+    return bucket < BUCKETS ? bucket : BUCKETS - 1;
+}
+
+static double middle_of(int bucket) {
+    int shift = bucket / STEPS - 1;
+    if (bucket < STEPS) return bucket;
+    return ((uint64_t)(bucket % STEPS + STEPS) << shift) + (1ull << shift) / 2.0;
+}
+
+static void add_time(Times *times, uint64_t time) {
+    times->bucket[bucket_of(time)]++;
+    times->count++;
+    times->sum += time;
+    if (time > times->most) times->most = time;
+}
+
+static void add_times(Times *times, const Times *others) {
+    for (int i = 0; i < BUCKETS; i++) times->bucket[i] += others->bucket[i];
+    times->count += others->count;
+    times->sum += others->sum;
+    if (others->most > times->most) times->most = others->most;
+}
+
+/* The microseconds that a part of all answers did not exceed. */
+static double quantile(const Times *times, double part) {
+    uint64_t wanted = part * times->count, seen = 0;
+    for (int i = 0; i < BUCKETS; i++) {
+        seen += times->bucket[i];
+        if (seen > wanted) return middle_of(i) / 1e3;
+    }
+    return times->most / 1e3;
+}
+
+/* ---- carriers */
+
+typedef struct {
+    int stream, carrier, part, left, type; /* part: as in serve_floor.c */
+    bool waits;
+    unsigned polls;
+    uint64_t sent, due, next, octets;
+} Carrier;
+
+typedef struct {
+    int count;
+    Carrier carrier[MOST_CARRIERS];
+    Times times, from_due;
+} Player;
+
+static int dial(int port) {
+    struct sockaddr_in address = {
+        .sin_family = AF_INET, .sin_port = htons(port), .sin_addr = {htonl(INADDR_LOOPBACK)}};
+    for (int dials = 0; dials < DIALS; dials++) {
+        int stream = socket(AF_INET, SOCK_STREAM, 0), one = 1;
+        if (stream < 0) die("socket");
+        setsockopt(stream, IPPROTO_TCP, TCP_NODELAY, &one, sizeof one);
+        if (!connect(stream, (void *)&address, sizeof address)) return stream;
+        close(stream);
+        nanosleep(&(struct timespec){0, 20000000}, 0);
+    }
+    die("connect");
+}
+
+static void come_up(Carrier *c) {
+    int lpcn = options.first_lpcn + options.lpcn_step * c->carrier;
+    uint8_t hello[6] = {HELLO, 4, options.version, c->carrier, lpcn >> 8, lpcn}, welcome[3];
+    c->stream = dial(options.base_port + c->carrier);
+    if (write(c->stream, hello, sizeof hello) != sizeof hello) die("HELLO");
+    for (int got = 0, count; got < 3; got += count)
+        if ((count = read(c->stream, welcome + got, 3 - got)) <= 0) die("WELCOME");
+    if (welcome[0] != WELCOME) {
+        fprintf(stderr, "load_generator: carrier %d is refused: %02x\n", c->carrier, welcome[2]);
+        exit(1);
+    }
+    fcntl(c->stream, F_SETFL, O_NONBLOCK);
+}
+
+static void send_poll(Carrier *c, uint64_t due) {
+    uint8_t octets[64 + 3 * MOST_ACTIVES];
+    int count = 0;
+    if (options.rx_every && c->carrier == options.control && c->polls % options.rx_every == 0) {
+        octets[count++] = RX;
+        octets[count++] = 25 + options.version;
+        if (options.version == 2) octets[count++] = c->polls / options.rx_every;
+        octets[count++] = 0;
+        memcpy(octets + count, REGISTRATION, sizeof REGISTRATION);
+        count += sizeof REGISTRATION;
+    }
+    for (int i = 0; i < options.actives; i++) {
+        octets[count++] = ACTIVE;
+        octets[count++] = 1;
+        octets[count++] = (i ^ (c->carrier == options.control)) & 1;
+    }
+    octets[count++] = POLL;
+    octets[count++] = 0;
+    c->polls++;
+    c->waits = true;
+    c->due = due;
+    c->sent = nanoseconds_now();
+    if (write(c->stream, octets, count) != count) die("POLL");
+}
+
+/* Whether a DONE came. */
+static bool take(Carrier *c, const uint8_t *octets, int count) {
+    bool done = false;
+    c->octets += count;
+    for (int i = 0; i < count;) {
+        if (c->part == 0) {
+            c->type = octets[i++];
+            c->part = 1;
+        } else if (c->part == 1) {
+            c->left = octets[i++];
+            c->part = c->left ? 2 : 0;
+            done |= c->type == DONE;
+        } else {
+            int some = count - i < c->left ? count - i : c->left;
+            i += some;
+            c->left -= some;
+            if (!c->left) c->part = 0;
+        }
+        if (c->type < WELCOME || c->type >= REFUSED) {
+            fprintf(stderr, "load_generator: carrier %d receives a frame %02x\n", c->carrier, c->type);
+            exit(1);
+        }
+    }
+    return done;
+}
+
+static void read_answer(Player *player, Carrier *c) {
+    uint8_t octets[4096];
+    int count = read(c->stream, octets, sizeof octets);
+    uint64_t now;
+    if (count < 0 && errno == EAGAIN) return;
+    if (count <= 0) die("a connection ended");
+    if (!take(c, octets, count) || !c->waits) return;
+    now = nanoseconds_now();
+    c->waits = false;
+    add_time(&player->times, now - c->sent);
+    add_time(&player->from_due, now - c->due);
+    if (options.fast) send_poll(c, now);
+}
+
+/* Sends the polls that are due. When the next one is. */
+static uint64_t send_due_polls(Player *player, uint64_t end) {
+    uint64_t soonest = end, now = nanoseconds_now();
+    for (int i = 0; i < player->count; i++) {
+        Carrier *c = &player->carrier[i];
+        if (now >= c->next && !c->waits) {
+            send_poll(c, c->next);
+            c->next += options.period * 1000;
+        }
+        if (!c->waits && c->next < soonest) soonest = c->next;
+    }
+    return soonest;
+}
+
+static void *play(void *argument) {
+    Player *player = argument;
+    int epoll = epoll_create1(0);
+    uint64_t start, end;
+    for (int i = 0; i < player->count; i++) {
+        struct epoll_event event = {.events = EPOLLIN, .data.ptr = &player->carrier[i]};
+        come_up(&player->carrier[i]);
+        epoll_ctl(epoll, EPOLL_CTL_ADD, player->carrier[i].stream, &event);
+    }
+    start = nanoseconds_now();
+    end = start + options.seconds * SECOND;
+    for (int i = 0; i < player->count; i++) {
+        Carrier *c = &player->carrier[i];
+        c->next = start + 2000000 + (uint64_t)options.period * 1000 * c->carrier / options.carriers;
+        if (options.fast) send_poll(c, start);
+    }
+    for (uint64_t now; (now = nanoseconds_now()) < end;) {
+        struct epoll_event events[MOST_CARRIERS];
+        uint64_t soonest = options.fast ? end : send_due_polls(player, end), wait = soonest > now ? soonest - now : 0;
+        struct timespec time = {wait / SECOND, wait % SECOND};
+        if (options.spins) time = (struct timespec){0, 0};
+        int count = epoll_pwait2(epoll, events, MOST_CARRIERS, &time, 0);
+        for (int i = 0; i < count; i++) read_answer(player, events[i].data.ptr);
+    }
+    for (int i = 0; i < player->count; i++) close(player->carrier[i].stream);
+    return 0;
+}
+
+/* ---- the server's process */
+
+typedef struct {
+    double user, system; /* seconds */
+    long memory, threads, switches;
+} Usage;
+
+static long status_field(const char *path, const char *field) {
+    char line[256];
+    long value = 0;
+    FILE *file = fopen(path, "r");
+    while (file && fgets(line, sizeof line, file))
+        if (!strncmp(line, field, strlen(field))) value = atol(line + strlen(field) + 1);
+    if (file) fclose(file);
+    return value;
+}
+
+static Usage read_usage(int pid) {
+    char path[64], line[1024], *rest;
+    unsigned long user = 0, system = 0;
+    Usage usage = {0};
+    snprintf(path, sizeof path, "/proc/%d/stat", pid);
+    FILE *file = fopen(path, "r");
+    if (file && fgets(line, sizeof line, file) && (rest = strrchr(line, ')')))
+        sscanf(rest + 2, "%*c %*d %*d %*d %*d %*d %*u %*u %*u %*u %*u %lu %lu", &user, &system);
+    if (file) fclose(file);
+    usage.user = user / (double)sysconf(_SC_CLK_TCK);
+    usage.system = system / (double)sysconf(_SC_CLK_TCK);
+    snprintf(path, sizeof path, "/proc/%d/status", pid);
+    usage.memory = status_field(path, "VmRSS:");
+    usage.threads = status_field(path, "Threads:");
+    snprintf(path, sizeof path, "/proc/%d/task", pid);
+    DIR *tasks = opendir(path);
+    for (struct dirent *task; tasks && (task = readdir(tasks));) {
+        char status[384];
+        if (task->d_name[0] == '.') continue;
+        snprintf(status, sizeof status, "%s/%s/status", path, task->d_name);
+        usage.switches +=
+            status_field(status, "voluntary_ctxt_switches:") + status_field(status, "nonvoluntary_ctxt_switches:");
+    }
+    if (tasks) closedir(tasks);
+    return usage;
+}
+
+static void print_usage(const Usage *before, const Usage *after, double seconds, double polls_per_second) {
+    double user = after->user - before->user, system = after->system - before->system;
+    double share = (user + system) / seconds;
+    printf("  server: user %.2f s, system %.2f s of %.1f s: %.2f %% of a processor, %.2f us a poll; "
+           "%ld kB, %ld threads, %.0f context switches a second\n",
+           user, system, seconds, 100 * share, polls_per_second > 0 ? 1e6 * share / polls_per_second : 0, after->memory,
+           after->threads, (after->switches - before->switches) / seconds);
+}
+
+/* ---- the whole */
+
+static int read_options(int argc, char **argv) {
+    int option;
+    while ((option = getopt(argc, argv, "p:n:l:L:v:s:u:fST:P:a:r:c:")) != -1) switch (option) {
+        case 'p': options.base_port = atoi(optarg); break;
+        case 'n': options.carriers = atoi(optarg); break;
+        case 'l': options.first_lpcn = atoi(optarg); break;
+        case 'L': options.lpcn_step = atoi(optarg); break;
+        case 'v': options.version = atoi(optarg); break;
+        case 's': options.seconds = atoi(optarg); break;
+        case 'u': options.period = atol(optarg); break;
+        case 'f': options.fast = true; break;
+        case 'S': options.spins = true; break;
+        case 'T': options.threads = atoi(optarg); break;
+        case 'P': options.server = atoi(optarg); break;
+        case 'a': options.actives = atoi(optarg); break;
+        case 'r': options.rx_every = atoi(optarg); break;
+        case 'c': options.control = atoi(optarg); break;
+        default: return -1;
+        }
+    bool fits = options.carriers >= 1 && options.carriers <= MOST_CARRIERS && options.threads >= 1 &&
+                options.threads <= MOST_THREADS && options.actives >= 0 && options.actives <= MOST_ACTIVES &&
+                options.seconds >= 1 && options.period >= 1 && (options.version == 1 || options.version == 2);
+    return fits ? 0 : -1;
+}
+
+int main(int argc, char **argv) {
+    static Player players[MOST_THREADS];
+    static Times times, from_due;
+    pthread_t threads[MOST_THREADS];
+    uint64_t octets = 0, polls, start;
+    Usage before = {0}, after = {0};
+    if (read_options(argc, argv)) return 2;
+    for (int carrier = 0; carrier < options.carriers; carrier++) {
+        Player *player = &players[carrier % options.threads];
+        player->carrier[player->count++].carrier = carrier;
+    }
+    if (options.server) before = read_usage(options.server);
+    start = nanoseconds_now();
+    for (int i = 0; i < options.threads; i++) pthread_create(&threads[i], 0, play, &players[i]);
+    /* A little before the end, while the server still has its threads. */
+    if (options.server) {
+        nanosleep(&(struct timespec){options.seconds - 1, 700000000}, 0);
+        after = read_usage(options.server);
+    }
+    double seconds = (nanoseconds_now() - start) / (double)SECOND;
+    for (int i = 0; i < options.threads; i++) {
+        pthread_join(threads[i], 0);
+        add_times(&times, &players[i].times);
+        add_times(&from_due, &players[i].from_due);
+        for (int k = 0; k < players[i].count; k++) octets += players[i].carrier[k].octets;
+    }
+    polls = times.count;
+    printf("%llu polls, %.0f a second; microseconds: mean %.1f, median %.1f, 99 %% %.1f, 99.9 %% %.1f, most %.1f; ",
+           (unsigned long long)polls, polls / (double)options.seconds, times.sum / (polls ? polls : 1) / 1e3,
+           quantile(&times, 0.5), quantile(&times, 0.99), quantile(&times, 0.999), times.most / 1e3);
+    if (!options.fast) printf("from due: 99.9 %% %.1f, most %.1f; ", quantile(&from_due, 0.999), from_due.most / 1e3);
+    printf("%.1f octets a poll\n", octets / (double)(polls ? polls : 1));
+    if (options.server) print_usage(&before, &after, seconds, polls / (double)options.seconds);
+    return 0;
+}

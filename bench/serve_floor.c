@@ -1,0 +1,218 @@
+/*
+ * What serving costs at least: servers in C that cut the frames of the link, and answer a HELLO by a WELCOME and a POLL by
+ * constant octets, over loopback. They are measured with bench/load_generator.c, beside `dmr_trunk --serve`.
+ *
+ *   serve_floor epoll|threads|mutex [-p BASE_PORT] [-n CARRIERS] [-a OCTETS] [-c CONTROL]
+ *
+ *   epoll     one thread, one epoll, one read and one write for each wake-up
+ *   threads   a thread for each connection, with blocking reads and writes
+ *   mutex     as threads, and each POLL takes one lock, as the desk of the proved controller does
+ *   -a N      each POLL is answered by N octets, 2 at least; else the control carrier's by a TX and DONE, the others' by DONE
+ *
+ * It is no controller: there is no site behind it, what a carrier says is not looked at, and it runs until it is killed.
+ */
+#define _GNU_SOURCE
+#include <arpa/inet.h>
+#include <errno.h>
+#include <netinet/in.h>
+#include <netinet/tcp.h>
+#include <pthread.h>
+#include <stdbool.h>
+#include <stdint.h>
+#include <stdio.h>
+#include <stdlib.h>
+#include <string.h>
+#include <sys/epoll.h>
+#include <sys/socket.h>
+#include <unistd.h>
+
+enum { HELLO = 1, RX, POLL, ACTIVE, BYE, WELCOME = 0x81, TX, DONE };
+enum { READ_ROOM = 4096, WRITE_ROOM = 16384, MOST_CARRIERS = 64 };
+
+typedef struct {
+    int stream, listener, carrier, version;
+    int part, type, left; /* the frame being cut: 0 its type is next, 1 its length, 2 its body; octets left of the body */
+    uint8_t hello[4];
+    int received; /* octets of the HELLO */
+} Connection;
+
+static int base_port = 7101, carriers = 16, answer_octets, control;
+static bool takes_lock;
+static uint8_t answer_of[2][31]; /* by version: a TX and DONE */
+static pthread_mutex_t lock = PTHREAD_MUTEX_INITIALIZER;
+static volatile uint64_t polls;
+
+static void die(const char *what) {
+    perror(what);
+    exit(1);
+}
+
+static int listen_on(int port) {
+    int listener = socket(AF_INET, SOCK_STREAM, 0), one = 1;
+    struct sockaddr_in address = {
+        .sin_family = AF_INET, .sin_port = htons(port), .sin_addr = {htonl(INADDR_LOOPBACK)}};
+    setsockopt(listener, SOL_SOCKET, SO_REUSEADDR, &one, sizeof one);
+    if (bind(listener, (void *)&address, sizeof address) || listen(listener, 16)) die("listen");
+    return listener;
+}
+
+static int body_length(int type, int version) {
+    switch (type) {
+    case HELLO: return 4;
+    case RX: return 25 + version;
+    case POLL:
+    case BYE: return 0;
+    case ACTIVE: return 1;
+    default: return -1;
+    }
+}
+
+/* Writes the answer of a POLL. How many octets it has. */
+static int answer_poll(const Connection *c, uint8_t *out) {
+    int count = answer_octets ? answer_octets : c->carrier == control ? 29 + c->version : 2;
+    if (takes_lock) {
+        pthread_mutex_lock(&lock);
+        polls++;
+        pthread_mutex_unlock(&lock);
+    }
+    memset(out, 0, count);
+    if (count > 2) memcpy(out, answer_of[c->version == 2], count < 31 ? count : 31);
+    out[count - 2] = DONE;
+    out[count - 1] = 0;
+    return count;
+}
+
+/* Takes a whole frame. How many octets answer it, or -1: the connection ends. */
+static int answer_frame(Connection *c, uint8_t *out) {
+    if (c->type == POLL) return answer_poll(c, out);
+    if (c->type == BYE) return -1;
+    if (c->type != HELLO) return 0;
+    c->version = c->hello[0] == 2 ? 2 : 1;
+    out[0] = WELCOME;
+    out[1] = 1;
+    out[2] = c->version;
+    return 3;
+}
+
+/* Takes octets, and writes what answers them. How many octets, or -1: the connection ends. */
+static int take(Connection *c, const uint8_t *octets, int count, uint8_t *out) {
+    int written = 0;
+    for (int i = 0; i < count;) {
+        if (c->part == 0) {
+            c->type = octets[i++];
+            if (body_length(c->type, c->version) < 0) return -1;
+            c->part = 1;
+            continue;
+        }
+        if (c->part == 1) {
+            c->left = octets[i++];
+            if (c->left != body_length(c->type, c->version)) return -1;
+            c->received = 0;
+            c->part = 2;
+        } else {
+            int some = count - i < c->left ? count - i : c->left;
+            if (c->type == HELLO) memcpy(c->hello + c->received, octets + i, some), c->received += some;
+            i += some;
+            c->left -= some;
+        }
+        if (c->left) continue;
+        c->part = 0;
+        int answered = answer_frame(c, out + written);
+        if (answered < 0) return -1;
+        written += answered;
+    }
+    return written;
+}
+
+static void begin(Connection *c, int stream) {
+    int one = 1;
+    setsockopt(stream, IPPROTO_TCP, TCP_NODELAY, &one, sizeof one);
+    c->stream = stream;
+    c->part = 0;
+    c->version = 1;
+}
+
+/* ---- a thread for each connection */
+
+static void *serve_in_thread(void *argument) {
+    Connection *c = argument;
+    uint8_t octets[READ_ROOM], out[WRITE_ROOM];
+    for (;;) {
+        int stream = accept(c->listener, 0, 0), count, written = 0;
+        if (stream < 0) continue;
+        begin(c, stream);
+        while ((count = read(stream, octets, sizeof octets)) > 0) {
+            written = take(c, octets, count, out);
+            if (written < 0 || (written && write(stream, out, written) != written)) break;
+        }
+        close(stream);
+    }
+    return 0;
+}
+
+/* ---- one thread */
+
+static void watch(int epoll, int operation, int stream, Connection *c) {
+    struct epoll_event event = {.events = EPOLLIN, .data.ptr = c};
+    epoll_ctl(epoll, operation, stream, &event);
+}
+
+static void serve_event(int epoll, Connection *c) {
+    uint8_t octets[READ_ROOM], out[WRITE_ROOM];
+    int count, written;
+    if (c->stream < 0) {
+        int stream = accept4(c->listener, 0, 0, SOCK_NONBLOCK);
+        if (stream < 0) return;
+        begin(c, stream);
+        watch(epoll, EPOLL_CTL_DEL, c->listener, c);
+        watch(epoll, EPOLL_CTL_ADD, stream, c);
+        return;
+    }
+    count = read(c->stream, octets, sizeof octets);
+    if (count < 0 && errno == EAGAIN) return;
+    written = count > 0 ? take(c, octets, count, out) : -1;
+    if (written >= 0 && (!written || write(c->stream, out, written) == written)) return;
+    close(c->stream);
+    c->stream = -1;
+    watch(epoll, EPOLL_CTL_ADD, c->listener, c);
+}
+
+static void serve_by_epoll(Connection *connections) {
+    struct epoll_event events[MOST_CARRIERS];
+    int epoll = epoll_create1(0);
+    for (int i = 0; i < carriers; i++) watch(epoll, EPOLL_CTL_ADD, connections[i].listener, &connections[i]);
+    for (;;) {
+        int count = epoll_wait(epoll, events, MOST_CARRIERS, -1);
+        for (int i = 0; i < count; i++) serve_event(epoll, events[i].data.ptr);
+    }
+}
+
+static int read_options(int argc, char **argv) {
+    int option;
+    while ((option = getopt(argc, argv, "p:n:a:c:")) != -1) switch (option) {
+        case 'p': base_port = atoi(optarg); break;
+        case 'n': carriers = atoi(optarg); break;
+        case 'a': answer_octets = atoi(optarg); break;
+        case 'c': control = atoi(optarg); break;
+        default: return -1;
+        }
+    return carriers < 1 || carriers > MOST_CARRIERS || answer_octets == 1 || answer_octets > 1000 ? -1 : 0;
+}
+
+int main(int argc, char **argv) {
+    static Connection connections[MOST_CARRIERS];
+    const char *kind = argc > 1 ? argv[1] : "";
+    pthread_t thread;
+    optind = 2;
+    if ((strcmp(kind, "epoll") && strcmp(kind, "threads") && strcmp(kind, "mutex")) || read_options(argc, argv)) return 2;
+    takes_lock = !strcmp(kind, "mutex");
+    for (int version = 1; version <= 2; version++) {
+        answer_of[version - 1][0] = TX;
+        answer_of[version - 1][1] = 25 + version;
+    }
+    for (int i = 0; i < carriers; i++)
+        connections[i] = (Connection){.stream = -1, .listener = listen_on(base_port + i), .carrier = i, .version = 1};
+    if (!strcmp(kind, "epoll")) serve_by_epoll(connections);
+    for (int i = 0; i < carriers; i++) pthread_create(&thread, 0, serve_in_thread, &connections[i]);
+    for (;;) pause();
+}

@@ -1,4 +1,4 @@
-"""Every function of the package, of its tests and of the gate's tools has type annotations; every public one of the package a docstring."""
+"""Every function of the package, of its tests, of the gate's tools and of the benches has type annotations; every public one of the package a docstring."""
 import ast
 import pathlib
 import sys
@@ -25,10 +25,10 @@ def lacks_annotation(function: Function) -> bool:
 
 
 def python_files() -> list[pathlib.Path]:
-    """The package, its tests, and the tools of the gate and of the trials that are written in Python."""
-    scripts = [path for folder in ("ci", "trials") if (TOP / folder).is_dir() for path in (TOP / folder).iterdir()
+    """The package, its tests, and the tools of the gate, of the trials and of the benches that are written in Python."""
+    scripts = [path for folder in ("ci", "trials", "bench") if (TOP / folder).is_dir() for path in (TOP / folder).iterdir()
                if path.is_file() and path.read_bytes().startswith(b"#!/usr/bin/env python3")]
-    return sorted([*(TOP / "python").rglob("*.py"), *scripts])
+    return sorted({*(TOP / "python").rglob("*.py"), *(TOP / "bench").glob("*.py"), *scripts})
 
 
 class Annotated(unittest.TestCase):

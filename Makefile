@@ -4,7 +4,7 @@
 
 PREFIX ?= /usr/local
 DESTDIR ?=
-VERSION ?= 0.1.0
+VERSION = $(shell ci/version)
 # where Debian keeps Python packages, below the prefix
 PYTHON_LIB = $(PREFIX)/lib/python3/dist-packages
 
@@ -52,8 +52,8 @@ gate: ## the prover's gate alone: every proof, the must-fail edits, the tests an
 check-programs: ## tools, documents, a soak and serving, over the programs that were built: three minutes
 	@ci/check programs
 
-wrong-bodies: ## every wrong body that must be refused, those outside the gate too: of CRATE=name, or of all
-	@ci/wrong-bodies $(CRATE)
+wrong-bodies: ## every wrong body that must be refused, those outside the gate too: of CRATE=name, of the k-th of n parts with PART=k/n, or all
+	@ci/wrong-bodies $(if $(PART),--part $(PART)) $(CRATE)
 
 bench: ## words per second beside two coders in C, all words with three flips, and events per second of sites of 1, 4 and 16 carriers
 	@date -u +%Y-%m-%d
@@ -93,8 +93,8 @@ trusted: ## lists the definitions that a reader has to believe, in docs/TRUSTED.
 maps: ## draws the maps of the crates and of a connection's states again, in docs/pictures
 	ci/draw-map
 
-build/dmr_trunk.1: docs/OPERATING.md ci/manual
-	mkdir -p build && ci/manual <docs/OPERATING.md >$@
+build/dmr_trunk.1: docs/OPERATING.md ci/manual crates/dmr_trunk/src/version.rt
+	mkdir -p build && ci/manual $(VERSION) <docs/OPERATING.md >$@
 
 package: build/dmr_trunk build/dmr_decode build/dmr_trunk.1 ## a Debian package of the proved programs, at build/dmr-trunk_VERSION_ARCH.deb
 	ci/package $(VERSION)
@@ -105,7 +105,7 @@ package-check: package ## installs the package in a clean root and serves a site
 install: build/dmr_trunk build/dmr_decode build/dmr_trunk.1 ## the programs, tools, manual page, unit, examples and documents [PREFIX=/usr/local] [DESTDIR=]
 	install -D -m 755 build/dmr_trunk $(DESTDIR)$(PREFIX)/bin/dmr_trunk
 	install -D -m 755 build/dmr_decode $(DESTDIR)$(PREFIX)/bin/dmr_decode
-	install -d $(DESTDIR)$(PREFIX)/lib/systemd/system $(DESTDIR)$(PREFIX)/share/doc/dmr_trunk/examples/scripts
+	install -d $(DESTDIR)$(PREFIX)/lib/systemd/system $(DESTDIR)$(PREFIX)/share/doc/dmr_trunk/examples/scripts $(DESTDIR)$(PREFIX)/share/doc/dmr_trunk/examples/expected
 	install -d $(DESTDIR)$(PYTHON_LIB)/temzaar/cli
 	install -m 644 python/temzaar/*.py $(DESTDIR)$(PYTHON_LIB)/temzaar
 	install -m 644 python/temzaar/cli/*.py $(DESTDIR)$(PYTHON_LIB)/temzaar/cli
@@ -115,3 +115,4 @@ install: build/dmr_trunk build/dmr_decode build/dmr_trunk.1 ## the programs, too
 	install -m 644 docs/OPERATING.md docs/SITE_FILE.md docs/FORMATS.md LICENSE-APACHE LICENSE-MIT $(DESTDIR)$(PREFIX)/share/doc/dmr_trunk
 	install -m 644 sites/*.toml $(DESTDIR)$(PREFIX)/share/doc/dmr_trunk/examples
 	install -m 644 examples/scripts/*.txt $(DESTDIR)$(PREFIX)/share/doc/dmr_trunk/examples/scripts
+	install -m 644 examples/expected/*.txt $(DESTDIR)$(PREFIX)/share/doc/dmr_trunk/examples/expected

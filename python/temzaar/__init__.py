@@ -16,5 +16,3 @@ comparison of the two means something. One module per subject, lowest first:
     trouble     the same with connections that break, stall and misbehave
     cli         the commands: siteview, timeline, capture, carriers
 """
-
-__version__ = "0.1.0"

@@ -41,11 +41,15 @@ terms_option = record (new_rule (codes "terms")) {
   parser = Some (Signed (pos 0) (pos 1000000));
 }
 
--- the program's command line: `dmr_trunk --site FILE [--script FILE] [--serve] [--terms N]`
-abbrev pub command : App
-command = with_rule (with_rule (with_rule (with_rule (new_app (codes "dmr_trunk")) site_option) script_option) serve_flag) terms_option
+-- a command line of this name, which has a version and no option yet
+abbrev pub titled : App
+titled = let app = new_app (codes "dmr_trunk") in record app { top = record app.top { has_version = true } }
 
--- the kinds of fault that a parse of the words finds; none where the words are taken. That help is asked for is one.
+-- the program's command line: `dmr_trunk --site FILE [--script FILE] [--serve] [--terms N]`, and `--help` and `--version`
+abbrev pub command : App
+command = with_rule (with_rule (with_rule (with_rule titled site_option) script_option) serve_flag) terms_option
+
+-- the kinds of fault that a parse of the words finds; none where the words are taken. That help or the version is asked for is one.
 unfoldable pub faults_in : List Text → Kinds
 faults_in words = fault_of command words
 

@@ -18,6 +18,7 @@ mod serve;
 mod serving;
 mod status;
 mod unsent;
+mod version;
 mod words;
 
 ghost use Rattle.std.specs.Prelude.{◌≡◌, IfOk, map, string_bytes};

@@ -2,6 +2,7 @@
 
 ghost use Rattle.std.specs.Prelude.{◌≡◌};
 
+use crate::version::VERSION;
 use dmr_pdu::{CarrierNo, Number, OutOfMemory};
 use log::{Log, info, warn};
 use mio::unix::SourceFd;
@@ -121,6 +122,14 @@ impl<'a, R: Log> Notes<'a, R> {
             return false;
         }
         self.events.iter().any(|event| event.is_writable())
+    }
+
+    /// The program begins to serve the site of a site file, which has so many carriers.
+    pub fn starts(&mut self, site_file: &str, carriers: usize) {
+        if self.is_ready() {
+            let noun = if carriers == 1 { "carrier" } else { "carriers" };
+            info!(*self.rt; target: TARGET, "{TARGET} {VERSION}: site file {site_file}, {carriers} {noun}");
+        }
     }
 
     /// A port is listened on.

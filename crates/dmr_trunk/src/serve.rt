@@ -107,17 +107,22 @@ fn open_stations<'a, R: Net + Log>(
     Ok(stations)
 }
 
+/// Notes to standard error.
+pub fn open_notes<R: Net + Log>(rt: &R, alloc: Global) -> Result<Notes<'_, R>, ServeFault> {
+    match Notes::new(rt, alloc) {
+        Ok(Some(notes)) => Ok(notes),
+        Ok(None) => Err(ServeFault::NoPoll),
+        Err(OutOfMemory) => Err(ServeFault::OutOfMemory),
+    }
+}
+
 /// The stations, the console and the notes that the first term begins with: ports with no connection.
 fn open_ports<'a, R: Net + Log>(
     rt: &'a R,
     alloc: Global,
     plan: &Plan,
 ) -> Result<(Vec<CarrierAt<'a, R>>, ConsoleAt<'a, R>, Notes<'a, R>), ServeFault> {
-    let notes = match Notes::new(rt, alloc) {
-        Ok(Some(notes)) => notes,
-        Ok(None) => return Err(ServeFault::NoPoll),
-        Err(OutOfMemory) => return Err(ServeFault::OutOfMemory),
-    };
+    let notes = open_notes(rt, alloc)?;
     let stations = open_stations(rt, alloc, plan)?;
     let console = ConsoleStation {
         link: ConsoleLink::new(),

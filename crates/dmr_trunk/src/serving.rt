@@ -4,7 +4,7 @@ ghost use Rattle.std.specs.Prelude.{◌≡◌, ◌⊎◌, IfOk, option_map};
 ghost use Rattle.dmr_trunk.specs.Replay.{IsPlanned, IsStatus};
 ghost use Rattle.dmr_trunk.specs.Serving.{status_of_fault};
 
-use crate::serve::{ServeFault, serve};
+use crate::serve::{ServeFault, open_notes, serve};
 use crate::status::AUDIT;
 use dmr_desk::{CloseFault, OpenFault, TermFault};
 use dmr_plan::Plan;
@@ -74,14 +74,48 @@ fn plan_in<'a>(
     plan_of(alloc, site.ok_or(ReplayFault::CannotRead(site_name))?)
 }
 
-/// Serves the site of a plan, and answers the exit status. What goes wrong is told to `err`.
-fn serve_plan<R, E>(rt: &R, alloc: Global, plan: Plan, terms: u32, err: &mut E) -> u8
+/// Notes which version of the program serves which site file. The notes of serving are others, which `serve` opens.
+fn note_start<R: Net + Log>(
+    rt: &R,
+    alloc: Global,
+    site_name: &str,
+    plan: &Plan,
+) -> Result<(), ServeFault> {
+    let mut notes = open_notes(rt, alloc)?;
+    notes.starts(site_name, plan.carrier().len());
+    Ok(())
+}
+
+/// Notes the start, and serves the site of a plan.
+fn serve_noted<R>(
+    rt: &R,
+    alloc: Global,
+    site_name: &str,
+    plan: Plan,
+    terms: u32,
+) -> Result<(), ServeFault>
+where
+    R: Net + Log + Clock + Wait + Threads + Sync,
+{
+    note_start(rt, alloc, site_name, &plan)?;
+    serve(rt, alloc, plan, terms)
+}
+
+/// Serves the site of a plan, and returns the exit status. What goes wrong is written to `err`.
+fn serve_plan<R, E>(
+    rt: &R,
+    alloc: Global,
+    site_name: &str,
+    plan: Plan,
+    terms: u32,
+    err: &mut E,
+) -> u8
 where
     R: Net + Log + Clock + Wait + Threads + Sync,
     E: Write,
     ensures status { IsStatus result }
 {
-    match serve(rt, alloc, plan, terms) {
+    match serve_noted(rt, alloc, site_name, plan, terms) {
         Ok(()) => OK,
         Err(fault) => {
             let _ = writeln!(err, "dmr_trunk: {fault}");
@@ -109,7 +143,7 @@ where
     ensures ok { result ≡ OK → IsPlanned (option_map (λ o. o.now) site.entry) }
 {
     match plan_in(alloc, site_name, site) {
-        Ok(plan) => serve_plan(rt, alloc, plan, terms, err),
+        Ok(plan) => serve_plan(rt, alloc, site_name, plan, terms, err),
         Err(fault) => {
             let _ = writeln!(err, "dmr_trunk: {fault}");
             fault.status()

@@ -2,12 +2,13 @@
 
 ghost use Rattle.std.specs.Prelude.{◌≡◌, ◌≢◌, ◌⊎◌, IfErr, IfNone, IfOk, IfSome, [], codes, false, is_some, map, pos, true};
 ghost use Rattle.clap.specs.Built.{IsParsedFrom, IsPlainArg, TakesValue};
-ghost use Rattle.clap.specs.Words.{app_of, args_of, first_value, found_of, groups_of, kind_of, new_app, one_text, rule_of};
+ghost use Rattle.clap.specs.Words.{app_of, args_of, first_value, found_of, groups_of, kind_of, one_text, rule_of};
 ghost use Rattle.clap.specs.declared.builder.command.Command.TheViews.{out-Command};
 ghost use Rattle.clap.specs.declared.parser.matches.ArgMatches.{ArgMatches};
-ghost use Rattle.dmr_trunk.specs.Words.{AreRefused, AskFor, HasRead, IsAsked, IsNotOne, command, faults_in, script_option, serve_flag, site_option, terms_option};
+ghost use Rattle.dmr_trunk.specs.Words.{AreRefused, AskFor, HasRead, IsAsked, IsNotOne, command, faults_in, script_option, serve_flag, site_option, terms_option, titled};
 
 use crate::status::{WORDS, out_of_memory, words_refused};
+use crate::version::VERSION;
 use clap::builder::ValueParser;
 use clap::error::ErrorKind;
 use clap::{Arg, ArgAction, ArgMatches, Command, Error};
@@ -27,9 +28,8 @@ pub enum Job<'a> {
 
 /// Reads the program's words, of which the first is its own name.
 ///
-/// Where they are refused (`--help` is a refusal, too) the word reader's text is written to `err`, or that either a script or
-/// `--serve` is to be given; a fault of `err` is passed over. The exit status is answered: 2, or 4 for want of memory with the
-/// text of that.
+/// If the words are refused, the word reader's text is written to `err`, or that either a script or `--serve` must be given. `--help`
+/// and `--version` are refusals, too. A fault of `err` is ignored. The error is the exit status: 2, or 4 if memory ran out.
 pub fn choose<'a, E: Write>(alloc: Global, words: &'a [&'a str], err: &mut E) -> Result<Job<'a>, u8>
     // The words are taken, and these are the values that they give the options.
     ensures job { IfOk result (AskFor (map (λ word. word.now) words.entry.now)) }
@@ -118,13 +118,14 @@ fn command<'a>(alloc: Global) -> Result<Command<'a>, OutOfMemory>
         .arg(terms_option(alloc))
 }
 
-/// A command line of this program's name, with what `--help` says of it, and no option yet.
+/// A command line of this program's name and version, with what `--help` says of it, and no option yet.
 fn titled<'a>(alloc: Global) -> Command<'a>
-    ensures app { app_of result ≡ new_app (codes "dmr_trunk") }
+    ensures app { app_of result ≡ titled }
     ensures empty { (args_of result ≡ []) × (groups_of result ≡ []) }
     ensures local { ((out-Command result).has_globals ≡ false) × ((out-Command result).subcommand_negates_reqs ≡ false) }
 {
     Command::new(alloc, "dmr_trunk")
+        .version(VERSION)
         .about(ABOUT)
         .after_help(EXAMPLES)
 }

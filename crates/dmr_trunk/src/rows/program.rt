@@ -88,7 +88,7 @@ fn words_that_are_refused(rt: HostRuntime) {
     let either = b"dmr_trunk: give either --script or --serve\n".as_slice();
     let no_site =
         b"error: the following required arguments were not provided:\n  --site <FILE>\n".as_slice();
-    let cases: [(&[&str], &[u8]); 9] = [
+    let cases: [(&[&str], &[u8]); 10] = [
         (&["dmr_trunk", "--site", "a"], either),
         (&["dmr_trunk", "--site", "a", "--terms", "1"], either),
         (
@@ -114,6 +114,7 @@ fn words_that_are_refused(rt: HostRuntime) {
             &["dmr_trunk", "--site", "a", "--help"],
             b"The site controller of a DMR Tier III trunked radio site",
         ),
+        (&["dmr_trunk", "--version"], b"dmr_trunk "),
     ];
     for (words, begins) in cases {
         let mut err = Vec::new(rt.alloc());

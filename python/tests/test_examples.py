@@ -7,7 +7,7 @@ from temzaar import code, pdus
 from temzaar.frames import DONE, FrameType, burst_frame, welcome
 from tests.support import EXAMPLES, TWO_CARRIERS, program
 
-# what examples/two_carriers.toml says
+# what sites/two_carriers.toml says
 SYSTEM, REGI, TSI = 0x1234, 0xFFFEC6, 0xFFFECA
 REASONS = {reason.name: octet for octet, reason in pdus.REASONS.items()}
 WELCOME = welcome(1)

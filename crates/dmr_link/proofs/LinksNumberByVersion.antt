@@ -1,26 +1,21 @@
 -- The number of a link's next TX is one of its connection's version, since it follows from what came and was answered.
-use Rattle.std.proofs.Common.{◌≡◌, ◌+◌, ◌%◌, ℕ, suc, List, [], ◌∷◌, ◌++◌, Bool, true, false, ◌==◌, Option, Some, None, map, length, refl, sym, ap, ◌∙◌, subst, append_assoc, arith}
-use Rattle.std.specs.Prelude.{if◌then◌else◌, option_map, flat_map}
-use Rattle.std.specs.List.{AllByRecursion}
+use Rattle.std.proofs.Common.{◌≡◌, ℕ, suc, List, [], ◌∷◌, ◌++◌, Bool, true, false, ◌==◌, Option, Some, None, map, length, refl, sym, ap, ◌∙◌, subst, append_assoc, arith}
+use Rattle.std.specs.Prelude.{if◌then◌else◌}
 use Rattle.std.proofs.lemmas.List.{append-nil}
 use Rattle.std.proofs.lemmas.List.Sums.{fold-append}
 use Rattle.std.proofs.lemmas.Bool.{eq-eqb, false≢true}
 use Rattle.dmr_frames.specs.declared.frame.FrameIn.{FrameIn}
 use Rattle.dmr_frames.specs.declared.frame.FrameOut.{FrameOut}
-use Rattle.dmr_frames.specs.declared.frame.FrameOut.TheVariants as out
 use Rattle.dmr_frames.specs.declared.cutter.Step.{Step}
 use Rattle.dmr_frames.specs.declared.cutter.Step.TheVariants.{Need, Frame, Fault}
 use Rattle.dmr_frames.specs.declared.version.Version.{Version}
-use Rattle.dmr_frames.specs.declared.version.FrameTable.{FrameTable}
 use Rattle.dmr_frames.specs.declared.version.FrameTable.TheVariants.{First, Later}
 use Rattle.dmr_frames.specs.Frames.{IsNumbered}
 use Rattle.dmr_frames.specs.Reading.{step_at, rest_after}
-use Rattle.dmr_frames.specs.Rest.{Rest, Open, Faulty}
+use Rattle.dmr_frames.specs.Rest.{Open, Faulty}
 use Rattle.dmr_frames.specs.Versions.{version_octet, version_of, chosen_by}
-use Rattle.dmr_core.specs.declared.act.Act.{Act}
 use Rattle.dmr_core.specs.declared.entry.Entry.{Entry}
 use Rattle.dmr_core.specs.declared.event.Event.{Event}
-use Rattle.dmr_core.specs.declared.event.Event.TheVariants.{Up, Lost, Heard, Noise, Active, Poll, Tick, Say}
 use Rattle.dmr_link.specs.declared.connection.CarrierIdentity.{CarrierIdentity}
 use Rattle.dmr_link.specs.declared.connection.Connection.{Connection}
 use Rattle.dmr_link.specs.declared.connection.Connection.TheVariants.{Closed, Waiting, Running}
@@ -28,17 +23,17 @@ use Rattle.dmr_link.specs.declared.desk.Deposit.{Deposit}
 use Rattle.dmr_link.specs.declared.notices.SiteNotice.{SiteNotice}
 use Rattle.dmr_link.specs.declared.notices.SiteNotice.TheVariants as site
 use Rattle.dmr_link.specs.declared.stream.Peer.{Peer}
-use Rattle.dmr_link.specs.declared.stream.Peer.TheVariants.{Carrier, Operator}
+use Rattle.dmr_link.specs.declared.stream.Peer.TheVariants.{Carrier}
 use Rattle.dmr_link.specs.declared.stream.Stream.{Stream}
 use Rattle.dmr_link.specs.declared.stream.Stream.TheVariants as stream
 use Rattle.dmr_link.specs.declared.talk.Talk.{Talk}
 use Rattle.dmr_link.specs.Meaning.{is_accepted, is_last, is_repeat, newest_after, event_of, refusal_of_first, list_of_notice, meaning_of_octets, left_by_octets}
-use Rattle.dmr_link.specs.Notices.{Notice, Happened, Accepted, Refused, Unheeded, site_notice}
+use Rattle.dmr_link.specs.Notices.{Notice, Happened, Accepted, Refused, Unheeded}
 use Rattle.dmr_link.specs.Numbering.{next_after, first_number, next_after_frames}
-use Rattle.dmr_link.specs.Peers.{entry_of_deposit, next_onward, is_going, left_from, meaning_from}
+use Rattle.dmr_link.specs.Peers.{entry_of_deposit, next_onward, left_from, meaning_from}
 use Rattle.dmr_link.specs.Session.{event_frames, is_poll_of, session_frames, welcome, events_in}
 use Rattle.dmr_link.specs.CarrierSessions.{is_open}
-use Rattle.dmr_link.specs.Sessions.{Session, How, Going, InputOver, ReadFaulty, WriteFaulty, CutAfter, IsAt, IsNumbered as IsNumberedFor, Stands, StandsFor, IsOver, IsClosed, kept_of, lost_of, notices_waiting, has_ended}
+use Rattle.dmr_link.specs.Sessions.{Session, How, Going, InputOver, ReadFaulty, WriteFaulty, CutAfter, IsAt, IsNumbered as IsNumberedFor, StandsFor, IsClosed, kept_of, lost_of, notices_waiting, has_ended}
 use Rattle.dmr_link.specs.Sound.{IsNumberingOf}
 use Rattle.dmr_link.specs.Steps.{new_connection, waiting_brings, running_brings, waiting_leaves, running_leaves, notice_of_octet, connection_after_octet, notices_of_octets, connection_after_octets}
 use Rattle.dmr_link.specs.Talks.{next_when_answered, IsLinkNumbering}

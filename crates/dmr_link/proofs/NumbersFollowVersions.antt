@@ -1,10 +1,9 @@
 -- The number of a connection's next TX stays one of its version.
-use Rattle.std.proofs.Common.{◌≡◌, ◌+◌, ◌%◌, ◌<◌, ℕ, List, [], ◌∷◌, ◌++◌, Bool, true, false, Option, Some, None, refl, sym, ap, ◌∙◌, subst, arith}
+use Rattle.std.proofs.Common.{◌≡◌, ◌+◌, ◌%◌, ℕ, List, [], ◌∷◌, ◌++◌, Bool, true, false, Option, Some, None, refl, sym, subst, arith}
 use Rattle.std.specs.Prelude.{is_some, option_map, flat_map, if◌then◌else◌}
 use Rattle.std.proofs.lemmas.List.{append-nil}
 use Rattle.dmr_plan.specs.declared.settings.Settings.{Settings}
 use Rattle.dmr_frames.specs.declared.frame.FrameIn.{FrameIn}
-use Rattle.dmr_frames.specs.declared.frame.FrameIn.TheVariants as frame
 use Rattle.dmr_frames.specs.declared.frame.FrameOut.{FrameOut}
 use Rattle.dmr_frames.specs.declared.frame.FrameOut.TheVariants as out
 use Rattle.dmr_frames.specs.declared.cutter.Step.{Step}
@@ -15,8 +14,8 @@ use Rattle.dmr_frames.specs.declared.version.FrameTable.{FrameTable}
 use Rattle.dmr_frames.specs.declared.version.FrameTable.TheVariants.{First, Later}
 use Rattle.dmr_frames.specs.Frames.{IsNumbered}
 use Rattle.dmr_frames.specs.Reading.{step_at, rest_after}
-use Rattle.dmr_frames.specs.Rest.{Rest, Open, Faulty}
-use Rattle.dmr_frames.specs.Versions.{version_octet, version_of, chosen_by}
+use Rattle.dmr_frames.specs.Rest.{Open, Faulty}
+use Rattle.dmr_frames.specs.Versions.{version_octet, chosen_by}
 use Rattle.dmr_core.specs.declared.act.Act.{Act}
 use Rattle.dmr_core.specs.declared.act.Act.TheVariants as act
 use Rattle.dmr_core.specs.declared.event.Event.{Event}
@@ -26,10 +25,10 @@ use Rattle.dmr_link.specs.declared.connection.CarrierIdentity.{CarrierIdentity}
 use Rattle.dmr_link.specs.declared.connection.Connection.{Connection}
 use Rattle.dmr_link.specs.declared.connection.Connection.TheVariants.{Closed, Waiting, Running}
 use Rattle.dmr_link.specs.Answering.{acts_for_event}
-use Rattle.dmr_link.specs.Meaning.{is_accepted, is_last, is_repeat, newest_after, event_of, first_brings, refusal_of_first, list_of_notice}
+use Rattle.dmr_link.specs.Meaning.{is_accepted, is_last, is_repeat, newest_after, event_of, refusal_of_first, list_of_notice}
 use Rattle.dmr_link.specs.Notices.{Notice, Happened, Accepted, Refused, Unheeded}
 use Rattle.dmr_link.specs.Numbering.{first_number, next_after_frames}
-use Rattle.dmr_link.specs.Room.{numbered_after, numbered_after_all}
+use Rattle.dmr_link.specs.Room.{numbered_after_all}
 use Rattle.dmr_link.specs.Session.{transmissions, event_frames, frames_said}
 use Rattle.dmr_link.specs.Sound.{IsConnectionSound, IsNumberingOf}
 use Rattle.dmr_link.specs.Steps.{waiting_brings, running_brings, waiting_leaves, running_leaves, notice_of_octet, connection_after_octet}

@@ -17,7 +17,7 @@ use Rattle.dmr_link.specs.declared.connection.Connection.TheVariants.{Closed, Wa
 use Rattle.dmr_link.specs.declared.connection.Turn.{Turn}
 use Rattle.dmr_link.specs.Meaning.{list_of_notice}
 use Rattle.dmr_link.specs.Numbering.{frame_text}
-use Rattle.dmr_link.specs.Room.{length_of_tx, most_to_poll, most_in, numbered_after_all}
+use Rattle.dmr_link.specs.Room.{length_of_tx, most_in, numbered_after_all}
 use Rattle.dmr_link.specs.Session.{transmissions}
 use Rattle.dmr_link.specs.Steps.{notice_of_octet, connection_after_octet, notices_of_octets}
 use Rattle.dmr_link.specs.Turns.{turn_at, brings_on}
@@ -84,23 +84,11 @@ module _ (next : Option ℕ) (octets : List ℕ) (f : FrameOut) (spelled : octet
   tx_length (act.Began call) is = nothing is
   tx_length (act.Ended slot) is = nothing is
 
--- ---- the TX of two slots, and DONE
+-- ---- the TX of acts
 
--- one more TX was put out
-pub few_more : (b c : Bool) → c ≡ b → (len now later i : ℕ) → later ≤ now + length_of_tx c → now ≤ len + length_of_tx b * i → later ≤ len + length_of_tx b * (i + 1)
-few_more true true same len now later i put was = omega (arith, put, was)
-few_more false false same len now later i put was = omega (arith, put, was)
-few_more true false same len now later i put was = absurd (false≢true same)
-few_more false true same len now later i put was = absurd (false≢true (sym same))
-
--- there is room for the next one
-pub room_at_turn : (b c : Bool) → c ≡ b → (len now cap left i n : ℕ) → i < n → n ≤ 2 → now ≤ len + length_of_tx b * i → len + most_to_poll b ≤ cap → left ≡ cap → now + length_of_tx c ≤ left
-room_at_turn true true same len now cap left i n at few was fits kept = omega (arith, at, few, was, fits, kept)
-room_at_turn false false same len now cap left i n at few was fits kept = omega (arith, at, few, was, fits, kept)
-room_at_turn true false same len now cap left i n at few was fits kept = absurd (false≢true same)
-room_at_turn false true same len now cap left i n at few was fits kept = absurd (false≢true (sym same))
-
--- and for DONE, of two octets, behind all of them
-pub few_all : (b : Bool) (len now i n : ℕ) → i ≤ n → n ≤ 2 → now ≤ len + length_of_tx b * i → now + 2 ≤ len + most_to_poll b
-few_all true len now i n at few was = omega (arith, at, few, was)
-few_all false len now i n at few was = omega (arith, at, few, was)
+-- one more TX is appended
+pub few_more : (b c : Bool) → c ≡ b → (now later i : ℕ) → later ≤ now + length_of_tx c → now ≤ length_of_tx b * i → later ≤ length_of_tx b * (i + 1)
+few_more true true same now later i put was = omega (arith, put, was)
+few_more false false same now later i put was = omega (arith, put, was)
+few_more true false same now later i put was = absurd (false≢true same)
+few_more false true same now later i put was = absurd (false≢true (sym same))

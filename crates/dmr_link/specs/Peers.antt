@@ -27,7 +27,7 @@ use Rattle.dmr_link.specs.Closing.{closing_of_octets, closes}
 use Rattle.dmr_link.specs.Console.{notice_of_command, meaning_of_text, console_text, fault_text, reply_text}
 use Rattle.dmr_link.specs.Meaning.{meaning_of_octets, left_by_octets, list_of_notice}
 use Rattle.dmr_link.specs.Numbering.{frames_text, next_after_frames}
-use Rattle.dmr_link.specs.Session.{event_frames, session_frames, session_text, welcome}
+use Rattle.dmr_link.specs.Session.{answer_frames, session_frames, session_text}
 use Rattle.dmr_link.specs.Steps.{new_connection, notice_of_octet, connection_after_octet}
 
 -- ---- what octets mean
@@ -71,14 +71,12 @@ text_to_peer who notices calls = text_onward who None notices calls
 
 -- what answers that of which the site learns: WELCOME, a command's reply, or what an event and its answer say to their carrier
 abbrev pub answer_text : Option ℕ → SiteNotice → Acts → List ℕ
-answer_text next (site.Accepted c version) acts = frames_text next (welcome version)
 answer_text next (site.Happened (Say command)) acts = reply_text acts.said
-answer_text next (site.Happened event) acts = frames_text next (event_frames event acts.list)
+answer_text next notice acts = frames_text next (answer_frames notice acts.list)
 
 -- the number of the next TX then
 abbrev pub next_after_answer : Option ℕ → SiteNotice → Acts → Option ℕ
-next_after_answer next (site.Accepted c version) acts = next_after_frames next (welcome version)
-next_after_answer next (site.Happened event) acts = next_after_frames next (event_frames event acts.list)
+next_after_answer next notice acts = next_after_frames next (answer_frames notice acts.list)
 
 -- what is told of a notice that the site doesn't learn of
 abbrev pub aside_text : Notice → List ℕ

@@ -1,7 +1,5 @@
 -- How much octets can put out, and how a text grows for it. Contracts of functions within name these alone: nothing above rests on them.
 use Rattle.std.specs.Prelude.{◌≡◌, ◌⊎◌, ℕ, ◌+◌, ◌*◌, ◌<◌, ◌≤◌, max, Bool, true, false, is_some, List, [], ◌∷◌, fold}
-use Rattle.dmr_frames.specs.declared.frame.FrameOut.{FrameOut}
-use Rattle.dmr_frames.specs.declared.frame.FrameOut.TheVariants as out
 use Rattle.dmr_core.specs.declared.event.Event.{Event}
 use Rattle.dmr_core.specs.declared.event.Event.TheVariants.{Poll}
 use Rattle.dmr_link.specs.Console.{ends_in}
@@ -60,9 +58,3 @@ abbrev pub MakesRoom : (length octets before after : ℕ) → Type 0
 MakesRoom length octets before after =
     ((length + octets ≤ before) × (after ≡ before))
     ⊎ ((before < length + octets) × ((after ≡ length + octets) ⊎ (after ≡ length + max length octets)))
-
--- a frame that answers a HELLO
-abbrev pub IsToHello : FrameOut → Type 0
-IsToHello (out.Welcome version) = Unit {0}
-IsToHello (out.Refused refusal) = Unit {0}
-IsToHello other = ⊥

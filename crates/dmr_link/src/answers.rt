@@ -1,14 +1,28 @@
-//! Which frames say the site's answers to a carrier, whoever puts them out.
+//! The octets that answer a carrier. The engine appends them to its outputs, a link writes them; nothing else encodes an answer.
 
-ghost use Rattle.std.specs.Prelude.{◌≡◌, [], ◌∷◌, MatchOption};
-ghost use Rattle.dmr_link.specs.Session.{transmissions, welcome};
+ghost use Rattle.std.specs.Prelude.{◌≡◌, ◌+◌, ◌*◌, ◌≤◌, ◌++◌, [], ◌∷◌, flat_map, is_some, length, MatchOption};
+ghost use Rattle.arrayvec.specs.ArrayVec.{array_vec_len};
+ghost use Rattle.dmr_link.specs.Notices.{event_of_notice, site_notice};
+ghost use Rattle.dmr_link.specs.Answering.{IsFewAt};
+ghost use Rattle.dmr_link.specs.Numbering.{frame_text, frames_text, next_after, next_after_frames};
+ghost use Rattle.dmr_link.specs.Room.{length_of_tx, most_of, most_to_poll};
+ghost use Rattle.dmr_link.specs.Session.{answer_frames, transmissions, welcome};
 
+use crate::notices::SiteNotice;
+use crate::numbering::Numbering;
+use arrayvec::ArrayVec;
 use dmr_burst::write;
-use dmr_core::Act;
+use dmr_core::{Act, Event};
 use dmr_frames::{FrameOut, Version};
 
+/// The room for an answer: a TX for each of 16 acts, and DONE, each taken for a frame of the greatest length.
+const LONGEST_ANSWER: usize = 493;
+
+/// An answer's octets.
+pub type AnswerText = ArrayVec<u8, LONGEST_ANSWER>;
+
 /// The WELCOME of a carrier whose HELLO is accepted, in the version that is spoken from then on.
-pub fn welcome_to(version: Version) -> FrameOut
+fn welcome_to(version: Version) -> FrameOut
     ensures { welcome version ≡ result ∷ [] }
 {
     FrameOut::Welcome {
@@ -16,8 +30,8 @@ pub fn welcome_to(version: Version) -> FrameOut
     }
 }
 
-/// The TX of an act that sends a PDU in a slot. Its number it gets as it goes out.
-pub fn tx_of(act: &Act) -> Option<FrameOut>
+/// The TX of an act that sends a PDU in a slot. It gets its number when it is spelled.
+fn tx_of(act: &Act) -> Option<FrameOut>
     ensures { MatchOption result (transmissions act.now ≡ []) (λ frame. transmissions act.now ≡ frame ∷ []) }
 {
     match act {
@@ -27,5 +41,73 @@ pub fn tx_of(act: &Act) -> Option<FrameOut>
             word: write(pdu),
         }),
         _ => None,
+    }
+}
+
+/// Appends a frame, a TX with its number.
+fn append_frame(answer: &mut AnswerText, numbering: &mut Numbering, frame: &FrameOut)
+    requires { array_vec_len answer.old + 29 ≤ 493 }
+    ensures items { answer.new.items ≡ answer.old.items ++ frame_text numbering.old frame.now }
+    ensures next { numbering.new ≡ next_after numbering.old frame.now }
+    ensures len { array_vec_len answer.new ≡ array_vec_len answer.old + length (frame_text numbering.old frame.now) }
+{
+    let octets = numbering.spell(frame);
+    let Ok(()) = answer.try_extend_from_slice(octets.as_slice()) else {
+        unreachable!()
+    };
+}
+
+/// Appends the TX of an act, if it sends a PDU in a slot.
+fn append_tx(answer: &mut AnswerText, numbering: &mut Numbering, act: &Act)
+    requires { array_vec_len answer.old + 29 ≤ 493 }
+    ensures items { answer.new.items ≡ answer.old.items ++ frames_text numbering.old (transmissions act.now) }
+    ensures next { numbering.new ≡ next_after_frames numbering.old (transmissions act.now) }
+    ensures few { array_vec_len answer.new ≤ array_vec_len answer.old + length_of_tx (is_some numbering.old) }
+    ensures numbered { is_some numbering.new ≡ is_some numbering.old }
+{
+    if let Some(frame) = tx_of(act) {
+        append_frame(answer, numbering, &frame);
+    }
+}
+
+/// The answer to a POLL: a TX for each act that sends a PDU, and DONE.
+fn poll_answer(numbering: &mut Numbering, acts: &[Act]) -> AnswerText
+    requires { length acts.now ≤ 16 }
+    ensures items { result.items ≡ frames_text numbering.old (flat_map transmissions acts.now ++ FrameOut.Done ∷ []) }
+    ensures next { numbering.new ≡ next_after_frames numbering.old (flat_map transmissions acts.now ++ FrameOut.Done ∷ []) }
+    ensures few { length acts.now ≤ 2 → array_vec_len result ≤ most_to_poll (is_some numbering.old) }
+{
+    let mut answer = ArrayVec::new();
+    for act in acts {
+        append_tx(&mut answer, numbering, act);
+    }
+    append_frame(&mut answer, numbering, &FrameOut::Done);
+    answer
+}
+
+/// The answer to a HELLO that is accepted: WELCOME.
+fn hello_answer(numbering: &mut Numbering, version: Version) -> AnswerText
+    ensures items { result.items ≡ frames_text numbering.old (welcome version) }
+    ensures next { numbering.new ≡ next_after_frames numbering.old (welcome version) }
+    ensures few { array_vec_len result ≤ 3 }
+{
+    let mut answer = ArrayVec::new();
+    append_frame(&mut answer, numbering, &welcome_to(version));
+    answer
+}
+
+/// The octets that answer a carrier whose notice the site has learned of, which did these acts, at most 16: WELCOME to a HELLO, a TX for
+/// each PDU that is sent and DONE to a POLL, else none.
+pub fn carrier_answer(numbering: &mut Numbering, notice: &SiteNotice, acts: &[Act]) -> AnswerText
+    requires { length acts.now ≤ 16 }
+    ensures items { result.items ≡ frames_text numbering.old (answer_frames notice.now acts.now) }
+    ensures next { numbering.new ≡ next_after_frames numbering.old (answer_frames notice.now acts.now) }
+    // It fits into the room that is made for the notice.
+    ensures few { IsFewAt (event_of_notice notice.now) acts.now → array_vec_len result ≤ most_of (is_some numbering.old) (site_notice notice.now) }
+{
+    match notice {
+        SiteNotice::Accepted(_, version) => hello_answer(numbering, *version),
+        SiteNotice::Happened(Event::Poll(_)) => poll_answer(numbering, acts),
+        SiteNotice::Happened(_) => ArrayVec::new(),
     }
 }

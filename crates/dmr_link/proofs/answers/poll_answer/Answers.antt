@@ -1,0 +1,24 @@
+use Rattle.std.proofs.Common.{◌∙◌, [], ap, refl}
+use Rattle.std.specs.Prelude.{is_some}
+use Rattle.std.specs.List.{flat_map}
+use Rattle.std.proofs.lemmas.List.{take_all}
+use Rattle.arrayvec.specs.ArrayVec.{array_vec_len}
+use Rattle.dmr_link.specs.Session.{transmissions}
+use Rattle.dmr_link.proofs.NumberingLemmas.{next_item, put_item, put_done}
+use Rattle.dmr_link.proofs.RoomLemmas.{few_more}
+use Rattle.dmr_link.proofs.answers.poll_answer.Goals as goal
+
+pub loop-act-preserved : goal.loop-act-preserved
+loop-act-preserved c = record {
+  items = put_item transmissions c.args.numbering.now c.loop-act.numbering c.args.acts.now c.loop-act.act-index c.act-item.result c.loop-act-test.true c.act-item.is c.loop-act.invariant.next
+      [] c.loop-act.answer.items c.append_tx.new.answer.items c.loop-act.invariant.items c.append_tx.ensures.items;
+  next = next_item transmissions c.args.numbering.now c.loop-act.numbering c.args.acts.now c.loop-act.act-index c.act-item.result c.loop-act-test.true c.act-item.is c.loop-act.invariant.next
+      c.append_tx.new.numbering c.append_tx.ensures.next;
+  few = few_more (is_some c.args.numbering.now) (is_some c.loop-act.numbering) c.loop-act.invariant.numbered (array_vec_len c.loop-act.answer) (array_vec_len c.append_tx.new.answer) c.loop-act.act-index c.append_tx.ensures.few c.loop-act.invariant.few;
+  numbered = c.append_tx.ensures.numbered ∙ c.loop-act.invariant.numbered;
+}
+
+pub returns-clause-items : goal.returns-clause-items
+returns-clause-items c =
+    put_done c.args.numbering.now [] c.loop-act.answer.items _ c.append_frame.new.answer.items _ (flat_map transmissions c.args.acts.now)
+    (ap (flat_map transmissions) (take_all c.loop-act.act-index c.args.acts.now c.loop-act-test.false)) c.loop-act.invariant.items refl c.append_frame.ensures.items

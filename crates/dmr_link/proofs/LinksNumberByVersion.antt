@@ -126,9 +126,9 @@ octets_led who (x ∷ octets) ns k led =
 meaning_led : (who : CarrierIdentity) (octets : List ℕ) → HasLed who (meaning_of_octets who octets false) (left_by_octets who octets)
 meaning_led who octets = rw (octets-open who octets, octets-left who octets) (octets_led who octets [] (new_connection who) (refl, refl))
 
--- ---- the number behind what was answered
+-- ---- the number after what was answered
 
--- the number behind the frames of events is one of the version of the number before them
+-- the number after the frames of events is one of the version of the number before them
 events_number : (version : Version) (carrier : ℕ) (events : List Notice) (entries : List Entry) (next : Option ℕ) → AreEvents events → IsNumbered version next →
     IsNumbered version (next_after_frames next (session_frames carrier events entries))
 events_number version carrier [] entries next are is = is

@@ -35,7 +35,7 @@ use Rattle.dmr_link.specs.Steps.{waiting_brings, running_brings, waiting_leaves,
 
 -- ---- what each number keeps, the next TX's number keeps over the answer to an event
 
--- the number behind one more TX
+-- the number after one more TX
 abbrev counted : Option ℕ → Option ℕ
 counted next = option_map (λ n. (n + 1) % 256) next
 
@@ -72,7 +72,7 @@ counted_stays : (b : Bool) (next : Option ℕ) → is_some next ≡ b → is_som
 counted_stays b None is = is
 counted_stays b (Some n) is = is
 
--- a TX is numbered after what octets brought just where it is by the version of their HELLO
+-- a TX is numbered after what octets brought exactly if the version of their HELLO numbers it
 pub numbered_said : (plan : Settings) (facts : Facts) (next : Option ℕ) (brought : Option Notice) →
     is_some (next_after_frames next (frames_said plan facts (list_of_notice brought))) ≡ numbered_after_all (is_some next) (list_of_notice brought)
 numbered_said plan facts next None = refl
@@ -94,7 +94,7 @@ counted_numbered V1 (Some n) is = absurd is
 counted_numbered V2 None is = absurd is
 counted_numbered V2 (Some n) is = omega arith
 
--- the number behind the answer to an event is one of the same version
+-- the number after the answer to an event is one of the same version
 pub event_frames_number : (version : Version) (event : Event) (acts : List Act) (next : Option ℕ) → IsNumbered version next → IsNumbered version (next_after_frames next (event_frames event acts))
 event_frames_number version (Poll c) acts next is = acts_keep (IsNumbered version) (counted_numbered version) acts next is
 event_frames_number version (Up c) acts next is = is
@@ -106,7 +106,7 @@ event_frames_number version Tick acts next is = is
 event_frames_number version (Say command) acts next is = is
 
 module _ (who : CarrierIdentity) (plan : Settings) (facts : Facts) (next : Option ℕ) where
-  -- the number behind what a step brings
+  -- the number after what a step brings
   abbrev next_by : Option Notice → Option ℕ
   next_by brought = next_after_frames next (frames_said plan facts (list_of_notice brought))
 

@@ -52,8 +52,8 @@ most_in numbered (notice ∷ notices) = most_of numbered notice + most_in (numbe
 abbrev pub most_to_lines : List ℕ → ℕ
 most_to_lines octets = 1024 * ends_in octets
 
--- A TEXT of this length MAKES ROOM for so many octets more. If it has room for them, its capacity stays. If not, it grows by that number, or,
--- to grow less often, by its own length if that is more
+-- a text of this length makes room for these octets: their number, and the text's capacity before and after. If the text has room for them,
+-- its capacity stays. If not, the text grows by their number, or, to grow less often, by its own length if that is more
 abbrev pub MakesRoom : (length octets before after : ℕ) → Type 0
 MakesRoom length octets before after =
     ((length + octets ≤ before) × (after ≡ before))

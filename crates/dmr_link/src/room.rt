@@ -68,9 +68,9 @@ pub fn room_for(
     room
 }
 
-/// Makes room behind a text's octets for `octets` more. A text that grows does so by its own length if that is more, so that a text
-/// that is put together from many pieces is not copied at each of them; if the system refuses so much, by what is needed. `Err`: it
-/// refused that too, and the text is as it was.
+/// Makes room for `octets` more octets at the end of a text. A text that grows does so by its own length if that is more: a text that
+/// is made of many pieces is then not copied for each of them. If the system refuses that much room, the text grows by `octets`. `Err`:
+/// the system refused that too, and the text is unchanged.
 pub fn make_room(text: &mut Vec<u8>, octets: usize) -> Result<(), OutOfMemory>
     ensures items { text.new.items ≡ text.old.items }
     ensures length { vec_len text.new ≡ vec_len text.old }

@@ -7,6 +7,7 @@ use Rattle.dmr_link.specs.declared.ended.Ended.TheVariants as ended
 use Rattle.dmr_link.specs.declared.stream.Peer.{Peer}
 use Rattle.dmr_link.specs.declared.talk.Talk.{Talk}
 use Rattle.dmr_link.specs.Happenings.{Happening, Answered, Handed, answers_in, deposits_in, passages_in, Outside, stage_after_all, stage_at, passages_of, EndsInBlock}
+use Rattle.dmr_link.specs.Limits.{most_reads}
 use Rattle.dmr_link.specs.Passages.{Passage}
 use Rattle.dmr_link.specs.Recorded.{sessions_after_silence}
 use Rattle.dmr_link.specs.Sessions.{Session, new_session, with_calls, hearing_at, hearing_after_answers, reads_in, AreOfWire, IsQuiet, IsOver, StandsFor, sessions_after, KeepsTurns, Sides, sides, Happens}
@@ -117,7 +118,7 @@ IsWait answer deposits = ⊥
 abbrev pub Rests : List Session → Type 0
 Rests past = (link : Talk) × IsOver link × StandsFor link past
 
--- a call of `serve` may begin at the start, at an opening, after an Again, and after the 64 reads of the call before
+-- a call of `serve` may begin at the start, at an opening, after an Again, and after the `most_reads` reads of the call before
 abbrev pub MayBeginServe : List Doing → Type 0
 MayBeginServe [] = Unit {0}
 MayBeginServe (Asked Opened ∷ earlier) = Unit {0}
@@ -133,14 +134,14 @@ MayWait other = ⊥
 -- why a call of `serve` ends, in the words of the port's answers
 abbrev pub StopsAt : Ended → List Answer → Type 0
 StopsAt ended.Idle answers = EndsInBlock answers
-StopsAt ended.Paused answers = reads_in answers ≡ 64
+StopsAt ended.Paused answers = reads_in answers ≡ most_reads
 StopsAt stop answers = Unit {0}
 
--- a call of `serve` on these connections of a peer: it reads and writes alone, and reads at most 64 times; the gate is passed for each
+-- a call of `serve` on these connections of a peer: it reads and writes alone, and reads at most `most_reads` times; the gate is passed for each
 -- event, and an event's answer is written behind it; and connections are read and written in their turn
 pub record IsCall (who : Peer) (past : List Session) (happened : List Happening) (stop : Ended) : Type 0 where
   pub wire : AreOfWire (answers_in happened)
-  pub few : reads_in (answers_in happened) ≤ 64
+  pub few : reads_in (answers_in happened) ≤ most_reads
   pub order : stage_after_all Outside happened ≡ stage_at stop
   pub passages : passages_in happened ≡ passages_of (deposits_in happened) stop
   pub turns : (s : Session) (ss : List Session) → past ≡ s ∷ ss → KeepsTurns who (hearing_at s 0) happened

@@ -1,6 +1,7 @@
 -- The sessions that an engine keeps, by carrier number; its contracts see their connections and the numbers of their next TX. The engine's type and functions within name
 -- these alone: nothing above rests on them.
 use Rattle.std.specs.Prelude.{◌≡◌, ◌<◌, ℕ, List, Option, Some, None, length, map, replicate, slice_index_or}
+use Rattle.dmr_pdu.specs.Slots.{carriers_of_site}
 use Rattle.dmr_plan.specs.declared.settings.Settings.{Settings}
 use Rattle.dmr_link.specs.declared.connection.CarrierIdentity.{CarrierIdentity}
 use Rattle.dmr_link.specs.declared.connection.Connection.{Connection}
@@ -45,11 +46,11 @@ IsDialogueSound d = IsConnectionSound d.session.who.greatest d.session.connectio
 
 -- a carrier of the plan has one, which is for it, and is sound
 pub record AreDialogues (plan : Settings) (dialogues : List (Option Dialogue)) : Type 0 where
-  pub sixteen : length dialogues ≡ 16
-  pub own : (carrier : ℕ) → carrier < 16 → carrier_in (slice_index_or dialogues carrier None) ≡ who_of plan carrier
+  pub sixteen : length dialogues ≡ carriers_of_site
+  pub own : (carrier : ℕ) → carrier < carriers_of_site → carrier_in (slice_index_or dialogues carrier None) ≡ who_of plan carrier
   pub sound : (carrier : ℕ) → IsConnectionSound (greatest_of plan) (connection_in (slice_index_or dialogues carrier None))
   pub numbered : (carrier : ℕ) → IsNumberingOf (connection_in (slice_index_or dialogues carrier None)) (next_in (slice_index_or dialogues carrier None))
 
 -- none of them has a connection, nor a number
 abbrev pub AreUnconnected : List (Option Dialogue) → Type 0
-AreUnconnected dialogues = (map connection_in dialogues ≡ replicate 16 Closed) × (map next_in dialogues ≡ replicate 16 None)
+AreUnconnected dialogues = (map connection_in dialogues ≡ replicate carriers_of_site Closed) × (map next_in dialogues ≡ replicate carriers_of_site None)

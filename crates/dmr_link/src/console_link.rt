@@ -80,9 +80,9 @@ impl ConsoleLink {
 
     /// Hands in what waits, makes commands of the lines that are read, hands them in and writes their replies, until it has to
     /// stop; `Ended` says why, and what is left. It is never BadFrame or GateShut. A line that is no command, or too long, is
-    /// answered by what is wrong with it, and the connection goes on. A call makes at most 64 reads, of at most 64 octets each; a
-    /// read or write that was interrupted is tried again, 16 times in a row. On a connection that was cut nothing is read or
-    /// written.
+    /// answered by what is wrong with it, and the connection goes on. A call makes at most
+    /// [`MOST_READS`](crate::MOST_READS) reads, of at most 64 octets each; a read or write that was interrupted is tried again,
+    /// [`MOST_INTERRUPTIONS`](crate::MOST_INTERRUPTIONS) times in a row. On a connection that was cut nothing is read or written.
     pub fn serve<W: Wire, D: Desk>(&mut self, port: &mut W, desk: &mut D) -> Ended
         ensures actor { D.actor desk.new ≡ D.actor desk.old }
         ensures serves { Serves self.old self.new (sides (W.told port.old) (D.calls desk.old) None) (sides (W.told port.new) (D.calls desk.new) None) result }

@@ -7,6 +7,7 @@ ghost use Rattle.dmr_link.specs.Notices.{aside_notice};
 ghost use Rattle.dmr_link.specs.Peers.{answer_text, aside_text, next_after_answer};
 
 use crate::answers::carrier_answer;
+use crate::limits::MOST_INTERRUPTIONS;
 use crate::notices::{Aside, LineFault, SiteNotice};
 use crate::numbering::Numbering;
 use dmr_console::{line_too_long, print, unknown_command};
@@ -14,11 +15,8 @@ use dmr_core::{Acts, Event, Reply};
 use dmr_frames::{FrameOut, write_frame};
 use dmr_wire::{Put, Wire};
 
-/// How many interruptions in a row are passed over; one more is a fault.
-pub const PATIENCE: usize = 16;
-
 /// Writes octets, write by write, and says whether all were taken. It stops at a write that takes none, would block or fails, and
-/// at the 17th in a row that is interrupted; what was taken until then is not written again.
+/// at one that is interrupted after [`MOST_INTERRUPTIONS`] others in a row; what was taken until then is not written again.
 fn send<W: Wire>(port: &mut W, octets: &[u8]) -> bool
     ensures { Puts (W.told port.old) octets.now result (W.told port.new) }
 {
@@ -34,7 +32,7 @@ fn send<W: Wire>(port: &mut W, octets: &[u8]) -> bool
                 row = 0;
             }
             Put::Interrupted => {
-                if row == PATIENCE {
+                if row == MOST_INTERRUPTIONS {
                     return false;
                 }
                 row += 1;

@@ -20,7 +20,7 @@ impl CarrierReader {
     /// A connection on which nothing came yet.
     pub fn new() -> CarrierReader {
         CarrierReader {
-            cutter: Cutter::new(Version::V2),
+            cutter: Cutter::new(Version::NEWEST),
             came: 0,
             begins: 0,
             faulty: false,

@@ -5,7 +5,7 @@ ghost use Rattle.dmr_frames.specs.Frames.{spelling_out};
 
 use crate::words_of_bursts::show_word;
 use dmr_bits::Word196;
-use dmr_frames::{FrameOut, Refusal, write_frame};
+use dmr_frames::{FrameKind, FrameOut, Refusal, Version, write_frame};
 use dmr_pdu::SlotNo;
 use std::alloc::Global;
 use std::io;
@@ -70,26 +70,56 @@ fn front_of<'a>(octets: &'a [u8]) -> Option<Front<'a>>
     Some(Front { frame, rest })
 }
 
-/// The TX of a burst whose word is the first 25 of these octets, which follow its slot.
-fn burst_at(number: Option<u8>, slot: u8, body: &[u8]) -> Option<FrameOut> {
+/// Returns the TX of a slot and the 25 octets of a word, which follow its number.
+fn burst_of(number: Option<u8>, burst: &[u8]) -> Option<FrameOut> {
+    let [slot, octets @ ..] = burst else {
+        return None;
+    };
     let mut word = [0; 25];
-    word.copy_from_slice(body.get(..25)?);
+    word.copy_from_slice(octets.get(..25)?);
     Some(FrameOut::Tx {
         number,
-        slot: SlotNo::try_new(u32::from(slot))?,
+        slot: SlotNo::try_new(u32::from(*slot))?,
         word: Word196::from_octets(&word).ok()?,
     })
 }
 
-/// The frame that octets may begin with, by its type and body, and a TX by its length too: a longer one has a number.
+/// Returns the TX that these octets may begin with behind its length octet, in the version that has this length.
+fn transmission_of(length: u8, body: &[u8]) -> Option<FrameOut> {
+    for version in Version::ALL {
+        if length != FrameKind::Tx.body_length(version) {
+            continue;
+        }
+        return match body {
+            [number, burst @ ..] if version.has_numbers() => burst_of(Some(*number), burst),
+            burst => burst_of(None, burst),
+        };
+    }
+    None
+}
+
+/// Returns the refusal that has this octet.
+fn refusal_of(octet: u8) -> Option<Refusal> {
+    for refusal in [Refusal::BadVersion, Refusal::WrongCarrier] {
+        if octet == refusal.octet() {
+            return Some(refusal);
+        }
+    }
+    None
+}
+
+/// Returns the frame that octets may begin with, by its type and body, and a TX by its length too.
 fn frame_at(octets: &[u8]) -> Option<FrameOut> {
-    match octets {
-        [0x81, _, version, ..] => Some(FrameOut::Welcome { version: *version }),
-        [0x82, 26, slot, body @ ..] => burst_at(None, *slot, body),
-        [0x82, 27, number, slot, body @ ..] => burst_at(Some(*number), *slot, body),
-        [0x83, ..] => Some(FrameOut::Done),
-        [0x84, _, 1, ..] => Some(FrameOut::Refused(Refusal::BadVersion)),
-        [0x84, _, 2, ..] => Some(FrameOut::Refused(Refusal::WrongCarrier)),
+    let [octet, length, body @ ..] = octets else {
+        return None;
+    };
+    match FrameKind::to_carrier(Version::NEWEST, *octet)? {
+        FrameKind::Welcome => Some(FrameOut::Welcome {
+            version: *body.first()?,
+        }),
+        FrameKind::Tx => transmission_of(*length, body),
+        FrameKind::Done => Some(FrameOut::Done),
+        FrameKind::Refused => Some(FrameOut::Refused(refusal_of(*body.first()?)?)),
         _ => None,
     }
 }

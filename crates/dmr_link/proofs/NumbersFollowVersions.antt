@@ -15,7 +15,7 @@ use Rattle.dmr_frames.specs.declared.version.FrameTable.TheVariants.{First, Late
 use Rattle.dmr_frames.specs.Frames.{IsNumbered}
 use Rattle.dmr_frames.specs.Reading.{step_at, rest_after}
 use Rattle.dmr_frames.specs.Rest.{Open, Faulty}
-use Rattle.dmr_frames.specs.Versions.{version_octet, chosen_by}
+use Rattle.dmr_frames.specs.Versions.{has_numbers, version_octet, chosen_by}
 use Rattle.dmr_core.specs.declared.act.Act.{Act}
 use Rattle.dmr_core.specs.declared.act.Act.TheVariants as act
 use Rattle.dmr_core.specs.declared.event.Event.{Event}
@@ -82,6 +82,11 @@ numbered_said plan facts next (Some (Refused c refusal)) = refl
 numbered_said plan facts next (Some (Unheeded fault)) = refl
 
 -- ---- the number of a version
+
+-- a version that numbers bursts begins with a number, and no other does
+pub numbers_by_version : (version : Version) → has_numbers version ≡ is_some (first_number (version_octet version))
+numbers_by_version V1 = refl
+numbers_by_version V2 = refl
 
 -- a WELCOME begins the numbers of its version
 pub begins_numbered : (version : Version) → IsNumbered version (first_number (version_octet version))

@@ -12,11 +12,7 @@ use dmr_plan::Plan;
 pub fn greatest_version(plan: &Plan) -> Version
     ensures { result ≡ greatest_of plan.now }
 {
-    if plan.link_version() == 2 {
-        Version::V2
-    } else {
-        Version::V1
-    }
+    Version::named_or_first(plan.link_version())
 }
 
 /// The plan's carrier of a number, if it has one.

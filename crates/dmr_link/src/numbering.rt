@@ -27,7 +27,7 @@ impl Model for Numbering {
 fn first_of(version: u8) -> Option<u8>
     ensures { result ≡ first_number version }
 {
-    if version == Version::V2.octet() {
+    if Version::named_or_first(version).has_numbers() {
         Some(0)
     } else {
         None

@@ -8,7 +8,7 @@ ghost use Rattle.dmr_link.specs.Steps.{notices_of_octets};
 ghost use Rattle.dmr_link.specs.Turns.{brings_on};
 
 use crate::connection::{CarrierIdentity, Connection, Turn, accepts};
-use dmr_frames::{FrameIn, Step, Version};
+use dmr_frames::{FrameIn, Step};
 use dmr_pdu::OutOfMemory;
 
 /// The octets of WELCOME, and of REFUSED, which answer a HELLO: type, length, and a version or a refusal.
@@ -33,15 +33,13 @@ fn most(turn: &Turn, who: &CarrierIdentity, numbered: bool) -> usize
 }
 
 /// Returns whether TX are numbered from then on: the version of a HELLO that is accepted says so.
+#[tactic(auto, using(crate::proofs::NumbersFollowVersions::numbers_by_version))]
 fn is_numbered_after(turn: &Turn, who: &CarrierIdentity, numbered: bool) -> bool
     ensures { result ≡ numbered_after_all numbered (list_of_notice (brings_on who.now turn.now)) }
 {
     match turn {
         Turn::Waiting(Step::Frame(frame)) if accepts(who, frame) => {
-            match who.greatest.chosen_by(frame) {
-                Version::V1 => false,
-                Version::V2 => true,
-            }
+            who.greatest.chosen_by(frame).has_numbers()
         }
         _ => numbered,
     }

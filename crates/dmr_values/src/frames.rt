@@ -2,7 +2,8 @@
 
 use dmr_bits::Word196;
 use dmr_frames::{
-    Cause, Cutter, FrameIn, FrameOut, Refusal, Step, Version, whole_frame, write_frame,
+    Cause, Cutter, Field, FrameIn, FrameKind, FrameOut, Refusal, Step, Version, whole_frame,
+    write_frame,
 };
 use dmr_pdu::SlotNo;
 use std::process::Abort;
@@ -405,4 +406,102 @@ fn bursts_printed(rt: HostRuntime) -> Result<(), Fail> {
         assert_eq!(rt; text.as_str(), want);
     }
     Ok(())
+}
+
+/// A frame of the table: its type octet, its name, and the lengths of its body in versions 1 and 2.
+type Listed = (FrameKind, u8, &'static str, u8, u8);
+
+const FROM_CARRIERS: [Listed; 5] = [
+    (FrameKind::Hello, 0x01, "HELLO", 4, 4),
+    (FrameKind::Rx, 0x02, "RX", 26, 27),
+    (FrameKind::Poll, 0x03, "POLL", 0, 0),
+    (FrameKind::Active, 0x04, "ACTIVE", 1, 1),
+    (FrameKind::Bye, 0x05, "BYE", 0, 0),
+];
+
+const TO_CARRIERS: [Listed; 4] = [
+    (FrameKind::Welcome, 0x81, "WELCOME", 1, 1),
+    (FrameKind::Tx, 0x82, "TX", 26, 27),
+    (FrameKind::Done, 0x83, "DONE", 0, 0),
+    (FrameKind::Refused, 0x84, "REFUSED", 1, 1),
+];
+
+/// Asserts what the table says of a frame.
+fn expect_row(rt: &impl Abort, listed: Listed) {
+    let (kind, octet, name, first, second) = listed;
+    assert_eq!(rt; kind.row().octet, octet);
+    assert_eq!(rt; kind.name(), name);
+    assert_eq!(rt; kind.row().since, Version::V1);
+    assert_eq!(rt; kind.body_length(Version::V1), first, "{name}");
+    assert_eq!(rt; kind.body_length(Version::V2), second, "{name}");
+}
+
+#[test]
+fn the_table_of_frames(rt: HostRuntime) {
+    for listed in FROM_CARRIERS {
+        expect_row(&rt, listed);
+        for version in Version::ALL {
+            assert_eq!(rt; FrameKind::from_carrier(version, listed.1), Some(listed.0));
+            assert_eq!(rt; FrameKind::to_carrier(version, listed.1), None);
+        }
+    }
+    for listed in TO_CARRIERS {
+        expect_row(&rt, listed);
+        for version in Version::ALL {
+            assert_eq!(rt; FrameKind::to_carrier(version, listed.1), Some(listed.0));
+            assert_eq!(rt; FrameKind::from_carrier(version, listed.1), None);
+        }
+    }
+    for octet in [0x00, 0x06, 0x80, 0x85, 0xFF] {
+        assert_eq!(rt; FrameKind::from_carrier(Version::NEWEST, octet), None);
+        assert_eq!(rt; FrameKind::to_carrier(Version::NEWEST, octet), None);
+    }
+}
+
+#[test]
+fn faults_of_fields(rt: HostRuntime) {
+    // The slot stands behind the number in version 2; the last octet of the word is the last of the body.
+    let rx = FrameKind::Rx;
+    assert_eq!(rt; rx.fault_at(Version::V1, 0, 2), Some(Cause::BadSlot));
+    assert_eq!(rt; rx.fault_at(Version::V2, 0, 2), None);
+    assert_eq!(rt; rx.fault_at(Version::V2, 1, 2), Some(Cause::BadSlot));
+    assert_eq!(rt; rx.fault_at(Version::V1, 25, 0x01), Some(Cause::BadPad));
+    assert_eq!(rt; rx.fault_at(Version::V2, 25, 0x01), None);
+    assert_eq!(rt; rx.fault_at(Version::V2, 26, 0x01), Some(Cause::BadPad));
+    assert_eq!(rt; rx.fault_at(Version::V2, 26, 0x10), None);
+    assert_eq!(rt; Field::Number.length(Version::V1), 0);
+    assert_eq!(rt; Field::Number.length(Version::V2), 1);
+    assert_eq!(rt; Field::Word.length(Version::V1), 25);
+    assert_eq!(rt; Field::Slot.fault_at(0, 1), None);
+    assert_eq!(rt; Field::Slot.fault_at(0, 2), Some(Cause::BadSlot));
+}
+
+#[test]
+fn versions(rt: HostRuntime) {
+    assert!(rt; !Version::V1.has_numbers());
+    assert!(rt; Version::V2.has_numbers());
+    assert!(rt; Version::V2.is_since(Version::V1));
+    assert!(rt; !Version::V1.is_since(Version::V2));
+    assert_eq!(rt; Version::by_number(None), Version::V1);
+    assert_eq!(rt; Version::by_number(Some(7)), Version::V2);
+    for (octet, want) in [
+        (0, Version::V1),
+        (1, Version::V1),
+        (2, Version::V2),
+        (3, Version::V1),
+    ] {
+        assert_eq!(rt; Version::named_or_first(octet), want);
+    }
+    assert_eq!(rt; Refusal::BadVersion.octet(), 1);
+    assert_eq!(rt; Refusal::WrongCarrier.octet(), 2);
+}
+
+#[test]
+fn frames_of_the_table(rt: HostRuntime) {
+    let slot = SlotNo::new(1);
+    assert_eq!(rt; FrameIn::Active { slot }.kind(), FrameKind::Active);
+    assert_eq!(rt;
+        FrameOut::Refused(Refusal::BadVersion).kind(),
+        FrameKind::Refused
+    );
 }

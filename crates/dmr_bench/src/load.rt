@@ -12,6 +12,14 @@ use std::alloc::Global;
 /// The address that radios register at.
 const REGI: u32 = 0xFF_FEC6;
 
+/// The service options and kind of a registration request: of a radio that joins, and of one that leaves.
+const JOINING: u16 = 0x020E;
+
+const LEAVING: u16 = 0x000E;
+
+/// The step from one radio to the next. A prime, so that a load comes to each radio.
+const STRIDE: u32 = 7_919;
+
 /// How many talkgroups there are.
 const GROUPS: u32 = 16;
 
@@ -32,6 +40,7 @@ const SITE: &str = "\
 system = 0x0A51
 regi = 0xFFFEC6
 tsi = 0xFFFECA
+leave_bit = 0
 hang = 50
 maximum = 100
 ahoy_wait = 8
@@ -48,26 +57,47 @@ groups = [1, 2, 3, 4, 5, 6, 7, 8, 9, 10, 11, 12, 13, 14, 15, 16]
 control = 0
 ";
 
-/// The loads.
+/// The loads, in the order in which they are printed.
+pub const LOADS: [Load; 5] = [
+    Load::Polls,
+    Load::Registrations,
+    Load::Joins,
+    Load::Calls,
+    Load::BusyHour,
+];
+
+/// What comes to a site.
 #[derive(Clone, Copy)]
 pub enum Load {
     /// Each carrier polls in each frame, and nothing else happens.
     Polls,
     /// A radio that is registered registers in each frame, and the control carrier polls.
     Registrations,
+    /// In each frame a registered radio leaves, or the radio that left registers again, in turn; and the control carrier polls.
+    Joins,
+    /// In each frame the control slot receives a burst, and the control carrier polls twice: a talkgroup request, the same again, the
+    /// radio's leaving, which ends its call, and its registration, in turn.
+    Calls,
     /// In each frame a tick passes, and each carrier hears a burst on each of its slots and polls: voice on all slots but the control
     /// slot, and there, in turn, a registration, a talkgroup request, an individual request, and the called radio's answer.
     BusyHour,
 }
 
 impl Load {
-    /// What it is called.
+    /// The name of the load, on the command line and in tables.
     pub fn name(self) -> &'static str {
         match self {
-            Load::Polls => "idle polls",
+            Load::Polls => "polls",
             Load::Registrations => "registrations",
-            Load::BusyHour => "busy hour",
+            Load::Joins => "joins",
+            Load::Calls => "calls",
+            Load::BusyHour => "busy",
         }
+    }
+
+    /// The load of a name.
+    pub fn named(name: &str) -> Option<Load> {
+        LOADS.into_iter().find(|load| load.name() == name)
     }
 }
 
@@ -94,20 +124,34 @@ fn heard(octets: &Octets10) -> Heard {
 
 /// A radio's registration.
 fn registration(radio: u32) -> Heard {
-    heard(&octets_of(0x9F, 0x020E, REGI, radio))
+    heard(&octets_of(0x9F, JOINING, REGI, radio))
+}
+
+/// A radio's request for a call of a talkgroup.
+fn group_request(group: u32, radio: u32) -> Heard {
+    heard(&octets_of(0x9F, 1, 1 + group % GROUPS, radio))
+}
+
+/// The radio whose turn it is, 1 to `radios`.
+fn radio_in_turn(turn: u32, radios: u32) -> u32 {
+    1 + turn.wrapping_mul(STRIDE) % radios.max(1)
 }
 
 /// The burst that the control slot hears in a frame, of so many radios.
 fn burst_of(load: Load, frame: u32, radios: u32) -> Heard {
-    let radios = radios.max(1);
-    let radio = 1 + (frame / 4).wrapping_mul(7_919) % radios;
-    let called = 1 + radio % radios;
+    let turn = frame / 4;
+    let radio = radio_in_turn(turn, radios);
+    let called = 1 + radio % radios.max(1);
+    let leaver = radio_in_turn(frame / 2, radios);
     match (load, frame % 4) {
-        (Load::BusyHour, 1) => heard(&octets_of(0x9F, 1, 1 + frame / 4 % GROUPS, radio)),
+        (Load::BusyHour, 1) | (Load::Calls, 0 | 1) => group_request(turn, radio),
         (Load::BusyHour, 2) => heard(&octets_of(0x9F, 0, called, radio)),
         (Load::BusyHour, 3) => heard(&octets_of(0xA1, 0x88, radio, called)),
-        (Load::BusyHour, _) => registration(radio),
-        _ => registration(1 + frame.wrapping_mul(7_919) % radios),
+        (Load::Calls, 2) => heard(&octets_of(0x9F, LEAVING, REGI, radio)),
+        (Load::BusyHour | Load::Calls, _) => registration(radio),
+        (Load::Joins, 0 | 2) => heard(&octets_of(0x9F, LEAVING, REGI, leaver)),
+        (Load::Joins, _) => registration(leaver),
+        _ => registration(radio_in_turn(frame, radios)),
     }
 }
 
@@ -134,6 +178,15 @@ fn plan_of(alloc: Global, carriers: u32) -> Result<Option<Plan>, OutOfMemory> {
     Ok(Plan::read(alloc, text.as_str()).ok())
 }
 
+/// The sum of octets.
+fn sum_of(octets: &[u8]) -> u64 {
+    let mut sum: u64 = 0;
+    for octet in octets {
+        sum = sum.wrapping_add(u64::from(*octet));
+    }
+    sum
+}
+
 /// A site at work, and counts of what came to it and what was put out.
 #[derive(Drop)]
 pub struct Scene {
@@ -145,6 +198,8 @@ pub struct Scene {
     pub events: u64,
     /// How many octets were put out for carriers.
     pub octets: u64,
+    /// The sum of these octets.
+    pub sum: u64,
 }
 
 impl Scene {
@@ -160,6 +215,7 @@ impl Scene {
             carriers: carriers.min(16),
             events: 0,
             octets: 0,
+            sum: 0,
         };
         for number in 0..scene.carriers {
             let [.., carrier] = number.to_be_bytes();
@@ -177,11 +233,12 @@ impl Scene {
         Ok(Some(scene))
     }
 
-    /// Counts what was put out, and drops it.
+    /// Counts and sums up what was put out, and drops it.
     fn begin(&mut self) -> Result<(), OutOfMemory> {
         for number in 0..16u32 {
-            let put_out = self.outputs.carrier(CarrierNo::new(number)).len();
-            self.octets = self.octets.wrapping_add(put_out as u64);
+            let put_out = self.outputs.carrier(CarrierNo::new(number));
+            self.octets = self.octets.wrapping_add(put_out.len() as u64);
+            self.sum = self.sum.wrapping_add(sum_of(put_out));
         }
         self.outputs = Outputs::new(self.alloc);
         Ok(())
@@ -226,8 +283,13 @@ impl Scene {
                 }
                 Ok(())
             }
-            Load::Registrations => {
+            Load::Registrations | Load::Joins => {
                 self.take(0, burst)?;
+                self.take(0, POLL)
+            }
+            Load::Calls => {
+                self.take(0, burst)?;
+                self.take(0, POLL)?;
                 self.take(0, POLL)
             }
             Load::BusyHour => {

@@ -1,18 +1,27 @@
 //! How quick the code and the site are.
 //!
 //! With no argument it decodes a few words of each kind, and reads the registration burst with each three of its 196 places turned
-//! over, which shows that it decodes what it should. With `--flips` it does the latter alone, and prints in what time. With `--time`
-//! it takes many words, and prints lines "what rate count sum": the rate in words a second, how many were decoded, encoded or
-//! checked, and a sum of what came out. With `--site` it plays loads of whole sites to the engine of `dmr_link`, and prints how long
-//! an event takes.
+//! over, which shows that it decodes what it should. With words it prints figures:
+//!
+//! | words | what is printed |
+//! |---|---|
+//! | `--flips` | how many of all three flips of that burst are read as the registration, and in what time |
+//! | `--time` | lines "what rate count sum" of many words of each kind: words a second, how many were decoded, encoded or checked, and a sum of what came out |
+//! | `--words KIND COUNT` | such a line of COUNT words that are `clean`, with three `flips`, or `random`; with `encode`, those of encoding and of the check |
+//! | `--site` | how long an event takes of each load of a site, on sites of 1, 4 and 16 carriers with 1, 256 and 4,096 radios |
+//! | `--load LOAD CARRIERS RADIOS FRAMES` | a line "rate octets sum events" of one load, played once: `polls`, `registrations`, `joins`, `calls` or `busy` |
 #![tactic(auto)]
 
 mod load;
 mod timing;
 mod words;
 
-use crate::timing::time_loads;
-use crate::words::{Kind, show, show_all_flips, show_flips, time_decoding, time_encoding};
+use crate::load::Load;
+use crate::timing::{Size, time_load, time_loads};
+use crate::words::{
+    KINDS, Kind, MANY, show, show_all_flips, show_flips, time_decoding, time_encoding,
+};
+use std::process::ExitCode;
 use std::rt::Clock;
 use std::{env, io};
 
@@ -22,37 +31,85 @@ enum Job {
     Show,
     Flips,
     Time,
+    Decode(Kind, u32),
+    Encode(u32),
     Site,
+    Play(Load, Size),
+}
+
+/// The number among the words at a place.
+fn number_at(words: &[String], place: usize) -> Option<u32> {
+    words.get(place)?.parse::<u32>().ok()
+}
+
+/// The job of `--words KIND COUNT`.
+fn words_job(words: &[String]) -> Option<Job> {
+    let count = number_at(words, 2)?;
+    match words.get(1)?.as_str() {
+        "clean" => Some(Job::Decode(Kind::Clean, count)),
+        "flips" => Some(Job::Decode(Kind::Flipped, count)),
+        "random" => Some(Job::Decode(Kind::Random, count)),
+        "encode" => Some(Job::Encode(count)),
+        _ => None,
+    }
+}
+
+/// The job of `--load LOAD CARRIERS RADIOS FRAMES`.
+fn load_job(words: &[String]) -> Option<Job> {
+    let load = Load::named(words.get(1)?.as_str())?;
+    let size = Size {
+        carriers: number_at(words, 2)?,
+        radios: number_at(words, 3)?,
+        frames: number_at(words, 4)?,
+    };
+    Some(Job::Play(load, size))
+}
+
+/// The job that the words after the program's own name say.
+fn job_of(words: &[String]) -> Option<Job> {
+    let Some(first) = words.get(0) else {
+        return Some(Job::Show);
+    };
+    match first.as_str() {
+        "--flips" => Some(Job::Flips),
+        "--time" => Some(Job::Time),
+        "--words" => words_job(words),
+        "--site" => Some(Job::Site),
+        "--load" => load_job(words),
+        _ => None,
+    }
 }
 
 fn run<R: Print + AllocGlobal + Clock>(rt: &R, job: Job) -> io::Result<()> {
     match job {
         Job::Show => {
-            for kind in [Kind::Clean, Kind::Flipped, Kind::Random] {
+            for kind in KINDS {
                 show(rt, kind)?;
             }
             show_all_flips(rt)
         }
         Job::Flips => show_flips(rt),
         Job::Time => {
-            for kind in [Kind::Clean, Kind::Flipped, Kind::Random] {
-                time_decoding(rt, kind)?;
+            for kind in KINDS {
+                time_decoding(rt, kind, MANY)?;
             }
-            time_encoding(rt)
+            time_encoding(rt, MANY)
         }
+        Job::Decode(kind, count) => time_decoding(rt, kind, count),
+        Job::Encode(count) => time_encoding(rt, count),
         Job::Site => time_loads(rt),
+        Job::Play(load, size) => time_load(rt, load, size),
     }
 }
 
-fn main(rt: HostRuntime) -> io::Result<()> {
-    let mut job = Job::Show;
-    for word in env::args(&rt)? {
-        match word.as_str() {
-            "--flips" => job = Job::Flips,
-            "--time" => job = Job::Time,
-            "--site" => job = Job::Site,
-            _ => {}
-        }
-    }
-    run(&rt, job)
+fn main(rt: HostRuntime) -> io::Result<ExitCode> {
+    let words = env::args(&rt)?.skip(1).collect::<Vec<String>>(rt.alloc())?;
+    let Some(job) = job_of(words.as_slice()) else {
+        println!(rt;
+            "usage: dmr_bench [--flips | --time | --words KIND COUNT | --site | --load LOAD CARRIERS RADIOS FRAMES]"
+        )?;
+        return Ok(ExitCode::from(2));
+    };
+    run(&rt, job)?;
+    Ok(ExitCode::from(0))
 }

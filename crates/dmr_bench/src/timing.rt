@@ -1,12 +1,9 @@
 //! How long the engine takes for the loads of a site.
 
-use crate::load::{Load, Scene, bursts_of};
+use crate::load::{LOADS, Load, Scene, bursts_of};
 use std::io;
 use std::rt::Clock;
 use std::time::Instant;
-
-/// The loads, in the order in which they are printed.
-const LOADS: [Load; 3] = [Load::Polls, Load::Registrations, Load::BusyHour];
 
 /// How many carriers a site has.
 const CARRIERS: [u32; 3] = [1, 4, 16];
@@ -23,36 +20,48 @@ const EVENTS: u32 = 60_000;
 /// How many nanoseconds a frame lasts on the air.
 const AIR_FRAME: u128 = 60_000_000;
 
+/// How much of a load is played.
+#[derive(Clone, Copy)]
+pub struct Size {
+    /// The site's carriers, 1 to 16.
+    pub carriers: u32,
+    /// The registered radios.
+    pub radios: u32,
+    /// The frames.
+    pub frames: u32,
+}
+
 /// What a load took.
 #[derive(Clone, Copy)]
 struct Took {
-    frames: u128,
     events: u128,
     octets: u64,
+    sum: u64,
     nanos: u128,
 }
 
-/// Plays a load once on a new site.
-fn play<R: AllocGlobal + Clock>(
-    rt: &R,
-    load: Load,
-    carriers: u32,
-    radios: u32,
-    frames: u32,
-) -> io::Result<Option<Took>> {
-    let bursts = bursts_of(rt.alloc(), load, radios)?;
-    let made = Scene::new(rt.alloc(), carriers, radios)?;
+impl Took {
+    /// Events a second.
+    fn rate(&self) -> u128 {
+        self.events.saturating_mul(1_000_000_000) / self.nanos.max(1)
+    }
+}
+
+/// Plays a load once on a new site. `None` if there is no site of this size.
+fn play<R: AllocGlobal + Clock>(rt: &R, load: Load, size: Size) -> io::Result<Option<Took>> {
+    let bursts = bursts_of(rt.alloc(), load, size.radios)?;
+    let made = Scene::new(rt.alloc(), size.carriers, size.radios)?;
     let Some(mut scene) = made else {
         return Ok(None);
     };
-    let (events, octets) = (scene.events, scene.octets);
+    let (events, octets, sum) = (scene.events, scene.octets, scene.sum);
     let start = Instant::now(rt)?;
-    scene.play(load, bursts.as_slice(), frames)?;
+    scene.play(load, bursts.as_slice(), size.frames)?;
     let nanos = start.elapsed(rt)?.as_nanos();
     Ok(Some(Took {
-        frames: u128::from(frames),
         events: u128::from(scene.events.wrapping_sub(events)),
         octets: scene.octets.wrapping_sub(octets),
+        sum: scene.sum.wrapping_sub(sum),
         nanos,
     }))
 }
@@ -61,20 +70,20 @@ fn play<R: AllocGlobal + Clock>(
 fn events_a_frame(load: Load, carriers: u32) -> u32 {
     match load {
         Load::Polls => carriers.max(1),
-        Load::Registrations => 2,
+        Load::Registrations | Load::Joins => 2,
+        Load::Calls => 3,
         Load::BusyHour => carriers.saturating_mul(3).saturating_add(1),
     }
 }
 
 /// Prints a line: the load, carriers, registered radios, events a second, nanoseconds an event, the share of a processor that it takes at
 /// the air's rate, and how many octets were put out.
-fn print<R: Print>(rt: &R, load: Load, carriers: u32, radios: u32, took: &Took) -> io::Result<()> {
-    let name = load.name();
-    let nanos = took.nanos.max(1);
-    let rate = took.events.saturating_mul(1_000_000_000) / nanos;
-    let each = nanos / took.events.max(1);
-    let on_air = took.frames.saturating_mul(AIR_FRAME).max(1);
-    let share = nanos.saturating_mul(100_000) / on_air;
+fn print<R: Print>(rt: &R, load: Load, size: Size, took: &Took) -> io::Result<()> {
+    let (name, carriers, radios) = (load.name(), size.carriers, size.radios);
+    let rate = took.rate();
+    let each = took.nanos.max(1) / took.events.max(1);
+    let on_air = u128::from(size.frames).saturating_mul(AIR_FRAME).max(1);
+    let share = took.nanos.saturating_mul(100_000) / on_air;
     let octets = took.octets;
     println!(rt;
         "{name:<14} {carriers:>9} {radios:>7} {rate:>15} {each:>12} {:>9}.{:03} % {octets:>12}",
@@ -84,24 +93,30 @@ fn print<R: Print>(rt: &R, load: Load, carriers: u32, radios: u32, took: &Took) 
 }
 
 /// Plays a load so often, and prints what the quickest took.
-fn time<R: Print + AllocGlobal + Clock>(
-    rt: &R,
-    load: Load,
-    carriers: u32,
-    radios: u32,
-) -> io::Result<()> {
-    let frames = EVENTS / events_a_frame(load, carriers).max(1);
+fn time<R: Print + AllocGlobal + Clock>(rt: &R, load: Load, size: Size) -> io::Result<()> {
     let mut best: Option<Took> = None;
     for _ in 0..TIMES {
-        let took = play(rt, load, carriers, radios, frames)?;
+        let took = play(rt, load, size)?;
         best = match (best, took) {
             (Some(best), Some(took)) if best.nanos <= took.nanos => Some(best),
             (_, took) => took,
         };
     }
     match best {
-        Some(took) => print(rt, load, carriers, radios, &took),
-        None => println!(rt; "no such site: {carriers} carriers"),
+        Some(took) => print(rt, load, size, &took),
+        None => println!(rt; "no such site: {} carriers", size.carriers),
+    }
+}
+
+/// Plays a load once, and prints "rate octets sum events": events a second, how many octets were put out, their sum, and how many events
+/// came.
+pub fn time_load<R: Print + AllocGlobal + Clock>(rt: &R, load: Load, size: Size) -> io::Result<()> {
+    match play(rt, load, size)? {
+        Some(took) => {
+            let rate = took.rate();
+            println!(rt; "{rate} {} {} {}", took.octets, took.sum, took.events)
+        }
+        None => println!(rt; "no such site: {} carriers", size.carriers),
     }
 }
 
@@ -113,7 +128,13 @@ pub fn time_loads<R: Print + AllocGlobal + Clock>(rt: &R) -> io::Result<()> {
     for load in LOADS {
         for carriers in CARRIERS {
             for radios in RADIOS {
-                time(rt, load, carriers, radios)?;
+                let frames = EVENTS / events_a_frame(load, carriers).max(1);
+                let size = Size {
+                    carriers,
+                    radios,
+                    frames,
+                };
+                time(rt, load, size)?;
             }
         }
     }

@@ -18,10 +18,13 @@ use std::time::Instant;
 const FEW: u32 = 1_000;
 
 /// How many words of each kind are taken where time is: each once, so that no answer can be used again.
-const MANY: u32 = 200_000;
+pub const MANY: u32 = 200_000;
 
 /// The octets of a registration request of radio 1001, from the format's test vectors.
 const REGISTRATION: Octets10 = [0x9F, 0x00, 0x02, 0x0E, 0xFF, 0xFE, 0xC6, 0x00, 0x03, 0xE9];
+
+/// The kinds of words, in the order in which they are printed.
+pub const KINDS: [Kind; 3] = [Kind::Clean, Kind::Flipped, Kind::Random];
 
 /// The kinds of words.
 #[derive(Clone, Copy)]
@@ -124,6 +127,24 @@ fn blocks_of(alloc: Global, all: &[Octets12]) -> Result<Vec<Octets10>, AllocErro
     Ok(blocks)
 }
 
+/// Decodes a word. Not inlined, so that a profile counts it by itself; the next two likewise.
+#[inline(never)]
+fn decode_word(word: &Word196) -> Option<Octets12> {
+    decode(word)
+}
+
+/// Encodes a word.
+#[inline(never)]
+fn encode_word(octets: &Octets12) -> Word196 {
+    encode(octets)
+}
+
+/// The check of a block.
+#[inline(never)]
+fn check_block(block: &Octets10) -> u16 {
+    check_of(block)
+}
+
 /// How many words decode.
 fn decoded(words: &[Word196]) -> usize {
     words.iter().filter(|word| decode(word).is_some()).count()
@@ -134,7 +155,7 @@ fn decoded_sum(words: &[Word196]) -> (u64, u64) {
     let mut count: u64 = 0;
     let mut sum: u64 = 0;
     for word in words {
-        if let Some(octets) = decode(word) {
+        if let Some(octets) = decode_word(word) {
             count = count.wrapping_add(1);
             for octet in &octets {
                 sum = sum.wrapping_add(u64::from(*octet));
@@ -148,7 +169,7 @@ fn decoded_sum(words: &[Word196]) -> (u64, u64) {
 fn encoded_sum(all: &[Octets12]) -> u64 {
     let mut sum: u64 = 0;
     for (k, octets) in all.iter().enumerate() {
-        let word = encode(octets);
+        let word = encode_word(octets);
         let bits = u64::from(word.bit(3))
             + u64::from(word.bit(4))
             + 2 * u64::from(word.bit(k % 196));
@@ -161,7 +182,7 @@ fn encoded_sum(all: &[Octets12]) -> u64 {
 fn check_sum(blocks: &[Octets10]) -> u64 {
     let mut sum: u64 = 0;
     for block in blocks {
-        sum = sum.wrapping_add(u64::from(check_of(block)));
+        sum = sum.wrapping_add(u64::from(check_block(block)));
     }
     sum
 }
@@ -200,33 +221,37 @@ pub fn show<R: Print + AllocGlobal>(rt: &R, kind: Kind) -> io::Result<()> {
     println!(rt; "{name}: {count} of {FEW} decoded")
 }
 
-/// Words a second, where `MANY` words took so many nanoseconds.
-fn rate(nanos: u128) -> u128 {
-    u128::from(MANY) * 1_000_000_000 / nanos.max(1)
+/// Words a second, if `many` words took `nanos` nanoseconds.
+fn rate(many: u32, nanos: u128) -> u128 {
+    u128::from(many) * 1_000_000_000 / nanos.max(1)
 }
 
-/// Prints how many words of a kind are decoded in a second.
-pub fn time_decoding<R: Print + AllocGlobal + Clock>(rt: &R, kind: Kind) -> io::Result<()> {
-    let words = words_of(rt.alloc(), kind, MANY)?;
+/// Decodes `many` words of a kind, and prints how many it decodes in a second.
+pub fn time_decoding<R: Print + AllocGlobal + Clock>(
+    rt: &R,
+    kind: Kind,
+    many: u32,
+) -> io::Result<()> {
+    let words = words_of(rt.alloc(), kind, many)?;
     let start = Instant::now(rt)?;
     let (count, sum) = decoded_sum(words.as_slice());
-    let decode_rate = rate(start.elapsed(rt)?.as_nanos());
+    let decode_rate = rate(many, start.elapsed(rt)?.as_nanos());
     let name = kind.decoding();
     println!(rt; "{name} {decode_rate} {count} {sum}")
 }
 
-/// Prints how many codewords are made, and how many checks, in a second.
-pub fn time_encoding<R: Print + AllocGlobal + Clock>(rt: &R) -> io::Result<()> {
-    let all = information_of(rt.alloc(), MANY)?;
+/// Encodes `many` words and computes as many checks, and prints how many of each it does in a second.
+pub fn time_encoding<R: Print + AllocGlobal + Clock>(rt: &R, many: u32) -> io::Result<()> {
+    let all = information_of(rt.alloc(), many)?;
     let start = Instant::now(rt)?;
     let sum = encoded_sum(all.as_slice());
-    let encode_rate = rate(start.elapsed(rt)?.as_nanos());
-    println!(rt; "encode {encode_rate} {MANY} {sum}")?;
+    let encode_rate = rate(many, start.elapsed(rt)?.as_nanos());
+    println!(rt; "encode {encode_rate} {many} {sum}")?;
     let blocks = blocks_of(rt.alloc(), all.as_slice())?;
     let start = Instant::now(rt)?;
     let sum = check_sum(blocks.as_slice());
-    let check_rate = rate(start.elapsed(rt)?.as_nanos());
-    println!(rt; "check {check_rate} {MANY} {sum}")
+    let check_rate = rate(many, start.elapsed(rt)?.as_nanos());
+    println!(rt; "check {check_rate} {many} {sum}")
 }
 
 /// Prints how many of the registration's bursts with three places turned over are read as it.

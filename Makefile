@@ -1,6 +1,6 @@
 # `make` alone says what there is.
 .DEFAULT_GOAL := help
-.PHONY: help demo build check fmt test gate check-fast check-programs tools-check wrong-bodies bench soak serve-check serve-hostile refuse-memory pictures package package-check maps trusted install
+.PHONY: help demo build check fmt test gate check-fast check-programs tools-check wrong-bodies bench bench-instructions soak serve-check serve-hostile refuse-memory pictures package package-check maps trusted install
 
 PREFIX ?= /usr/local
 DESTDIR ?=
@@ -55,12 +55,15 @@ check-programs: ## tools, documents, a soak and serving, over the programs that 
 wrong-bodies: ## every wrong body that must be refused, those outside the gate too: of CRATE=name, of the k-th of n parts with PART=k/n, or all
 	@ci/wrong-bodies $(if $(PART),--part $(PART)) $(CRATE)
 
-bench: ## words per second beside two coders in C, all words with three flips, and events per second of sites of 1, 4 and 16 carriers
+bench: build/dmr_trunk ## times of the proved coder, engine and replay beside those in C, in one run, and all words with three flips (bench/README.md)
 	@date -u +%Y-%m-%d
 	@sed -n 's/^model name[^:]*: *//p' /proc/cpuinfo | uniq -c
 	@cd crates/dmr_bench && rt run -- --flips
-	@tools/bench/compare
-	@crates/dmr_bench/out/dmr_bench --site
+	@bench/compare
+
+bench-instructions: build/dmr_trunk ## instructions of an event and of each function, ours beside C, counted by valgrind: figures that no other work on the machine changes
+	@cd crates/dmr_bench && rt run >/dev/null
+	@bench/instructions
 
 soak: ## a million random inputs through the engine, in both versions of the link, compared with a reference model, by the proved program
 	@cd crates/dmr_soak && rt run -- --inputs 250000 --counts

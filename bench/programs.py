@@ -1,7 +1,8 @@
-"""The programs that are compared: ours, which `rt` proved and built, and those in C, which are built here with cc."""
+"""The programs that are compared: ours, which `rt` proved and built, and those in C, which are built here by each compiler that is found."""
 import os
 import pathlib
 import resource
+import shutil
 import subprocess
 import sys
 from collections.abc import Sequence
@@ -11,7 +12,9 @@ BENCH = pathlib.Path(__file__).resolve().parent
 TOP = BENCH.parent
 # The processor that rt builds for. Programs in C are built for it too, and one for the processor at hand.
 RT_PROCESSOR, THIS_PROCESSOR = "x86-64-v2", "native"
-CC = ("cc", "-std=c11", "-O3", "-Wall", "-Wextra")
+# The compilers of the C; the best of what they make counts. `rt` compiles with a clang of its own.
+COMPILERS = ("cc", "clang")
+FLAGS = ("-std=c11", "-O3", "-Wall", "-Wextra")
 
 
 class Missing(Exception):
@@ -45,11 +48,15 @@ def proved(name: str) -> str:
     raise Missing(f"there is no program {name}: run 'make build', and 'rt run' in crates/dmr_bench")
 
 
-def build(source: str, processor: str, folder: str, *more: str) -> str:
-    """Builds a program in C. Its path."""
-    path = f"{folder}/{pathlib.Path(source).stem}-{processor}"
-    subprocess.run([*CC, f"-march={processor}", *more, "-o", path, str(BENCH / source)], check=True)
-    return path
+def build(source: str, processor: str, folder: str) -> list[str]:
+    """Builds a program in C with each compiler that is there. The paths. Missing: there is no compiler."""
+    compilers = [it for it in COMPILERS if shutil.which(it)]
+    if not compilers:
+        raise Missing("there is no compiler of C: neither cc nor clang")
+    paths = [f"{folder}/{pathlib.Path(source).stem}-{processor}-{it}" for it in compilers]
+    for compiler, path in zip(compilers, paths):
+        subprocess.run([compiler, *FLAGS, f"-march={processor}", "-o", path, str(BENCH / source)], check=True)
+    return paths
 
 
 def output_of(words: Sequence[str]) -> str:

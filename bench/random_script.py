@@ -42,7 +42,7 @@ def lpcn_of(carrier: int) -> int:
 
 
 def site_text(carriers: int, link_version: int) -> str:
-    """The site file of a site with so many carriers, which serves versions up to this one of the link."""
+    """The site file of a site with this number of carriers, which serves versions of the link up to `link_version`."""
     rows = (f"[[carrier]]\nnumber = {it}\nlpcn = {lpcn_of(it)}\nport = {7101 + it}\n" for it in range(carriers))
     return f"{SITE}link_version = {link_version}\n{''.join(rows)}"
 

@@ -1,6 +1,7 @@
 -- When there is no term.
 use Rattle.std.specs.Prelude.{◌≡◌, ◌≢◌, ◌<◌, ℕ, zero, suc, ◌+◌, ltb, List, [], ◌∷◌, Option, Some, None, map, length, slice_get, if◌then◌else◌}
 use Rattle.dmr_core.specs.Facts.{has_carrier}
+use Rattle.dmr_pdu.specs.Slots.{carriers_of_site}
 use Rattle.dmr_plan.specs.declared.settings.Settings.{Settings}
 use Rattle.dmr_link.specs.declared.stream.Peer.{Peer}
 use Rattle.dmr_link.specs.declared.stream.Peer.TheVariants.{Carrier, Operator}
@@ -23,7 +24,7 @@ numbers_from plan (suc many) n = if has_carrier plan n then n ∷ numbers_from p
 
 -- the numbers of the plan's carriers, the least first
 abbrev pub carrier_numbers : Settings → List ℕ
-carrier_numbers plan = numbers_from plan 16 0
+carrier_numbers plan = numbers_from plan carriers_of_site 0
 
 -- the carrier of a link
 abbrev pub carrier_of_peer : Peer → Option ℕ

@@ -1,10 +1,11 @@
 -- What a replay prints, or why it prints nothing.
-use Rattle.std.specs.Prelude.{◌≡◌, ◌⊎◌, ⊤, ℕ, Bool, true, false, List, [], ◌∷◌, ◌++◌, Option, Some, None, Result, Ok, Err, IsOk, if◌then◌else◌, codes, flat_map}
+use Rattle.std.specs.Prelude.{◌≡◌, ⊤, ℕ, Bool, true, false, List, [], ◌∷◌, ◌++◌, Option, Some, None, Result, Ok, Err, if◌then◌else◌, codes, flat_map}
 use Rattle.std.specs.List.{range_with_len}
 use Rattle.std.specs.Fmt.{decimal}
 use Rattle.std.specs.Io.KnownBytes.{Appends}
 use Rattle.std.specs.Str.{is_utf8}
 use Rattle.hex.specs.Hex.{encode_upper}
+use Rattle.dmr_pdu.specs.Slots.{carriers_of_site}
 use Rattle.dmr_plan.specs.declared.fault.PlanFault.{PlanFault}
 use Rattle.dmr_plan.specs.declared.fault.PlanFault.TheVariants.{NotToml}
 use Rattle.dmr_plan.specs.declared.settings.Settings.{Settings}
@@ -36,7 +37,7 @@ lines_to plan put_out numbers = flat_map (line_of_number plan put_out) (range_wi
 
 -- behind them the operators' text as it is
 abbrev pub printed_text : Settings → (ℕ → List ℕ) → List ℕ → List ℕ
-printed_text plan put_out console = lines_to plan put_out 16 ++ console
+printed_text plan put_out console = lines_to plan put_out carriers_of_site ++ console
 
 -- ---- what the files give
 

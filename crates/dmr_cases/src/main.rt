@@ -3,7 +3,7 @@
 //! `ci/stored-cases` writes such a text from the files in `cases/`, and what this program has to print for it. `sections` says
 //! what a text is; `cases` replays its scripts; `cutting` hands the octets of a connection in piece by piece.
 //!
-//! A text that is no list of cases ends the program with status 1, and so does an allocation that fails.
+//! If the text is not a list of cases, or if an allocation fails, the program ends with status 1.
 #![tactic(auto)]
 
 mod cases;

@@ -13,7 +13,7 @@ use thiserror::Error;
 /// Why a text was not replayed to its end.
 #[derive(Debug, Drop, Error)]
 pub enum CaseFault {
-    /// The text is no list of cases.
+    /// The text is not a list of cases.
     #[error("not a list of cases")]
     NotCases,
     /// The input could not be read, or the output did not take everything.

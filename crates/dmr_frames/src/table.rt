@@ -161,8 +161,10 @@ impl FrameKind {
 }
 
 impl FrameIn {
-    /// Returns which frame it is.
-    pub fn kind(&self) -> FrameKind {
+    /// Returns which frame it is: the one whose type octet its spelling begins with.
+    pub fn kind(&self) -> FrameKind
+        ensures { (frame_row result).octet ≡ slice_index (spelling self.now) 0 }
+    {
         match self {
             FrameIn::Hello { .. } => FrameKind::Hello,
             FrameIn::Rx { .. } => FrameKind::Rx,
@@ -174,8 +176,10 @@ impl FrameIn {
 }
 
 impl FrameOut {
-    /// Returns which frame it is.
-    pub fn kind(&self) -> FrameKind {
+    /// Returns which frame it is: the one whose type octet its spelling begins with.
+    pub fn kind(&self) -> FrameKind
+        ensures { (frame_row result).octet ≡ slice_index (spelling_out self.now) 0 }
+    {
         match self {
             FrameOut::Welcome { .. } => FrameKind::Welcome,
             FrameOut::Tx { .. } => FrameKind::Tx,

@@ -81,7 +81,7 @@ pub fn make_room(text: &mut Vec<u8>, octets: usize) -> Result<(), OutOfMemory>
     if octets <= text.capacity() - length {
         return Ok(());
     }
-    if text.reserve_exact(length.max(octets)).is_ok() {
+    if length > octets && text.reserve_exact(length).is_ok() {
         return Ok(());
     }
     text.reserve_exact(octets)

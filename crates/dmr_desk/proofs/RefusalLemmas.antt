@@ -23,22 +23,22 @@ numbers_few plan (suc many) n = at_most (has_carrier plan n) (numbers_from plan 
 
 pub stations_few : (plan : Settings) (stations : List Stand) → AreStations plan stations → length stations ≤ 16
 stations_few plan stations are =
-    let a : length (map (λ (s : Stand). carrier_of_peer s.talk.who) stations) ≡ length stations = length-map stations (λ (s : Stand). carrier_of_peer s.talk.who) in
+    let a : length (map (λ (s : Stand). carrier_of_peer s.link.who) stations) ≡ length stations = length-map stations (λ (s : Stand). carrier_of_peer s.link.who) in
     let b : length (map (λ (n : ℕ). Some n) (carrier_numbers plan)) ≡ length (carrier_numbers plan) = length-map (carrier_numbers plan) (λ (n : ℕ). Some n) in
     let e = ap length are in
     let k = numbers_few plan 16 0 in omega arith
 
 -- stations whose numbers were compared with the plan's
-pub numbers_told : {S : Type 0} (at : S → Stand) (number : S → Option ℕ) (xs : List S) → ((s : S) → number s ≡ carrier_of_peer (at s).talk.who) → map number xs ≡ map (λ (t : Stand). carrier_of_peer t.talk.who) (map at xs)
+pub numbers_told : {S : Type 0} (at : S → Stand) (number : S → Option ℕ) (xs : List S) → ((s : S) → number s ≡ carrier_of_peer (at s).link.who) → map number xs ≡ map (λ (t : Stand). carrier_of_peer t.link.who) (map at xs)
 numbers_told at number [] same = refl
 numbers_told at number (x ∷ xs) same = let t = numbers_told at number xs same in let q = same x in cc
 
-pub are_stations_if : {S : Type 0} (at : S → Stand) (number : S → Option ℕ) (xs ys : List S) (plan other : Settings) → ((s : S) → number s ≡ carrier_of_peer (at s).talk.who) → ys ≡ xs → other ≡ plan
+pub are_stations_if : {S : Type 0} (at : S → Stand) (number : S → Option ℕ) (xs ys : List S) (plan other : Settings) → ((s : S) → number s ≡ carrier_of_peer (at s).link.who) → ys ≡ xs → other ≡ plan
     → map number ys ≡ map (λ (n : ℕ). Some n) (carrier_numbers other) → AreStations plan (map at xs)
 are_stations_if at number xs ys plan other same e f told =
     sym (numbers_told at number xs same) ∙ ap (map number) (sym e) ∙ told ∙ ap (λ (p : Settings). map (λ (n : ℕ). Some n) (carrier_numbers p)) f
 
-pub are_stations_then : {S : Type 0} (at : S → Stand) (number : S → Option ℕ) (xs ys : List S) (plan other : Settings) → ((s : S) → number s ≡ carrier_of_peer (at s).talk.who) → ys ≡ xs → other ≡ plan
+pub are_stations_then : {S : Type 0} (at : S → Stand) (number : S → Option ℕ) (xs ys : List S) (plan other : Settings) → ((s : S) → number s ≡ carrier_of_peer (at s).link.who) → ys ≡ xs → other ≡ plan
     → AreStations plan (map at xs) → map number ys ≡ map (λ (n : ℕ). Some n) (carrier_numbers other)
 are_stations_then at number xs ys plan other same e f are =
     ap (map number) e ∙ numbers_told at number xs same ∙ are ∙ ap (λ (p : Settings). map (λ (n : ℕ). Some n) (carrier_numbers p)) (sym f)

@@ -7,13 +7,13 @@ use Rattle.dmr_link.specs.declared.desk.Deposit.{Deposit}
 use Rattle.dmr_link.specs.declared.ended.Ended.{Ended}
 use Rattle.dmr_link.specs.declared.ended.Ended.TheVariants as ended
 use Rattle.dmr_link.specs.declared.stream.Peer.{Peer}
-use Rattle.dmr_link.specs.declared.talk.Talk.{Talk}
+use Rattle.dmr_link.specs.declared.link_state.LinkState.{LinkState}
 use Rattle.dmr_link.specs.Happenings.{Happening, Answered, Handed, Passed, answers_in, deposits_in, passages_in}
 use Rattle.dmr_link.specs.Passages.{Passage, Passes}
 use Rattle.dmr_link.specs.Peers.{is_going}
 use Rattle.dmr_link.specs.Recorded.{sessions_after_silence}
 use Rattle.dmr_link.specs.Sessions.{How, Going, InputOver, ReadFaulty, WriteFaulty, CutAfter, how_then, Session, new_session, with_how, with_calls, Hearing, hearing_at, in_writing, took, hearing_after_answer, hearing_after_answers, IsQuiet, IsOver, StandsFor, sessions_after, is_kept, is_lost, how_cut, cut_past, EndsAs, Sides, Happens, Serves, Cuts}
-use Rattle.dmr_link.specs.Talks.{is_live}
+use Rattle.dmr_link.specs.LinkSteps.{is_live}
 use Rattle.dmr_desk.specs.declared.ending.Ending.TheVariants as ending
 use Rattle.dmr_desk.specs.Work.{Stand, Moment, moment, sides_at, Answers, Turns, Doing, Asked, Served, Waited, happened_in, happened_of, with_newest_deposits, past_then, past_after, deposits_of_sessions, IsAsk, StopsAt, IsCall, IsOrderly, Went, WorksUntil, IsAboutToWait as IsWaiting, Going as IsGoing}
 
@@ -21,13 +21,13 @@ going_live : (b kept lost : Bool) → (b ≡ false → ⊥) → (b || kept || lo
 going_live true kept lost h = refl
 going_live false kept lost h = absurd (h refl)
 
-pub quiet_live : (l : Talk) → IsQuiet l → is_live l ≡ true
-quiet_live l h = going_live (is_going l.connection) (is_kept l.kept) (is_lost l.lost) h.stays
+pub quiet_live : (l : LinkState) → IsQuiet l → is_live l ≡ true
+quiet_live l h = going_live (is_going l.connection) (is_kept l.pending.kept) (is_lost l.pending.lost) h.stays
 
 -- what is known of every link, and of what happened in one step and then in another
 pub record LinkLaws : Type 0 where
-  pub dead_over : (l : Talk) → is_live l ≡ false → IsOver l
-  pub over_dead : (l : Talk) → IsOver l → is_live l ≡ false
+  pub dead_over : (l : LinkState) → is_live l ≡ false → IsOver l
+  pub over_dead : (l : LinkState) → IsOver l → is_live l ≡ false
   pub happens_none : (x : Sides) → Happens x [] x
   pub happens_more : (x y z : Sides) (first second : List Happening) → Happens x first y → Happens y second z → Happens x (first ++ second) z
 
@@ -53,10 +53,10 @@ module _ (laws : LinkLaws) where
   deposits_both (Passed p ∷ xs) ys = deposits_both xs ys
 
   -- one more step
-  went_on : (m n o : Moment) (ds : List Doing) (d : Doing) → Went m n ds → o.at.talk.who ≡ n.at.talk.who → Happens (sides_at n.at n.calls) (happened_in d) (sides_at o.at o.calls)
-      → ((past : List Session) → StandsFor n.at.talk past → StandsFor o.at.talk (past_then past d))
-      → ((past : List Session) → StandsFor n.at.talk past → deposits_of_sessions (past_then past d) ≡ deposits_of_sessions past ++ deposits_in (happened_in d))
-      → ((past : List Session) → StandsFor n.at.talk (past_after past ds) → IsOrderly m.at.talk.who past ds → IsOrderly m.at.talk.who past (d ∷ ds))
+  went_on : (m n o : Moment) (ds : List Doing) (d : Doing) → Went m n ds → o.at.link.who ≡ n.at.link.who → Happens (sides_at n.at n.calls) (happened_in d) (sides_at o.at o.calls)
+      → ((past : List Session) → StandsFor n.at.link past → StandsFor o.at.link (past_then past d))
+      → ((past : List Session) → StandsFor n.at.link past → deposits_of_sessions (past_then past d) ≡ deposits_of_sessions past ++ deposits_in (happened_in d))
+      → ((past : List Session) → StandsFor n.at.link (past_after past ds) → IsOrderly m.at.link.who past ds → IsOrderly m.at.link.who past (d ∷ ds))
       → Went m o (d ∷ ds)
   went_on m n o ds d w who happens stands view orderly = record {
     who = who ∙ w.who;
@@ -136,55 +136,55 @@ module _ (laws : LinkLaws) where
   ask_view past x is = absurd is
 
   -- a live link has a connection
-  serve_view : (l : Talk) (past : List Session) (answers : List Answer) (deposits : List Deposit) → is_live l ≡ true → StandsFor l past
+  serve_view : (l : LinkState) (past : List Session) (answers : List Answer) (deposits : List Deposit) → is_live l ≡ true → StandsFor l past
       → deposits_of_sessions (sessions_after past answers deposits) ≡ deposits_of_sessions past ++ deposits
   serve_view l [] answers deposits live h = let dead : is_live l ≡ false = laws.over_dead l h.0 in absurd (cc (dead, live))
   serve_view l (s ∷ ss) answers deposits live h =
       ap (λ (c : List Deposit). deposits_of_sessions ss ++ (c ++ deposits)) (all_calls (hearing_at s 0) answers) ∙ sym (append_assoc (deposits_of_sessions ss) s.calls deposits)
 
-  silent_view : (l : Talk) (past : List Session) (deposits : List Deposit) → is_live l ≡ true → StandsFor l past → deposits_of_sessions (with_newest_deposits (sessions_after_silence past) deposits) ≡ deposits_of_sessions past ++ deposits
+  silent_view : (l : LinkState) (past : List Session) (deposits : List Deposit) → is_live l ≡ true → StandsFor l past → deposits_of_sessions (with_newest_deposits (sessions_after_silence past) deposits) ≡ deposits_of_sessions past ++ deposits
   silent_view l [] deposits live h = let dead : is_live l ≡ false = laws.over_dead l h.0 in absurd (cc (dead, live))
   silent_view l (s ∷ ss) deposits live h = sym (append_assoc (deposits_of_sessions ss) s.calls deposits)
 
   -- ---- an ask
 
-  went_asking : (m n o : Moment) (g : IsGoing m n) (x : Answer) → is_live n.at.talk ≡ false → IsAsk x → o.at.talk.who ≡ n.at.talk.who → Tells n.at.told (x ∷ []) o.at.told → o.at.passed ≡ n.at.passed → o.calls ≡ n.calls
-      → ((past : List Session) → StandsFor n.at.talk past → StandsFor o.at.talk (past_then past (Asked x))) → Went m o (Asked x ∷ g.0)
+  went_asking : (m n o : Moment) (g : IsGoing m n) (x : Answer) → is_live n.at.link ≡ false → IsAsk x → o.at.link.who ≡ n.at.link.who → Tells n.at.told (x ∷ []) o.at.told → o.at.passed ≡ n.at.passed → o.calls ≡ n.calls
+      → ((past : List Session) → StandsFor n.at.link past → StandsFor o.at.link (past_then past (Asked x))) → Went m o (Asked x ∷ g.0)
   went_asking m n o g x dead is who told passed desk stands =
       went_on m n o g.0 (Asked x) g.1 who (answered n o x [] told passed (desk ∙ sym (append-nil n.calls))) stands
       (λ past h. ask_view past x is)
-      (λ past h orderly. (is, (n.at.talk, laws.dead_over n.at.talk dead, h), orderly))
+      (λ past h orderly. (is, (n.at.link, laws.dead_over n.at.link dead, h), orderly))
 
-  still_stands : (l k : Talk) (past : List Session) → k ≡ l → StandsFor l past → StandsFor k past
-  still_stands l k past same h = let P : Talk → Type 0 = λ t. StandsFor t past in subst P (sym same) h
+  still_stands : (l k : LinkState) (past : List Session) → k ≡ l → StandsFor l past → StandsFor k past
+  still_stands l k past same h = let P : LinkState → Type 0 = λ t. StandsFor t past in subst P (sym same) h
 
-  pub went_ready : (m n : Moment) (mid o : Stand) → IsGoing m n → is_live n.at.talk ≡ false → Answers n.at Opened mid → Turns mid o
-      → ((past : List Session) → StandsFor mid.talk past → StandsFor o.talk (new_session ∷ past)) → IsGoing m (moment o n.calls)
+  pub went_ready : (m n : Moment) (mid o : Stand) → IsGoing m n → is_live n.at.link ≡ false → Answers n.at Opened mid → Turns mid o
+      → ((past : List Session) → StandsFor mid.link past → StandsFor o.link (new_session ∷ past)) → IsGoing m (moment o n.calls)
   went_ready m n mid o g dead answers turns stands =
       let P : Option (List Answer) → Type 0 = λ told. Tells n.at.told (Opened ∷ []) told in (
         Asked Opened ∷ g.0,
-        went_asking m n (moment o n.calls) g Opened dead tt (turns.who ∙ ap (λ (l : Talk). l.who) answers.talk) (subst P (sym turns.told) answers.told) (turns.passed ∙ answers.passed) refl
-            (λ past h. stands past (still_stands n.at.talk mid.talk past answers.talk h)),
+        went_asking m n (moment o n.calls) g Opened dead tt (turns.who ∙ ap (λ (l : LinkState). l.who) answers.link) (subst P (sym turns.told) answers.told) (turns.passed ∙ answers.passed) refl
+            (λ past h. stands past (still_stands n.at.link mid.link past answers.link h)),
         λ live. tt,
       )
 
-  pub went_not_yet : (m n : Moment) (o : Stand) → IsGoing m n → is_live n.at.talk ≡ false → Answers n.at NotYet o → IsGoing m (moment o n.calls)
+  pub went_not_yet : (m n : Moment) (o : Stand) → IsGoing m n → is_live n.at.link ≡ false → Answers n.at NotYet o → IsGoing m (moment o n.calls)
   went_not_yet m n o g dead answers = (
     Asked NotYet ∷ g.0,
-    went_asking m n (moment o n.calls) g NotYet dead tt (ap (λ (l : Talk). l.who) answers.talk) answers.told answers.passed refl (λ past h. still_stands n.at.talk o.talk past answers.talk h),
-    λ live. let e : is_live o.talk ≡ false = ap is_live answers.talk ∙ dead in absurd (cc (e, live)),
+    went_asking m n (moment o n.calls) g NotYet dead tt (ap (λ (l : LinkState). l.who) answers.link) answers.told answers.passed refl (λ past h. still_stands n.at.link o.link past answers.link h),
+    λ live. let e : is_live o.link ≡ false = ap is_live answers.link ∙ dead in absurd (cc (e, live)),
   )
 
-  pub went_finished : (m n : Moment) (o : Stand) → IsGoing m n → is_live n.at.talk ≡ false → Answers n.at Finished o → WorksUntil m (moment o n.calls) ending.Finished
+  pub went_finished : (m n : Moment) (o : Stand) → IsGoing m n → is_live n.at.link ≡ false → Answers n.at Finished o → WorksUntil m (moment o n.calls) ending.Finished
   went_finished m n o g dead answers = (
     Asked Finished ∷ g.0,
-    went_asking m n (moment o n.calls) g Finished dead tt (ap (λ (l : Talk). l.who) answers.talk) answers.told answers.passed refl (λ past h. still_stands n.at.talk o.talk past answers.talk h),
-    (tt, subst IsOver (sym answers.talk) (laws.dead_over n.at.talk dead)),
+    went_asking m n (moment o n.calls) g Finished dead tt (ap (λ (l : LinkState). l.who) answers.link) answers.told answers.passed refl (λ past h. still_stands n.at.link o.link past answers.link h),
+    (tt, subst IsOver (sym answers.link) (laws.dead_over n.at.link dead)),
   )
 
   -- ---- a call of serve
 
-  stops_at : (e : Ended) (l : Talk) (answers : List Answer) → EndsAs e l answers → StopsAt e answers
+  stops_at : (e : Ended) (l : LinkState) (answers : List Answer) → EndsAs e l answers → StopsAt e answers
   stops_at ended.Idle l answers h = h.2
   stops_at ended.Paused l answers h = h.2
   stops_at ended.TermOver l answers h = tt
@@ -194,40 +194,40 @@ module _ (laws : LinkLaws) where
   stops_at ended.WriteFault l answers h = tt
   stops_at (ended.BadFrame why) l answers h = tt
 
-  was_call : (n o : Moment) (who : Peer) (past : List Session) (e : Ended) (s : Serves n.at.talk o.at.talk (sides_at n.at n.calls) (sides_at o.at o.calls) e) → n.at.talk.who ≡ who → StandsFor n.at.talk past → IsCall who past s.happened e
+  was_call : (n o : Moment) (who : Peer) (past : List Session) (e : Ended) (s : Serves n.at.link o.at.link (sides_at n.at n.calls) (sides_at o.at o.calls) e) → n.at.link.who ≡ who → StandsFor n.at.link past → IsCall who past s.happened e
   was_call n o who past e s same h =
       let P : Peer → Type 0 = λ p. IsCall p past s.happened e in
-      let is : IsCall n.at.talk.who past s.happened e = record {
+      let is : IsCall n.at.link.who past s.happened e = record {
         wire = s.wire;
         few = s.few;
         order = s.order;
         passages = s.passages;
-        turns = λ t ts e. s.turns t ts (subst (StandsFor n.at.talk) e h);
-        rested = λ t ts e. s.rested t ts (subst (StandsFor n.at.talk) e h);
-        stops = stops_at e o.at.talk (answers_in s.happened) s.ends;
+        turns = λ t ts e. s.turns t ts (subst (StandsFor n.at.link) e h);
+        rested = λ t ts e. s.rested t ts (subst (StandsFor n.at.link) e h);
+        stops = stops_at e o.at.link (answers_in s.happened) s.ends;
       } in
       subst P same is
 
-  went_serving : (m n o : Moment) (e : Ended) (g : IsGoing m n) → is_live n.at.talk ≡ true → (s : Serves n.at.talk o.at.talk (sides_at n.at n.calls) (sides_at o.at o.calls) e) → Went m o (Served s.happened e ∷ g.0)
+  went_serving : (m n o : Moment) (e : Ended) (g : IsGoing m n) → is_live n.at.link ≡ true → (s : Serves n.at.link o.at.link (sides_at n.at n.calls) (sides_at o.at o.calls) e) → Went m o (Served s.happened e ∷ g.0)
   went_serving m n o e g live s =
       went_on m n o g.0 (Served s.happened e) g.1 s.same s.happens s.stands
-      (λ past h. serve_view n.at.talk past (answers_in s.happened) (deposits_in s.happened) live h)
-      (λ past h orderly. (was_call n o m.at.talk.who (past_after past g.0) e s g.1.who h, g.2 live, orderly))
+      (λ past h. serve_view n.at.link past (answers_in s.happened) (deposits_in s.happened) live h)
+      (λ past h orderly. (was_call n o m.at.link.who (past_after past g.0) e s g.1.who h, g.2 live, orderly))
 
-  pub went_idle : (m n o : Moment) → IsGoing m n → is_live n.at.talk ≡ true → Serves n.at.talk o.at.talk (sides_at n.at n.calls) (sides_at o.at o.calls) ended.Idle → IsWaiting m o
+  pub went_idle : (m n o : Moment) → IsGoing m n → is_live n.at.link ≡ true → Serves n.at.link o.at.link (sides_at n.at n.calls) (sides_at o.at o.calls) ended.Idle → IsWaiting m o
   went_idle m n o g live s = (Served s.happened ended.Idle ∷ g.0, went_serving m n o ended.Idle g live s, tt, s.ends.0, s.ends.1)
 
-  pub went_paused : (m n o : Moment) → IsGoing m n → is_live n.at.talk ≡ true → Serves n.at.talk o.at.talk (sides_at n.at n.calls) (sides_at o.at o.calls) ended.Paused → IsGoing m o
+  pub went_paused : (m n o : Moment) → IsGoing m n → is_live n.at.link ≡ true → Serves n.at.link o.at.link (sides_at n.at n.calls) (sides_at o.at o.calls) ended.Paused → IsGoing m o
   went_paused m n o g live s = (Served s.happened ended.Paused ∷ g.0, went_serving m n o ended.Paused g live s, λ alive. tt)
 
-  pub went_refused : (m n o : Moment) → IsGoing m n → is_live n.at.talk ≡ true → Serves n.at.talk o.at.talk (sides_at n.at n.calls) (sides_at o.at o.calls) ended.TermOver → WorksUntil m o ending.TermOver
+  pub went_refused : (m n o : Moment) → IsGoing m n → is_live n.at.link ≡ true → Serves n.at.link o.at.link (sides_at n.at n.calls) (sides_at o.at o.calls) ended.TermOver → WorksUntil m o ending.TermOver
   went_refused m n o g live s = (Served s.happened ended.TermOver ∷ g.0, went_serving m n o ended.TermOver g live s, tt)
 
-  pub went_shut : (m n o : Moment) → IsGoing m n → is_live n.at.talk ≡ true → Serves n.at.talk o.at.talk (sides_at n.at n.calls) (sides_at o.at o.calls) ended.GateShut → WorksUntil m o ending.GateShut
+  pub went_shut : (m n o : Moment) → IsGoing m n → is_live n.at.link ≡ true → Serves n.at.link o.at.link (sides_at n.at n.calls) (sides_at o.at o.calls) ended.GateShut → WorksUntil m o ending.GateShut
   went_shut m n o g live s = (Served s.happened ended.GateShut ∷ g.0, went_serving m n o ended.GateShut g live s, tt)
 
   -- the endings of a connection, and no other
-  closing_over : (e : Ended) (l : Talk) (answers : List Answer) → (e ≡ ended.Idle → ⊥) → (e ≡ ended.TermOver → ⊥) → (e ≡ ended.GateShut → ⊥) → (e ≡ ended.Paused → ⊥) → EndsAs e l answers → IsOver l
+  closing_over : (e : Ended) (l : LinkState) (answers : List Answer) → (e ≡ ended.Idle → ⊥) → (e ≡ ended.TermOver → ⊥) → (e ≡ ended.GateShut → ⊥) → (e ≡ ended.Paused → ⊥) → EndsAs e l answers → IsOver l
   closing_over ended.Idle l answers a b c d h = absurd (a refl)
   closing_over ended.TermOver l answers a b c d h = absurd (b refl)
   closing_over ended.GateShut l answers a b c d h = absurd (c refl)
@@ -237,12 +237,12 @@ module _ (laws : LinkLaws) where
   closing_over ended.WriteFault l answers a b c d h = h.0
   closing_over (ended.BadFrame why) l answers a b c d h = h.0
 
-  pub went_closed : (m n o : Moment) (e : Ended) → IsGoing m n → is_live n.at.talk ≡ true → Serves n.at.talk o.at.talk (sides_at n.at n.calls) (sides_at o.at o.calls) e
+  pub went_closed : (m n o : Moment) (e : Ended) → IsGoing m n → is_live n.at.link ≡ true → Serves n.at.link o.at.link (sides_at n.at n.calls) (sides_at o.at o.calls) e
       → (e ≡ ended.Idle → ⊥) → (e ≡ ended.TermOver → ⊥) → (e ≡ ended.GateShut → ⊥) → (e ≡ ended.Paused → ⊥) → IsGoing m o
   went_closed m n o e g live s a b c d = (
     Served s.happened e ∷ g.0,
     went_serving m n o e g live s,
-    λ alive. let dead : is_live o.at.talk ≡ false = laws.over_dead o.at.talk (closing_over e o.at.talk (answers_in s.happened) a b c d s.ends) in absurd (cc (dead, alive)),
+    λ alive. let dead : is_live o.at.link ≡ false = laws.over_dead o.at.link (closing_over e o.at.link (answers_in s.happened) a b c d s.ends) in absurd (cc (dead, alive)),
   )
 
   -- ---- a wait
@@ -250,14 +250,14 @@ module _ (laws : LinkLaws) where
   pub went_again : (m n : Moment) (o : Stand) → IsWaiting m n → Answers n.at Again o → IsGoing m (moment o n.calls)
   went_again m n o g answers = (
     Waited Again [] ∷ g.0,
-    went_on m n (moment o n.calls) g.0 (Waited Again []) g.1 (ap (λ (l : Talk). l.who) answers.talk) (answered n (moment o n.calls) Again [] answers.told answers.passed (sym (append-nil n.calls)))
-        (λ past h. still_stands n.at.talk o.talk past answers.talk h)
+    went_on m n (moment o n.calls) g.0 (Waited Again []) g.1 (ap (λ (l : LinkState). l.who) answers.link) (answered n (moment o n.calls) Again [] answers.told answers.passed (sym (append-nil n.calls)))
+        (λ past h. still_stands n.at.link o.link past answers.link h)
         (λ past h. sym (append-nil (deposits_of_sessions past)))
         (λ past h orderly. (refl, g.2, orderly)),
     λ live. tt,
   )
 
-  cut_how : (l : Talk) (s : Session) (how : How) → l.kept ≡ None → l.unread ≡ [] → how_cut l s how ≡ how_then how (CutAfter (length s.came) false)
+  cut_how : (l : LinkState) (s : Session) (how : How) → l.pending.kept ≡ None → l.unread ≡ [] → how_cut l s how ≡ how_then how (CutAfter (length s.came) false)
   cut_how l s Going kept unread =
       let none : length s.came - 0 ≡ length s.came = omega arith in
       (λ i. CutAfter (length s.came - length (unread i)) (is_kept (kept i))) ∙ ap (λ (n : ℕ). CutAfter n false) none
@@ -267,31 +267,31 @@ module _ (laws : LinkLaws) where
   cut_how l s (CutAfter n b) kept unread = refl
 
   -- a cut of a link that keeps nothing and has nothing unread is what silence does
-  silent_cut : (l : Talk) (past : List Session) (deposits : List Deposit) → l.kept ≡ None → l.unread ≡ [] → cut_past l past deposits ≡ with_newest_deposits (sessions_after_silence past) deposits
+  silent_cut : (l : LinkState) (past : List Session) (deposits : List Deposit) → l.pending.kept ≡ None → l.unread ≡ [] → cut_past l past deposits ≡ with_newest_deposits (sessions_after_silence past) deposits
   silent_cut l [] deposits kept unread = refl
   silent_cut l (s ∷ ss) deposits kept unread =
       (λ i. with_calls (record { came = s.came; taken = s.taken; how = cut_how l s s.how kept unread i; is_cut = true; calls = s.calls }) deposits ∷ ss)
 
-  went_cutting : (m n : Moment) (o : Stand) (later : List Deposit) (g : IsWaiting m n) (mid : Stand) → Answers n.at Silent mid → Turns mid o → (k : Cuts mid.talk o.talk n.calls later)
+  went_cutting : (m n : Moment) (o : Stand) (later : List Deposit) (g : IsWaiting m n) (mid : Stand) → Answers n.at Silent mid → Turns mid o → (k : Cuts mid.link o.link n.calls later)
       → Went m (moment o later) (Waited Silent k.deposits ∷ g.0)
   went_cutting m n o later g mid answers turns k =
       let told : Tells n.at.told (Silent ∷ []) o.told = let P : Option (List Answer) → Type 0 = λ t. Tells n.at.told (Silent ∷ []) t in subst P (sym turns.told) answers.told in
-      let kept : mid.talk.kept ≡ None = ap (λ (l : Talk). l.kept) answers.talk ∙ g.3.kept in
-      let unread : mid.talk.unread ≡ [] = ap (λ (l : Talk). l.unread) answers.talk ∙ g.4 in
-      went_on m n (moment o later) g.0 (Waited Silent k.deposits) g.1 (k.same ∙ ap (λ (l : Talk). l.who) answers.talk)
+      let kept : mid.link.kept ≡ None = ap (λ (l : LinkState). l.pending.kept) answers.link ∙ g.3.kept in
+      let unread : mid.link.unread ≡ [] = ap (λ (l : LinkState). l.unread) answers.link ∙ g.4 in
+      went_on m n (moment o later) g.0 (Waited Silent k.deposits) g.1 (k.same ∙ ap (λ (l : LinkState). l.who) answers.link)
       (answered n (moment o later) Silent k.deposits told (turns.passed ∙ answers.passed) k.desk)
-      (λ past h. let P : List Session → Type 0 = StandsFor o.talk in subst P (silent_cut mid.talk past k.deposits kept unread) (k.stands past (still_stands n.at.talk mid.talk past answers.talk h)))
-      (λ past h. silent_view n.at.talk past k.deposits (quiet_live n.at.talk g.3) h ∙ ap (λ (c : List Deposit). deposits_of_sessions past ++ c) (sym (all_deposits k.deposits)))
+      (λ past h. let P : List Session → Type 0 = StandsFor o.link in subst P (silent_cut mid.link past k.deposits kept unread) (k.stands past (still_stands n.at.link mid.link past answers.link h)))
+      (λ past h. silent_view n.at.link past k.deposits (quiet_live n.at.link g.3) h ∙ ap (λ (c : List Deposit). deposits_of_sessions past ++ c) (sym (all_deposits k.deposits)))
       (λ past h orderly. (tt, g.2, orderly))
 
-  pub went_cut : (m n : Moment) (o : Stand) (later : List Deposit) (mid : Stand) → IsWaiting m n → Answers n.at Silent mid → Turns mid o → Cuts mid.talk o.talk n.calls later → IsOver o.talk → IsGoing m (moment o later)
+  pub went_cut : (m n : Moment) (o : Stand) (later : List Deposit) (mid : Stand) → IsWaiting m n → Answers n.at Silent mid → Turns mid o → Cuts mid.link o.link n.calls later → IsOver o.link → IsGoing m (moment o later)
   went_cut m n o later mid g answers turns k over = (
     Waited Silent k.deposits ∷ g.0,
     went_cutting m n o later g mid answers turns k,
-    λ live. let dead : is_live o.talk ≡ false = laws.over_dead o.talk over in absurd (cc (dead, live)),
+    λ live. let dead : is_live o.link ≡ false = laws.over_dead o.link over in absurd (cc (dead, live)),
   )
 
-  pub went_cut_over : (m n : Moment) (o : Stand) (later : List Deposit) (mid : Stand) → IsWaiting m n → Answers n.at Silent mid → Turns mid o → Cuts mid.talk o.talk n.calls later → WorksUntil m (moment o later) ending.TermOver
+  pub went_cut_over : (m n : Moment) (o : Stand) (later : List Deposit) (mid : Stand) → IsWaiting m n → Answers n.at Silent mid → Turns mid o → Cuts mid.link o.link n.calls later → WorksUntil m (moment o later) ending.TermOver
   went_cut_over m n o later mid g answers turns k = (Waited Silent k.deposits ∷ g.0, went_cutting m n o later g mid answers turns k, tt)
 
 -- ---- the desk was asked whether the term is over

@@ -3,7 +3,7 @@ use Rattle.std.specs.Prelude.{◌≡◌, List, [], ◌∷◌, ◌++◌, map}
 use Rattle.dmr_wire.specs.Told.{Answer}
 use Rattle.dmr_link.specs.Notices.{Notice}
 use Rattle.dmr_link.specs.declared.stream.Peer.{Peer}
-use Rattle.dmr_link.specs.declared.talk.Talk.{Talk}
+use Rattle.dmr_link.specs.declared.link_state.LinkState.{LinkState}
 use Rattle.dmr_link.specs.Happenings.{answers_in}
 use Rattle.dmr_link.specs.Owed.{OwesMeaning, IsFirst, notices_owed}
 use Rattle.dmr_link.specs.Peers.{text_to_peer}
@@ -50,7 +50,7 @@ AreAccounted who (s ∷ ss) done owing =
 -- ONE MEANING: what came on all connections of a link, one after another, means what was done, and then what the link owes; the
 -- events of what was done are those that the desk took of these connections, in its order. So it is with each connection, and each
 -- took its text, or a first part
-pub record IsOneMeaning (link : Talk) (past : List Session) : Type 0 where
+pub record IsOneMeaning (link : LinkState) (past : List Session) : Type 0 where
   pub done : List Notice
   pub means : AllMean link.who past (done ++ notices_owed link)
   pub events : events_in done ≡ map (λ d. d.event) (deposits_of_sessions past)

@@ -33,7 +33,7 @@ carrier_of_peer Operator = None
 
 -- there is one station for each carrier of the plan, by number
 abbrev pub AreStations : Settings → List Stand → Type 0
-AreStations plan stations = map (λ (s : Stand). carrier_of_peer s.talk.who) stations ≡ map (λ (n : ℕ). Some n) (carrier_numbers plan)
+AreStations plan stations = map (λ (s : Stand). carrier_of_peer s.link.who) stations ≡ map (λ (n : ℕ). Some n) (carrier_numbers plan)
 
 -- of actors that have all done their part, this is the least that ended because the term was over, though the journal was below its
 -- limit

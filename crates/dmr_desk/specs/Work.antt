@@ -5,13 +5,13 @@ use Rattle.dmr_link.specs.declared.desk.Deposit.{Deposit}
 use Rattle.dmr_link.specs.declared.ended.Ended.{Ended}
 use Rattle.dmr_link.specs.declared.ended.Ended.TheVariants as ended
 use Rattle.dmr_link.specs.declared.stream.Peer.{Peer}
-use Rattle.dmr_link.specs.declared.talk.Talk.{Talk}
+use Rattle.dmr_link.specs.declared.link_state.LinkState.{LinkState}
 use Rattle.dmr_link.specs.Happenings.{Happening, Answered, Handed, answers_in, deposits_in, passages_in, Outside, stage_after_all, stage_at, passages_of, EndsInBlock}
 use Rattle.dmr_link.specs.Limits.{most_reads}
 use Rattle.dmr_link.specs.Passages.{Passage}
 use Rattle.dmr_link.specs.Recorded.{sessions_after_silence}
 use Rattle.dmr_link.specs.Sessions.{Session, new_session, with_calls, hearing_at, hearing_after_answers, reads_in, AreOfWire, IsQuiet, IsOver, StandsFor, sessions_after, KeepsTurns, Sides, sides, Happens}
-use Rattle.dmr_link.specs.Talks.{is_live}
+use Rattle.dmr_link.specs.LinkSteps.{is_live}
 use Rattle.dmr_desk.specs.declared.ending.Ending.{Ending}
 use Rattle.dmr_desk.specs.declared.ending.Ending.TheVariants as ending
 
@@ -19,12 +19,12 @@ use Rattle.dmr_desk.specs.declared.ending.Ending.TheVariants as ending
 
 -- its link, the record that its port tells, and the record that its gate tells
 pub record Stand : Type 0 where
-  pub talk : Talk
+  pub link : LinkState
   pub told : Option (List Answer)
   pub passed : Option (List Passage)
 
-abbrev pub stand : Talk → Option (List Answer) → Option (List Passage) → Stand
-stand talk told passed = record { talk = talk; told = told; passed = passed }
+abbrev pub stand : LinkState → Option (List Answer) → Option (List Passage) → Stand
+stand link told passed = record { link = link; told = told; passed = passed }
 
 -- it, and what the desk took so far
 pub record Moment : Type 0 where
@@ -41,12 +41,12 @@ sides_at at calls = sides at.told calls at.passed
 -- the port gave this answer, and nothing else has changed
 pub record Answers (before : Stand) (answer : Answer) (after : Stand) : Type 0 where
   pub told : Tells before.told (answer ∷ []) after.told
-  pub talk : after.talk ≡ before.talk
+  pub link : after.link ≡ before.link
   pub passed : after.passed ≡ before.passed
 
 -- the link changed, and of the same peer it is still
 pub record Turns (before : Stand) (after : Stand) : Type 0 where
-  pub who : after.talk.who ≡ before.talk.who
+  pub who : after.link.who ≡ before.link.who
   pub told : after.told ≡ before.told
   pub passed : after.passed ≡ before.passed
 
@@ -116,7 +116,7 @@ IsWait answer deposits = ⊥
 
 -- no connection is open, and nothing is owed
 abbrev pub Rests : List Session → Type 0
-Rests past = (link : Talk) × IsOver link × StandsFor link past
+Rests past = (link : LinkState) × IsOver link × StandsFor link past
 
 -- a call of `serve` may begin at the start, at an opening, after an Again, and after the `most_reads` reads of the call before
 abbrev pub MayBeginServe : List Doing → Type 0
@@ -160,14 +160,14 @@ IsOrderly who past (Waited answer deposits ∷ earlier) = IsWait answer deposits
 
 -- these steps were done
 pub record Went (m : Moment) (n : Moment) (doings : List Doing) : Type 0 where
-  pub who : n.at.talk.who ≡ m.at.talk.who
+  pub who : n.at.link.who ≡ m.at.link.who
   -- what port, desk and gate tell goes on by what happened, and by nothing else
   pub happens : Happens (sides_at m.at m.calls) (happened_of doings) (sides_at n.at n.calls)
   -- whatever connections the link stood for, it stands for what these steps make of them
-  pub stands : (past : List Session) → StandsFor m.at.talk past → StandsFor n.at.talk (past_after past doings)
+  pub stands : (past : List Session) → StandsFor m.at.link past → StandsFor n.at.link (past_after past doings)
   -- what the desk took in these steps is, in one list, what it took of these connections since
-  pub view : (past : List Session) → StandsFor m.at.talk past → deposits_of_sessions (past_after past doings) ≡ deposits_of_sessions past ++ deposits_in (happened_of doings)
-  pub orderly : (past : List Session) → StandsFor m.at.talk past → IsOrderly m.at.talk.who past doings
+  pub view : (past : List Session) → StandsFor m.at.link past → deposits_of_sessions (past_after past doings) ≡ deposits_of_sessions past ++ deposits_in (happened_of doings)
+  pub orderly : (past : List Session) → StandsFor m.at.link past → IsOrderly m.at.link.who past doings
 
 -- the last answer to an ask was that there will be no more connections
 abbrev pub HasFinished : List Doing → Type 0
@@ -180,24 +180,24 @@ WasShut (Served happened ended.GateShut ∷ earlier) = Unit {0}
 WasShut other = ⊥
 
 -- a worker has finished only where no connection is open and nothing is owed
-abbrev pub EndsFor : Ending → Talk → List Doing → Type 0
-EndsFor ending.Finished talk doings = HasFinished doings × IsOver talk
-EndsFor ending.GateShut talk doings = WasShut doings
-EndsFor ending.TermOver talk doings = Unit {0}
+abbrev pub EndsFor : Ending → LinkState → List Doing → Type 0
+EndsFor ending.Finished link doings = HasFinished doings × IsOver link
+EndsFor ending.GateShut link doings = WasShut doings
+EndsFor ending.TermOver link doings = Unit {0}
 
 -- the whole work
 abbrev pub WorksUntil : Moment → Moment → Ending → Type 0
-WorksUntil m n e = (doings : List Doing) × Went m n doings × EndsFor e n.at.talk doings
+WorksUntil m n e = (doings : List Doing) × Went m n doings × EndsFor e n.at.link doings
 
 -- ---- on the way
 
 -- it goes on: to a call of `serve`, or to an ask
 abbrev pub Going : Moment → Moment → Type 0
-Going m n = (doings : List Doing) × Went m n doings × (is_live n.at.talk ≡ true → MayBeginServe doings)
+Going m n = (doings : List Doing) × Went m n doings × (is_live n.at.link ≡ true → MayBeginServe doings)
 
 -- it is about to wait
 abbrev pub IsAboutToWait : Moment → Moment → Type 0
-IsAboutToWait m n = (doings : List Doing) × Went m n doings × MayWait doings × IsQuiet n.at.talk × (n.at.talk.unread ≡ [])
+IsAboutToWait m n = (doings : List Doing) × Went m n doings × MayWait doings × IsQuiet n.at.link × (n.at.link.unread ≡ [])
 
 abbrev pub GoesOn : Moment → Moment → Option Ending → Type 0
 GoesOn m n None = Going m n

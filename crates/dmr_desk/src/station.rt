@@ -5,7 +5,7 @@ ghost use Rattle.dmr_core.specs.declared.event.Event.{Event as AnEvent};
 ghost use Rattle.dmr_link.specs.declared.desk.TermOver.{TermOver as ATermOver};
 ghost use Rattle.dmr_wire.specs.Told.{Tells, of_connect, of_wait};
 ghost use Rattle.dmr_link.specs.Sessions.{Session, new_session, StandsFor, IsOver, Serves, Cuts};
-ghost use Rattle.dmr_link.specs.Talks.{is_live};
+ghost use Rattle.dmr_link.specs.LinkSteps.{is_live};
 ghost use Rattle.dmr_desk.specs.Work.{Stand, Answers, Turns, sides_at};
 
 use dmr_link::{ConsoleLink, Desk, Ended, Gate, Link, TermOver};
@@ -41,7 +41,7 @@ pub trait Serving {
 
     /// Whether the link is live.
     fn live(&self) -> bool
-        ensures { result ≡ is_live (stand self.now).talk };
+        ensures { result ≡ is_live (stand self.now).link };
 
     /// Asks the port for the next connection.
     fn connect(&mut self) -> Connect
@@ -49,14 +49,14 @@ pub trait Serving {
 
     /// Begins a connection.
     fn open(&mut self)
-        requires { is_live (stand self.old).talk ≡ false }
+        requires { is_live (stand self.old).link ≡ false }
         ensures turns { Turns (stand self.old) (stand self.new) }
-        ensures stands { (past : List Session) → StandsFor (stand self.old).talk past → StandsFor (stand self.new).talk (new_session ∷ past) };
+        ensures stands { (past : List Session) → StandsFor (stand self.old).link past → StandsFor (stand self.new).link (new_session ∷ past) };
 
     /// Serves the link until it has to stop.
     fn serve<D: Desk>(&mut self, desk: &mut D) -> Ended
         ensures actor { D.actor desk.new ≡ D.actor desk.old }
-        ensures serves { Serves (stand self.old).talk (stand self.new).talk (sides_at (stand self.old) (D.calls desk.old)) (sides_at (stand self.new) (D.calls desk.new)) result }
+        ensures serves { Serves (stand self.old).link (stand self.new).link (sides_at (stand self.old) (D.calls desk.old)) (sides_at (stand self.new) (D.calls desk.new)) result }
         ensures over { result ≡ Ended.TermOver → (before : _) × (event : AnEvent) × (over : ATermOver) × D.refuses before event over desk.new }
         ensures shut { result ≡ Ended.GateShut → shut self.new };
 
@@ -66,11 +66,11 @@ pub trait Serving {
 
     /// Cuts the link.
     fn cut<D: Desk>(&mut self, desk: &mut D) -> Result<(), TermOver>
-        requires { is_live (stand self.old).talk ≡ true }
+        requires { is_live (stand self.old).link ≡ true }
         ensures actor { D.actor desk.new ≡ D.actor desk.old }
         ensures turns { Turns (stand self.old) (stand self.new) }
-        ensures cuts { Cuts (stand self.old).talk (stand self.new).talk (D.calls desk.old) (D.calls desk.new) }
-        ensures done { IfOk result (λ _. IsOver (stand self.new).talk) }
+        ensures cuts { Cuts (stand self.old).link (stand self.new).link (D.calls desk.old) (D.calls desk.new) }
+        ensures done { IfOk result (λ _. IsOver (stand self.new).link) }
         ensures over { IfErr result (λ over. (before : _) × (event : AnEvent) × D.refuses before event over desk.new) };
 }
 

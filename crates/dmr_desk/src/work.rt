@@ -3,18 +3,19 @@
 ghost use Rattle.std.specs.Prelude.{◌≡◌, ◌⊎◌, true, false, None, Some};
 ghost use Rattle.dmr_core.specs.declared.event.Event.{Event as AnEvent};
 ghost use Rattle.dmr_link.specs.declared.desk.TermOver.{TermOver as ATermOver};
-ghost use Rattle.dmr_link.specs.Talks.{is_live};
+ghost use Rattle.dmr_link.specs.LinkSteps.{is_live};
 ghost use Rattle.dmr_desk.specs.Work.{stand, moment, Going, IsAboutToWait, GoesOn, WorksUntil};
 
 use crate::ending::Ending;
 use crate::station::{ConsoleStation, Serving, Station};
-use dmr_link::{Desk, Ended, Gate, happenings_follow, links_rest};
+use dmr_link::laws::{happenings_follow, links_rest};
+use dmr_link::{Desk, Ended, Gate};
 use dmr_wire::{Connect, Port, Waited};
 use std::sync::Wait;
 
 /// Asks once for a connection, and begins it where there is one. `Some` where the work is at its end.
 fn connect<S: Serving, D: Desk>(station: &mut S, desk: &mut D) -> Option<Ending>
-    requires { is_live (S.stand station.old).talk ≡ false }
+    requires { is_live (S.stand station.old).link ≡ false }
     ensures actor { D.actor desk.new ≡ D.actor desk.old }
     ensures goes { (m : _) → Going m (moment (S.stand station.old) (D.calls desk.old)) → GoesOn m (moment (S.stand station.new) (D.calls desk.new)) result }
     ensures shut { result ≡ Some Ending.GateShut → ⊥ }
@@ -37,7 +38,7 @@ fn connect<S: Serving, D: Desk>(station: &mut S, desk: &mut D) -> Option<Ending>
 
 /// Waits, behind a read that would block, and cuts the link where the other side was silent. `Some` where the work is at its end.
 fn wait<S: Serving, D: Desk>(station: &mut S, desk: &mut D) -> Option<Ending>
-    requires { is_live (S.stand station.old).talk ≡ true }
+    requires { is_live (S.stand station.old).link ≡ true }
     ensures actor { D.actor desk.new ≡ D.actor desk.old }
     ensures goes { (m : _) → IsAboutToWait m (moment (S.stand station.old) (D.calls desk.old)) → GoesOn m (moment (S.stand station.new) (D.calls desk.new)) result }
     ensures shut { result ≡ Some Ending.GateShut → ⊥ }
@@ -59,7 +60,7 @@ fn wait<S: Serving, D: Desk>(station: &mut S, desk: &mut D) -> Option<Ending>
 
 /// Serves the link once, and waits where a read would block. `Some` where the work is at its end.
 fn serve<S: Serving, D: Desk>(station: &mut S, desk: &mut D) -> Option<Ending>
-    requires { is_live (S.stand station.old).talk ≡ true }
+    requires { is_live (S.stand station.old).link ≡ true }
     ensures actor { D.actor desk.new ≡ D.actor desk.old }
     ensures goes { (m : _) → Going m (moment (S.stand station.old) (D.calls desk.old)) → GoesOn m (moment (S.stand station.new) (D.calls desk.new)) result }
     ensures shut { result ≡ Some Ending.GateShut → S.shut station.new }

@@ -39,7 +39,7 @@ moved_frame t u f e h = let P : FrameTable → Type 0 = λ table. IsFrame (versi
 no_more : (table : FrameTable) (octets : List ℕ) (fs : List FrameIn) (r : Rest) → Reads table octets fs r → Reads table octets (fs ++ []) r
 no_more table octets fs r h = let P : List FrameIn → Type 0 = λ gs. Reads table octets gs r in subst P (sym (append-nil fs)) h
 
--- the octets behind the frames, with one more of them
+-- the octets after the frames, with one more of them
 longer_by : (fs : List FrameIn) (octets tail q : List ℕ) (x : ℕ) → octets ≡ flat_map spelling fs ++ tail → tail ≡ q → octets ++ x ∷ [] ≡ flat_map spelling fs ++ (q ++ x ∷ [])
 longer_by fs octets tail q x e d = ap (λ (o : List ℕ). o ++ x ∷ []) (e ∙ ap (λ (t : List ℕ). flat_map spelling fs ++ t) d) ∙ append_assoc (flat_map spelling fs) q (x ∷ [])
 

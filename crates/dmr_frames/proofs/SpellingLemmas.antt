@@ -23,7 +23,7 @@ same_words v w x y lv lw e =
 abbrev first_octet : List ℕ → ℕ
 first_octet octets = get_or octets 0 0
 
--- two bursts, behind their type: whether each has a number is told by its length octet
+-- two bursts, after their type: whether each has a number is told by its length octet
 same_bursts : (m n : Option ℕ) (s t : ℕ) (v w : List Bool) (x y : List ℕ) → length v ≡ 196 → length w ≡ 196 →
     body_length (has_numbers (version_by m)) kind.Tx ∷ (burst_octets m s (word_octets v) ++ x) ≡ body_length (has_numbers (version_by n)) kind.Tx ∷ (burst_octets n t (word_octets w) ++ y) → (m ≡ n) × (s ≡ t) × (v ≡ w) × (x ≡ y)
 same_bursts None None s t v w x y lv lw e =
@@ -84,7 +84,7 @@ length-burst : (number : Option ℕ) (slot : ℕ) (word : List Bool) → length 
 length-burst None slot word = omega (arith, (word_octets-octets word).len)
 length-burst (Some n) slot word = omega (arith, (word_octets-octets word).len)
 
--- the second octet counts those behind it
+-- the second octet counts those after it
 pub length-spelling : (f : FrameIn) → length (spelling f) ≡ get_or (spelling f) 1 0 + 2
 length-spelling (Hello v c l) = omega arith
 length-spelling (Rx number slot word) = omega (arith, length-burst number slot word)

@@ -20,7 +20,7 @@ use Rattle.dmr_frames.proofs.ShapeLemmas.{open-from_shape, shape-from_open}
 no_truth : false ≡ true → ⊥
 no_truth e = cc
 
--- behind a known type octet only octets of its frame follow
+-- after a known type octet only octets of its frame follow
 same_kind : (v : Version) (octet : ℕ) (k : FrameKind) (rest : List ℕ) → carrier_kind v octet ≡ Some k → Follows v octet rest → (body : List ℕ) × IsWhole (has_numbers v) k body × (rest ≡ body_length (has_numbers v) k ∷ body)
 same_kind v octet k rest known h =
     let same : h.which ≡ k = some_same h.which k (sym h.known ∙ known) in

@@ -147,14 +147,14 @@ zero_none b (f ∷ fields) place = at (nat_lt place (field_length b f)) (zero_no
     at true later = zero-field f place
     at false later = later
 
--- a place behind a field is one of the fields behind it
+-- a place after a field is one of the fields after it
 behind_field : (b : Bool) (f : Field) (fields : List Field) (place n x : ℕ) → field_length b f + n ≡ place → fields_fault b (f ∷ fields) place x ≡ fields_fault b fields n x
 behind_field b f fields place n x e =
     let past : nat_lt place (field_length b f) ≡ false = le-ltb place (field_length b f) (omega (arith, e)) in
     let left : place - field_length b f ≡ n = omega (arith, e) in
     rw (past, left) refl
 
--- a place behind the slot of an RX is one of its word
+-- a place after the slot of an RX is one of its word
 pub plain_word : (i x : ℕ) → body_fault false kind.Rx (suc i) x ≡ fields_fault false (field.Word ∷ []) i x
 plain_word i x = behind_field false field.Number (field.Slot ∷ field.Word ∷ []) (suc i) (suc i) x (omega arith) ∙ behind_field false field.Slot (field.Word ∷ []) (suc i) i x (omega arith)
 

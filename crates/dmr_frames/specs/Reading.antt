@@ -21,7 +21,7 @@ unfoldable pub hello_step : List ℕ → Step
 hello_step (version ∷ carrier ∷ high ∷ low ∷ []) = Frame (Hello version carrier (256 * high + low))
 hello_step body = Need
 
--- a slot and a word, behind their number
+-- a slot and a word, after their number
 unfoldable pub burst_step : Option ℕ → List ℕ → Step
 burst_step number [] = Need
 burst_step number (slot ∷ octets) = Frame (Rx number slot (word_of octets))
@@ -62,7 +62,7 @@ unfoldable pub body_step : Bool → FrameKind → List ℕ → ℕ → Step
 body_step numbered kind body x = unless_fault (body_fault numbered kind (length body) x)
     (if nat_lt (length body + 1) (body_length numbered kind) then Need else whole_step numbered kind (body ++ x ∷ []))
 
--- at an octet behind the type octet of this frame and these octets
+-- at an octet after the type octet of this frame and these octets
 unfoldable pub kind_step : Bool → Option FrameKind → List ℕ → ℕ → Step
 kind_step numbered None rest x = Fault UnknownType
 kind_step numbered (Some kind) [] x = length_step numbered kind x

@@ -42,7 +42,7 @@ abbrev pub IsActiveBody : List ℕ → Type 0
 IsActiveBody [] = ⊥
 IsActiveBody (slot ∷ more) = slot < 2
 
--- octets from which a frame can follow, behind the type octet of this frame
+-- octets from which a frame can follow, after the type octet of this frame
 abbrev pub IsShapeOf : Bool → Option FrameKind → List ℕ → Type 0
 IsShapeOf numbered None rest = ⊥
 IsShapeOf numbered (Some kind) [] = Unit {0}

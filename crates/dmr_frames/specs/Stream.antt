@@ -1,4 +1,4 @@
--- A stream of octets: frames, and a rest. The first frame chooses the version of those behind it.
+-- A stream of octets: frames, and a rest. The first frame chooses the version of those after it.
 use Rattle.std.specs.Prelude.{◌≡◌, ℕ, ◌+◌, Bool, List, [], ◌∷◌, ◌++◌, length, Option, Some, None, if◌then◌else◌, ◌==◌, ◌||◌}
 use Rattle.std.specs.List.{flat_map}
 use Rattle.dmr_frames.specs.declared.frame.FrameIn.{FrameIn}
@@ -44,7 +44,7 @@ pub record IsFaulty (version : Version) (octets : List ℕ) (cause : Cause) : Ty
   pub no_frame : Begins version (front ++ octet ∷ []) → ⊥
   pub cause_is : fault_at (has_numbers version) (length front) ≡ Some cause
 
--- octets behind the last whole frame, by the table there, and what they are
+-- octets after the last whole frame, by the table there, and what they are
 abbrev pub IsRest : FrameTable → List ℕ → Rest → Type 0
 IsRest table octets (Open t q) = (table ≡ t) × (octets ≡ q) × IsOpen (version_of t) q
 IsRest table octets (Faulty cause) = IsFaulty (version_of table) octets cause

@@ -66,7 +66,7 @@ abbrev pub fields_length : Bool → List Field → ℕ
 fields_length numbered [] = 0
 fields_length numbered (field ∷ fields) = field_length numbered field + fields_length numbered fields
 
--- how many octets a frame has behind its length octet
+-- how many octets a frame has after its length octet
 abbrev pub body_length : Bool → FrameKind → ℕ
 body_length numbered kind = fields_length numbered (frame_row kind).body
 

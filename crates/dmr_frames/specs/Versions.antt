@@ -52,11 +52,11 @@ abbrev pub version_of : FrameTable → Version
 version_of (First greatest) = V1
 version_of (Later version) = version
 
--- the table behind a frame: the first frame chooses it for all others
+-- the table after a frame: the first frame chooses it for all others
 abbrev pub table_after : FrameTable → FrameIn → FrameTable
 table_after (First greatest) f = Later (chosen_by greatest f)
 table_after (Later version) f = Later version
 
--- the table behind frames
+-- the table after frames
 abbrev pub table_after_frames : FrameTable → List FrameIn → FrameTable
 table_after_frames table frames = fold table_after table frames

@@ -90,7 +90,7 @@ impl Cutter {
     /// which the octets since the last frame begin no frame at all: `UnknownType`, `BadLength`, `BadSlot` or `BadPad`.
     /// From then on every octet is answered with that same fault.
     ///
-    /// The first frame is cut by the table of version 1, and those behind it by that of the version which it chose.
+    /// The first frame is cut by the table of version 1, and those after it by that of the version which it chose.
     pub fn feed_byte(&mut self, octet: u8) -> Step
         // Where the octets so far are the spellings of these frames and a rest, they still are with this octet and
         // with the frame that it brings, if it brings one.
@@ -238,7 +238,7 @@ fn read_rx(numbered: bool, body: &[u8]) -> Step
     }
 }
 
-/// Returns the RX of a slot and a word, behind the number, if there is one.
+/// Returns the RX of a slot and a word, after the number, if there is one.
 #[tactic(auto, unfolding(crate::specs::Reading::burst_step))]
 fn read_burst(number: Option<u8>, burst: &[u8]) -> Step
     requires { IsBurst burst.now }

@@ -5,13 +5,13 @@
 //! `write_frame` spells the frames that go to a carrier. Nothing here takes memory.
 //!
 //! The versions differ in RX and TX, which in version 2 have a number octet before the slot. The first frame of a connection is of
-//! version 1; where it is a HELLO of version 2, and version 2 is served, those behind it are of version 2.
+//! version 1; where it is a HELLO of version 2, and version 2 is served, those after it are of version 2.
 #![tactic(auto)]
 
 mod cutter;
 mod display;
 mod frame;
-mod law;
+pub mod laws;
 mod table;
 mod version;
 mod whole;
@@ -19,7 +19,6 @@ mod write;
 
 pub use cutter::{Cutter, Step};
 pub use frame::{Cause, FrameIn, FrameOut, LONGEST_FRAME, Refusal};
-pub use law::{limits_are_stated, one_reading, spellings_part};
 pub use table::{Field, FrameKind, FrameRow};
 pub use version::{FrameTable, Version};
 pub use whole::whole_frame;

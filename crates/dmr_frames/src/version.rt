@@ -83,7 +83,7 @@ impl Version {
         }
     }
 
-    /// The version that a connection's first frame chooses for those behind it, where versions up to this one are served: a HELLO that of
+    /// The version that a connection's first frame chooses for those after it, where versions up to this one are served: a HELLO that of
     /// its octet, if that is served; any other frame version 1.
     pub fn chosen_by(self, frame: &FrameIn) -> Version
         ensures { result ≡ chosen_by self frame.now }
@@ -103,7 +103,7 @@ impl Version {
 pub enum FrameTable {
     /// No frame has come yet: the first has the spelling of version 1. Versions up to this one are served.
     First(Version),
-    /// The first frame has come, and those behind it are of this version.
+    /// The first frame has come, and those after it are of this version.
     Later(Version),
 }
 
@@ -118,7 +118,7 @@ impl FrameTable {
         }
     }
 
-    /// The table behind a frame: a first frame that is a HELLO of a version that is served chooses it, any other version 1.
+    /// The table after a frame: a first frame that is a HELLO of a version that is served chooses it, any other version 1.
     pub fn after(self, frame: &FrameIn) -> FrameTable
         ensures { result ≡ table_after self frame.now }
     {

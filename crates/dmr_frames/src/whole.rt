@@ -9,7 +9,7 @@ use crate::frame::FrameIn;
 use crate::version::{FrameTable, Version};
 
 /// The frame from a carrier, of this version of the link format, whose spelling these octets are, from the first to the last.
-/// `None` where they are none: a part of a frame, a fault, a frame with octets behind it, an RX of the other version, or no octets.
+/// `None` where they are none: a part of a frame, a fault, a frame with octets after it, an RX of the other version, or no octets.
 pub fn whole_frame(version: Version, octets: &[u8]) -> Option<FrameIn>
     ensures found { IfSome result (λ f. IsFrame version f × (octets.now ≡ spelling f)) }
     ensures only { (f : FrameIn) → IsFrame version f → octets.now ≡ spelling f → result ≡ Some f }

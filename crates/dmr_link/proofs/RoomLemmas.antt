@@ -13,14 +13,12 @@ use Rattle.dmr_frames.specs.declared.frame.FrameOut.{FrameOut}
 use Rattle.dmr_frames.specs.declared.frame.FrameOut.TheVariants as out
 use Rattle.dmr_link.specs.declared.connection.CarrierIdentity.{CarrierIdentity}
 use Rattle.dmr_link.specs.declared.connection.Connection.{Connection}
-use Rattle.dmr_link.specs.declared.connection.Connection.TheVariants.{Closed, Waiting, Running}
-use Rattle.dmr_link.specs.declared.connection.Turn.{Turn}
 use Rattle.dmr_link.specs.Meaning.{list_of_notice}
+use Rattle.dmr_link.specs.Notices.{Notice}
 use Rattle.dmr_link.specs.Numbering.{frame_text}
 use Rattle.dmr_link.specs.Room.{length_of_tx, most_in, numbered_after_all}
 use Rattle.dmr_link.specs.Session.{transmissions}
 use Rattle.dmr_link.specs.Steps.{notice_of_octet, connection_after_octet, notices_of_octets}
-use Rattle.dmr_link.specs.Turns.{turn_at, brings_on}
 use Rattle.dmr_link.proofs.OneOctetMore.{most_goes}
 
 -- all octets were counted
@@ -33,20 +31,13 @@ room_whole room who numbered trial octets i whole past fits e =
     counted : (room more whole : ℕ) → more ≡ 0 → room ≤ 2 ^ 64 - 1 → min (room + more) (2 ^ 64 - 1) ≡ whole → room ≡ whole
     counted room more whole none fits e = omega (arith, none, fits, e)
 
--- what a turn brings is what its octet brings
-turn_brings : (who : CarrierIdentity) (k : Connection) (x : ℕ) → brings_on who (turn_at k x) ≡ notice_of_octet who k x
-turn_brings who Closed x = refl
-turn_brings who (Waiting rest) x = refl
-turn_brings who (Running rest newest) x = refl
-
 -- one octet more was counted
-pub room_more : (who : CarrierIdentity) (numbered then : Bool) (k later : Connection) (octets : List ℕ) (i : ℕ) (turn : Turn) (room most more whole : ℕ) → i < length octets → turn ≡ turn_at k (get_or octets i 0) →
-    later ≡ connection_after_octet who k (get_or octets i 0) → then ≡ numbered_after_all numbered (list_of_notice (brings_on who turn)) → most ≡ most_in numbered (list_of_notice (brings_on who turn)) → more ≡ min (room + most) (2 ^ 64 - 1) →
+pub room_more : (who : CarrierIdentity) (numbered then : Bool) (k later : Connection) (octets : List ℕ) (i : ℕ) (brought : Option Notice) (room most more whole : ℕ) → i < length octets → brought ≡ notice_of_octet who k (get_or octets i 0) →
+    later ≡ connection_after_octet who k (get_or octets i 0) → then ≡ numbered_after_all numbered (list_of_notice brought) → most ≡ most_in numbered (list_of_notice brought) → more ≡ min (room + most) (2 ^ 64 - 1) →
     min (room + most_in numbered (notices_of_octets who k (drop i octets))) (2 ^ 64 - 1) ≡ whole → min (more + most_in then (notices_of_octets who later (drop (i + 1) octets))) (2 ^ 64 - 1) ≡ whole
-room_more who numbered then k later octets i turn room most more whole inside at left begun counted sum e =
-    let brings : brings_on who turn ≡ notice_of_octet who k (get_or octets i 0) = ap (brings_on who) at ∙ turn_brings who k (get_or octets i 0) in
+room_more who numbered then k later octets i brought room most more whole inside brings left begun counted sum e =
     added room most more whole _ _
-    (most_goes who who refl k later octets i inside (brings_on who turn) brings left numbered
+    (most_goes who who refl k later octets i inside brought brings left numbered
     ∙ (λ j. sym counted j + most_in (sym begun j) (notices_of_octets who later (drop (i + 1) octets)))) sum e
   where
     added : (room most more whole all rest : ℕ) → all ≡ most + rest → more ≡ min (room + most) (2 ^ 64 - 1) → min (room + all) (2 ^ 64 - 1) ≡ whole → min (more + rest) (2 ^ 64 - 1) ≡ whole

@@ -4,6 +4,8 @@ use Rattle.dmr_frames.specs.declared.frame.FrameIn.{FrameIn}
 use Rattle.dmr_frames.specs.declared.frame.FrameIn.TheVariants as frame
 use Rattle.dmr_frames.specs.declared.frame.Cause.{Cause}
 use Rattle.dmr_frames.specs.declared.frame.Cause.TheVariants as cause
+use Rattle.dmr_frames.specs.declared.frame.Refusal.{Refusal}
+use Rattle.dmr_frames.specs.declared.frame.Refusal.TheVariants as refusal
 use Rattle.dmr_frames.specs.declared.cutter.Step.{Step}
 use Rattle.dmr_frames.specs.declared.cutter.Step.TheVariants.{Need, Frame, Fault}
 use Rattle.dmr_frames.specs.Rest.{Rest, Open, Faulty}
@@ -31,6 +33,11 @@ ended_of (closing.Bad why) = ended.BadFrame why
 abbrev pub fault_of : Rest → Option Closing
 fault_of (Open table octets) = None
 fault_of (Faulty why) = Some (closing.Bad why)
+
+-- why a connection is closed whose HELLO is refused
+abbrev pub cause_of_refusal : Refusal → Cause
+cause_of_refusal refusal.BadVersion = cause.BadVersion
+cause_of_refusal refusal.WrongCarrier = cause.WrongCarrier
 
 -- what is wrong with a first frame that isn't accepted
 abbrev pub wrong_first : CarrierIdentity → FrameIn → Cause

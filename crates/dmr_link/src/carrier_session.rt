@@ -3,12 +3,12 @@
 ghost use Rattle.std.specs.Prelude.{◌≡◌, option_map};
 ghost use Rattle.dmr_link.specs.CarrierSessions.{session_on, is_open, up_by};
 ghost use Rattle.dmr_link.specs.Closing.{closes};
-ghost use Rattle.dmr_link.specs.Notices.{carrier_notice};
+ghost use Rattle.dmr_link.specs.Notices.{notice_meant};
 ghost use Rattle.dmr_link.specs.Sound.{IsConnectionSound};
 ghost use Rattle.dmr_link.specs.Steps.{new_connection, notice_of_octet, connection_after_octet};
 ghost use Rattle.dmr_link.specs.declared.connection.Connection.TheVariants.{Closed as closed};
 
-use crate::connection::{CarrierIdentity, Connection, Received};
+use crate::connection::{CarrierIdentity, Connection, Outcome};
 use dmr_pdu::CarrierNo;
 
 /// A carrier's session: the carrier, and its connection as far as its octets have led.
@@ -63,8 +63,8 @@ impl CarrierSession {
 
     /// Takes the next octet, and says what it brings, and how it closes the connection, if it does. A frame is taken at its last
     /// octet; a fault, and a frame that ends the connection, close it, and from then on octets bring nothing.
-    pub fn receive(&mut self, octet: u8) -> Received
-        ensures notice { option_map carrier_notice result.notice ≡ notice_of_octet self.old.who self.old.connection octet }
+    pub fn receive(&mut self, octet: u8) -> Outcome
+        ensures notice { option_map notice_meant result.notice ≡ notice_of_octet self.old.who self.old.connection octet }
         ensures closing { result.closing ≡ closes self.old.who self.old.connection octet }
         ensures session { self.new ≡ session_on self.old.who (connection_after_octet self.old.who self.old.connection octet) }
         ensures sound { IsConnectionSound self.old.who.greatest self.old.connection → IsConnectionSound self.old.who.greatest self.new.connection }

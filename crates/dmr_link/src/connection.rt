@@ -1,21 +1,24 @@
-//! A carrier's connection, and what its octets bring.
+//! A carrier's connection, and what its octets do to it.
 
-ghost use Rattle.std.specs.Prelude.{◌≡◌, option_map};
+ghost use Rattle.std.specs.Prelude.{◌≡◌, Some, None, false, true, option_map, IfErr, IfOk};
 ghost use Rattle.dmr_burst.specs.Functions.{meaning_of};
-ghost use Rattle.dmr_link.specs.Meaning.{event_of_burst as event_heard, is_served, is_accepted, refusal_of_first as notice_refused, first_brings, is_last, is_repeat, newest_after, event_of as event_of_frame};
-ghost use Rattle.dmr_link.specs.Closing.{closes, wrong_first as the_wrong_first, first_closes, frame_closes};
-ghost use Rattle.dmr_link.specs.Notices.{carrier_notice};
+ghost use Rattle.dmr_frames.specs.Versions.{chosen_by};
+ghost use Rattle.dmr_core.specs.declared.event.Event.TheVariants.{Lost};
+ghost use Rattle.dmr_frames.specs.declared.frame.FrameIn.TheVariants as frame;
+ghost use Rattle.dmr_link.specs.Meaning.{event_of_burst as event_heard, is_accepted, is_repeat as is_newest_again, refusal_of_first};
+ghost use Rattle.dmr_link.specs.Closing.{cause_of_refusal, closes, waiting_closes, running_closes, wrong_first};
+ghost use Rattle.dmr_link.specs.declared.ended.Closing.TheVariants as closed;
+ghost use Rattle.dmr_link.specs.Notices.{Accepted, Happened, Refused, notice_meant};
 ghost use Rattle.dmr_link.specs.Sound.{IsConnectionSound};
-ghost use Rattle.dmr_link.specs.Steps.{new_connection, notice_of_octet, connection_after_octet, running_brings, waiting_leaves, running_leaves};
-ghost use Rattle.dmr_link.specs.Turns.{turn_at, brings_on, closes_on};
+ghost use Rattle.dmr_link.specs.Steps.{new_connection, notice_of_octet, connection_after_octet, running_brings, waiting_brings, waiting_leaves, running_leaves};
 
 use crate::ended::Closing;
-use crate::notices::{CarrierNotice, SiteNotice};
+use crate::notices::{Aside, Notice, SiteNotice};
 use dmr_bits::Word196;
 use dmr_burst::read;
 use dmr_core::Event;
 use dmr_frames::{Cause, Cutter, FrameIn, Refusal, Step, Version};
-use dmr_pdu::{CarrierNo, Lpcn, Slot, SlotNo};
+use dmr_pdu::{CarrierNo, Lpcn, Slot};
 use std::mem::replace;
 
 /// Which carrier a session is for: it has to say HELLO with just these.
@@ -45,18 +48,44 @@ pub enum Connection {
     },
 }
 
-/// What an octet completes on a connection: a step of the cutter, and where the connection stood.
-#[derive(Clone, Copy)]
-pub enum Turn {
-    /// No connection is open.
-    Closed,
-    /// Its first frame had not come whole.
-    Waiting(Step),
-    /// Its carrier was up, and its newest RX had this number, if one.
-    Running(Option<u8>, Step),
+/// What an octet does to a connection: what it brings, and how it closes the connection, if it does.
+#[derive(Clone, Copy, Debug)]
+pub struct Outcome {
+    /// What it brings, if it brings something.
+    pub notice: Option<Notice>,
+    /// How it closes the connection, if it does.
+    pub closing: Option<Closing>,
 }
 
-/// The event of a word that was received in a slot.
+impl CarrierIdentity {
+    /// Returns the version of the link that a HELLO with these numbers chooses, if that is served and the numbers are this carrier's. `Err`
+    /// is why it is refused: for its version before all else.
+    fn accept(&self, version: u8, carrier: u8, lpcn: u16) -> Result<Version, Refusal>
+        ensures ok { IfOk result (λ v. (is_accepted self.now (frame.Hello version carrier lpcn) ≡ true) × (chosen_by self.now.greatest (frame.Hello version carrier lpcn) ≡ v)) }
+        ensures err { IfErr result (λ r. (is_accepted self.now (frame.Hello version carrier lpcn) ≡ false) × (refusal_of_first self.now (frame.Hello version carrier lpcn) ≡ Some (Refused self.now.carrier r)) × (wrong_first self.now (frame.Hello version carrier lpcn) ≡ cause_of_refusal r)) }
+    {
+        let Some(version) = self.greatest.named(version) else {
+            return Err(Refusal::BadVersion);
+        };
+        if u32::from(carrier) == self.carrier.get() && u32::from(lpcn) == self.lpcn.get() {
+            Ok(version)
+        } else {
+            Err(Refusal::WrongCarrier)
+        }
+    }
+}
+
+/// Returns why a connection is closed whose HELLO is refused.
+fn cause_of(refusal: Refusal) -> Cause
+    ensures { result ≡ cause_of_refusal refusal }
+{
+    match refusal {
+        Refusal::BadVersion => Cause::BadVersion,
+        Refusal::WrongCarrier => Cause::WrongCarrier,
+    }
+}
+
+/// Returns the event of a burst that was received in a slot.
 fn heard(slot: Slot, word: &Word196) -> Event
     ensures { result ≡ event_heard slot (meaning_of word.now) }
 {
@@ -66,249 +95,154 @@ fn heard(slot: Slot, word: &Word196) -> Event
     }
 }
 
-/// Whether the carrier is served the version of the link that an octet names.
-fn is_version(who: &CarrierIdentity, version: u8) -> bool
-    ensures { result ≡ is_served who.now version }
+/// Returns whether a burst of this number is the newest one again, which had that number, if one.
+fn is_again(newest: Option<u8>, number: Option<u8>) -> bool
+    ensures { (slot : _) (word : _) → result ≡ is_newest_again newest (frame.Rx number slot word) }
 {
-    who.greatest.named(version).is_some()
-}
-
-/// Whether the first frame of a connection is the HELLO that it should be: of a version that is served, with the carrier's own number and
-/// channel.
-pub fn accepts(who: &CarrierIdentity, frame: &FrameIn) -> bool
-    ensures { result ≡ is_accepted who.now frame.now }
-{
-    match frame {
-        FrameIn::Hello {
-            version,
-            carrier,
-            lpcn,
-        } => {
-            is_version(who, *version)
-                && u32::from(*carrier) == who.carrier.get()
-                && u32::from(*lpcn) == who.lpcn.get()
-        }
+    match (newest, number) {
+        (Some(newest), Some(number)) => number == newest,
         _ => false,
     }
 }
 
-/// The refusal of a first frame that isn't accepted: a HELLO is refused for its version first. Nothing is told to a carrier
-/// that didn't say HELLO.
-fn refused(who: &CarrierIdentity, frame: &FrameIn) -> Option<CarrierNotice>
-    ensures { option_map carrier_notice result ≡ notice_refused who.now frame.now }
+impl Outcome {
+    /// Nothing is brought, and the connection stays as open as it was.
+    pub const NOTHING: Outcome = Outcome {
+        notice: None,
+        closing: None,
+    };
+}
+
+/// A carrier's HELLO is accepted.
+fn accepts(carrier: CarrierNo, version: Version) -> Outcome
+    ensures notice { option_map notice_meant result.notice ≡ Some (Accepted carrier version) }
+    ensures closing { result.closing ≡ None }
 {
-    match frame {
-        FrameIn::Hello { version, .. } => {
-            let refusal = if is_version(who, *version) {
-                Refusal::WrongCarrier
-            } else {
-                Refusal::BadVersion
-            };
-            Some(CarrierNotice::Refused(who.carrier, refusal))
-        }
-        _ => None,
+    Outcome {
+        notice: Some(Notice::Site(SiteNotice::Accepted(carrier, version))),
+        closing: None,
     }
 }
 
-/// What the first frame brings.
-fn first(who: &CarrierIdentity, frame: &FrameIn) -> Option<CarrierNotice>
-    ensures { option_map carrier_notice result ≡ first_brings who.now frame.now }
+/// A carrier's HELLO is refused, which closes the connection.
+fn refuses(carrier: CarrierNo, refusal: Refusal) -> Outcome
+    ensures notice { option_map notice_meant result.notice ≡ Some (Refused carrier refusal) }
+    ensures closing { result.closing ≡ Some (closed.Bad (cause_of_refusal refusal)) }
 {
-    if accepts(who, frame) {
-        let version = who.greatest.chosen_by(frame);
-        let accepted = SiteNotice::Accepted(who.carrier, version);
-        Some(CarrierNotice::Site(accepted))
-    } else {
-        refused(who, frame)
+    Outcome {
+        notice: Some(Notice::Aside(Aside::Refused(carrier, refusal))),
+        closing: Some(Closing::Bad(cause_of(refusal))),
     }
 }
 
-/// Whether a frame ends a connection whose carrier is up.
-fn ends(frame: &FrameIn) -> bool
-    ensures { result ≡ is_last frame.now }
+/// The connection of a carrier that was not up yet is closed for this.
+fn closes_for(cause: Cause) -> Outcome
+    ensures notice { result.notice ≡ None }
+    ensures closing { result.closing ≡ Some (closed.Bad cause) }
 {
-    match frame {
-        FrameIn::Hello { .. } => true,
-        FrameIn::Bye => true,
-        _ => false,
+    Outcome {
+        notice: None,
+        closing: Some(Closing::Bad(cause)),
     }
 }
 
-/// Whether a frame is the newest RX once more, which had this number, if one.
-fn repeats(newest: Option<u8>, frame: &FrameIn) -> bool
-    ensures { result ≡ is_repeat newest frame.now }
+/// Something happens to the site, and the connection stays open.
+fn brings(event: Event) -> Outcome
+    ensures notice { option_map notice_meant result.notice ≡ Some (Happened event) }
+    ensures closing { result.closing ≡ None }
 {
-    match (newest, frame) {
-        (
-            Some(newest),
-            FrameIn::Rx {
-                number: Some(number),
-                ..
+    Outcome {
+        notice: Some(Notice::Site(SiteNotice::Happened(event))),
+        closing: None,
+    }
+}
+
+/// The connection of a carrier that was up is closed so, which is its Lost.
+fn loses(carrier: CarrierNo, closing: Closing) -> Outcome
+    ensures notice { option_map notice_meant result.notice ≡ Some (Happened (Lost carrier)) }
+    ensures closing { result.closing ≡ Some closing }
+{
+    Outcome {
+        notice: Some(Notice::Site(SiteNotice::Happened(Event::Lost(carrier)))),
+        closing: Some(closing),
+    }
+}
+
+/// Returns what a step of the cutter does before the first frame has come whole, and the connection after it.
+fn take_first(who: &CarrierIdentity, cutter: Cutter, step: &Step) -> (Outcome, Connection)
+    ensures notice { option_map notice_meant result.0.notice ≡ waiting_brings who.now step.now }
+    ensures closing { result.0.closing ≡ waiting_closes who.now step.now }
+    ensures connection { result.1 ≡ waiting_leaves who.now cutter step.now }
+{
+    match step {
+        Step::Need => (Outcome::NOTHING, Connection::Waiting(cutter)),
+        Step::Fault(cause) => (closes_for(*cause), Connection::Closed),
+        Step::Frame(
+            FrameIn::Hello {
+                version,
+                carrier,
+                lpcn,
             },
-        ) => *number == newest,
-        _ => false,
+        ) => match who.accept(*version, *carrier, *lpcn) {
+            Ok(version) => (
+                accepts(who.carrier, version),
+                Connection::Running {
+                    cutter,
+                    newest: None,
+                },
+            ),
+            Err(refusal) => (refuses(who.carrier, refusal), Connection::Closed),
+        },
+        Step::Frame(_) => (closes_for(Cause::NoHello), Connection::Closed),
     }
 }
 
-/// The number of the newest RX behind a frame, if it has one.
-fn number_behind(newest: Option<u8>, frame: &FrameIn) -> Option<u8>
-    ensures { result ≡ newest_after newest frame.now }
+/// Returns what a step of the cutter does while the carrier is up and its newest RX has this number, if one; and the connection after it.
+fn take_next(
+    carrier: CarrierNo,
+    cutter: Cutter,
+    newest: Option<u8>,
+    step: &Step,
+) -> (Outcome, Connection)
+    ensures notice { option_map notice_meant result.0.notice ≡ running_brings carrier newest step.now }
+    ensures closing { result.0.closing ≡ running_closes step.now }
+    ensures connection { result.1 ≡ running_leaves cutter newest step.now }
 {
-    match frame {
-        FrameIn::Rx { number, .. } => *number,
-        _ => newest,
-    }
-}
-
-/// The event of a frame of a carrier that is up.
-fn event_of(carrier: CarrierNo, frame: &FrameIn) -> Event
-    ensures { result ≡ event_of_frame carrier frame.now }
-{
-    match frame {
-        FrameIn::Rx { slot, word, .. } => {
+    match step {
+        Step::Need => (Outcome::NOTHING, Connection::Running { cutter, newest }),
+        Step::Fault(cause) => (loses(carrier, Closing::Bad(*cause)), Connection::Closed),
+        Step::Frame(FrameIn::Rx { number, slot, word }) => {
             let slot = Slot {
                 carrier,
                 slot: *slot,
             };
-            heard(slot, word)
-        }
-        FrameIn::Poll => Event::Poll(carrier),
-        FrameIn::Active { slot } => Event::Active(Slot {
-            carrier,
-            slot: *slot,
-        }),
-        FrameIn::Hello { .. } => Event::Lost(carrier),
-        FrameIn::Bye => Event::Lost(carrier),
-    }
-}
-
-/// What a frame of a carrier that is up brings: nothing where it is the newest RX once more.
-fn brought(who: &CarrierIdentity, newest: Option<u8>, frame: &FrameIn) -> Option<CarrierNotice>
-    ensures { option_map carrier_notice result ≡ running_brings who.now.carrier newest (Step.Frame frame.now) }
-{
-    if repeats(newest, frame) {
-        return None;
-    }
-    let event = event_of(who.carrier, frame);
-    Some(CarrierNotice::Site(SiteNotice::Happened(event)))
-}
-
-/// What an octet brings, and how it closes the connection, if it does.
-#[derive(Clone, Copy, Debug)]
-pub struct Received {
-    /// What it brings, if it brings something.
-    pub notice: Option<CarrierNotice>,
-    /// How it closes the connection, if it does.
-    pub closing: Option<Closing>,
-}
-
-/// What is wrong with a first frame that isn't accepted.
-fn wrong_first(who: &CarrierIdentity, frame: &FrameIn) -> Cause
-    ensures { result ≡ the_wrong_first who.now frame.now }
-{
-    match frame {
-        FrameIn::Hello { version, .. } => {
-            if is_version(who, *version) {
-                Cause::WrongCarrier
+            let outcome = if is_again(newest, *number) {
+                Outcome::NOTHING
             } else {
-                Cause::BadVersion
-            }
+                brings(heard(slot, word))
+            };
+            let newest = *number;
+            (outcome, Connection::Running { cutter, newest })
         }
-        _ => Cause::NoHello,
-    }
-}
-
-/// How a frame closes a connection whose carrier is up, if it does.
-fn closing_of(frame: &FrameIn) -> Option<Closing>
-    ensures { result ≡ frame_closes frame.now }
-{
-    match frame {
-        FrameIn::Hello { .. } => Some(Closing::Bad(Cause::SecondHello)),
-        FrameIn::Bye => Some(Closing::Over),
-        _ => None,
-    }
-}
-
-/// How a connection's first frame closes it, if it does.
-fn first_closing(who: &CarrierIdentity, frame: &FrameIn) -> Option<Closing>
-    ensures { result ≡ first_closes who.now frame.now }
-{
-    if accepts(who, frame) {
-        None
-    } else {
-        Some(Closing::Bad(wrong_first(who, frame)))
-    }
-}
-
-impl Turn {
-    /// What it brings.
-    fn notice(&self, who: &CarrierIdentity) -> Option<CarrierNotice>
-        ensures { option_map carrier_notice result ≡ brings_on who.now self.now }
-    {
-        match self {
-            Turn::Closed => None,
-            Turn::Waiting(Step::Frame(frame)) => first(who, frame),
-            Turn::Waiting(_) | Turn::Running(_, Step::Need) => None,
-            Turn::Running(newest, Step::Frame(frame)) => brought(who, *newest, frame),
-            Turn::Running(_, Step::Fault(_)) => {
-                let lost = Event::Lost(who.carrier);
-                Some(CarrierNotice::Site(SiteNotice::Happened(lost)))
-            }
+        Step::Frame(FrameIn::Poll) => (
+            brings(Event::Poll(carrier)),
+            Connection::Running { cutter, newest },
+        ),
+        Step::Frame(FrameIn::Active { slot }) => {
+            let slot = Slot {
+                carrier,
+                slot: *slot,
+            };
+            (
+                brings(Event::Active(slot)),
+                Connection::Running { cutter, newest },
+            )
         }
-    }
-
-    /// How it closes the connection, if it does.
-    fn closing(&self, who: &CarrierIdentity) -> Option<Closing>
-        ensures { result ≡ closes_on who.now self.now }
-    {
-        match self {
-            Turn::Closed | Turn::Waiting(Step::Need) | Turn::Running(_, Step::Need) => None,
-            Turn::Waiting(Step::Frame(frame)) => first_closing(who, frame),
-            Turn::Running(_, Step::Frame(frame)) => closing_of(frame),
-            Turn::Waiting(Step::Fault(cause)) | Turn::Running(_, Step::Fault(cause)) => {
-                Some(Closing::Bad(*cause))
-            }
-        }
-    }
-}
-
-/// The connection behind a step of its cutter, where its first frame had not come whole.
-fn behind_first(who: &CarrierIdentity, cutter: Cutter, step: &Step) -> Connection
-    ensures { result ≡ waiting_leaves who.now cutter step.now }
-{
-    match step {
-        Step::Need => Connection::Waiting(cutter),
-        Step::Frame(frame) => {
-            if accepts(who, frame) {
-                Connection::Running {
-                    cutter,
-                    newest: None,
-                }
-            } else {
-                Connection::Closed
-            }
-        }
-        Step::Fault(_) => Connection::Closed,
-    }
-}
-
-/// The connection behind a step of its cutter, where its carrier was up, and its newest RX had this number, if one.
-fn behind_next(cutter: Cutter, newest: Option<u8>, step: &Step) -> Connection
-    ensures { result ≡ running_leaves cutter newest step.now }
-{
-    match step {
-        Step::Need => Connection::Running { cutter, newest },
-        Step::Frame(frame) => {
-            if ends(frame) {
-                Connection::Closed
-            } else {
-                Connection::Running {
-                    cutter,
-                    newest: number_behind(newest, frame),
-                }
-            }
-        }
-        Step::Fault(_) => Connection::Closed,
+        Step::Frame(FrameIn::Hello { .. }) => (
+            loses(carrier, Closing::Bad(Cause::SecondHello)),
+            Connection::Closed,
+        ),
+        Step::Frame(FrameIn::Bye) => (loses(carrier, Closing::Over), Connection::Closed),
     }
 }
 
@@ -334,39 +268,26 @@ impl Connection {
         }
     }
 
-    /// Goes one octet further, and tells what the octet completes. A fault, and a frame that ends the connection, close it,
-    /// and from then on octets complete nothing.
-    pub fn advance(&mut self, who: &CarrierIdentity, octet: u8) -> Turn
-        ensures turn { result ≡ turn_at self.old octet }
-        ensures connection { self.new ≡ connection_after_octet who.now self.old octet }
-        ensures sound { IsConnectionSound who.now.greatest self.old → IsConnectionSound who.now.greatest self.new }
-    {
-        match replace(self, Connection::Closed) {
-            Connection::Closed => Turn::Closed,
-            Connection::Waiting(mut cutter) => {
-                let step = cutter.feed_byte(octet);
-                *self = behind_first(who, cutter, &step);
-                Turn::Waiting(step)
-            }
-            Connection::Running { mut cutter, newest } => {
-                let step = cutter.feed_byte(octet);
-                *self = behind_next(cutter, newest, &step);
-                Turn::Running(newest, step)
-            }
-        }
-    }
-
-    /// Takes the next octet, and says what it brings, and how it closes the connection, if it does.
-    pub fn receive(&mut self, who: &CarrierIdentity, octet: u8) -> Received
-        ensures notice { option_map carrier_notice result.notice ≡ notice_of_octet who.now self.old octet }
+    /// Takes the next octet, and says what it brings, and how it closes the connection, if it does. A frame is taken at its last
+    /// octet; a fault, and a frame that ends the connection, close it, and from then on octets bring nothing.
+    pub fn receive(&mut self, who: &CarrierIdentity, octet: u8) -> Outcome
+        ensures notice { option_map notice_meant result.notice ≡ notice_of_octet who.now self.old octet }
         ensures closing { result.closing ≡ closes who.now self.old octet }
         ensures connection { self.new ≡ connection_after_octet who.now self.old octet }
         ensures sound { IsConnectionSound who.now.greatest self.old → IsConnectionSound who.now.greatest self.new }
     {
-        let turn = self.advance(who, octet);
-        Received {
-            notice: turn.notice(who),
-            closing: turn.closing(who),
-        }
+        let (outcome, next) = match replace(self, Connection::Closed) {
+            Connection::Closed => return Outcome::NOTHING,
+            Connection::Waiting(mut cutter) => {
+                let step = cutter.feed_byte(octet);
+                take_first(who, cutter, &step)
+            }
+            Connection::Running { mut cutter, newest } => {
+                let step = cutter.feed_byte(octet);
+                take_next(who.carrier, cutter, newest, &step)
+            }
+        };
+        *self = next;
+        outcome
     }
 }

@@ -5,14 +5,14 @@ ghost use Rattle.dmr_core.specs.declared.event.Event.{Event as AnEvent};
 ghost use Rattle.dmr_frames.specs.declared.frame.Cause.{Cause};
 ghost use Rattle.dmr_link.specs.Closing.{ended_of};
 ghost use Rattle.dmr_link.specs.Sessions.{Session, new_session, StandsFor, IsOver, sides, Serves, Cuts};
-ghost use Rattle.dmr_link.specs.Talks.{is_live};
+ghost use Rattle.dmr_link.specs.LinkSteps.{is_live};
 ghost use Rattle.dmr_link.specs.declared.desk.TermOver.{TermOver as ATermOver};
 ghost use Rattle.dmr_link.specs.declared.stream.Peer.TheVariants.{Operator};
 
 use crate::desk::{Desk, OpenGate, TermOver};
 use crate::ended::Ended;
+use crate::link_state::LinkState;
 use crate::stream::Peer;
-use crate::talk::Talk;
 use dmr_wire::Wire;
 use std::marker::Model;
 
@@ -22,20 +22,20 @@ use std::marker::Model;
 /// closes a connection, and there is no gate.
 #[derive(Drop)]
 pub struct ConsoleLink {
-    talk: Talk,
+    state: LinkState,
 }
 
 impl Model for ConsoleLink {
     ghost use Rattle.std.specs.Prelude.{◌≡◌, List};
     ghost use Rattle.dmr_link.specs.declared.stream.Peer.TheVariants.{Operator};
-    ghost use Rattle.dmr_link.specs.declared.talk.Talk.{Talk as ATalk};
+    ghost use Rattle.dmr_link.specs.declared.link_state.LinkState.{LinkState as ALinkState};
     ghost use Rattle.dmr_link.specs.Sessions.{Session, StandsFor};
 
-    ghost Value = { ATalk };
+    ghost Value = { ALinkState };
 
-    ghost view = { λ l. l.talk };
+    ghost view = { λ l. l.state };
 
-    ghost invariant = { λ l. (l.talk.who ≡ Operator) × ((past : List Session) × StandsFor l.talk past) };
+    ghost invariant = { λ l. (l.state.who ≡ Operator) × ((past : List Session) × StandsFor l.state past) };
 }
 
 impl ConsoleLink {
@@ -45,7 +45,7 @@ impl ConsoleLink {
         ensures past { StandsFor result [] }
     {
         ConsoleLink {
-            talk: Talk::new(Peer::Operator),
+            state: LinkState::new(Peer::Operator),
         }
     }
 
@@ -53,7 +53,7 @@ impl ConsoleLink {
     pub fn live(&self) -> bool
         ensures { result ≡ is_live self.now }
     {
-        self.talk.is_live()
+        self.state.is_live()
     }
 
     /// Does nothing. A proof learns from it that every link is an operators', and stands for some past.
@@ -61,7 +61,7 @@ impl ConsoleLink {
         ensures who { self.now.who ≡ Operator }
         ensures past { (past : List Session) × StandsFor self.now past }
     {
-        let _ = &self.talk;
+        let _ = &self.state;
     }
 
     /// Begins a connection, with no open line: what an earlier one left open means nothing. `false` where the link is live, and
@@ -71,10 +71,10 @@ impl ConsoleLink {
         ensures no { result ≡ false → self.new ≡ self.old }
         ensures yes { result ≡ true → (past : List Session) → StandsFor self.old past → StandsFor self.new (new_session ∷ past) }
     {
-        if self.talk.is_live() {
+        if self.state.is_live() {
             return false;
         }
-        self.talk.begin();
+        self.state.begin();
         true
     }
 
@@ -92,10 +92,10 @@ impl ConsoleLink {
         // A link that isn't live answers how its connection was closed, and touches nothing.
         ensures ended { is_live self.old ≡ false → (result ≡ ended_of self.old.closing) × (self.new ≡ self.old) × (port.new ≡ port.old) × (desk.new ≡ desk.old) }
     {
-        if !self.talk.is_live() {
-            return Ended::from(self.talk.closing);
+        if !self.state.is_live() {
+            return Ended::from(self.state.closing);
         }
-        self.talk.listen(port, desk, &mut OpenGate)
+        self.state.listen(port, desk, &mut OpenGate)
     }
 
     /// Cuts the connection: hands in the command that is kept, and writes nothing; an open line means nothing. The link answers
@@ -108,11 +108,11 @@ impl ConsoleLink {
         ensures over { IfErr result (λ over. (is_live self.new ≡ true) × (before : _) × (event : AnEvent) × D.refuses before event over desk.new) }
         ensures none { is_live self.old ≡ false → (result ≡ Ok tt) × (self.new ≡ self.old) × (desk.new ≡ desk.old) }
     {
-        if !self.talk.is_live() {
+        if !self.state.is_live() {
             return Ok(());
         }
-        self.talk.break_off();
-        self.talk.flush(desk)
+        self.state.break_off();
+        self.state.flush_pending(desk)
     }
 }
 

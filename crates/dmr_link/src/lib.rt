@@ -11,7 +11,7 @@
 //!   link says why it stopped ([`Ended`]), and keeps what the desk has not taken. A [`Gate`] is passed round each event that a
 //!   carrier's link hands in.
 //!
-//! Octets mean the same to both, by the same definitions.
+//! Octets mean the same to both, by the same definitions. What holds of them throughout is in [`laws`].
 #![tactic(auto)]
 
 mod answers;
@@ -24,17 +24,18 @@ mod ended;
 mod engine;
 mod identities;
 mod input;
-mod laws;
+pub mod laws;
 mod limits;
 mod link;
+mod link_laws;
+mod link_state;
 mod notices;
 mod numbering;
 mod outputs;
-mod owing;
+mod pending;
 mod room;
 mod session;
 mod stream;
-mod talk;
 mod unread;
 mod writing;
 
@@ -44,8 +45,6 @@ pub use ended::Ended;
 pub use engine::{Engine, RunFault};
 pub use identities::greatest_version;
 pub use input::Input;
-pub use laws::{connections_mean, inputs_mean, octets_mean, steps_make_runs};
-pub use limits::{MOST_INTERRUPTIONS, MOST_READS, limits_are_stated};
+pub use limits::{MOST_INTERRUPTIONS, MOST_READS};
 pub use link::Link;
 pub use outputs::Outputs;
-pub use owing::{happenings_follow, links_account, links_rest, records_read};

@@ -1,4 +1,4 @@
-//! How much a link does at most. The definitions state the same numbers; [`limits_are_stated`] says so.
+//! How much a link does at most. The definitions state the same numbers; [`limits_are_stated`](crate::laws::limits_are_stated) says so.
 
 ghost use Rattle.std.specs.Prelude.{◌≡◌};
 ghost use Rattle.dmr_link.specs.Limits.{most_interruptions, most_reads};

@@ -1,14 +1,15 @@
 //! How much octets can put out, found out before anything is done with them, and the room that a text makes for it. Nothing else in this
 //! crate makes a text grow.
 
-ghost use Rattle.std.specs.Prelude.{◌≡◌, ◌+◌, ◌<◌, ◌≤◌, ◌^◌, ◌-◌, min, vec_len, vec_capacity, OnOk, OnErr};
+ghost use Rattle.std.specs.Prelude.{◌≡◌, ◌+◌, ◌<◌, ◌≤◌, ◌^◌, ◌-◌, min, vec_len, vec_capacity, option_map, OnOk, OnErr};
 ghost use Rattle.dmr_link.specs.Meaning.{list_of_notice};
-ghost use Rattle.dmr_link.specs.Room.{MakesRoom, most_in, most_to_hello, most_to_poll, numbered_after_all};
+ghost use Rattle.dmr_link.specs.Notices.{notice_meant, site_notice};
+ghost use Rattle.dmr_link.specs.Room.{MakesRoom, most_in, most_of, most_to_hello, most_to_poll, numbered_after_all};
 ghost use Rattle.dmr_link.specs.Steps.{notices_of_octets};
-ghost use Rattle.dmr_link.specs.Turns.{brings_on};
 
-use crate::connection::{CarrierIdentity, Connection, Turn, accepts};
-use dmr_frames::{FrameIn, Step};
+use crate::connection::{CarrierIdentity, Connection};
+use crate::notices::{Aside, Notice, SiteNotice};
+use dmr_core::Event;
 use dmr_pdu::OutOfMemory;
 
 /// The octets of WELCOME, and of REFUSED, which answer a HELLO: type, length, and a version or a refusal.
@@ -21,26 +22,35 @@ fn most_for_poll(numbered: bool) -> usize
     if numbered { 60 } else { 58 }
 }
 
-/// Returns the most octets that answer what an octet completes, if TX are numbered or not until then.
-fn most(turn: &Turn, who: &CarrierIdentity, numbered: bool) -> usize
-    ensures { result ≡ most_in numbered (list_of_notice (brings_on who.now turn.now)) }
+/// Returns the most octets of the site's answer to a notice, if TX are numbered or not until then.
+fn most_of_site(notice: &SiteNotice, numbered: bool) -> usize
+    ensures { result ≡ most_of numbered (site_notice notice.now) }
 {
-    match turn {
-        Turn::Waiting(Step::Frame(FrameIn::Hello { .. })) => ANSWER_TO_HELLO,
-        Turn::Running(_, Step::Frame(FrameIn::Poll)) => most_for_poll(numbered),
-        _ => 0,
+    match notice {
+        SiteNotice::Accepted(..) => ANSWER_TO_HELLO,
+        SiteNotice::Happened(Event::Poll(_)) => most_for_poll(numbered),
+        SiteNotice::Happened(_) => 0,
+    }
+}
+
+/// Returns the most octets that answer what an octet brings, if TX are numbered or not until then.
+fn most(notice: &Option<Notice>, numbered: bool) -> usize
+    ensures { result ≡ most_in numbered (list_of_notice (option_map notice_meant notice.now)) }
+{
+    match notice {
+        Some(Notice::Site(notice)) => most_of_site(notice, numbered),
+        Some(Notice::Aside(Aside::Refused(..))) => ANSWER_TO_HELLO,
+        Some(Notice::Aside(Aside::Unheeded(_))) | None => 0,
     }
 }
 
 /// Returns whether TX are numbered from then on: the version of a HELLO that is accepted says so.
 #[tactic(auto, using(crate::proofs::NumbersFollowVersions::numbers_by_version))]
-fn is_numbered_after(turn: &Turn, who: &CarrierIdentity, numbered: bool) -> bool
-    ensures { result ≡ numbered_after_all numbered (list_of_notice (brings_on who.now turn.now)) }
+fn is_numbered_after(notice: &Option<Notice>, numbered: bool) -> bool
+    ensures { result ≡ numbered_after_all numbered (list_of_notice (option_map notice_meant notice.now)) }
 {
-    match turn {
-        Turn::Waiting(Step::Frame(frame)) if accepts(who, frame) => {
-            who.greatest.chosen_by(frame).has_numbers()
-        }
+    match notice {
+        Some(Notice::Site(SiteNotice::Accepted(_, version))) => version.has_numbers(),
         _ => numbered,
     }
 }
@@ -59,9 +69,9 @@ pub fn room_for(
     let mut numbered = numbered;
     let mut room: usize = 0;
     for octet in octets {
-        let turn = trial.advance(who, *octet);
-        room = room.saturating_add(most(&turn, who, numbered));
-        numbered = is_numbered_after(&turn, who, numbered);
+        let outcome = trial.receive(who, *octet);
+        room = room.saturating_add(most(&outcome.notice, numbered));
+        numbered = is_numbered_after(&outcome.notice, numbered);
     }
     room
 }

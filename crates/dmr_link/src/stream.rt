@@ -1,14 +1,12 @@
 //! Who is at the other end of a link, and what each octet from there brings.
 
 ghost use Rattle.std.specs.Prelude.{◌≡◌, option_map};
-ghost use Rattle.dmr_link.specs.Notices.{carrier_notice, operator_notice, peer_notice};
+ghost use Rattle.dmr_link.specs.Notices.{notice_meant};
 ghost use Rattle.dmr_link.specs.Peers.{opened_for, is_going, up_of, brings, closes_by, left_after};
 
 use crate::carrier_session::CarrierSession;
-use crate::connection::CarrierIdentity;
-use crate::console::notice_of;
-use crate::ended::Closing;
-use crate::notices::{CarrierNotice, OperatorNotice, PeerNotice};
+use crate::connection::{CarrierIdentity, Outcome};
+use crate::console::notice_of_line;
 use dmr_console::LineCutter;
 use dmr_pdu::CarrierNo;
 
@@ -30,35 +28,6 @@ pub enum Stream {
     Frames(CarrierSession),
     /// An operator's connection, with what is kept of the open line.
     Lines(LineCutter),
-}
-
-/// What an octet brings to a link, and how it closes the connection, if it does.
-#[derive(Clone, Copy, Debug)]
-pub struct PeerReceived {
-    /// What it brings, if it brings something.
-    pub notice: Option<PeerNotice>,
-    /// How it closes the connection, if it does.
-    pub closing: Option<Closing>,
-}
-
-/// What comes of a carrier's octet, to its link.
-fn from_carrier(notice: Option<CarrierNotice>) -> Option<PeerNotice>
-    ensures { option_map peer_notice result ≡ option_map carrier_notice notice }
-{
-    match notice {
-        Some(notice) => Some(PeerNotice::from(notice)),
-        None => None,
-    }
-}
-
-/// What comes of an operator's octet, to its link.
-fn from_operator(notice: Option<OperatorNotice>) -> Option<PeerNotice>
-    ensures { option_map peer_notice result ≡ option_map operator_notice notice }
-{
-    match notice {
-        Some(notice) => Some(PeerNotice::from(notice)),
-        None => None,
-    }
 }
 
 impl Stream {
@@ -95,30 +64,18 @@ impl Stream {
 
     /// Takes the next octet, and says what it brings, and how it closes the connection, if it does. No octet of an operator
     /// closes one.
-    pub fn take(&mut self, octet: u8) -> PeerReceived
-        ensures notice { option_map peer_notice result.notice ≡ brings self.old octet }
+    pub fn receive(&mut self, octet: u8) -> Outcome
+        ensures notice { option_map notice_meant result.notice ≡ brings self.old octet }
         ensures closing { result.closing ≡ closes_by self.old octet }
         ensures stream { self.new ≡ left_after self.old octet }
     {
         match self {
-            Stream::Closed => PeerReceived {
-                notice: None,
+            Stream::Closed => Outcome::NOTHING,
+            Stream::Frames(session) => session.receive(octet),
+            Stream::Lines(cutter) => Outcome {
+                notice: notice_of_line(&cutter.feed_byte(octet)),
                 closing: None,
             },
-            Stream::Frames(session) => {
-                let received = session.receive(octet);
-                PeerReceived {
-                    notice: from_carrier(received.notice),
-                    closing: received.closing,
-                }
-            }
-            Stream::Lines(cutter) => {
-                let step = cutter.feed_byte(octet);
-                PeerReceived {
-                    notice: from_operator(notice_of(&step)),
-                    closing: None,
-                }
-            }
         }
     }
 }

@@ -15,11 +15,14 @@ use dmr_core::{Acts, Event, Reply};
 use dmr_frames::{FrameOut, write_frame};
 use dmr_wire::{Put, Wire};
 
-/// Writes octets, write by write, and says whether all were taken. It stops at a write that takes none, would block or fails, and
+/// Writes octets, write by write, and says whether all were taken; where there are none, nothing is written. It stops at a write that takes none, would block or fails, and
 /// at one that is interrupted after [`MOST_INTERRUPTIONS`] others in a row; what was taken until then is not written again.
 fn send<W: Wire>(port: &mut W, octets: &[u8]) -> bool
     ensures { Puts (W.told port.old) octets.now result (W.told port.new) }
 {
+    if octets.is_empty() {
+        return true;
+    }
     let mut from = 0;
     let mut row = 0;
     while from < octets.len() {

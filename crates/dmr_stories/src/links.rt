@@ -21,7 +21,7 @@ pub type Story = (&'static str, &'static str);
 
 #[test]
 fn links_of_carriers(rt: HostRuntime) -> Result<(), Fail> {
-    dmr_link::limits_are_stated();
+    dmr_link::laws::limits_are_stated();
     let peer = Peer::carrier();
     tell_all(&rt, &peer, &carriers::READS, "")?;
     tell_all(&rt, &peer, &carriers::WRITES, "")?;

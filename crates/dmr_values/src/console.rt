@@ -317,7 +317,7 @@ fn short_texts(rt: HostRuntime) {
 fn laws_do_nothing(rt: HostRuntime) {
     lines_stand_before_their_ends();
     lines_in_any_cutting();
-    dmr_frames::limits_are_stated();
+    dmr_frames::laws::limits_are_stated();
     dmr_calls::limits_are_stated();
     dmr_core::limits_are_stated();
     dmr_console::limits_are_stated();

@@ -4,8 +4,8 @@ use Rattle.dmr_link.proofs.room.room_for.Goals as goal
 
 pub loop-octet-preserved : goal.loop-octet-preserved
 loop-octet-preserved c = record {
-  room = room_more c.args.who.now c.loop-octet.numbered c.is_numbered_after-numbered.result c.loop-octet.trial c.advance-turn.new.self c.args.octets.now c.loop-octet.octet-index c.advance-turn.result c.loop-octet.room c.most.result c.saturating_add-room.result _ c.loop-octet-test.true
-      c.advance-turn.ensures.turn c.advance-turn.ensures.connection c.is_numbered_after-numbered.ensures c.most.ensures c.saturating_add-room.ensures c.loop-octet.invariant.room;
+  room = room_more c.args.who.now c.loop-octet.numbered c.is_numbered_after-numbered.result c.loop-octet.trial c.receive-outcome.new.self c.args.octets.now c.loop-octet.octet-index _ c.loop-octet.room c.most.result c.saturating_add-room.result _ c.loop-octet-test.true
+      c.receive-outcome.ensures.notice c.receive-outcome.ensures.connection c.is_numbered_after-numbered.ensures c.most.ensures c.saturating_add-room.ensures c.loop-octet.invariant.room;
   fits = omega (arith, c.saturating_add-room.type_inv);
 }
 

@@ -1,0 +1,15 @@
+use Rattle.dmr_link.proofs.WritesFollow.{tells_none, tells_more}
+use Rattle.dmr_link.proofs.StepsFollow.{happens_none, happens_more}
+use Rattle.dmr_link.proofs.link_laws.happenings_follow.Goals as goal
+
+pub returns-clause-none : goal.returns-clause-none
+returns-clause-none c = happens_none
+
+pub returns-clause-both : goal.returns-clause-both
+returns-clause-both c = happens_more
+
+pub returns-clause-told_none : goal.returns-clause-told_none
+returns-clause-told_none c = tells_none
+
+pub returns-clause-told_both : goal.returns-clause-told_both
+returns-clause-told_both c = tells_more

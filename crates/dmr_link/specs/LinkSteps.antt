@@ -1,0 +1,192 @@
+-- The steps of a link. Contracts of functions within name these alone, but for `is_live` and `IsLinkNumbering`: nothing above rests on the others.
+use Rattle.std.specs.Prelude.{◌≡◌, ℕ, ◌≤◌, Bool, true, false, ◌||◌, List, [], Option, Some, None, Result, Ok, Err}
+use Rattle.dmr_core.specs.declared.event.Event.TheVariants.{Lost}
+use Rattle.dmr_wire.specs.Told.{Answer}
+use Rattle.dmr_link.specs.Notices.{Notice}
+use Rattle.dmr_link.specs.Notices.{Happened, Accepted, Refused, Unheeded}
+use Rattle.dmr_link.specs.declared.notices.SiteNotice.{SiteNotice}
+use Rattle.dmr_link.specs.declared.notices.SiteNotice.TheVariants as site
+use Rattle.dmr_link.specs.declared.ended.Closing.{Closing}
+use Rattle.dmr_link.specs.declared.ended.Closing.TheVariants.{Over, WriteFailed}
+use Rattle.dmr_link.specs.declared.ended.Ended.{Ended}
+use Rattle.dmr_link.specs.declared.ended.Ended.TheVariants as ended
+use Rattle.dmr_link.specs.declared.stream.Stream.{Stream}
+use Rattle.dmr_link.specs.declared.stream.Stream.TheVariants as stream
+use Rattle.dmr_link.specs.declared.link_state.LinkState.{LinkState}
+use Rattle.dmr_link.specs.declared.pending.Pending.{Pending}
+use Rattle.dmr_link.specs.Closing.{ended_of}
+use Rattle.dmr_link.specs.Happenings.{Stage, Outside, Blocked, stage_at}
+use Rattle.dmr_link.specs.Limits.{most_interruptions, most_reads}
+use Rattle.dmr_link.specs.Moves.{Moves, Puts}
+use Rattle.dmr_link.specs.Numbering.{first_number}
+use Rattle.dmr_link.specs.Sound.{IsNumberingOf}
+use Rattle.dmr_frames.specs.Versions.{version_octet}
+use Rattle.dmr_link.specs.Peers.{opened_for, is_going, up_of, brings, left_after, closes_by}
+use Rattle.dmr_link.specs.Sessions.{Sides, IsQuiet, IsOver, is_kept, is_lost, is_owing}
+
+-- the number of the next TX once the WELCOME that is kept, if one is, was written
+abbrev pub next_when_answered : Option SiteNotice → Option ℕ → Option ℕ
+next_when_answered None next = next
+next_when_answered (Some (site.Happened event)) next = next
+next_when_answered (Some (site.Accepted c version)) next = first_number (version_octet version)
+
+-- the number of a link's next TX is then one of its connection's version
+abbrev pub IsLinkNumbering : Stream → Option SiteNotice → Option ℕ → Type 0
+IsLinkNumbering stream.Closed kept next = Unit {0}
+IsLinkNumbering (stream.Frames session) kept next = IsNumberingOf session.connection (next_when_answered kept next)
+IsLinkNumbering (stream.Lines begun) kept next = Unit {0}
+
+-- ---- what waits to be handed in
+
+-- nothing
+abbrev pub nothing_pending : Pending
+nothing_pending = record { kept = None; lost = None }
+
+-- the first of what waits: the event that is kept goes before a Lost
+abbrev pub first_of : Option SiteNotice → Option ℕ → Option SiteNotice
+first_of (Some notice) lost = Some notice
+first_of None None = None
+first_of None (Some c) = Some (site.Happened (Lost c))
+
+abbrev pub first_pending : Pending → Option SiteNotice
+first_pending p = first_of p.kept p.lost
+
+-- the Lost that waits when the first has been taken out
+abbrev pub lost_without : Option SiteNotice → Option ℕ → Option ℕ
+lost_without (Some notice) lost = lost
+lost_without None lost = None
+
+abbrev pub without_first : Pending → Pending
+without_first p = record { kept = None; lost = lost_without p.kept p.lost }
+
+-- what waits becomes less with each that is taken out
+abbrev pub weight_of : Option SiteNotice → Option ℕ → ℕ
+weight_of (Some notice) lost = 2
+weight_of None (Some c) = 1
+weight_of None None = 0
+
+abbrev pub pending_weight : Pending → ℕ
+pending_weight p = weight_of p.kept p.lost
+
+abbrev pub with_pending : LinkState → Pending → LinkState
+with_pending l p = record { who = l.who; connection = l.connection; numbering = l.numbering; pending = p; is_cut = l.is_cut; unread = l.unread; closing = l.closing }
+
+-- ---- a link's steps
+
+-- its connection is closed so
+abbrev pub closed_as : LinkState → Closing → LinkState
+closed_as l closing = record { who = l.who; connection = stream.Closed; numbering = l.numbering; pending = record { kept = l.pending.kept; lost = up_of l.connection }; is_cut = l.is_cut; unread = l.unread; closing = closing }
+
+-- the event among what is kept and what is brought
+abbrev pub kept_then : Option SiteNotice → Option Notice → Option SiteNotice
+kept_then kept (Some (Happened event)) = Some (site.Happened event)
+kept_then kept (Some (Accepted c version)) = Some (site.Accepted c version)
+kept_then kept other = kept
+
+-- what is brought, and is no event
+abbrev pub aside_of : Option Notice → Option Notice
+aside_of None = None
+aside_of (Some (Happened event)) = None
+aside_of (Some (Accepted c version)) = None
+aside_of (Some (Refused c refusal)) = Some (Refused c refusal)
+aside_of (Some (Unheeded fault)) = Some (Unheeded fault)
+
+abbrev pub closing_then : Closing → Option Closing → Closing
+closing_then old None = old
+closing_then old (Some new) = new
+
+-- after an octet
+abbrev pub state_after_octet : LinkState → ℕ → LinkState
+state_after_octet l x = record {
+  who = l.who;
+  connection = left_after l.connection x;
+  numbering = l.numbering;
+  pending = record { kept = kept_then l.pending.kept (brings l.connection x); lost = l.pending.lost };
+  is_cut = l.is_cut;
+  unread = l.unread;
+  closing = closing_then l.closing (closes_by l.connection x);
+}
+
+-- there is a connection, or an event of it still waits
+abbrev pub is_live : LinkState → Bool
+is_live l = is_going l.connection || is_kept l.pending.kept || is_lost l.pending.lost
+
+-- the next TX has this number
+abbrev pub with_next : LinkState → Option ℕ → LinkState
+with_next l next = record { who = l.who; connection = l.connection; numbering = next; pending = l.pending; is_cut = l.is_cut; unread = l.unread; closing = l.closing }
+
+-- after octets were written, as a whole or not; behind them the next TX has this number
+abbrev pub after_put : Bool → Option ℕ → LinkState → LinkState
+after_put true next l = with_next l next
+after_put false next l = closed_as l WriteFailed
+
+-- octets were written, unless the connection was cut
+abbrev pub Replies : Bool → LinkState → Option (List Answer) → List ℕ → Option ℕ → LinkState → Option (List Answer) → Type 0
+Replies true old told octets next new now = (new ≡ old) × (now ≡ told)
+Replies false old told octets next new now = (whole : Bool) × Puts told octets whole now × (new ≡ after_put whole next old)
+
+-- an event could not be handed in; or this holds
+abbrev pub IsHeld : {X : Type 0} → Result X Ended → LinkState → Type 0 → Type 0
+IsHeld (Ok done) l P = P
+IsHeld (Err ended.TermOver) l P = is_owing l ≡ true
+IsHeld (Err ended.GateShut) l P = is_owing l ≡ true
+IsHeld (Err other) l P = ⊥
+
+-- it stopped so: an event could not be handed in, or the connection is closed
+abbrev pub IsStop : Ended → LinkState → Type 0
+IsStop ended.TermOver l = is_owing l ≡ true
+IsStop ended.GateShut l = is_owing l ≡ true
+IsStop ended.Idle l = ⊥
+IsStop ended.Paused l = ⊥
+IsStop other l = IsOver l × (ended_of l.closing ≡ other)
+
+-- all was handed in, and the connection is open; or it stopped
+abbrev pub IsSettled : {X : Type 0} → Result X Ended → LinkState → Type 0
+IsSettled (Ok done) l = IsQuiet l
+IsSettled (Err stop) l = IsStop stop l
+
+-- how many interruptions came last
+abbrev pub row_then : Option ℕ → ℕ
+row_then None = 0
+row_then (Some row) = row
+
+abbrev pub row_after : Result ℕ Ended → ℕ
+row_after (Ok row) = row
+row_after (Err stop) = 0
+
+-- where a call stands then
+abbrev pub stage_then_read : Option ℕ → Stage
+stage_then_read None = Blocked
+stage_then_read (Some row) = Outside
+
+abbrev pub HasTurned : Result ℕ Ended → LinkState → Type 0
+HasTurned (Ok row) l = IsQuiet l × (l.unread ≡ []) × (row ≤ most_interruptions)
+HasTurned (Err ended.Idle) l = IsQuiet l × (l.unread ≡ [])
+HasTurned (Err stop) l = IsStop stop l
+
+-- so it ends, after so many reads
+abbrev pub EndsBy : Ended → LinkState → ℕ → Type 0
+EndsBy ended.Idle l reads = IsQuiet l × (l.unread ≡ [])
+EndsBy ended.Paused l reads = IsQuiet l × (l.unread ≡ []) × (reads ≡ most_reads)
+EndsBy stop l reads = IsStop stop l
+
+-- a call of listen
+pub record Listens (old new : LinkState) (before after : Sides) (result : Ended) : Type 0 where
+  pub row : ℕ
+  pub reads : ℕ
+  pub moves : Moves old new before after 0 row reads Outside (stage_at result)
+  pub few : reads ≤ most_reads
+  pub ends : EndsBy result new reads
+
+-- the Lost that waits, or else that of the carrier that is up
+abbrev pub lost_then : Option ℕ → Option ℕ → Option ℕ
+lost_then None up = up
+lost_then (Some c) up = Some c
+
+-- the link, when it is cut
+abbrev pub cut_state : LinkState → LinkState
+cut_state l = record { who = l.who; connection = stream.Closed; numbering = l.numbering; pending = record { kept = l.pending.kept; lost = lost_then l.pending.lost (up_of l.connection) }; is_cut = true; unread = l.unread; closing = Over }
+
+-- a connection of it begins
+abbrev pub with_new_connection : LinkState → LinkState
+with_new_connection l = record { who = l.who; connection = opened_for l.who; numbering = None; pending = l.pending; is_cut = false; unread = []; closing = l.closing }

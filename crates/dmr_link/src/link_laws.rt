@@ -1,0 +1,49 @@
+//! What every link accounts for, and how a port's record is read. The functions do nothing: their contracts are the laws.
+
+ghost use Rattle.std.specs.Prelude.{◌≡◌, ◌≤◌, ◌⊎◌, ℕ, List, [], ◌∷◌, ◌++◌, Option, false};
+ghost use Rattle.dmr_wire.specs.Told.{Answer, Tells};
+ghost use Rattle.dmr_link.specs.declared.link_state.LinkState.{LinkState as ALinkState};
+ghost use Rattle.dmr_link.specs.Sessions.{Session, hearing_at, hearing_after_answers, reads_in, AreOfWire, Stands, IsOver, Sides, Happens};
+ghost use Rattle.dmr_link.specs.Happenings.{Happening};
+ghost use Rattle.dmr_link.specs.Limits.{most_reads};
+ghost use Rattle.dmr_link.specs.LinkSteps.{is_live};
+ghost use Rattle.dmr_link.specs.Owed.{Accounts, notices_owed};
+ghost use Rattle.dmr_link.specs.Recorded.{of_hearing, reading_at, reading_after_all};
+
+use dmr_console::lines_in_any_cutting;
+
+/// A link's newest connection means the events that the desk took of it, and then what the link owes; it took its text.
+pub fn links_account()
+    ensures { (l : ALinkState) (s : Session) → Stands l s → Accounts l s }
+{
+    lines_in_any_cutting();
+}
+
+/// A link that isn't live has no connection and owes nothing, and only such a link.
+pub fn links_rest()
+    ensures over { (l : ALinkState) → is_live l ≡ false → IsOver l }
+    ensures dead { (l : ALinkState) → IsOver l → is_live l ≡ false }
+    ensures nothing { (l : ALinkState) → IsOver l → notices_owed l ≡ [] }
+{}
+
+/// What happened in one call and then in another happened in both: what a port, a desk and a gate tell goes on.
+pub fn happenings_follow()
+    ensures none { (x : Sides) → Happens x [] x }
+    ensures both { (x y z : Sides) (first second : List Happening) → Happens x first y → Happens y second z → Happens x (first ++ second) z }
+    ensures told_none { (told : Option (List Answer)) → Tells told [] told }
+    ensures told_both { (a b c : Option (List Answer)) (first second : List Answer) → Tells a first b → Tells b second c → Tells a (first ++ second) c }
+{}
+
+/// The answers of one call of `serve` are read in a whole record as in the call, if they follow an opening, a wait, or the
+/// [`MOST_READS`](crate::MOST_READS) reads of the call before. The reads are counted as in the call: after those of the call before,
+/// the count begins again at the first read of this call.
+pub fn records_read()
+    ensures begun { (s : Session) (ss : List Session) (answers : List Answer) → AreOfWire answers → reads_in answers ≤ most_reads →
+        reading_after_all (reading_at (s ∷ ss) 0 0 0) answers ≡ of_hearing ss (reads_in answers) (hearing_after_answers (hearing_at s 0) answers) }
+    ensures paused { (s : Session) (ss : List Session) (row : ℕ) (answers : List Answer) → AreOfWire answers → reads_in answers ≤ most_reads →
+        (reading_after_all (reading_at (s ∷ ss) row 0 most_reads) answers).past ≡ (hearing_after_answers (hearing_at s 0) answers).session ∷ ss }
+    ensures writing { (s : Session) (ss : List Session) (row : ℕ) (answers : List Answer) → AreOfWire answers → reads_in answers ≤ most_reads →
+        (reading_after_all (reading_at (s ∷ ss) row 0 most_reads) answers).writing ≡ (hearing_after_answers (hearing_at s 0) answers).writing }
+    ensures reads { (s : Session) (ss : List Session) (row : ℕ) (answers : List Answer) → AreOfWire answers → reads_in answers ≤ most_reads →
+        ((reading_after_all (reading_at (s ∷ ss) row 0 most_reads) answers).reads ≡ reads_in answers) ⊎ (reads_in answers ≡ 0) }
+{}

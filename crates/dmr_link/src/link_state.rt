@@ -1,0 +1,342 @@
+//! What a link keeps of its connection, and the steps of its work.
+
+ghost use Rattle.std.specs.Prelude.{◌≡◌, ◌+◌, ◌<◌, ◌≤◌, ℕ, Bool, List, [], ◌∷◌, Option, Some, None, option_map, Err, length, drop, true, false, IfOk, IfErr};
+ghost use Rattle.dmr_core.specs.declared.event.Event.{Event as AnEvent};
+ghost use Rattle.dmr_wire.specs.Told.{Answer};
+ghost use Rattle.dmr_link.specs.declared.desk.Deposit.{Deposit as ADeposit};
+ghost use Rattle.dmr_link.specs.declared.desk.TermOver.{TermOver as ATermOver};
+ghost use Rattle.dmr_link.specs.Happenings.{Outside, Disordered, stage_after};
+ghost use Rattle.dmr_link.specs.Limits.{most_interruptions};
+ghost use Rattle.dmr_link.specs.Moves.{Moves};
+ghost use Rattle.dmr_link.specs.Notices.{aside_notice};
+ghost use Rattle.dmr_link.specs.Passages.{Passage};
+ghost use Rattle.dmr_link.specs.Peers.{answer_text, aside_text, brings, next_after_answer};
+ghost use Rattle.dmr_link.specs.Sessions.{IsQuiet, IsClosed, sides};
+ghost use Rattle.dmr_link.specs.LinkSteps.{state_after_octet, aside_of, closed_as, first_pending, nothing_pending, is_live, pending_weight, Replies, IsHeld, IsSettled, row_then, row_after, stage_then_read, HasTurned, Listens, cut_state, with_new_connection};
+
+use crate::desk::{Desk, Gate, TermOver};
+use crate::ended::{Closing, Ended};
+use crate::limits::{MOST_INTERRUPTIONS, MOST_READS};
+use crate::notices::{Aside, Notice, SiteNotice};
+use crate::numbering::Numbering;
+use crate::pending::Pending;
+use crate::stream::{Peer, Stream};
+use crate::unread::Unread;
+use crate::writing::{write_answer, write_aside};
+use dmr_console::lines_in_any_cutting;
+use dmr_core::Acts;
+use dmr_wire::{Got, Wire};
+
+/// What a link keeps of its connection.
+#[derive(Drop)]
+pub struct LinkState {
+    /// Who is at the other end.
+    pub who: Peer,
+    /// The connection.
+    pub connection: Stream,
+    /// The number of its next TX.
+    pub numbering: Numbering,
+    /// What no desk has taken yet.
+    pub pending: Pending,
+    /// Whether the connection was cut: nothing is written on it any more.
+    pub is_cut: bool,
+    /// The octets that were read, and that nothing has been made of yet.
+    pub unread: Unread,
+    /// How the connection was closed.
+    pub closing: Closing,
+}
+
+impl LinkState {
+    /// The state of a link with no connection.
+    pub fn new(who: Peer) -> LinkState
+        ensures who { result.who ≡ who }
+        ensures connection { IsClosed result.connection }
+        ensures pending { result.pending ≡ nothing_pending }
+        ensures closing { result.closing ≡ Closing.Over }
+    {
+        LinkState {
+            who,
+            connection: Stream::Closed,
+            numbering: Numbering::new(),
+            pending: Pending::none(),
+            is_cut: false,
+            unread: Unread::new(),
+            closing: Closing::Over,
+        }
+    }
+
+    /// Closes the connection. Where its carrier was up, its Lost is still to be handed in.
+    fn close(&mut self, closing: Closing)
+        ensures { self.new ≡ closed_as self.old closing }
+    {
+        self.pending.lost = self.connection.carrier_up();
+        self.connection = Stream::Closed;
+        self.closing = closing;
+    }
+
+    /// Takes an octet. What it brings for the site is kept; what it brings for the peer alone is given.
+    fn receive(&mut self, octet: u8) -> Option<Aside>
+        ensures state { self.new ≡ state_after_octet self.old octet }
+        ensures aside { option_map aside_notice result ≡ aside_of (brings self.old.connection octet) }
+    {
+        let outcome = self.connection.receive(octet);
+        if let Some(closing) = outcome.closing {
+            self.closing = closing;
+        }
+        match outcome.notice {
+            Some(Notice::Site(notice)) => {
+                self.pending.kept = Some(notice);
+                None
+            }
+            Some(Notice::Aside(aside)) => Some(aside),
+            None => None,
+        }
+    }
+
+    /// Whether there is a connection, or an event of it still waits.
+    pub fn is_live(&self) -> bool
+        ensures { result ≡ is_live self.now }
+    {
+        self.connection.is_open() || self.pending.first().is_some()
+    }
+
+    /// Writes what answers a notice, unless the connection was cut. Where a write fails, the connection is closed.
+    fn reply<W: Wire>(&mut self, notice: &SiteNotice, acts: &Acts, port: &mut W)
+        ensures { Replies self.old.is_cut self.old (W.told port.old) (answer_text self.old.numbering notice.now acts.now) (next_after_answer self.old.numbering notice.now acts.now) self.new (W.told port.new) }
+    {
+        if self.is_cut {
+            return;
+        }
+        let mut numbering = self.numbering;
+        if write_answer(port, &mut numbering, notice, acts) {
+            self.numbering = numbering;
+        } else {
+            self.close(Closing::WriteFailed);
+        }
+    }
+
+    /// Writes what the peer alone is told of. Where a write fails, that is how the connection was closed.
+    fn answer_aside<W: Wire>(&mut self, aside: &Aside, port: &mut W)
+        ensures { Replies false self.old (W.told port.old) (aside_text (aside_notice aside.now)) self.old.numbering self.new (W.told port.new) }
+    {
+        if !write_aside(port, aside) {
+            self.close(Closing::WriteFailed);
+        }
+    }
+
+    /// Hands in the first notice that waits, by the gate, and writes its answer before the gate is left.
+    fn deposit_first<W: Wire, D: Desk, G: Gate>(
+        &mut self,
+        notice: &SiteNotice,
+        port: &mut W,
+        desk: &mut D,
+        gate: &mut G,
+    ) -> Result<(), Ended>
+        requires { first_pending self.old.pending ≡ Some notice.now }
+        ensures actor { D.actor desk.new ≡ D.actor desk.old }
+        ensures moves { Moves self.old self.new (sides (W.told port.old) (D.calls desk.old) (G.passed gate.old)) (sides (W.told port.new) (D.calls desk.new) (G.passed gate.new)) 0 0 0 Outside (stage_after result) }
+        ensures stops { IsHeld result self.new (pending_weight self.new.pending < pending_weight self.old.pending) }
+        ensures unread { self.new.unread ≡ self.old.unread }
+        ensures over { result ≡ Err Ended.TermOver → (before : _) × (event : AnEvent) × (over : ATermOver) × D.refuses before event over desk.new }
+        ensures shut { result ≡ Err Ended.GateShut → (before : _) × G.shuts before gate.new }
+    {
+        if !gate.enter() {
+            return Err(Ended::GateShut);
+        }
+        match desk.deposit(notice.event()) {
+            Err(over) => {
+                gate.leave();
+                Err(Ended::from(over))
+            }
+            Ok(acts) => {
+                self.pending.remove_first();
+                self.reply(notice, &acts, port);
+                gate.leave();
+                Ok(())
+            }
+        }
+    }
+
+    /// Hands in all that waits, in its order. Where the connection is closed then, says how.
+    fn deposit_pending<W: Wire, D: Desk, G: Gate>(
+        &mut self,
+        port: &mut W,
+        desk: &mut D,
+        gate: &mut G,
+    ) -> Result<(), Ended>
+        ensures actor { D.actor desk.new ≡ D.actor desk.old }
+        ensures moves { Moves self.old self.new (sides (W.told port.old) (D.calls desk.old) (G.passed gate.old)) (sides (W.told port.new) (D.calls desk.new) (G.passed gate.new)) 0 0 0 Outside (stage_after result) }
+        ensures stops { IsSettled result self.new }
+        ensures unread { self.new.unread ≡ self.old.unread }
+        ensures over { result ≡ Err Ended.TermOver → (before : _) × (event : AnEvent) × (over : ATermOver) × D.refuses before event over desk.new }
+        ensures shut { result ≡ Err Ended.GateShut → (before : _) × G.shuts before gate.new }
+    {
+        while let Some(notice) = self.pending.first() {
+            self.deposit_first(&notice, port, desk, gate)?;
+        }
+        if self.connection.is_open() {
+            return Ok(());
+        }
+        Err(Ended::from(self.closing))
+    }
+
+    /// Takes the first of the octets that were read, if there is one. The event that it brings is kept; what is told of another
+    /// notice is written.
+    fn take_unread<W: Wire>(&mut self, port: &mut W)
+        requires { IsQuiet self.old }
+        ensures moves { (calls : List ADeposit) (passed : Option (List Passage)) → Moves self.old self.new (sides (W.told port.old) calls passed) (sides (W.told port.new) calls passed) 0 0 0 Outside Outside }
+        ensures unread { self.new.unread ≡ drop 1 self.old.unread }
+    {
+        lines_in_any_cutting();
+        let Some(octet) = self.unread.next() else {
+            return;
+        };
+        if let Some(aside) = self.receive(octet) {
+            self.answer_aside(&aside, port);
+        }
+    }
+
+    /// Hands in all that waits, and makes all of the octets that were read. Where it stops, says why.
+    fn work<W: Wire, D: Desk, G: Gate>(
+        &mut self,
+        port: &mut W,
+        desk: &mut D,
+        gate: &mut G,
+    ) -> Result<(), Ended>
+        ensures actor { D.actor desk.new ≡ D.actor desk.old }
+        ensures moves { Moves self.old self.new (sides (W.told port.old) (D.calls desk.old) (G.passed gate.old)) (sides (W.told port.new) (D.calls desk.new) (G.passed gate.new)) 0 0 0 Outside (stage_after result) }
+        ensures stops { IsSettled result self.new }
+        ensures all { IfOk result (λ _. self.new.unread ≡ []) }
+        ensures over { result ≡ Err Ended.TermOver → (before : _) × (event : AnEvent) × (over : ATermOver) × D.refuses before event over desk.new }
+        ensures shut { result ≡ Err Ended.GateShut → (before : _) × G.shuts before gate.new }
+    {
+        self.deposit_pending(port, desk, gate)?;
+        while !self.unread.is_empty() {
+            self.take_unread(port);
+            self.deposit_pending(port, desk, gate)?;
+        }
+        Ok(())
+    }
+
+    /// Reads once. Gives how many interruptions came last, in a row; `None` where the read would block.
+    fn read<W: Wire>(&mut self, row: usize, port: &mut W) -> Option<usize>
+        requires quiet { IsQuiet self.old }
+        requires none { self.old.unread ≡ [] }
+        requires few { row ≤ most_interruptions }
+        ensures moves { (calls : List ADeposit) (passed : Option (List Passage)) → Moves self.old self.new (sides (W.told port.old) calls passed) (sides (W.told port.new) calls passed) row (row_then result) 1 Outside (stage_then_read result) }
+        ensures few { row_then result ≤ most_interruptions }
+        ensures same { (result ≡ Some 0 → ⊥) → self.new ≡ self.old }
+    {
+        match self.unread.fill(port) {
+            Got::Octets(_) => Some(0),
+            Got::End => {
+                self.close(Closing::Over);
+                Some(0)
+            }
+            Got::Interrupted => {
+                if row < MOST_INTERRUPTIONS {
+                    return Some(row + 1);
+                }
+                self.close(Closing::ReadFailed);
+                Some(0)
+            }
+            Got::Block => None,
+            Got::Fault => {
+                self.close(Closing::ReadFailed);
+                Some(0)
+            }
+        }
+    }
+
+    /// Reads once, and makes all of what came. Gives how many interruptions came last, in a row, or why it stops.
+    fn read_and_work<W: Wire, D: Desk, G: Gate>(
+        &mut self,
+        row: usize,
+        port: &mut W,
+        desk: &mut D,
+        gate: &mut G,
+    ) -> Result<usize, Ended>
+        requires quiet { IsQuiet self.old }
+        requires none { self.old.unread ≡ [] }
+        requires few { row ≤ most_interruptions }
+        ensures actor { D.actor desk.new ≡ D.actor desk.old }
+        ensures moves { Moves self.old self.new (sides (W.told port.old) (D.calls desk.old) (G.passed gate.old)) (sides (W.told port.new) (D.calls desk.new) (G.passed gate.new)) row (row_after result) 1 Outside (stage_after result) }
+        ensures stops { HasTurned result self.new }
+        ensures over { result ≡ Err Ended.TermOver → (before : _) × (event : AnEvent) × (over : ATermOver) × D.refuses before event over desk.new }
+        ensures shut { result ≡ Err Ended.GateShut → (before : _) × G.shuts before gate.new }
+    {
+        let Some(row) = self.read(row, port) else {
+            return Err(Ended::Idle);
+        };
+        if row > 0 {
+            return Ok(row);
+        }
+        self.work(port, desk, gate)?;
+        Ok(0)
+    }
+
+    /// Works until it stops, or has read so often as one call reads.
+    pub fn listen<W: Wire, D: Desk, G: Gate>(
+        &mut self,
+        port: &mut W,
+        desk: &mut D,
+        gate: &mut G,
+    ) -> Ended
+        ensures actor { D.actor desk.new ≡ D.actor desk.old }
+        ensures works { Listens self.old self.new (sides (W.told port.old) (D.calls desk.old) (G.passed gate.old)) (sides (W.told port.new) (D.calls desk.new) (G.passed gate.new)) result }
+        ensures over { result ≡ Ended.TermOver → (before : _) × (event : AnEvent) × (over : ATermOver) × D.refuses before event over desk.new }
+        ensures shut { result ≡ Ended.GateShut → (before : _) × G.shuts before gate.new }
+    {
+        if let Err(stop) = self.work(port, desk, gate) {
+            return stop;
+        }
+        let mut row = 0;
+        for _ in 0..MOST_READS {
+            match self.read_and_work(row, port, desk, gate) {
+                Ok(next) => row = next,
+                Err(stop) => return stop,
+            }
+        }
+        Ended::Paused
+    }
+
+    /// Begins a connection.
+    pub fn begin(&mut self)
+        ensures { self.new ≡ with_new_connection self.old }
+    {
+        self.connection = Stream::open(self.who);
+        self.numbering = Numbering::new();
+        self.is_cut = false;
+        self.unread.clear();
+    }
+
+    /// Cuts the connection. Where its carrier was up, its Lost is still to be handed in.
+    pub fn break_off(&mut self)
+        ensures { self.new ≡ cut_state self.old }
+    {
+        if self.pending.lost.is_none() {
+            self.pending.lost = self.connection.carrier_up();
+        }
+        self.connection = Stream::Closed;
+        self.is_cut = true;
+        self.closing = Closing::Over;
+    }
+
+    /// Hands in all that waits, in its order. Nothing is written.
+    pub fn flush_pending<D: Desk>(&mut self, desk: &mut D) -> Result<(), TermOver>
+        requires { self.old.is_cut ≡ true }
+        ensures actor { D.actor desk.new ≡ D.actor desk.old }
+        ensures moves { (told : Option (List Answer)) (passed : Option (List Passage)) → Moves self.old self.new (sides told (D.calls desk.old) passed) (sides told (D.calls desk.new) passed) 0 0 0 Disordered Disordered }
+        ensures ok { IfOk result (λ _. (self.new.pending.kept ≡ None) × (self.new.pending.lost ≡ None)) }
+        ensures over { IfErr result (λ over. (before : _) × (event : AnEvent) × D.refuses before event over desk.new) }
+        ensures live { IfErr result (λ _. is_live self.new ≡ true) }
+        ensures connection { self.new.connection ≡ self.old.connection }
+        ensures closing { self.new.closing ≡ self.old.closing }
+    {
+        while let Some(notice) = self.pending.first() {
+            desk.deposit(notice.event())?;
+            self.pending.remove_first();
+        }
+        Ok(())
+    }
+}

@@ -1,9 +1,6 @@
-use Rattle.std.proofs.Common.{subst, refl, ◌∙◌}
-use Rattle.dmr_link.specs.Happenings.{Stage, Outside}
-use Rattle.dmr_link.specs.Moves.{Moves}
-use Rattle.dmr_link.specs.Sessions.{sides}
+use Rattle.std.proofs.Common.{refl, ◌∙◌}
 use Rattle.dmr_link.proofs.StepsFollow.{moves_none, moves_on}
-use Rattle.dmr_link.proofs.LinkSteps.{rests, moves_passed_on}
+use Rattle.dmr_link.proofs.LinkSteps.{moves_passed_on}
 use Rattle.dmr_link.proofs.link_state.LinkState.deposit_pending.Goals as goal
 
 pub loop-notice-init : goal.loop-notice-init

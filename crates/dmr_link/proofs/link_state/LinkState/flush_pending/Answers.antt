@@ -1,6 +1,5 @@
 use Rattle.std.proofs.Common.{refl, ap, subst, sym, ◌∙◌, ◌++◌, ◌∷◌, []}
 use Rattle.dmr_core.specs.declared.event.Event.{Event}
-use Rattle.dmr_link.specs.declared.link_state.LinkState.{LinkState}
 use Rattle.dmr_link.specs.declared.pending.Pending.{Pending}
 use Rattle.dmr_link.specs.LinkSteps.{with_pending}
 use Rattle.dmr_link.specs.Happenings.{Disordered}

@@ -12,8 +12,8 @@ use Rattle.dmr_frames.specs.Rest.{Rest, Open, Faulty}
 use Rattle.dmr_frames.specs.Reading.{step_from, frames_from, rest_after_octets}
 use Rattle.dmr_link.specs.declared.ended.Ended.{Ended}
 use Rattle.dmr_link.specs.declared.ended.Ended.TheVariants as ended
-use Rattle.dmr_link.specs.declared.ended.Closing.{Closing}
-use Rattle.dmr_link.specs.declared.ended.Closing.TheVariants as closing
+use Rattle.dmr_wire.specs.declared.closing.Closing.{Closing}
+use Rattle.dmr_wire.specs.declared.closing.Closing.TheVariants as closing
 use Rattle.dmr_link.specs.declared.connection.CarrierIdentity.{CarrierIdentity}
 use Rattle.dmr_link.specs.declared.connection.Connection.{Connection}
 use Rattle.dmr_link.specs.declared.connection.Connection.TheVariants.{Closed, Waiting, Running}
@@ -23,9 +23,11 @@ use Rattle.dmr_link.specs.Steps.{connection_after_octet}
 -- what is answered for a connection that was closed so
 abbrev pub ended_of : Closing → Ended
 ended_of closing.Over = ended.Closed
+ended_of closing.Bye = ended.Closed
 ended_of closing.ReadFailed = ended.ReadFault
 ended_of closing.WriteFailed = ended.WriteFault
 ended_of (closing.Bad why) = ended.BadFrame why
+ended_of (closing.Refused why hello) = ended.BadFrame why
 
 -- ---- by the frames of a connection
 
@@ -39,19 +41,20 @@ abbrev pub cause_of_refusal : Refusal → Cause
 cause_of_refusal refusal.BadVersion = cause.BadVersion
 cause_of_refusal refusal.WrongCarrier = cause.WrongCarrier
 
--- what is wrong with a first frame that isn't accepted
-abbrev pub wrong_first : CarrierIdentity → FrameIn → Cause
-wrong_first who (frame.Hello version carrier lpcn) = if is_served who version then cause.WrongCarrier else cause.BadVersion
-wrong_first who other = cause.NoHello
+-- how a first frame that isn't accepted closes a connection: a HELLO is refused, for its version before all else
+abbrev pub first_fault : CarrierIdentity → FrameIn → Closing
+first_fault who (frame.Hello version carrier lpcn) =
+    closing.Refused (if is_served who version then cause.WrongCarrier else cause.BadVersion) (record { version = version; carrier = carrier; lpcn = lpcn })
+first_fault who other = closing.Bad cause.NoHello
 
 -- how a first frame closes a connection, if it does
 abbrev pub first_closes : CarrierIdentity → FrameIn → Option Closing
-first_closes who f = if is_accepted who f then None else Some (closing.Bad (wrong_first who f))
+first_closes who f = if is_accepted who f then None else Some (first_fault who f)
 
 -- how a frame closes a connection whose carrier is up, if it does
 abbrev pub frame_closes : FrameIn → Option Closing
 frame_closes (frame.Hello version carrier lpcn) = Some (closing.Bad cause.SecondHello)
-frame_closes frame.Bye = Some closing.Over
+frame_closes frame.Bye = Some closing.Bye
 frame_closes other = None
 
 -- the first that there is
@@ -67,7 +70,7 @@ up_closed (f ∷ fs) rest = or_else (frame_closes f) (up_closed fs rest)
 -- frames of a connection
 abbrev pub frames_closed : CarrierIdentity → List FrameIn → Rest → Option Closing
 frames_closed who [] rest = fault_of rest
-frames_closed who (f ∷ fs) rest = if is_accepted who f then up_closed fs rest else Some (closing.Bad (wrong_first who f))
+frames_closed who (f ∷ fs) rest = if is_accepted who f then up_closed fs rest else Some (first_fault who f)
 
 -- HOW OCTETS CLOSE a connection, if they do: by a BYE of a carrier that is up, or for a cause
 unfoldable pub closing_of_octets : CarrierIdentity → List ℕ → Option Closing

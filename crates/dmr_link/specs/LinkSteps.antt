@@ -6,8 +6,8 @@ use Rattle.dmr_link.specs.Notices.{Notice}
 use Rattle.dmr_link.specs.Notices.{Happened, Accepted, Refused, Unheeded}
 use Rattle.dmr_link.specs.declared.notices.SiteNotice.{SiteNotice}
 use Rattle.dmr_link.specs.declared.notices.SiteNotice.TheVariants as site
-use Rattle.dmr_link.specs.declared.ended.Closing.{Closing}
-use Rattle.dmr_link.specs.declared.ended.Closing.TheVariants.{Over, WriteFailed}
+use Rattle.dmr_wire.specs.declared.closing.Closing.{Closing}
+use Rattle.dmr_wire.specs.declared.closing.Closing.TheVariants.{Over, WriteFailed}
 use Rattle.dmr_link.specs.declared.ended.Ended.{Ended}
 use Rattle.dmr_link.specs.declared.ended.Ended.TheVariants as ended
 use Rattle.dmr_link.specs.declared.stream.Stream.{Stream}

@@ -17,7 +17,7 @@ use Rattle.dmr_link.specs.Notices.{Happened, Accepted, Refused, Unheeded}
 use Rattle.dmr_link.specs.declared.notices.SiteNotice.{SiteNotice}
 use Rattle.dmr_link.specs.declared.notices.SiteNotice.TheVariants as site
 use Rattle.dmr_link.specs.declared.desk.Deposit.{Deposit}
-use Rattle.dmr_link.specs.declared.ended.Closing.{Closing}
+use Rattle.dmr_wire.specs.declared.closing.Closing.{Closing}
 use Rattle.dmr_link.specs.declared.stream.Peer.{Peer}
 use Rattle.dmr_link.specs.declared.stream.Peer.TheVariants.{Carrier, Operator}
 use Rattle.dmr_link.specs.declared.stream.Stream.{Stream}

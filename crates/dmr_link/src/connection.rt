@@ -6,19 +6,19 @@ ghost use Rattle.dmr_frames.specs.Versions.{chosen_by};
 ghost use Rattle.dmr_core.specs.declared.event.Event.TheVariants.{Lost};
 ghost use Rattle.dmr_frames.specs.declared.frame.FrameIn.TheVariants as frame;
 ghost use Rattle.dmr_link.specs.Meaning.{event_of_burst as event_heard, is_accepted, is_repeat as is_newest_again, refusal_of_first};
-ghost use Rattle.dmr_link.specs.Closing.{cause_of_refusal, closes, waiting_closes, running_closes, wrong_first};
-ghost use Rattle.dmr_link.specs.declared.ended.Closing.TheVariants as closed;
+ghost use Rattle.dmr_link.specs.Closing.{cause_of_refusal, closes, first_fault, waiting_closes, running_closes};
+ghost use Rattle.dmr_wire.specs.declared.closing.Closing.TheVariants as closed;
 ghost use Rattle.dmr_link.specs.Notices.{Accepted, Happened, Refused, notice_meant};
 ghost use Rattle.dmr_link.specs.Sound.{IsConnectionSound};
 ghost use Rattle.dmr_link.specs.Steps.{new_connection, notice_of_octet, connection_after_octet, running_brings, waiting_brings, waiting_leaves, running_leaves};
 
-use crate::ended::Closing;
 use crate::notices::{Aside, Notice, SiteNotice};
 use dmr_bits::Word196;
 use dmr_burst::read;
 use dmr_core::Event;
 use dmr_frames::{Cause, Cutter, FrameIn, Refusal, Step, Version};
 use dmr_pdu::{CarrierNo, Lpcn, Slot};
+use dmr_wire::{Closing, Hello};
 use std::mem::replace;
 
 /// Which carrier a session is for: it has to say HELLO with just these.
@@ -62,7 +62,7 @@ impl CarrierIdentity {
     /// is why it is refused: for its version before all else.
     fn accept(&self, version: u8, carrier: u8, lpcn: u16) -> Result<Version, Refusal>
         ensures ok { IfOk result (λ v. (is_accepted self.now (frame.Hello version carrier lpcn) ≡ true) × (chosen_by self.now.greatest (frame.Hello version carrier lpcn) ≡ v)) }
-        ensures err { IfErr result (λ r. (is_accepted self.now (frame.Hello version carrier lpcn) ≡ false) × (refusal_of_first self.now (frame.Hello version carrier lpcn) ≡ Some (Refused self.now.carrier r)) × (wrong_first self.now (frame.Hello version carrier lpcn) ≡ cause_of_refusal r)) }
+        ensures err { IfErr result (λ r. (is_accepted self.now (frame.Hello version carrier lpcn) ≡ false) × (refusal_of_first self.now (frame.Hello version carrier lpcn) ≡ Some (Refused self.now.carrier r)) × (first_fault self.now (frame.Hello version carrier lpcn) ≡ closed.Refused (cause_of_refusal r) (record { version = version; carrier = carrier; lpcn = lpcn }))) }
     {
         let Some(version) = self.greatest.named(version) else {
             return Err(Refusal::BadVersion);
@@ -124,14 +124,14 @@ fn accepts(carrier: CarrierNo, version: Version) -> Outcome
     }
 }
 
-/// A carrier's HELLO is refused, which closes the connection.
-fn refuses(carrier: CarrierNo, refusal: Refusal) -> Outcome
+/// A carrier's HELLO of these numbers is refused, which closes the connection.
+fn refuses(carrier: CarrierNo, refusal: Refusal, hello: Hello) -> Outcome
     ensures notice { option_map notice_meant result.notice ≡ Some (Refused carrier refusal) }
-    ensures closing { result.closing ≡ Some (closed.Bad (cause_of_refusal refusal)) }
+    ensures closing { result.closing ≡ Some (closed.Refused (cause_of_refusal refusal) hello) }
 {
     Outcome {
         notice: Some(Notice::Aside(Aside::Refused(carrier, refusal))),
-        closing: Some(Closing::Bad(cause_of(refusal))),
+        closing: Some(Closing::Refused(cause_of(refusal), hello)),
     }
 }
 
@@ -191,7 +191,14 @@ fn take_first(who: &CarrierIdentity, cutter: Cutter, step: &Step) -> (Outcome, C
                     newest: None,
                 },
             ),
-            Err(refusal) => (refuses(who.carrier, refusal), Connection::Closed),
+            Err(refusal) => {
+                let hello = Hello {
+                    version: *version,
+                    carrier: *carrier,
+                    lpcn: *lpcn,
+                };
+                (refuses(who.carrier, refusal, hello), Connection::Closed)
+            }
         },
         Step::Frame(_) => (closes_for(Cause::NoHello), Connection::Closed),
     }
@@ -242,7 +249,7 @@ fn take_next(
             loses(carrier, Closing::Bad(Cause::SecondHello)),
             Connection::Closed,
         ),
-        Step::Frame(FrameIn::Bye) => (loses(carrier, Closing::Over), Connection::Closed),
+        Step::Frame(FrameIn::Bye) => (loses(carrier, Closing::Bye), Connection::Closed),
     }
 }
 

@@ -13,7 +13,7 @@ use crate::desk::{Desk, OpenGate, TermOver};
 use crate::ended::Ended;
 use crate::link_state::LinkState;
 use crate::stream::Peer;
-use dmr_wire::Wire;
+use dmr_wire::{Closing, Wire};
 use std::marker::Model;
 
 /// The console's link. It has a connection or none, and keeps what a desk has not taken of it: a command, and the octets of the
@@ -54,6 +54,13 @@ impl ConsoleLink {
         ensures { result ≡ is_live self.now }
     {
         self.state.is_live()
+    }
+
+    /// How the connection was closed: by the end of its input, a fault or a cut; the last time, while another is open.
+    pub fn closing(&self) -> Closing
+        ensures { result ≡ self.now.closing }
+    {
+        self.state.closing
     }
 
     /// Does nothing. A proof learns from it that every link is an operators', and stands for some past.

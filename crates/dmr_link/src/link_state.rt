@@ -15,7 +15,7 @@ ghost use Rattle.dmr_link.specs.Sessions.{IsQuiet, IsClosed, sides};
 ghost use Rattle.dmr_link.specs.LinkSteps.{state_after_octet, aside_of, closed_as, first_pending, nothing_pending, is_live, pending_weight, Replies, IsHeld, IsSettled, row_then, row_after, stage_then_read, HasTurned, Listens, cut_state, with_new_connection};
 
 use crate::desk::{Desk, Gate, TermOver};
-use crate::ended::{Closing, Ended};
+use crate::ended::Ended;
 use crate::limits::{MOST_INTERRUPTIONS, MOST_READS};
 use crate::notices::{Aside, Notice, SiteNotice};
 use crate::numbering::Numbering;
@@ -25,7 +25,7 @@ use crate::unread::Unread;
 use crate::writing::{write_answer, write_aside};
 use dmr_console::lines_in_any_cutting;
 use dmr_core::Acts;
-use dmr_wire::{Got, Wire};
+use dmr_wire::{Closing, Got, Wire};
 
 /// What a link keeps of its connection.
 #[derive(Drop)]

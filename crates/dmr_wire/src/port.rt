@@ -1,8 +1,9 @@
 //! Ports: wires on which one connection follows another.
 
-ghost use Rattle.std.specs.Prelude.{[], ◌∷◌};
+ghost use Rattle.std.specs.Prelude.{◌≡◌, [], ◌∷◌};
 ghost use Rattle.dmr_wire.specs.Told.{Tells, of_connect, of_wait};
 
+use crate::closing::Closing;
 use crate::wire::Wire;
 
 /// What comes of asking for the next connection.
@@ -34,4 +35,11 @@ pub trait Port: Wire {
     /// Waits until there is something to read, or the other side has been silent for too long.
     fn wait(&mut self) -> Waited
         ensures { Tells (Self.told self.old) (of_wait result ∷ []) (Self.told self.new) };
+
+    /// Is told how the connection was closed, before the next is asked for. Nothing is read or written. By default it does nothing.
+    fn closed(&mut self, closing: Closing)
+        ensures { Self.told self.new ≡ Self.told self.old }
+    {
+        let _ = closing;
+    }
 }

@@ -21,7 +21,7 @@ use Rattle.dmr_link.specs.Moves.{Moves, Puts}
 use Rattle.dmr_link.specs.Numbering.{first_number}
 use Rattle.dmr_link.specs.Sound.{IsNumberingOf}
 use Rattle.dmr_frames.specs.Versions.{version_octet}
-use Rattle.dmr_link.specs.Peers.{opened_for, is_going, up_of, brings, left_after, closes_by}
+use Rattle.dmr_link.specs.Peers.{opened_for, is_going, up_of, brings, left_after, closes_by, numbered}
 use Rattle.dmr_link.specs.Sessions.{Sides, IsQuiet, IsOver, is_kept, is_lost, is_owing}
 
 -- the number of the next TX once the WELCOME that is kept, if one is, was written
@@ -31,10 +31,10 @@ next_when_answered (Some (site.Happened event)) next = next
 next_when_answered (Some (site.Accepted c version)) next = first_number (version_octet version)
 
 -- the number of a link's next TX is then one of its connection's version
-abbrev pub IsLinkNumbering : Stream → Option SiteNotice → Option ℕ → Type 0
-IsLinkNumbering stream.Closed kept next = Unit {0}
-IsLinkNumbering (stream.Frames session) kept next = IsNumberingOf session.connection (next_when_answered kept next)
-IsLinkNumbering (stream.Lines begun) kept next = Unit {0}
+abbrev pub IsLinkNumbering : Stream → Option SiteNotice → Type 0
+IsLinkNumbering stream.Closed kept = Unit {0}
+IsLinkNumbering (stream.Frames state) kept = IsNumberingOf state.connection (next_when_answered kept state.numbering)
+IsLinkNumbering (stream.Lines begun) kept = Unit {0}
 
 -- ---- what waits to be handed in
 
@@ -69,13 +69,13 @@ abbrev pub pending_weight : Pending → ℕ
 pending_weight p = weight_of p.kept p.lost
 
 abbrev pub with_pending : LinkState → Pending → LinkState
-with_pending l p = record { who = l.who; connection = l.connection; numbering = l.numbering; pending = p; is_cut = l.is_cut; unread = l.unread; closing = l.closing }
+with_pending l p = record { who = l.who; connection = l.connection; pending = p; is_cut = l.is_cut; unread = l.unread; closing = l.closing }
 
 -- ---- a link's steps
 
 -- its connection is closed so
 abbrev pub closed_as : LinkState → Closing → LinkState
-closed_as l closing = record { who = l.who; connection = stream.Closed; numbering = l.numbering; pending = record { kept = l.pending.kept; lost = up_of l.connection }; is_cut = l.is_cut; unread = l.unread; closing = closing }
+closed_as l closing = record { who = l.who; connection = stream.Closed; pending = record { kept = l.pending.kept; lost = up_of l.connection }; is_cut = l.is_cut; unread = l.unread; closing = closing }
 
 -- the event among what is kept and what is brought
 abbrev pub kept_then : Option SiteNotice → Option Notice → Option SiteNotice
@@ -100,7 +100,6 @@ abbrev pub state_after_octet : LinkState → ℕ → LinkState
 state_after_octet l x = record {
   who = l.who;
   connection = left_after l.connection x;
-  numbering = l.numbering;
   pending = record { kept = kept_then l.pending.kept (brings l.connection x); lost = l.pending.lost };
   is_cut = l.is_cut;
   unread = l.unread;
@@ -113,17 +112,17 @@ is_live l = is_going l.connection || is_kept l.pending.kept || is_lost l.pending
 
 -- the next TX has this number
 abbrev pub with_next : LinkState → Option ℕ → LinkState
-with_next l next = record { who = l.who; connection = l.connection; numbering = next; pending = l.pending; is_cut = l.is_cut; unread = l.unread; closing = l.closing }
+with_next l next = record { who = l.who; connection = numbered l.connection next; pending = l.pending; is_cut = l.is_cut; unread = l.unread; closing = l.closing }
 
--- after octets were written, as a whole or not; behind them the next TX has this number
-abbrev pub after_put : Bool → Option ℕ → LinkState → LinkState
-after_put true next l = with_next l next
-after_put false next l = closed_as l WriteFailed
+-- after octets were written: as a whole, which leaves the first; or not, where the connection of the second is closed
+abbrev pub after_put : Bool → LinkState → LinkState → LinkState
+after_put true whole l = whole
+after_put false whole l = closed_as l WriteFailed
 
 -- octets were written, unless the connection was cut
-abbrev pub Replies : Bool → LinkState → Option (List Answer) → List ℕ → Option ℕ → LinkState → Option (List Answer) → Type 0
-Replies true old told octets next new now = (new ≡ old) × (now ≡ told)
-Replies false old told octets next new now = (whole : Bool) × Puts told octets whole now × (new ≡ after_put whole next old)
+abbrev pub Replies : Bool → LinkState → Option (List Answer) → List ℕ → LinkState → LinkState → Option (List Answer) → Type 0
+Replies true old told octets written new now = (new ≡ old) × (now ≡ told)
+Replies false old told octets written new now = (whole : Bool) × Puts told octets whole now × (new ≡ after_put whole written old)
 
 -- an event could not be handed in; or this holds
 abbrev pub IsHeld : {X : Type 0} → Result X Ended → LinkState → Type 0 → Type 0
@@ -185,8 +184,8 @@ lost_then (Some c) up = Some c
 
 -- the link, when it is cut
 abbrev pub cut_state : LinkState → LinkState
-cut_state l = record { who = l.who; connection = stream.Closed; numbering = l.numbering; pending = record { kept = l.pending.kept; lost = lost_then l.pending.lost (up_of l.connection) }; is_cut = true; unread = l.unread; closing = Over }
+cut_state l = record { who = l.who; connection = stream.Closed; pending = record { kept = l.pending.kept; lost = lost_then l.pending.lost (up_of l.connection) }; is_cut = true; unread = l.unread; closing = Over }
 
 -- a connection of it begins
 abbrev pub with_new_connection : LinkState → LinkState
-with_new_connection l = record { who = l.who; connection = opened_for l.who; numbering = None; pending = l.pending; is_cut = false; unread = []; closing = l.closing }
+with_new_connection l = record { who = l.who; connection = opened_for l.who; pending = l.pending; is_cut = false; unread = []; closing = l.closing }

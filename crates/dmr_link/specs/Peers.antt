@@ -22,7 +22,7 @@ use Rattle.dmr_link.specs.declared.stream.Peer.{Peer}
 use Rattle.dmr_link.specs.declared.stream.Peer.TheVariants.{Carrier, Operator}
 use Rattle.dmr_link.specs.declared.stream.Stream.{Stream}
 use Rattle.dmr_link.specs.declared.stream.Stream.TheVariants as stream
-use Rattle.dmr_link.specs.CarrierSessions.{session_on, is_open, up_by}
+use Rattle.dmr_link.specs.CarrierStates.{state_on, is_open, up_by}
 use Rattle.dmr_link.specs.Closing.{closing_of_octets, closes}
 use Rattle.dmr_link.specs.Console.{notice_of_command, meaning_of_text, console_text, fault_text, reply_text}
 use Rattle.dmr_link.specs.Meaning.{meaning_of_octets, left_by_octets, list_of_notice}
@@ -38,10 +38,10 @@ abbrev pub meaning_from : Peer → List ℕ → Bool → List Notice
 meaning_from (Carrier who) octets has_ended = meaning_of_octets who octets has_ended
 meaning_from Operator octets has_ended = meaning_of_text octets
 
--- a connection on which these octets came; of an operator's open line the first 81 octets are kept
-abbrev pub left_from : Peer → List ℕ → Stream
-left_from (Carrier who) octets = stream.Frames (session_on who (left_by_octets who octets))
-left_from Operator octets = stream.Lines (first_octets_of_line (open_in octets))
+-- a connection on which these octets came, and whose next TX has this number; of an operator's open line the first 81 octets are kept
+abbrev pub left_from : Peer → List ℕ → Option ℕ → Stream
+left_from (Carrier who) octets next = stream.Frames (state_on who (left_by_octets who octets) next)
+left_from Operator octets next = stream.Lines (first_octets_of_line (open_in octets))
 
 -- HOW OCTETS CLOSE a connection, if they do. An operator's never do
 abbrev pub closing_from : Peer → List ℕ → Option Closing
@@ -89,18 +89,29 @@ aside_text (Unheeded fault) = fault_text fault
 
 -- a connection that has just begun
 abbrev pub opened_for : Peer → Stream
-opened_for (Carrier who) = stream.Frames (session_on who (new_connection who))
+opened_for (Carrier who) = stream.Frames (state_on who (new_connection who) None)
 opened_for Operator = stream.Lines []
 
 -- whether a connection is open
 abbrev pub is_going : Stream → Bool
 is_going stream.Closed = false
-is_going (stream.Frames session) = is_open session.connection
+is_going (stream.Frames state) = is_open state.connection
 is_going (stream.Lines begun) = true
+
+-- the number of the next TX, where there is one
+abbrev pub numbering_of : Stream → Option ℕ
+numbering_of (stream.Frames state) = state.numbering
+numbering_of other = None
+
+-- the connection whose next TX has another number
+abbrev pub numbered : Stream → Option ℕ → Stream
+numbered stream.Closed next = stream.Closed
+numbered (stream.Frames state) next = stream.Frames (state_on state.who state.connection next)
+numbered (stream.Lines begun) next = stream.Lines begun
 
 -- the carrier that is up, if one is
 abbrev pub up_of : Stream → Option ℕ
-up_of (stream.Frames session) = up_by session.who session.connection
+up_of (stream.Frames state) = up_by state.who state.connection
 up_of other = None
 
 -- what a step of the line cutter brings
@@ -112,19 +123,19 @@ line_brings (step.Line line) = Some (notice_of_command (command_of line.items))
 -- what an octet brings
 abbrev pub brings : Stream → ℕ → Option Notice
 brings stream.Closed x = None
-brings (stream.Frames session) x = notice_of_octet session.who session.connection x
+brings (stream.Frames state) x = notice_of_octet state.who state.connection x
 brings (stream.Lines begun) x = line_brings (line_step_at begun x)
 
 -- the connection after it
 abbrev pub left_after : Stream → ℕ → Stream
 left_after stream.Closed x = stream.Closed
-left_after (stream.Frames session) x = stream.Frames (session_on session.who (connection_after_octet session.who session.connection x))
+left_after (stream.Frames state) x = stream.Frames (state_on state.who (connection_after_octet state.who state.connection x) state.numbering)
 left_after (stream.Lines begun) x = stream.Lines (open_line_after_octet begun x)
 
 -- how it closes the connection, if it does
 abbrev pub closes_by : Stream → ℕ → Option Closing
 closes_by stream.Closed x = None
-closes_by (stream.Frames session) x = closes session.who session.connection x
+closes_by (stream.Frames state) x = closes state.who state.connection x
 closes_by (stream.Lines begun) x = None
 
 -- what octets bring

@@ -15,7 +15,7 @@
 #![tactic(auto)]
 
 mod answers;
-mod carrier_session;
+mod carrier_state;
 mod connection;
 mod console;
 mod console_link;

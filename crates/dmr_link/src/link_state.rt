@@ -10,15 +10,14 @@ ghost use Rattle.dmr_link.specs.Limits.{most_interruptions};
 ghost use Rattle.dmr_link.specs.Moves.{Moves};
 ghost use Rattle.dmr_link.specs.Notices.{aside_notice};
 ghost use Rattle.dmr_link.specs.Passages.{Passage};
-ghost use Rattle.dmr_link.specs.Peers.{answer_text, aside_text, brings, next_after_answer};
+ghost use Rattle.dmr_link.specs.Peers.{answer_text, aside_text, brings, next_after_answer, numbering_of};
 ghost use Rattle.dmr_link.specs.Sessions.{IsQuiet, IsClosed, sides};
-ghost use Rattle.dmr_link.specs.LinkSteps.{state_after_octet, aside_of, closed_as, first_pending, nothing_pending, is_live, pending_weight, Replies, IsHeld, IsSettled, row_then, row_after, stage_then_read, HasTurned, Listens, cut_state, with_new_connection};
+ghost use Rattle.dmr_link.specs.LinkSteps.{state_after_octet, aside_of, closed_as, first_pending, nothing_pending, is_live, pending_weight, Replies, IsHeld, IsSettled, row_then, row_after, with_next, stage_then_read, HasTurned, Listens, cut_state, with_new_connection};
 
 use crate::desk::{Desk, Gate, TermOver};
 use crate::ended::Ended;
 use crate::limits::{MOST_INTERRUPTIONS, MOST_READS};
 use crate::notices::{Aside, Notice, SiteNotice};
-use crate::numbering::Numbering;
 use crate::pending::Pending;
 use crate::stream::{Peer, Stream};
 use crate::unread::Unread;
@@ -34,8 +33,6 @@ pub struct LinkState {
     pub who: Peer,
     /// The connection.
     pub connection: Stream,
-    /// The number of its next TX.
-    pub numbering: Numbering,
     /// What no desk has taken yet.
     pub pending: Pending,
     /// Whether the connection was cut: nothing is written on it any more.
@@ -57,7 +54,6 @@ impl LinkState {
         LinkState {
             who,
             connection: Stream::Closed,
-            numbering: Numbering::new(),
             pending: Pending::none(),
             is_cut: false,
             unread: Unread::new(),
@@ -102,14 +98,14 @@ impl LinkState {
 
     /// Writes what answers a notice, unless the connection was cut. Where a write fails, the connection is closed.
     fn reply<W: Wire>(&mut self, notice: &SiteNotice, acts: &Acts, port: &mut W)
-        ensures { Replies self.old.is_cut self.old (W.told port.old) (answer_text self.old.numbering notice.now acts.now) (next_after_answer self.old.numbering notice.now acts.now) self.new (W.told port.new) }
+        ensures { Replies self.old.is_cut self.old (W.told port.old) (answer_text (numbering_of self.old.connection) notice.now acts.now) (with_next self.old (next_after_answer (numbering_of self.old.connection) notice.now acts.now)) self.new (W.told port.new) }
     {
         if self.is_cut {
             return;
         }
-        let mut numbering = self.numbering;
+        let mut numbering = self.connection.numbering();
         if write_answer(port, &mut numbering, notice, acts) {
-            self.numbering = numbering;
+            self.connection.number(numbering);
         } else {
             self.close(Closing::WriteFailed);
         }
@@ -117,7 +113,7 @@ impl LinkState {
 
     /// Writes what the peer alone is told of. Where a write fails, that is how the connection was closed.
     fn answer_aside<W: Wire>(&mut self, aside: &Aside, port: &mut W)
-        ensures { Replies false self.old (W.told port.old) (aside_text (aside_notice aside.now)) self.old.numbering self.new (W.told port.new) }
+        ensures { Replies false self.old (W.told port.old) (aside_text (aside_notice aside.now)) self.old self.new (W.told port.new) }
     {
         if !write_aside(port, aside) {
             self.close(Closing::WriteFailed);
@@ -305,7 +301,6 @@ impl LinkState {
         ensures { self.new ≡ with_new_connection self.old }
     {
         self.connection = Stream::open(self.who);
-        self.numbering = Numbering::new();
         self.is_cut = false;
         self.unread.clear();
     }

@@ -2,11 +2,12 @@
 
 ghost use Rattle.std.specs.Prelude.{◌≡◌, option_map};
 ghost use Rattle.dmr_link.specs.Notices.{notice_meant};
-ghost use Rattle.dmr_link.specs.Peers.{opened_for, is_going, up_of, brings, closes_by, left_after};
+ghost use Rattle.dmr_link.specs.Peers.{opened_for, is_going, up_of, brings, closes_by, left_after, numbered, numbering_of};
 
-use crate::carrier_session::CarrierSession;
+use crate::carrier_state::CarrierState;
 use crate::connection::{CarrierIdentity, Outcome};
 use crate::console::notice_of_line;
+use crate::numbering::Numbering;
 use dmr_console::LineCutter;
 use dmr_pdu::CarrierNo;
 
@@ -24,8 +25,8 @@ pub enum Peer {
 pub enum Stream {
     /// None is open: octets mean nothing.
     Closed,
-    /// A carrier's session.
-    Frames(CarrierSession),
+    /// A carrier's state.
+    Frames(CarrierState),
     /// An operator's connection, with what is kept of the open line.
     Lines(LineCutter),
 }
@@ -36,7 +37,7 @@ impl Stream {
         ensures { result ≡ opened_for peer }
     {
         match peer {
-            Peer::Carrier(who) => Stream::Frames(CarrierSession::open(who)),
+            Peer::Carrier(who) => Stream::Frames(CarrierState::open(who)),
             Peer::Operator => Stream::Lines(LineCutter::new()),
         }
     }
@@ -47,7 +48,7 @@ impl Stream {
     {
         match self {
             Stream::Closed => false,
-            Stream::Frames(session) => session.is_open(),
+            Stream::Frames(state) => state.is_open(),
             Stream::Lines(_) => true,
         }
     }
@@ -57,8 +58,27 @@ impl Stream {
         ensures { result ≡ up_of self.now }
     {
         match self {
-            Stream::Frames(session) => session.carrier_up(),
+            Stream::Frames(state) => state.carrier_up(),
             Stream::Closed | Stream::Lines(_) => None,
+        }
+    }
+
+    /// The number of the next TX; none where TX have none, or nobody is sent any.
+    pub fn numbering(&self) -> Numbering
+        ensures { result ≡ numbering_of self.now }
+    {
+        match self {
+            Stream::Frames(state) => state.numbering,
+            Stream::Closed | Stream::Lines(_) => Numbering::new(),
+        }
+    }
+
+    /// The next TX has this number. Where nobody is sent any TX, nothing changes.
+    pub fn number(&mut self, next: Numbering)
+        ensures { self.new ≡ numbered self.old next }
+    {
+        if let Stream::Frames(state) = self {
+            state.numbering = next;
         }
     }
 
@@ -71,7 +91,7 @@ impl Stream {
     {
         match self {
             Stream::Closed => Outcome::NOTHING,
-            Stream::Frames(session) => session.receive(octet),
+            Stream::Frames(state) => state.receive(octet),
             Stream::Lines(cutter) => Outcome {
                 notice: notice_of_line(&cutter.feed_byte(octet)),
                 closing: None,

@@ -1,8 +1,8 @@
 use Rattle.std.proofs.Common.{refl, subst, ap, ◌∙◌, ◌++◌, ◌∷◌, []}
 use Rattle.dmr_core.specs.declared.event.Event.{Event}
 use Rattle.dmr_link.specs.declared.pending.Pending.{Pending}
-use Rattle.dmr_link.specs.LinkSteps.{Replies, with_pending}
-use Rattle.dmr_link.specs.Peers.{answer_text, next_after_answer}
+use Rattle.dmr_link.specs.LinkSteps.{Replies, with_next, with_pending}
+use Rattle.dmr_link.specs.Peers.{answer_text, next_after_answer, numbering_of}
 use Rattle.dmr_link.proofs.LinksStandAfterSteps.{deposit}
 use Rattle.dmr_link.specs.Happenings.{Outside, Within, Answering, ShutOut}
 use Rattle.dmr_link.specs.Passages.{Entered, Shut, Left}
@@ -20,7 +20,7 @@ pub returns-in-Ok-clause-moves : goal.returns-in-Ok-clause-moves
 returns-in-Ok-clause-moves g c =
     let told = g.W.Wire.told c.args.port.now in
     let calls = g.D.Desk.calls c.args.desk.now in
-    let P : Pending → Type 0 = λ p. Replies c.args.self.now.is_cut (with_pending c.args.self.now p) told (answer_text c.args.self.now.numbering c.args.notice.now c.in-Ok.acts) (next_after_answer c.args.self.now.numbering c.args.notice.now c.in-Ok.acts) c.reply.new.self (g.W.Wire.told c.reply.new.port) in
+    let P : Pending → Type 0 = λ p. Replies c.args.self.now.is_cut (with_pending c.args.self.now p) told (answer_text (numbering_of c.args.self.now.connection) c.args.notice.now c.in-Ok.acts) (with_next (with_pending c.args.self.now p) (next_after_answer (numbering_of c.args.self.now.connection) c.args.notice.now c.in-Ok.acts)) c.reply.new.self (g.W.Wire.told c.reply.new.port) in
     moves_on _ _ _ _ _ _ _ _ _ _ _ _ _
     (moves_passed c.args.self.now told calls _ _ Entered Outside Within c.if-not-enter.ensures.passed refl)
     (moves_on _ _ _ _ _ _ _ _ _ _ _ _ _
@@ -31,5 +31,5 @@ returns-in-Ok-clause-moves g c =
 pub returns-in-Ok-clause-stops : goal.returns-in-Ok-clause-stops
 returns-in-Ok-clause-stops g c =
     let told = g.W.Wire.told c.args.port.now in
-    let P : Pending → Type 0 = λ p. Replies c.args.self.now.is_cut (with_pending c.args.self.now p) told (answer_text c.args.self.now.numbering c.args.notice.now c.in-Ok.acts) (next_after_answer c.args.self.now.numbering c.args.notice.now c.in-Ok.acts) c.reply.new.self (g.W.Wire.told c.reply.new.port) in
+    let P : Pending → Type 0 = λ p. Replies c.args.self.now.is_cut (with_pending c.args.self.now p) told (answer_text (numbering_of c.args.self.now.connection) c.args.notice.now c.in-Ok.acts) (with_next (with_pending c.args.self.now p) (next_after_answer (numbering_of c.args.self.now.connection) c.args.notice.now c.in-Ok.acts)) c.reply.new.self (g.W.Wire.told c.reply.new.port) in
     fewer_by c.args.self.now c.args.notice.now c.in-Ok.acts told _ c.args.self.now.is_cut _ c.requires (subst P c.remove_first.ensures c.reply.ensures)

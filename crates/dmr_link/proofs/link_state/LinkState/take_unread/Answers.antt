@@ -18,7 +18,7 @@ returns-in-Some-receive-clause-moves g c = λ calls passed.
     tells (record { whole = c.lines_in_any_cutting.ensures.whole; cut = c.lines_in_any_cutting.ensures.cut })
     c.args.self.now c.in-Some.octet c.next.new.self c.in-Some.ensures c.requires _ calls passed (aside_notice c.in-Some-receive.aside) _ _
     (sym c.receive.ensures.aside ∙ ap (option_map aside_notice) c.in-Some-receive.is)
-    (done.0, done.1, done.2 ∙ (λ i. after_put done.0 (c.receive.ensures.state i).numbering (c.receive.ensures.state i)))
+    (done.0, done.1, done.2 ∙ (λ i. after_put done.0 (c.receive.ensures.state i) (c.receive.ensures.state i)))
 
 pub returns-in_default-receive-clause-moves : goal.returns-in_default-receive-clause-moves
 returns-in_default-receive-clause-moves g c = λ calls passed.

@@ -1,7 +1,7 @@
-//! A carrier's session, which is for one carrier, whichever of its connections stands.
+//! The state of a carrier's connections, one after another. An engine has one for each of its carriers, a link has its own.
 
-ghost use Rattle.std.specs.Prelude.{◌≡◌, option_map};
-ghost use Rattle.dmr_link.specs.CarrierSessions.{session_on, is_open, up_by};
+ghost use Rattle.std.specs.Prelude.{◌≡◌, None, option_map};
+ghost use Rattle.dmr_link.specs.CarrierStates.{state_on, is_open, up_by};
 ghost use Rattle.dmr_link.specs.Closing.{closes};
 ghost use Rattle.dmr_link.specs.Notices.{notice_meant};
 ghost use Rattle.dmr_link.specs.Sound.{IsConnectionSound};
@@ -9,39 +9,44 @@ ghost use Rattle.dmr_link.specs.Steps.{new_connection, notice_of_octet, connecti
 ghost use Rattle.dmr_link.specs.declared.connection.Connection.TheVariants.{Closed as closed};
 
 use crate::connection::{CarrierIdentity, Connection, Outcome};
+use crate::numbering::Numbering;
 use dmr_pdu::CarrierNo;
 
-/// A carrier's session: the carrier, and its connection as far as its octets have led.
+/// The state of a carrier's connections.
 #[derive(Debug, Drop)]
-pub struct CarrierSession {
-    /// The carrier that it is for.
+pub struct CarrierState {
+    /// The carrier that they are for.
     pub who: CarrierIdentity,
-    /// Its connection.
+    /// The connection, as far as its octets have led.
     pub connection: Connection,
+    /// The number of the next TX.
+    pub numbering: Numbering,
 }
 
-impl CarrierSession {
-    /// A session with no connection.
-    pub fn new(who: CarrierIdentity) -> CarrierSession
-        ensures { result ≡ session_on who closed }
+impl CarrierState {
+    /// There has been no connection.
+    pub fn new(who: CarrierIdentity) -> CarrierState
+        ensures { result ≡ state_on who closed None }
     {
-        CarrierSession {
+        CarrierState {
             who,
             connection: Connection::Closed,
+            numbering: Numbering::new(),
         }
     }
 
-    /// A session whose connection has just begun.
-    pub fn open(who: CarrierIdentity) -> CarrierSession
-        ensures { result ≡ session_on who (new_connection who) }
+    /// A connection has just begun.
+    pub fn open(who: CarrierIdentity) -> CarrierState
+        ensures { result ≡ state_on who (new_connection who) None }
     {
-        CarrierSession {
+        CarrierState {
             who,
             connection: Connection::open(&who),
+            numbering: Numbering::new(),
         }
     }
 
-    /// Whether its connection is open.
+    /// Whether a connection is open.
     pub fn is_open(&self) -> bool
         ensures { result ≡ is_open self.now.connection }
     {
@@ -51,7 +56,7 @@ impl CarrierSession {
         }
     }
 
-    /// Its carrier, if that is up.
+    /// The carrier, if it is up.
     pub fn carrier_up(&self) -> Option<CarrierNo>
         ensures { result ≡ up_by self.now.who self.now.connection }
     {
@@ -66,7 +71,7 @@ impl CarrierSession {
     pub fn receive(&mut self, octet: u8) -> Outcome
         ensures notice { option_map notice_meant result.notice ≡ notice_of_octet self.old.who self.old.connection octet }
         ensures closing { result.closing ≡ closes self.old.who self.old.connection octet }
-        ensures session { self.new ≡ session_on self.old.who (connection_after_octet self.old.who self.old.connection octet) }
+        ensures state { self.new ≡ state_on self.old.who (connection_after_octet self.old.who self.old.connection octet) self.old.numbering }
         ensures sound { IsConnectionSound self.old.who.greatest self.old.connection → IsConnectionSound self.old.who.greatest self.new.connection }
     {
         let who = self.who;

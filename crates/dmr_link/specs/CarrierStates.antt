@@ -1,13 +1,13 @@
--- A carrier's session.
+-- The state of a carrier's connections.
 use Rattle.std.specs.Prelude.{ℕ, Bool, true, false, Option, Some, None}
 use Rattle.dmr_link.specs.declared.connection.CarrierIdentity.{CarrierIdentity}
 use Rattle.dmr_link.specs.declared.connection.Connection.{Connection}
 use Rattle.dmr_link.specs.declared.connection.Connection.TheVariants.{Closed, Waiting, Running}
-use Rattle.dmr_link.specs.declared.carrier_session.CarrierSession.{CarrierSession}
+use Rattle.dmr_link.specs.declared.carrier_state.CarrierState.{CarrierState}
 
--- a carrier's session whose connection is this
-abbrev pub session_on : CarrierIdentity → Connection → CarrierSession
-session_on who k = record { who = who; connection = k }
+-- a carrier's state: its connection, and the number of the next TX, if TX are numbered
+abbrev pub state_on : CarrierIdentity → Connection → Option ℕ → CarrierState
+state_on who k next = record { who = who; connection = k; numbering = next }
 
 -- whether a connection is open
 abbrev pub is_open : Connection → Bool

@@ -30,10 +30,10 @@ use Rattle.dmr_link.specs.declared.link_state.LinkState.{LinkState}
 use Rattle.dmr_link.specs.Meaning.{is_accepted, is_last, is_repeat, newest_after, event_of, refusal_of_first, list_of_notice, meaning_of_octets, left_by_octets}
 use Rattle.dmr_link.specs.Notices.{Notice, Happened, Accepted, Refused, Unheeded}
 use Rattle.dmr_link.specs.Numbering.{next_after, first_number, next_after_frames}
-use Rattle.dmr_link.specs.Peers.{entry_of_deposit, next_onward, left_from, meaning_from, numbering_of}
+use Rattle.dmr_link.specs.Peers.{entry_of_deposit, next_onward, left_from, meaning_from}
 use Rattle.dmr_link.specs.Session.{event_frames, is_poll_of, session_frames, welcome, events_in}
 use Rattle.dmr_link.specs.CarrierStates.{is_open}
-use Rattle.dmr_link.specs.Sessions.{Session, How, Going, InputOver, ReadFaulty, WriteFaulty, CutAfter, IsAt, IsNumbered as IsNumberedFor, StandsFor, IsClosed, kept_of, lost_of, notices_waiting, has_ended}
+use Rattle.dmr_link.specs.Sessions.{Session, How, Going, InputOver, ReadFaulty, WriteFaulty, CutAfter, IsAt, StandsFor, IsClosed, kept_of, lost_of, notices_waiting, has_ended}
 use Rattle.dmr_link.specs.Sound.{IsNumberingOf}
 use Rattle.dmr_link.specs.Steps.{new_connection, waiting_brings, running_brings, waiting_leaves, running_leaves, notice_of_octet, connection_after_octet, notices_of_octets, connection_after_octets}
 use Rattle.dmr_link.specs.LinkSteps.{next_when_answered, IsLinkNumbering}
@@ -233,10 +233,9 @@ closed_numbered (stream.Frames state) kept closed = shut state.connection closed
 
 module _ (who : CarrierIdentity) (l : LinkState) (whose : l.who ≡ Carrier who) where
   going_numbered : (read behind : List ℕ) (done : List Notice) (calls : List Deposit) → meaning_from l.who read false ≡ done ++ notices_waiting l → events_in done ≡ map (λ d. d.event) calls →
-      IsAt Going l read behind → IsNumberedFor Going l done calls → IsLinkNumbering l.connection l.pending.kept
-  going_numbered read behind done calls means events place numbers =
-      let count : numbering_of l.connection ≡ next_onward (Carrier who) None done calls = numbers ∙ ap (λ (w : Peer). next_onward w None done calls) whose in
-      let here : l.connection ≡ left_from (Carrier who) read (next_onward (Carrier who) None done calls) = place.1 ∙ (λ i. left_from (whose i) read (count i)) in
+      IsAt Going l read (next_onward l.who None done calls) behind → IsLinkNumbering l.connection l.pending.kept
+  going_numbered read behind done calls means events place =
+      let here : l.connection ≡ left_from (Carrier who) read (next_onward (Carrier who) None done calls) = place.1 ∙ ap (λ (w : Peer). left_from w read (next_onward w None done calls)) whose in
       let all : meaning_of_octets who read false ≡ done ++ kept_of l.pending.kept =
       ap (λ (w : Peer). meaning_from w read false) (sym whose)
       ∙ means
@@ -247,14 +246,14 @@ module _ (who : CarrierIdentity) (l : LinkState) (whose : l.who ≡ Carrier who)
       rw here (led_numbered who done l.pending.kept calls (left_by_octets who read) (subst P all (meaning_led who read)) events)
 
   how_numbered : (how : How) (read behind : List ℕ) (done : List Notice) (calls : List Deposit) → meaning_from l.who read (has_ended how) ≡ done ++ notices_waiting l → events_in done ≡ map (λ d. d.event) calls →
-      IsAt how l read behind → IsNumberedFor how l done calls → IsLinkNumbering l.connection l.pending.kept
-  how_numbered Going read behind done calls means events place numbers = going_numbered read behind done calls means events place numbers
-  how_numbered InputOver read behind done calls means events place numbers = closed_numbered l.connection l.pending.kept place.1
-  how_numbered ReadFaulty read behind done calls means events place numbers = closed_numbered l.connection l.pending.kept place.1
-  how_numbered WriteFaulty read behind done calls means events place numbers = closed_numbered l.connection l.pending.kept place.0
-  how_numbered (CutAfter n false) read behind done calls means events place numbers = closed_numbered l.connection l.pending.kept place.1
-  how_numbered (CutAfter n true) read behind done calls means events place numbers = closed_numbered l.connection l.pending.kept place.1
+      IsAt how l read (next_onward l.who None done calls) behind → IsLinkNumbering l.connection l.pending.kept
+  how_numbered Going read behind done calls means events place = going_numbered read behind done calls means events place
+  how_numbered InputOver read behind done calls means events place = closed_numbered l.connection l.pending.kept place.1
+  how_numbered ReadFaulty read behind done calls means events place = closed_numbered l.connection l.pending.kept place.1
+  how_numbered WriteFaulty read behind done calls means events place = closed_numbered l.connection l.pending.kept place.0
+  how_numbered (CutAfter n false) read behind done calls means events place = closed_numbered l.connection l.pending.kept place.1
+  how_numbered (CutAfter n true) read behind done calls means events place = closed_numbered l.connection l.pending.kept place.1
 
   pub link_numbered : (past : List Session) → StandsFor l past → IsLinkNumbering l.connection l.pending.kept
   link_numbered [] is = closed_numbered l.connection l.pending.kept is.0.connection
-  link_numbered (s ∷ ss) is = how_numbered s.how is.0.read is.0.behind is.0.done s.calls is.0.means is.0.events is.0.place is.0.numbers
+  link_numbered (s ∷ ss) is = how_numbered s.how is.0.read is.0.behind is.0.done s.calls is.0.means is.0.events is.0.place

@@ -1,4 +1,5 @@
-//! The octets that answer a carrier. The engine appends them to its outputs, a link writes them; nothing else encodes an answer.
+//! The octets that answer a carrier's event. The engine appends them to its outputs, a link writes them; nothing else encodes what answers
+//! an event of a carrier.
 
 ghost use Rattle.std.specs.Prelude.{◌≡◌, ◌+◌, ◌*◌, ◌≤◌, ◌++◌, [], ◌∷◌, flat_map, is_some, length, MatchOption};
 ghost use Rattle.arrayvec.specs.ArrayVec.{array_vec_len};
@@ -13,10 +14,10 @@ use crate::numbering::Numbering;
 use arrayvec::ArrayVec;
 use dmr_burst::write;
 use dmr_core::{Act, Event};
-use dmr_frames::{FrameOut, Version};
+use dmr_frames::{FrameOut, LONGEST_FRAME, Version};
 
 /// The room for an answer: a TX for each of 16 acts, and DONE, each taken for a frame of the greatest length.
-const LONGEST_ANSWER: usize = 493;
+const LONGEST_ANSWER: usize = (16 + 1) * LONGEST_FRAME;
 
 /// An answer's octets.
 pub type AnswerText = ArrayVec<u8, LONGEST_ANSWER>;

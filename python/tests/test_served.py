@@ -29,6 +29,11 @@ waiting for a slot
    1     group 94 from 1004
 """
 
+# a HELLO of carrier 0, the burst of radio 1001's registration on slot 0, and a POLL
+REGISTRATION = bytes.fromhex("010401000001 021A000EB49CDF34F2749CECBA5CB3B7C40E88138C9A38F96248E180 0300")
+# WELCOME, the burst of the acknowledgement, and DONE
+ACKNOWLEDGED = bytes.fromhex("810101 821A0041C3028A48FC8F403DC06F00EDA0F783E497542E405CB83CB0 8300")
+
 
 class Pictures(unittest.TestCase):
     """The pictures of the documents."""
@@ -39,6 +44,45 @@ class Pictures(unittest.TestCase):
             done = run_tool("timeline", "--site", TWO_CARRIERS, "--script", str(EXAMPLES / "scripts" / f"{name}.txt"), "--program", built)
             wanted = (TOP / "docs" / "pictures" / f"{name}.svg").read_text(encoding="utf-8")
             self.assertTrue(done.stdout == wanted, f"{name}.svg is another picture (make pictures) {done.stderr}")
+
+
+class Listening(unittest.TestCase):
+    """Where a served site listens, and what the program reports if it cannot listen there."""
+
+    # an address of the loopback network that is not the one that a site file without `address` means
+    OTHER = "127.0.0.2"
+
+    def exchange(self, stream: socket.socket, octets: bytes) -> bytes:
+        """Sends octets and then ends the input. All octets that come back, up to the end of the connection."""
+        stream.sendall(octets)
+        stream.shutdown(socket.SHUT_WR)
+        answer = b""
+        while piece := stream.recv(4096):
+            answer += piece
+        return answer
+
+    def test_a_registration_is_acknowledged(self) -> None:
+        """A site is served at the address of its site file, and not at 127.0.0.1. After one term the program ends with status 0."""
+        site = Site(TWO_CARRIERS, first_port=PORT + 10, address=[int(it) for it in self.OTHER.split(".")], tick_ms=10, term_entries=300)
+        port = site.row(0)["port"]
+        with Controller(program("dmr_trunk"), site, ["--terms", "1"]) as controller:
+            controller.wait_until_served()
+            with connect(self.OTHER, port) as stream:
+                with self.assertRaises(ConnectionRefusedError):
+                    socket.create_connection(("127.0.0.1", port))
+                self.assertEqual(self.exchange(stream, REGISTRATION), ACKNOWLEDGED)
+            self.assertEqual(controller.process.wait(60), 0, controller.notes)
+
+    def test_a_port_that_is_taken(self) -> None:
+        """The text names the port, the status is 1, and nothing is served."""
+        built, site = program("dmr_trunk"), Site(TWO_CARRIERS, first_port=PORT + 15)
+        port = site.row(1)["port"]
+        with tempfile.TemporaryDirectory() as folder, socket.create_server(("127.0.0.1", port)):
+            path = os.path.join(folder, "site.toml")
+            with open(path, "w", encoding="utf-8") as it:
+                it.write(site.text())
+            done = subprocess.run([built, "--site", path, "--serve", "--terms", "1"], capture_output=True, text=True, check=False, timeout=60)
+        self.assertEqual((done.returncode, done.stdout, done.stderr.splitlines()[1:]), (1, "", [f"dmr_trunk: cannot listen on port {port}"]), done.stderr)
 
 
 class View(unittest.TestCase):

@@ -96,7 +96,7 @@ trusted: ## lists the definitions that a reader has to believe, in docs/TRUSTED.
 maps: ## draws the maps of the crates and of a connection's states again, in docs/pictures
 	ci/draw-map
 
-build/dmr_trunk.1: docs/OPERATING.md ci/manual crates/dmr_trunk/src/version.rt
+build/dmr_trunk.1: docs/OPERATING.md ci/manual crates/dmr_command/src/version.rt
 	mkdir -p build && ci/manual $(VERSION) <docs/OPERATING.md >$@
 
 package: build/dmr_trunk build/dmr_decode build/dmr_trunk.1 ## a Debian package of the proved programs, at build/dmr-trunk_VERSION_ARCH.deb

@@ -4,7 +4,7 @@ import re
 
 from setuptools import setup
 
-SOURCE = pathlib.Path(__file__).resolve().parent.parent / "crates/dmr_trunk/src/version.rt"
+SOURCE = pathlib.Path(__file__).resolve().parent.parent / "crates/dmr_command/src/version.rt"
 FOUND = re.search(r'^pub const VERSION: &str = "(.*)";$', SOURCE.read_text(encoding="utf-8"), re.M)
 assert FOUND, f"{SOURCE} names no version"
 

@@ -1,10 +1,12 @@
-//! Trials of whole terms: a thread for each worker round one locked site, over ports that fail at any call; and of desks that
-//! refuse.
+//! Trials of whole terms: a thread for each worker round one locked site, over ports that fail at any call; of desks that
+//! refuse; and of the program's command line, with its texts and statuses.
 //!
 //! The crate has tests alone, each a loop over a table. They stand here, above the desk, since a crate that has tests is proved
 //! twice.
 #![tactic(auto)]
 
+#[cfg(test)]
+mod command;
 #[cfg(test)]
 mod desks;
 #[cfg(test)]

@@ -1,4 +1,2 @@
-pub mod WordsLemmas
-pub mod WordsCases
 pub mod RunLemmas
 pub mod UnsentLemmas

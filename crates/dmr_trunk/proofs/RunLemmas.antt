@@ -1,9 +1,8 @@
 -- What the words ask for is what was done.
 use Rattle.std.proofs.Common.{◌≡◌, ℕ, List, Option, Result, Ok, Err, IfOk, ap, ◌∙◌, map, subst}
 use Rattle.std.specs.Borrow.{Bor}
-use Rattle.clap.specs.Words.{Text}
-use Rattle.dmr_trunk.specs.declared.words.Job.{Job}
-use Rattle.dmr_trunk.specs.Words.{AskFor}
+use Rattle.dmr_command.specs.declared.words.Job.{Job}
+use Rattle.dmr_command.specs.Words.{AskFor, Text}
 use Rattle.dmr_trunk.specs.Replay.{IsJobDone, IsReplayed}
 
 pub words_replayed : {E : Type 0} (gave : Text → Option (List ℕ) → Type 0) (slice texts : List (Bor Text)) (words : List Text) (job : Job) (old new : Option (List ℕ)) (r : Result ℕ E) →

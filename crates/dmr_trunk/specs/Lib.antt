@@ -1,4 +1,3 @@
-pub mod Words
 pub mod Replay
 pub mod Unsent
 pub mod Serving

@@ -1,10 +1,9 @@
 -- What was done of a job: its files were replayed, or its site was served.
 use Rattle.std.specs.Prelude.{◌≡◌, ◌⊎◌, ℕ, List, Option, Some, None, IsOk}
 use Rattle.dmr_replay.specs.Replay.{IsPrinted, outcome, plan_in}
-use Rattle.dmr_trunk.specs.declared.words.Job.{Job}
-use Rattle.dmr_trunk.specs.declared.words.Job.TheVariants.{Script, Serve}
-use Rattle.dmr_trunk.specs.Words.{AskFor}
-use Rattle.clap.specs.Words.{Text}
+use Rattle.dmr_command.specs.declared.words.Job.{Job}
+use Rattle.dmr_command.specs.declared.words.Job.TheVariants.{Script, Serve}
+use Rattle.dmr_command.specs.Words.{AskFor, Text}
 
 -- a status that the program ends with: all went through, a file or the output is at fault, the words are refused, an audit found a
 -- difference, no memory or no thread

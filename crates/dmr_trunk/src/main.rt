@@ -1,7 +1,7 @@
 //! The site controller of a DMR Tier III trunked radio site.
 //!
 //! `dmr_trunk --site FILE --script FILE` replays a script over the site of a site file and prints what was put out for
-//! each carrier. `dmr_trunk --site FILE --serve` serves the site over TCP. The words are read in `words`, files come from
+//! each carrier. `dmr_trunk --site FILE --serve` serves the site over TCP. `dmr_command` reads the words, files come from
 //! `files`, and `dmr_replay` runs a script's inputs through the engine of `dmr_link`. `serve` opens a
 //! `port` for each carrier and for operators, has a `pacer` for the ticks, and runs terms of `dmr_desk` over them; what it does
 //! is said in `notes`.
@@ -12,22 +12,16 @@ mod files;
 mod notes;
 mod pacer;
 mod port;
-#[cfg(test)]
-mod rows;
 mod serve;
 mod serving;
-mod status;
 mod unsent;
-mod version;
-mod words;
 
 ghost use Rattle.std.specs.Prelude.{◌≡◌, IfOk, map, string_bytes};
 ghost use Rattle.dmr_trunk.specs.Replay.{AreReplayed, HasPlan, IsJobDone, IsReplayed, IsReplayedBySome, IsStatus};
 
 use crate::files::{FileSource, SystemFiles, slice_of};
 use crate::serving::serve_file;
-use crate::status::{out_of_memory, words_refused};
-use crate::words::{Job, choose};
+use dmr_command::{Job, choose, out_of_memory, words_refused};
 use dmr_pdu::OutOfMemory;
 use dmr_replay::replay;
 use log::Log;

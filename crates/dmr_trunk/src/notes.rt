@@ -2,7 +2,7 @@
 
 ghost use Rattle.std.specs.Prelude.{◌≡◌};
 
-use crate::version::VERSION;
+use dmr_command::VERSION;
 use dmr_pdu::{CarrierNo, Number, OutOfMemory};
 use log::{Log, info, warn};
 use mio::unix::SourceFd;

@@ -6,8 +6,9 @@ ghost use Rattle.dmr_trunk.specs.Serving.{IsListenAddress};
 use crate::notes::{Notes, Whose};
 use crate::pacer::ClockPacer;
 use crate::port::{PortFault, SocketPort};
+use dmr_command::ServeFault;
 use dmr_core::Site;
-use dmr_desk::{ConsoleStation, Station, Term, TermFault, run_term};
+use dmr_desk::{ConsoleStation, Station, Term, run_term};
 use dmr_link::{ConsoleLink, Link, OpenGate, greatest_version};
 use dmr_pdu::{CarrierNo, OutOfMemory};
 use dmr_plan::{CarrierRow, Plan};
@@ -17,19 +18,6 @@ use std::net::{Ipv4Addr, Net, SocketAddr, SocketAddrV4};
 use std::sync::Wait;
 use std::thread::Threads;
 use std::time::Clock;
-
-/// Why serving ended, or did not begin.
-#[derive(Clone, Copy, Debug, PartialEq, Eq)]
-pub enum ServeFault {
-    /// This port could not be listened on. Nothing was served.
-    CannotListen(u16),
-    /// There was no poll for a port. Nothing was served.
-    NoPoll,
-    /// A term was not begun, lacked a thread, or its audit found a difference.
-    Term(TermFault),
-    /// Memory ran out. Nothing was served.
-    OutOfMemory,
-}
 
 /// A carrier's station.
 type CarrierAt<'a, R> = Station<SocketPort<'a, R>, OpenGate>;

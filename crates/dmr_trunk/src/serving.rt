@@ -1,67 +1,19 @@
-//! Serving the site of a site file: the file, and the statuses and texts of what may go wrong.
+//! Serving the site of a site file: the file, and the exit status of what may go wrong.
 
-ghost use Rattle.std.specs.Prelude.{◌≡◌, ◌⊎◌, IfOk, option_map};
+ghost use Rattle.std.specs.Prelude.{◌≡◌, IfOk, option_map};
 ghost use Rattle.dmr_trunk.specs.Replay.{IsPlanned, IsStatus};
-ghost use Rattle.dmr_trunk.specs.Serving.{status_of_fault};
 
-use crate::serve::{ServeFault, open_notes, serve};
-use crate::status::AUDIT;
-use dmr_desk::{CloseFault, OpenFault, TermFault};
+use crate::serve::{open_notes, serve};
+use dmr_command::ServeFault;
 use dmr_plan::Plan;
-use dmr_replay::{FAULT, MEMORY, OK, ReplayFault, plan_of};
+use dmr_replay::{OK, ReplayFault, plan_of};
 use log::Log;
 use std::alloc::Global;
-use std::fmt;
 use std::io::Write;
 use std::net::Net;
 use std::sync::Wait;
 use std::thread::Threads;
 use std::time::Clock;
-
-impl ServeFault {
-    /// The exit status.
-    pub fn status(&self) -> u8
-        ensures is { result ≡ status_of_fault self.now }
-        ensures one { (result ≡ FAULT) ⊎ (result ≡ AUDIT) ⊎ (result ≡ MEMORY) }
-    {
-        match self {
-            ServeFault::CannotListen(_) | ServeFault::NoPoll => FAULT,
-            ServeFault::Term(TermFault::NoThread | TermFault::Open(OpenFault::OutOfMemory)) => {
-                MEMORY
-            }
-            ServeFault::Term(_) => AUDIT,
-            ServeFault::OutOfMemory => MEMORY,
-        }
-    }
-}
-
-impl fmt::Display for ServeFault {
-    fn fmt<W: fmt::Write>(&self, f: &mut fmt::Formatter<W>) -> fmt::Result {
-        match self {
-            ServeFault::CannotListen(port) => write!(f, "cannot listen on port {port}"),
-            ServeFault::NoPoll => write!(f, "no poll"),
-            ServeFault::Term(fault) => write_term_fault(*fault, f),
-            ServeFault::OutOfMemory => write!(f, "out of memory"),
-        }
-    }
-}
-
-/// The text of what went wrong with a term.
-fn write_term_fault<W: fmt::Write>(fault: TermFault, f: &mut fmt::Formatter<W>) -> fmt::Result {
-    match fault {
-        TermFault::Audit(CloseFault::Differs(actor)) => {
-            write!(f, "audit differs at actor {actor}")
-        }
-        TermFault::Audit(CloseFault::SeatMissing(actor)) => {
-            write!(f, "seat missing for actor {actor}")
-        }
-        TermFault::Early(actor) => write!(f, "early end at actor {actor}"),
-        TermFault::NoThread => write!(f, "no thread"),
-        TermFault::Open(OpenFault::OutOfMemory) => write!(f, "out of memory"),
-        // A plan has stations and a limit that a term can be begun with.
-        other => write!(f, "{other}"),
-    }
-}
 
 /// The plan of a site file, if it could be read.
 fn plan_in<'a>(

@@ -1,7 +1,7 @@
 use Rattle.std.proofs.Common.{codes}
 use Rattle.std.proofs.lemmas.Result.{IfOk-weaker}
-use Rattle.dmr_trunk.proofs.WordsLemmas.{IsOption, app_given, site_given}
-use Rattle.dmr_trunk.proofs.words.command.Goals as goal
+use Rattle.dmr_command.proofs.WordsLemmas.{IsOption, app_given, site_given}
+use Rattle.dmr_command.proofs.words.command.Goals as goal
 
 pub returns-clause-app : goal.returns-clause-app
 returns-clause-app c =

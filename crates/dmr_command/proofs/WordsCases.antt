@@ -3,7 +3,7 @@ use Rattle.std.proofs.Common.{◌≡◌, List, [], ◌∷◌, Some, None, codes,
 use Rattle.clap.specs.Words.{Text}
 use Rattle.clap.proofs.OnLiterals.{clap_on_literals}
 use Rattle.clap.specs.declared.error.kind.ErrorKind.TheVariants.{ArgumentConflict, DisplayHelp, DisplayVersion, InvalidValue, MissingRequiredArgument, UnknownArgument, ValueValidation}
-use Rattle.dmr_trunk.specs.Words.{faults_in, one_in, value_in}
+use Rattle.dmr_command.specs.Words.{faults_in, one_in, value_in}
 
 abbrev both : List Text
 both = codes "dmr_trunk" ∷ codes "--site" ∷ codes "a.toml" ∷ codes "--script" ∷ codes "b.txt" ∷ []

@@ -1,7 +1,7 @@
 use Rattle.std.proofs.Common.{map}
 use Rattle.std.proofs.lemmas.Result.{IfOk-weaker}
-use Rattle.dmr_trunk.proofs.WordsLemmas.{all_read, all_refused, is_free}
-use Rattle.dmr_trunk.proofs.words.read_words.Goals as goal
+use Rattle.dmr_command.proofs.WordsLemmas.{all_read, all_refused, is_free}
+use Rattle.dmr_command.proofs.words.read_words.Goals as goal
 
 pub returns-clause-found : goal.returns-clause-found
 returns-clause-found c =

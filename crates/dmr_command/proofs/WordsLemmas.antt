@@ -16,7 +16,7 @@ use Rattle.clap.specs.declared.builder.arg.Arg.{Arg}
 use Rattle.clap.specs.declared.builder.command.Command.{Command}
 use Rattle.clap.specs.declared.builder.command.Command.TheViews.{out-Command}
 use Rattle.clap.specs.declared.parser.matches.ArgMatches.{ArgMatches}
-use Rattle.dmr_trunk.specs.Words.{HasRead, command, faults_in, one_in, script_option, serve_flag, site_option, terms_option, titled, value_in}
+use Rattle.dmr_command.specs.Words.{HasRead, command, faults_in, one_in, script_option, serve_flag, site_option, terms_option, titled, value_in}
 
 -- an option of this id
 pub record IsOption (a : Arg) (id : List ℕ) : Type 0 where

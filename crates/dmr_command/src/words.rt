@@ -5,7 +5,7 @@ ghost use Rattle.clap.specs.Built.{IsParsedFrom, IsPlainArg, TakesValue};
 ghost use Rattle.clap.specs.Words.{app_of, args_of, first_value, found_of, groups_of, kind_of, one_text, rule_of};
 ghost use Rattle.clap.specs.declared.builder.command.Command.TheViews.{out-Command};
 ghost use Rattle.clap.specs.declared.parser.matches.ArgMatches.{ArgMatches};
-ghost use Rattle.dmr_trunk.specs.Words.{AreRefused, AskFor, HasRead, IsAsked, IsNotOne, command, faults_in, script_option, serve_flag, site_option, terms_option, titled};
+ghost use Rattle.dmr_command.specs.Words.{AreRefused, AskFor, HasRead, IsAsked, IsNotOne, command, faults_in, script_option, serve_flag, site_option, terms_option, titled};
 
 use crate::status::{WORDS, out_of_memory, words_refused};
 use crate::version::VERSION;

@@ -1,12 +1,13 @@
 -- What the words of the command line ask for.
 use Rattle.std.specs.Prelude.{◌≡◌, ◌≢◌, ◌⊎◌, ℕ, List, [], ◌∷◌, Option, Some, None, true, is_some, codes, pos, ◌^◌, ◌<◌}
 use Rattle.std.specs.Str.Parse.{IsNumeral, digits_value, without_leading_plus}
-use Rattle.clap.specs.Words.{App, Kinds, Rule, Text, fault_of, first_of, first_value, found_of, matches_of, new_app, new_rule, one_of, one_text, with_rule}
+pub use Rattle.clap.specs.Words.{Text}
+use Rattle.clap.specs.Words.{App, Kinds, Rule, fault_of, first_of, first_value, found_of, matches_of, new_app, new_rule, one_of, one_text, with_rule}
 use Rattle.clap.specs.declared.builder.action.ArgAction.TheVariants.{Set, SetTrue}
 use Rattle.clap.specs.declared.builder.value_parser.ValueParser.TheVariants.{Signed}
 use Rattle.clap.specs.declared.parser.matches.ArgMatches.{ArgMatches}
-use Rattle.dmr_trunk.specs.declared.words.Job.{Job}
-use Rattle.dmr_trunk.specs.declared.words.Job.TheVariants.{Script, Serve}
+use Rattle.dmr_command.specs.declared.words.Job.{Job}
+use Rattle.dmr_command.specs.declared.words.Job.TheVariants.{Script, Serve}
 
 -- an option `--NAME FILE`
 abbrev file_option : Text → Rule

@@ -304,3 +304,8 @@ going_over m n g = (g.0, g.1, tt)
 
 pub waiting_over : (m n : Moment) → IsWaiting m n → WorksUntil m n ending.TermOver
 waiting_over m n g = (g.0, g.1, tt)
+
+-- ---- how a connection was closed was reported to the port
+
+pub same_stand : (m : Moment) (at later : Stand) (calls : List Deposit) → later ≡ at → IsGoing m (moment at calls) → IsGoing m (moment later calls)
+same_stand m at later calls e h = let P : Stand → Type 0 = λ s. IsGoing m (moment s calls) in subst P (sym e) h

@@ -72,6 +72,10 @@ pub trait Serving {
         ensures cuts { Cuts (stand self.old).link (stand self.new).link (D.calls desk.old) (D.calls desk.new) }
         ensures done { IfOk result (λ _. IsOver (stand self.new).link) }
         ensures over { IfErr result (λ over. (before : _) × (event : AnEvent) × D.refuses before event over desk.new) };
+
+    /// Reports to the port how the link's connection was closed.
+    fn report_closing(&mut self)
+        ensures { stand self.new ≡ stand self.old };
 }
 
 impl<P: Port, G: Gate> Serving for Station<P, G> {
@@ -103,6 +107,10 @@ impl<P: Port, G: Gate> Serving for Station<P, G> {
 
     fn cut<D: Desk>(&mut self, desk: &mut D) -> Result<(), TermOver> {
         self.link.cut(desk)
+    }
+
+    fn report_closing(&mut self) {
+        self.port.closed(self.link.closing());
     }
 }
 
@@ -138,5 +146,9 @@ impl<P: Port> Serving for ConsoleStation<P> {
 
     fn cut<D: Desk>(&mut self, desk: &mut D) -> Result<(), TermOver> {
         self.link.cut(desk)
+    }
+
+    fn report_closing(&mut self) {
+        self.port.closed(self.link.closing());
     }
 }

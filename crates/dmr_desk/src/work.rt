@@ -36,7 +36,8 @@ fn connect<S: Serving, D: Desk>(station: &mut S, desk: &mut D) -> Option<Ending>
     }
 }
 
-/// Waits, behind a read that would block, and cuts the link where the other side was silent. `Some` where the work is at its end.
+/// Waits after a read that would block. If the other side was silent, cuts the link and reports that to the port. `Some` where the work
+/// is at its end.
 fn wait<S: Serving, D: Desk>(station: &mut S, desk: &mut D) -> Option<Ending>
     requires { is_live (S.stand station.old).link ≡ true }
     ensures actor { D.actor desk.new ≡ D.actor desk.old }
@@ -52,13 +53,17 @@ fn wait<S: Serving, D: Desk>(station: &mut S, desk: &mut D) -> Option<Ending>
     match station.wait() {
         Waited::Again => None,
         Waited::Silent => match station.cut(desk) {
-            Ok(()) => None,
+            Ok(()) => {
+                station.report_closing();
+                None
+            }
             Err(_) => Some(Ending::TermOver),
         },
     }
 }
 
-/// Serves the link once, and waits where a read would block. `Some` where the work is at its end.
+/// Serves the link once. Waits if a read would block; if the connection was closed, reports to the port how. `Some` where the work is at
+/// its end.
 fn serve<S: Serving, D: Desk>(station: &mut S, desk: &mut D) -> Option<Ending>
     requires { is_live (S.stand station.old).link ≡ true }
     ensures actor { D.actor desk.new ≡ D.actor desk.old }
@@ -77,7 +82,10 @@ fn serve<S: Serving, D: Desk>(station: &mut S, desk: &mut D) -> Option<Ending>
         Ended::GateShut => Some(Ending::GateShut),
         Ended::Paused => None,
         // The connection is closed: another is asked for.
-        _ => None,
+        _ => {
+            station.report_closing();
+            None
+        }
     }
 }
 
@@ -113,7 +121,8 @@ pub fn work<R: Wait, S: Serving, D: Desk>(rt: &R, station: &mut S, desk: &mut D)
 }
 
 /// Serves a carrier's connections, one after another, until its port has no more of them, its gate is shut, or the term is over. The
-/// desk is asked whether the term is over before each ask for a connection, each call of `serve` and each wait.
+/// desk is asked whether the term is over before each ask for a connection, each call of `serve` and each wait. The port receives how
+/// each connection was closed (`Port::closed`) before it is asked for the next.
 pub fn work_carrier<R: Wait, P: Port, G: Gate, D: Desk>(
     rt: &R,
     station: &mut Station<P, G>,
@@ -128,7 +137,8 @@ pub fn work_carrier<R: Wait, P: Port, G: Gate, D: Desk>(
 }
 
 /// Serves the console's connections, one after another, until its port has no more of them, or the term is over. The desk is asked
-/// whether the term is over before each ask for a connection, each call of `serve` and each wait.
+/// whether the term is over before each ask for a connection, each call of `serve` and each wait. The port receives how each connection
+/// was closed (`Port::closed`) before it is asked for the next.
 pub fn work_console<R: Wait, P: Port, D: Desk>(
     rt: &R,
     station: &mut ConsoleStation<P>,

@@ -1,5 +1,5 @@
 use Rattle.dmr_desk.specs.Work.{Moment, Stand, moment, Going}
-use Rattle.dmr_desk.proofs.WorkerLemmas.{LinkLaws, same_calls, went_idle, went_paused, went_refused, went_shut, went_closed}
+use Rattle.dmr_desk.proofs.WorkerLemmas.{LinkLaws, same_calls, same_stand, went_idle, went_paused, went_refused, went_shut, went_closed}
 use Rattle.dmr_desk.proofs.work.serve.Goals as goal
 
 pub returns-in-Idle-clause-goes : goal.returns-in-Idle-clause-goes
@@ -60,4 +60,5 @@ returns-in_default-clause-goes g c = λ m h.
     let n : Moment = moment at calls in
     let o : Moment = moment (g.S.Serving.stand c.serve.new.self) (g.D.Desk.calls c.serve.new.desk) in
     let h1 : Going m n = same_calls Going m at (g.D.Desk.calls c.args.desk.now) calls c.over.ensures.calls h in
-    went_closed laws m n o c.serve.result h1 c.requires c.serve.ensures.serves c.in_default.not-Idle c.in_default.not-TermOver c.in_default.not-GateShut c.in_default.not-Paused
+    same_stand m (g.S.Serving.stand c.serve.new.self) (g.S.Serving.stand c.report_closing.new.self) (g.D.Desk.calls c.serve.new.desk) c.report_closing.ensures
+    (went_closed laws m n o c.serve.result h1 c.requires c.serve.ensures.serves c.in_default.not-Idle c.in_default.not-TermOver c.in_default.not-GateShut c.in_default.not-Paused)

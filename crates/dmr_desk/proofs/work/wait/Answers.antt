@@ -1,5 +1,5 @@
 use Rattle.dmr_desk.specs.Work.{Stand, moment, IsAboutToWait}
-use Rattle.dmr_desk.proofs.WorkerLemmas.{LinkLaws, same_calls, went_again, went_cut, went_cut_over}
+use Rattle.dmr_desk.proofs.WorkerLemmas.{LinkLaws, same_calls, same_stand, went_again, went_cut, went_cut_over}
 use Rattle.dmr_desk.proofs.work.wait.Goals as goal
 
 pub returns-in-Again-clause-goes : goal.returns-in-Again-clause-goes
@@ -20,7 +20,8 @@ returns-in-Ok-clause-goes g c = λ m h.
     let at : Stand = g.S.Serving.stand c.args.station.now in
     let calls = g.D.Desk.calls c.over.new.self in
     let h1 : IsAboutToWait m (moment at calls) = same_calls IsAboutToWait m at (g.D.Desk.calls c.args.desk.now) calls c.over.ensures.calls h in
-    went_cut laws m (moment at calls) (g.S.Serving.stand c.cut.new.self) (g.D.Desk.calls c.cut.new.desk) (g.S.Serving.stand c.wait.new.self) h1 c.in-Silent.ensures c.cut.ensures.turns c.cut.ensures.cuts c.in-Ok.ensures.done
+    same_stand m (g.S.Serving.stand c.cut.new.self) (g.S.Serving.stand c.report_closing.new.self) (g.D.Desk.calls c.cut.new.desk) c.report_closing.ensures
+    (went_cut laws m (moment at calls) (g.S.Serving.stand c.cut.new.self) (g.D.Desk.calls c.cut.new.desk) (g.S.Serving.stand c.wait.new.self) h1 c.in-Silent.ensures c.cut.ensures.turns c.cut.ensures.cuts c.in-Ok.ensures.done)
 
 pub returns-in-Err-clause-goes : goal.returns-in-Err-clause-goes
 returns-in-Err-clause-goes g c = λ m h.

@@ -1,10 +1,11 @@
 //! A connection of a port: what is read from it and written to it, and how long it is waited for.
 
 ghost use Rattle.std.specs.Prelude.{◌≡◌, ◌≢◌, ℕ, ◌+◌, ◌*◌, ◌-◌, ◌^◌, [], length, min, nat_le, true, Some};
+ghost use Rattle.std.specs.Option.{option_or};
 ghost use Rattle.dmr_wire.specs.Told.{GotWithin, PutWithin};
 ghost use Rattle.dmr_trunk.specs.Unsent.{PassesOctets, taken_by};
 
-use crate::notes::Cause;
+use crate::cause::Cause;
 use crate::unsent::Unsent;
 use dmr_wire::{Got, Put};
 use std::io;
@@ -30,7 +31,7 @@ pub struct Connection<S: Drop> {
     silent: u32,
     /// How many parts of waits have passed since octets last began to wait to be sent.
     unread: u32,
-    /// What ended it, once it is known.
+    /// Why it ended, once that is known.
     pub ended: Option<Cause>,
 }
 
@@ -44,6 +45,13 @@ impl<S: Read + Write + Drop> Connection<S> {
             unread: 0,
             ended: None,
         }
+    }
+
+    /// Keeps why the link closed the connection, unless its end has been seen here.
+    pub fn keep_cause(&mut self, cause: Cause)
+        ensures { self.new ≡ record self.old { ended = option_or self.old.ended (Some cause) } }
+    {
+        self.ended = self.ended.or(Some(cause));
     }
 
     /// Keeps what ended the connection, and answers whether the error is one that ends it.

@@ -4,9 +4,10 @@
 //! each carrier. `dmr_trunk --site FILE --serve` serves the site over TCP. `dmr_command` reads the words, files come from
 //! `files`, and `dmr_replay` runs a script's inputs through the engine of `dmr_link`. `serve` opens a
 //! `port` for each carrier and for operators, has a `pacer` for the ticks, and runs terms of `dmr_desk` over them; what it does
-//! is said in `notes`.
+//! is said in `notes`, and why a connection ended by its `cause`.
 #![tactic(auto)]
 
+mod cause;
 mod connection;
 mod files;
 mod notes;

@@ -1,9 +1,8 @@
 //! Notes: what the serving program says of itself, on standard error.
 
-ghost use Rattle.std.specs.Prelude.{◌≡◌};
-
+use crate::cause::Cause;
 use dmr_command::VERSION;
-use dmr_pdu::{CarrierNo, Number, OutOfMemory};
+use dmr_pdu::{CarrierNo, Lpcn, OutOfMemory};
 use log::{Log, info, warn};
 use mio::unix::SourceFd;
 use mio::{Events, Interest, Poll, Token};
@@ -21,8 +20,8 @@ const TARGET: &str = "dmr_trunk";
 /// Whose port it is.
 #[derive(Clone, Copy, Debug, PartialEq, Eq)]
 pub enum Whose {
-    /// The port of the carrier of this number.
-    Carrier(CarrierNo),
+    /// The port of a carrier: its number within the site, and the channel number of its slots, as the site file has them.
+    Carrier { number: CarrierNo, lpcn: Lpcn },
     /// The operators' port.
     Console,
 }
@@ -30,40 +29,9 @@ pub enum Whose {
 impl fmt::Display for Whose {
     fn fmt<W: fmt::Write>(&self, f: &mut fmt::Formatter<W>) -> fmt::Result {
         match self {
-            Whose::Carrier(number) => write!(f, "carrier {}", number.get()),
+            Whose::Carrier { number, lpcn: _ } => write!(f, "carrier {number}"),
             Whose::Console => write!(f, "console"),
         }
-    }
-}
-
-/// What ended a connection, as far as its port knows.
-#[derive(Clone, Copy, Debug, PartialEq, Eq)]
-pub enum Cause {
-    /// The other side ended its output.
-    EndOfInput,
-    /// A read failed, as it does where the other side breaks the connection off.
-    ReadFault,
-    /// A write failed.
-    WriteFault,
-    /// The other side read nothing, and no more octets could be written to it.
-    NotRead,
-    /// No octet came for as long as the site file bears.
-    Silence,
-    /// The controller: the carrier said BYE, or sent what it may not send.
-    Controller,
-}
-
-impl fmt::Display for Cause {
-    fn fmt<W: fmt::Write>(&self, f: &mut fmt::Formatter<W>) -> fmt::Result {
-        let text = match self {
-            Cause::EndOfInput => "end of input",
-            Cause::ReadFault => "a read failed",
-            Cause::WriteFault => "a write failed",
-            Cause::NotRead => "what was written was not read",
-            Cause::Silence => "silence",
-            Cause::Controller => "by the controller, after BYE or a fault of the link",
-        };
-        write!(f, "{text}")
     }
 }
 
@@ -146,7 +114,7 @@ impl<'a, R: Log> Notes<'a, R> {
         }
     }
 
-    /// A connection has ended.
+    /// A connection has ended, for this cause.
     pub fn ended(&mut self, whose: Whose, from: SocketAddr, cause: Cause) {
         if self.is_ready() {
             info!(*self.rt; target: TARGET, "{whose}: {from} disconnected: {cause}");

@@ -3,11 +3,12 @@
 ghost use Rattle.std.specs.Prelude.{None, length};
 ghost use Rattle.dmr_wire.specs.Told.{GotWithin, PutWithin};
 
+use crate::cause::Cause;
 use crate::connection::{Connection, PARTS};
-use crate::notes::{Cause, Notes, Whose};
+use crate::notes::{Notes, Whose};
 use crate::unsent::Unsent;
 use dmr_pdu::OutOfMemory;
-use dmr_wire::{Connect, Got, Port, Put, Waited, Wire};
+use dmr_wire::{Closing, Connect, Got, Port, Put, Waited, Wire};
 use log::Log;
 use mio::net::{TcpListener, TcpStream};
 use mio::{Events, Interest, Poll, Token};
@@ -272,5 +273,12 @@ impl<R: Log> Port for SocketPort<'_, R> {
             return Waited::Silent;
         }
         Waited::Again
+    }
+
+    fn closed(&mut self, closing: Closing) {
+        let cause = Cause::of_closing(closing, self.whose);
+        if let Some(connection) = &mut self.connection {
+            connection.keep_cause(cause);
+        }
     }
 }

@@ -69,9 +69,13 @@ fn open_station<'a, R: Net + Log>(
     carrier: CarrierNo,
     row: &CarrierRow,
 ) -> Result<CarrierAt<'a, R>, ServeFault> {
+    let whose = Whose::Carrier {
+        number: carrier,
+        lpcn: row.lpcn,
+    };
     Ok(Station {
         link: Link::new(carrier, row.lpcn, greatest_version(plan)),
-        port: open_port(rt, alloc, plan, Whose::Carrier(carrier), row.port)?,
+        port: open_port(rt, alloc, plan, whose, row.port)?,
         gate: OpenGate,
     })
 }

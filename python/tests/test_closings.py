@@ -1,0 +1,92 @@
+"""The note of a connection's end says why it ended, by a controller that is served on loopback. Skipped if the program was not built."""
+import re
+import socket
+import struct
+import unittest
+
+from temzaar.frames import BYE, POLL, FrameType, active, hello, rx
+from temzaar.process import Controller, connect
+from temzaar.sitefile import Site
+from tests.support import TWO_CARRIERS, program, read_document, table_rows
+
+PORT = 17500
+CARRIER, LPCN = 1, 2
+UP = hello(CARRIER, LPCN)
+# What a carrier sends, and the cause that is noted; the controller closes each of these connections.
+CLOSED_BY_CONTROLLER = {
+    UP + BYE: r"BYE",
+    UP + POLL + BYE: r"BYE",
+    POLL: r"link fault: NoHello, .*",
+    BYE: r"link fault: NoHello, .*",
+    UP + UP: r"link fault: SecondHello, .*",
+    UP + active(2): r"link fault: BadSlot, .*",
+    UP + bytes([FrameType.POLL, 1]): r"link fault: BadLength, .*",
+    # an RX of version 2 on a connection of version 1
+    UP + rx(0, bytes(25), 7): r"link fault: BadLength, .*",
+    UP + rx(0, bytes(24) + b"\x01"): r"link fault: BadPad, .*",
+    b"GET / HTTP/1.0\r\n\r\n": r"link fault: UnknownType, .*",
+    hello(CARRIER, LPCN, 9): r"link fault: BadVersion, .* \(version 9 came\)",
+    # the version goes before the carrier
+    hello(3, 9, 0): r"link fault: BadVersion, .* \(version 0 came\)",
+    hello(3, 9): rf"link fault: WrongCarrier, .* \(carrier 3, LPCN 9 came; carrier {CARRIER}, LPCN {LPCN} expected\)",
+    hello(CARRIER, 0xFFFF): rf"link fault: WrongCarrier, .* \(carrier {CARRIER}, LPCN 65535 came; carrier {CARRIER}, LPCN {LPCN} expected\)",
+}
+
+
+def documented_causes() -> list[re.Pattern[str]]:
+    """The causes in the table of docs/OPERATING.md; a capital letter alone stands for a number."""
+    rows = table_rows(read_document("OPERATING.md"), "### Why a connection ended")
+    return [re.compile(re.sub(r"\b[A-Z]\b", r"\\d+", re.escape(row[0]))) for row in rows]
+
+
+class Closings(unittest.TestCase):
+    """Connections that end, and the notes of their ends."""
+
+    def setUp(self) -> None:
+        self.site = Site(TWO_CARRIERS, first_port=PORT, silence=5)
+        self.controller = Controller(program("dmr_trunk"), self.site)
+        self.addCleanup(self.controller.stop)
+        self.controller.wait_until_served()
+
+    def cause_of(self, whose: str, port: int, octets: bytes, leaves: str = "") -> str:
+        """Sends octets on a new connection, leaves it by an `end` of the output, by a `reset`, or not, and waits for its end. The cause that is noted."""
+        since = len(self.controller.notes)
+        with connect("127.0.0.1", port) as stream:
+            stream.sendall(octets)
+            if leaves == "reset":
+                stream.recv(4096)
+                stream.setsockopt(socket.SOL_SOCKET, socket.SO_LINGER, struct.pack("ii", 1, 0))
+            else:
+                if leaves == "end":
+                    stream.shutdown(socket.SHUT_WR)
+                while stream.recv(4096):
+                    pass
+        ending = rf"\] {whose}: 127\.0\.0\.1:\d+ disconnected: (.*)"
+        self.assertTrue(self.controller.wait_for(ending, since=since), self.controller.notes[since:])
+        found = [it[1] for note in self.controller.notes[since:] if (it := re.search(ending, note))]
+        self.assertEqual(len(found), 1)
+        return found[0]
+
+    def check(self, cause: str, wanted: str) -> None:
+        """The cause is the wanted one, and one of those that the document explains."""
+        self.assertRegex(cause, rf"^{wanted}$")
+        self.assertTrue(any(it.fullmatch(cause) for it in documented_causes()), cause)
+
+    def test_a_carrier_that_the_controller_leaves(self) -> None:
+        port = self.site.row(CARRIER)["port"]
+        for octets, wanted in CLOSED_BY_CONTROLLER.items():
+            with self.subTest(wanted, octets=octets.hex()):
+                self.check(self.cause_of(f"carrier {CARRIER}", port, octets), wanted)
+
+    def test_a_carrier_that_leaves(self) -> None:
+        port = self.site.row(CARRIER)["port"]
+        for octets, leaves, wanted in ((UP, "end", "end of input"), (UP, "", "silence"), (UP, "reset", "a read failed"),
+                                       (UP + BYE, "end", "BYE"), (UP + active(2), "end", r"link fault: BadSlot, .*")):
+            with self.subTest(wanted, octets=octets.hex(), leaves=leaves):
+                self.check(self.cause_of(f"carrier {CARRIER}", port, octets, leaves), wanted)
+
+    def test_operators(self) -> None:
+        port = self.site.console_port
+        self.check(self.cause_of("console", port, b"status\n", "end"), "end of input")
+        # octets that are no command are answered, and close nothing
+        self.check(self.cause_of("console", port, UP + BYE + b"\n" + b"x" * 500), "silence")

@@ -276,7 +276,7 @@ module _ (laws : LinkLaws) where
       → Went m (moment o later) (Waited Silent k.deposits ∷ g.0)
   went_cutting m n o later g mid answers turns k =
       let told : Tells n.at.told (Silent ∷ []) o.told = let P : Option (List Answer) → Type 0 = λ t. Tells n.at.told (Silent ∷ []) t in subst P (sym turns.told) answers.told in
-      let kept : mid.link.kept ≡ None = ap (λ (l : LinkState). l.pending.kept) answers.link ∙ g.3.kept in
+      let kept : mid.link.pending.kept ≡ None = ap (λ (l : LinkState). l.pending.kept) answers.link ∙ g.3.kept in
       let unread : mid.link.unread ≡ [] = ap (λ (l : LinkState). l.unread) answers.link ∙ g.4 in
       went_on m n (moment o later) g.0 (Waited Silent k.deposits) g.1 (k.same ∙ ap (λ (l : LinkState). l.who) answers.link)
       (answered n (moment o later) Silent k.deposits told (turns.passed ∙ answers.passed) k.desk)

@@ -10,6 +10,9 @@ from temzaar.sitefile import Site
 from tests.support import TWO_CARRIERS, program, read_document, table_rows
 
 PORT = 17500
+# for how many seconds a note or an answer is waited for, and after how many waits of 100 ms a connection is silent that is not to be
+PATIENCE = 60
+LONG = 600
 CARRIER, LPCN = 1, 2
 UP = hello(CARRIER, LPCN)
 # What a carrier sends, and the cause that is noted; the controller closes each of these connections.
@@ -42,8 +45,10 @@ def documented_causes() -> list[re.Pattern[str]]:
 class Closings(unittest.TestCase):
     """Connections that end, and the notes of their ends."""
 
-    def setUp(self) -> None:
-        self.site = Site(TWO_CARRIERS, first_port=PORT, silence=5)
+    def serve(self, silence: int) -> None:
+        """Serves the site. A connection is silent after so many waits of 100 ms: many where something else is to end it, so that a busy machine
+        does not make it silent first."""
+        self.site = Site(TWO_CARRIERS, first_port=PORT, silence=silence)
         self.controller = Controller(program("dmr_trunk"), self.site)
         self.addCleanup(self.controller.stop)
         self.controller.wait_until_served()
@@ -52,6 +57,7 @@ class Closings(unittest.TestCase):
         """Sends octets on a new connection, leaves it by an `end` of the output, by a `reset`, or not, and waits for its end. The cause that is noted."""
         since = len(self.controller.notes)
         with connect("127.0.0.1", port) as stream:
+            stream.settimeout(PATIENCE)
             stream.sendall(octets)
             if leaves == "reset":
                 stream.recv(4096)
@@ -62,7 +68,7 @@ class Closings(unittest.TestCase):
                 while stream.recv(4096):
                     pass
         ending = rf"\] {whose}: 127\.0\.0\.1:\d+ disconnected: (.*)"
-        self.assertTrue(self.controller.wait_for(ending, since=since), self.controller.notes[since:])
+        self.assertTrue(self.controller.wait_for(ending, seconds=PATIENCE, since=since), self.controller.notes[since:])
         found = [it[1] for note in self.controller.notes[since:] if (it := re.search(ending, note))]
         self.assertEqual(len(found), 1)
         return found[0]
@@ -73,20 +79,26 @@ class Closings(unittest.TestCase):
         self.assertTrue(any(it.fullmatch(cause) for it in documented_causes()), cause)
 
     def test_a_carrier_that_the_controller_leaves(self) -> None:
+        self.serve(LONG)
         port = self.site.row(CARRIER)["port"]
         for octets, wanted in CLOSED_BY_CONTROLLER.items():
             with self.subTest(wanted, octets=octets.hex()):
                 self.check(self.cause_of(f"carrier {CARRIER}", port, octets), wanted)
 
     def test_a_carrier_that_leaves(self) -> None:
+        self.serve(LONG)
         port = self.site.row(CARRIER)["port"]
-        for octets, leaves, wanted in ((UP, "end", "end of input"), (UP, "", "silence"), (UP, "reset", "a read failed"),
-                                       (UP + BYE, "end", "BYE"), (UP + active(2), "end", r"link fault: BadSlot, .*")):
+        for octets, leaves, wanted in ((UP, "end", "end of input"), (UP, "reset", "a read failed"), (UP + BYE, "end", "BYE"),
+                                       (UP + active(2), "end", r"link fault: BadSlot, .*")):
             with self.subTest(wanted, octets=octets.hex(), leaves=leaves):
                 self.check(self.cause_of(f"carrier {CARRIER}", port, octets, leaves), wanted)
 
     def test_operators(self) -> None:
-        port = self.site.console_port
-        self.check(self.cause_of("console", port, b"status\n", "end"), "end of input")
-        # octets that are no command are answered, and close nothing
-        self.check(self.cause_of("console", port, UP + BYE + b"\n" + b"x" * 500), "silence")
+        self.serve(LONG)
+        self.check(self.cause_of("console", self.site.console_port, b"status\n", "end"), "end of input")
+
+    def test_silence(self) -> None:
+        self.serve(5)
+        self.check(self.cause_of(f"carrier {CARRIER}", self.site.row(CARRIER)["port"], UP), "silence")
+        # an operator's octets that are no command are answered, and close nothing
+        self.check(self.cause_of("console", self.site.console_port, UP + BYE + b"\n" + b"x" * 500), "silence")

@@ -1,13 +1,12 @@
 -- A whole body is that of one frame, and a frame's spelling is one whole body after its type and its length.
-use Rattle.std.proofs.Common.{◌≡◌, ◌==◌, ℕ, zero, suc, ◌+◌, ◌*◌, ◌/◌, ◌%◌, ◌<◌, nat_lt, cond, Bool, true, false, Option, Some, None, List, [], ◌∷◌, ◌++◌, length, get_or, take, drop, refl, sym, ap, ◌∙◌, arith, subst}
+use Rattle.std.proofs.Common.{◌≡◌, ◌==◌, ℕ, zero, suc, ◌+◌, ◌*◌, ◌/◌, ◌%◌, ◌<◌, nat_lt, cond, Bool, true, false, Option, Some, None, List, [], ◌∷◌, length, get_or, refl, sym, ap, ◌∙◌, arith}
 use Rattle.std.proofs.lemmas.Bool.{eqb-true, eq-eqb, ltb-true, lt-ltb}
-use Rattle.std.proofs.lemmas.List.{take_at, drop_at}
 use Rattle.std.proofs.lemmas.List.FromFn.{length-map-range_with_len}
 use Rattle.dmr_bits.specs.Bits.{octet_bit, IsOctets}
 use Rattle.dmr_bits.specs.Words.{word_octets, word_of}
 use Rattle.dmr_bits.proofs.Laws.{word_octets-octets, word_octets-spells, word_octets-word_of, word_of-word_octets, pad-last}
 use Rattle.dmr_frames.specs.declared.frame.FrameIn.{FrameIn}
-use Rattle.dmr_frames.specs.declared.frame.FrameIn.TheVariants.{Hello, Rx, Poll, Active, Bye}
+use Rattle.dmr_frames.specs.declared.frame.FrameIn.TheVariants.{Hello, Rx, Active}
 use Rattle.dmr_frames.specs.declared.frame.Cause.{Cause}
 use Rattle.dmr_frames.specs.declared.frame.Cause.TheVariants.{BadSlot, BadPad}
 use Rattle.dmr_frames.specs.declared.cutter.Step.{Step}
@@ -17,11 +16,10 @@ use Rattle.dmr_frames.specs.declared.table.FrameKind.{FrameKind}
 use Rattle.dmr_frames.specs.declared.table.FrameKind.TheVariants as kind
 use Rattle.dmr_frames.specs.declared.version.Version.{Version}
 use Rattle.dmr_frames.specs.Versions.{has_numbers}
-use Rattle.dmr_frames.specs.Table.{frame_row, carrier_kind, body_length, fields_fault}
-use Rattle.dmr_frames.specs.Frames.{IsNumberWhere, IsFrame, frame_octets, spelling}
-use Rattle.dmr_frames.specs.Reading.{whole_step, hello_step, rx_step, burst_step, active_step}
+use Rattle.dmr_frames.specs.Table.{body_length, fields_fault}
+use Rattle.dmr_frames.specs.Frames.{IsNumberWhere, IsFrame, frame_octets, spelling, hello_step, rx_step, burst_step, active_step}
 use Rattle.dmr_frames.specs.Shape.{AreSmall, AreFitting, IsWhole, IsBurst, IsRxBody, IsActiveBody}
-use Rattle.dmr_frames.proofs.TableLemmas.{none_small, small-tail, small-cons, IsCarriers, octet_small, length-most, kind_same, free_none, plain_word, numbered_word}
+use Rattle.dmr_frames.proofs.TableLemmas.{small-tail, small-cons, plain_word, numbered_word}
 
 -- ---- a whole body is that of a frame
 
@@ -65,7 +63,7 @@ active_body b (slot ∷ more) w = slot_small slot (w.fitting 0 (omega arith))
 abbrev pub IsFrameStep : Version → FrameKind → List ℕ → Step → Type 0
 IsFrameStep v k body s = (f : FrameIn) × (s ≡ Frame f) × IsFrame v f × (frame_octets v k body ≡ spelling f)
 
-hello_whole : (v : Version) (body : List ℕ) → IsWhole (has_numbers v) kind.Hello body → IsFrameStep v kind.Hello body (hello_step body)
+pub hello_whole : (v : Version) (body : List ℕ) → IsWhole (has_numbers v) kind.Hello body → IsFrameStep v kind.Hello body (hello_step body)
 unfolding hello_step
 hello_whole v [] w = absurd (omega (arith, w.all))
 hello_whole v (a ∷ []) w = absurd (omega (arith, w.all))
@@ -115,43 +113,22 @@ rx_step_is true (number ∷ slot ∷ octets) w =
       spells = ap (λ (xs : List ℕ). 2 ∷ 27 ∷ number ∷ slot ∷ xs) same;
     }
 
-rx_whole : (v : Version) (body : List ℕ) → IsWhole (has_numbers v) kind.Rx body → IsFrameStep v kind.Rx body (rx_step (has_numbers v) body)
+pub rx_whole : (v : Version) (body : List ℕ) → IsWhole (has_numbers v) kind.Rx body → IsFrameStep v kind.Rx body (rx_step (has_numbers v) body)
 rx_whole v body w =
     let is : IsRxStep (has_numbers v) body = rx_step_is (has_numbers v) body w in
     (Rx is.number is.slot is.word, is.brings, (is.numbered, is.fits.0, is.fits.1), is.spells)
 
-none_left : (body : List ℕ) → length body ≡ 0 → body ≡ []
+pub none_left : (body : List ℕ) → length body ≡ 0 → body ≡ []
 none_left [] e = refl
 none_left (x ∷ body) e = absurd (omega (arith, e))
 
-active_whole : (v : Version) (body : List ℕ) → IsWhole (has_numbers v) kind.Active body → IsFrameStep v kind.Active body (active_step body)
+pub active_whole : (v : Version) (body : List ℕ) → IsWhole (has_numbers v) kind.Active body → IsFrameStep v kind.Active body (active_step body)
 unfolding active_step
 active_whole v [] w = absurd (omega (arith, w.all))
 active_whole v (slot ∷ []) w = (Active slot, refl, active_body (has_numbers v) (slot ∷ []) w, refl)
 active_whole v (slot ∷ x ∷ body) w = absurd (omega (arith, w.all))
 
-pub whole_frame : (v : Version) (k : FrameKind) (body : List ℕ) → IsCarriers k → IsWhole (has_numbers v) k body → IsFrameStep v k body (whole_step (has_numbers v) k body)
-unfolding whole_step
-whole_frame v kind.Hello body is w = hello_whole v body w
-whole_frame v kind.Rx body is w = rx_whole v body w
-whole_frame v kind.Poll body is w = (Poll, refl, tt, ap (frame_octets v kind.Poll) (none_left body w.all))
-whole_frame v kind.Active body is w = active_whole v body w
-whole_frame v kind.Bye body is w = (Bye, refl, tt, ap (frame_octets v kind.Bye) (none_left body w.all))
-whole_frame v kind.Welcome body is w = absurd is
-whole_frame v kind.Tx body is w = absurd is
-whole_frame v kind.Done body is w = absurd is
-whole_frame v kind.Refused body is w = absurd is
-
 -- ---- a frame has a whole body
-
--- which frame of the table it is, and its body
-pub record IsSpelled (v : Version) (f : FrameIn) : Type 0 where
-  pub which : FrameKind
-  pub body : List ℕ
-  pub known : carrier_kind v (frame_row which).octet ≡ Some which
-  pub whole : IsWhole (has_numbers v) which body
-  pub spelled : spelling f ≡ frame_octets v which body
-  pub again : whole_step (has_numbers v) which body ≡ Frame f
 
 slot-fits : (x : ℕ) → x < 2 → cond (nat_lt x 2) None (Some BadSlot) ≡ None
 slot-fits x lt = rw (lt-ltb x 2 lt) refl
@@ -175,7 +152,7 @@ numbered-fits number slot octets small pad zero lt = refl
 numbered-fits number slot octets small pad (suc zero) lt = slot-fits slot small
 numbered-fits number slot octets small pad (suc (suc i)) lt = numbered_word i (get_or octets i 0) ∙ word-fits true octets i pad
 
-active-fits : (b : Bool) (slot : ℕ) → slot < 2 → AreFitting b kind.Active (slot ∷ [])
+pub active-fits : (b : Bool) (slot : ℕ) → slot < 2 → AreFitting b kind.Active (slot ∷ [])
 active-fits b slot small zero lt = slot-fits slot small
 active-fits b slot small (suc i) lt = absurd (omega arith)
 
@@ -183,13 +160,13 @@ word-pad : (word : List Bool) → length word ≡ 196 → get_or (word_octets wo
 word-pad word len = sym (pad-last (word_octets word)) ∙ (word_octets-spells word len).pad
 
 -- the body of an RX, where bursts are numbered or not
-record IsRxSpelled (b : Bool) (number : Option ℕ) (slot : ℕ) (word : List Bool) : Type 0 where
-  body : List ℕ
-  whole : IsWhole b kind.Rx body
-  spelled : spelling (Rx number slot word) ≡ 2 ∷ body_length b kind.Rx ∷ body
-  again : rx_step b body ≡ Frame (Rx number slot word)
+pub record IsRxSpelled (b : Bool) (number : Option ℕ) (slot : ℕ) (word : List Bool) : Type 0 where
+  pub body : List ℕ
+  pub whole : IsWhole b kind.Rx body
+  pub spelled : spelling (Rx number slot word) ≡ 2 ∷ body_length b kind.Rx ∷ body
+  pub again : rx_step b body ≡ Frame (Rx number slot word)
 
-rx_spelled : (b : Bool) (number : Option ℕ) (slot : ℕ) (word : List Bool) → IsNumberWhere b number → slot < 2 → length word ≡ 196 → IsRxSpelled b number slot word
+pub rx_spelled : (b : Bool) (number : Option ℕ) (slot : ℕ) (word : List Bool) → IsNumberWhere b number → slot < 2 → length word ≡ 196 → IsRxSpelled b number slot word
 unfolding rx_step burst_step
 rx_spelled false None slot word is lt len =
     let octets : List ℕ = word_octets word in
@@ -215,105 +192,3 @@ rx_spelled true (Some number) slot word is lt len =
       spelled = refl;
       again = ap (λ (w : List Bool). Frame (Rx (Some number) slot w)) (word_of-word_octets word len);
     }
-
--- the two octets of a channel number are read as it
-halves : (l : ℕ) → 256 * (l / 256) + l % 256 ≡ l
-halves l = omega arith
-
-pub frame_spelled : (v : Version) (f : FrameIn) → IsFrame v f → IsSpelled v f
-unfolding whole_step hello_step active_step
-frame_spelled v (Hello version carrier l) is = record {
-  which = kind.Hello;
-  body = version ∷ carrier ∷ (l / 256) ∷ (l % 256) ∷ [];
-  known = refl;
-  whole = record {
-    all = refl;
-    small = small-cons version (carrier ∷ (l / 256) ∷ (l % 256) ∷ []) is.0 (small-cons carrier ((l / 256) ∷ (l % 256) ∷ []) is.1
-        (small-cons (l / 256) ((l % 256) ∷ []) (omega (arith, is.2)) (small-cons (l % 256) [] (omega arith) none_small)));
-    fitting = λ i lt. free_none (has_numbers v) (frame_row kind.Hello).body i (get_or (version ∷ carrier ∷ (l / 256) ∷ (l % 256) ∷ []) i 0) tt;
-  };
-  spelled = refl;
-  again = ap (λ (n : ℕ). Frame (Hello version carrier n)) (halves l);
-}
-frame_spelled v (Rx number slot word) is =
-    let s : IsRxSpelled (has_numbers v) number slot word = rx_spelled (has_numbers v) number slot word is.0 is.1 is.2 in
-    record { which = kind.Rx; body = s.body; known = refl; whole = s.whole; spelled = s.spelled; again = s.again }
-frame_spelled v Poll is = record { which = kind.Poll; body = []; known = refl; whole = record { all = refl; small = none_small; fitting = λ i lt. refl }; spelled = refl; again = refl }
-frame_spelled v (Active slot) is = record {
-  which = kind.Active;
-  body = slot ∷ [];
-  known = refl;
-  whole = record { all = refl; small = small-cons slot [] (omega (arith, is)) none_small; fitting = active-fits (has_numbers v) slot is };
-  spelled = refl;
-  again = refl;
-}
-frame_spelled v Bye is = record { which = kind.Bye; body = []; known = refl; whole = record { all = refl; small = none_small; fitting = λ i lt. refl }; spelled = refl; again = refl }
-
--- what follows the type octet of a frame
-pub record Follows (v : Version) (octet : ℕ) (rest : List ℕ) : Type 0 where
-  pub which : FrameKind
-  pub body : List ℕ
-  pub known : carrier_kind v octet ≡ Some which
-  pub whole : IsWhole (has_numbers v) which body
-  pub rest_is : rest ≡ body_length (has_numbers v) which ∷ body
-
-pub follows : (v : Version) (octet : ℕ) (rest : List ℕ) (f : FrameIn) → IsFrame v f → octet ∷ rest ≡ spelling f → Follows v octet rest
-follows v octet rest f is e =
-    let s : IsSpelled v f = frame_spelled v f is in
-    let whole : octet ∷ rest ≡ (frame_row s.which).octet ∷ body_length (has_numbers v) s.which ∷ s.body = e ∙ s.spelled in
-    let at : octet ≡ (frame_row s.which).octet = cc in
-    let behind : rest ≡ body_length (has_numbers v) s.which ∷ s.body = cc in
-    record { which = s.which; body = s.body; known = ap (carrier_kind v) at ∙ s.known; whole = s.whole; rest_is = behind }
-
--- ---- frames of one spelling
-
--- the octets of a spelling are octets
-pub spelling-small : (v : Version) (f : FrameIn) → IsFrame v f → AreSmall (spelling f)
-spelling-small v f is =
-    let s : IsSpelled v f = frame_spelled v f is in
-    let P : List ℕ → Type 0 = λ xs. AreSmall xs in
-    let len : body_length (has_numbers v) s.which < 256 = omega (arith, length-most (has_numbers v) s.which) in
-    subst P (sym s.spelled) (small-cons (frame_row s.which).octet (body_length (has_numbers v) s.which ∷ s.body) (octet_small s.which) (small-cons (body_length (has_numbers v) s.which) s.body len s.whole.small))
-
--- a body means the same where it has the same length
-same_step : (b c : Bool) (k : FrameKind) (body : List ℕ) → body_length b k ≡ body_length c k → whole_step b k body ≡ whole_step c k body
-unfolding whole_step
-same_step true true k body e = refl
-same_step false false k body e = refl
-same_step b c kind.Hello body e = refl
-same_step true false kind.Rx body e = absurd (omega (arith, e))
-same_step false true kind.Rx body e = absurd (omega (arith, e))
-same_step b c kind.Poll body e = refl
-same_step b c kind.Active body e = refl
-same_step b c kind.Bye body e = refl
-same_step b c kind.Welcome body e = refl
-same_step b c kind.Tx body e = refl
-same_step b c kind.Done body e = refl
-same_step b c kind.Refused body e = refl
-
-frame_same : (f g : FrameIn) → Frame f ≡ Frame g → f ≡ g
-frame_same f g e = cc
-
-bodies_same : (v w : Version) (f g : FrameIn) (k : FrameKind) (a b x y : List ℕ) → IsWhole (has_numbers v) k a → IsWhole (has_numbers w) k b →
-    body_length (has_numbers v) k ≡ body_length (has_numbers w) k → a ++ x ≡ b ++ y → whole_step (has_numbers v) k a ≡ Frame f → whole_step (has_numbers w) k b ≡ Frame g → (f ≡ g) × (x ≡ y)
-bodies_same v w f g k a b x y ha hb len e fa gb =
-    let n : ℕ = body_length (has_numbers v) k in
-    let same : a ≡ b = sym (take_at a x n ha.all) ∙ ap (take n) e ∙ take_at b y n (hb.all ∙ sym len) in
-    let behind : x ≡ y = sym (drop_at a x n ha.all) ∙ ap (drop n) e ∙ drop_at b y n (hb.all ∙ sym len) in
-    (frame_same f g (sym fa ∙ same_step (has_numbers v) (has_numbers w) k a len ∙ ap (whole_step (has_numbers w) k) same ∙ gb), behind)
-
--- no spelling goes on to another, of whichever versions the two are
-pub spelled_once : (v w : Version) (f g : FrameIn) (x y : List ℕ) → IsFrame v f → IsFrame w g → spelling f ++ x ≡ spelling g ++ y → (f ≡ g) × (x ≡ y)
-spelled_once v w f g x y hf hg e =
-    let s : IsSpelled v f = frame_spelled v f hf in
-    let t : IsSpelled w g = frame_spelled w g hg in
-    let whole : (frame_row s.which).octet ∷ body_length (has_numbers v) s.which ∷ (s.body ++ x) ≡ (frame_row t.which).octet ∷ body_length (has_numbers w) t.which ∷ (t.body ++ y) =
-    ap (λ (xs : List ℕ). xs ++ x) (sym s.spelled) ∙ e ∙ ap (λ (xs : List ℕ). xs ++ y) t.spelled in
-    let octet : (frame_row s.which).octet ≡ (frame_row t.which).octet = cc in
-    let len : body_length (has_numbers v) s.which ≡ body_length (has_numbers w) t.which = cc in
-    let behind : s.body ++ x ≡ t.body ++ y = cc in
-    let which : t.which ≡ s.which = kind_same w v (frame_row t.which).octet t.which s.which t.known (ap (carrier_kind v) (sym octet) ∙ s.known) in
-    let P : FrameKind → Type 0 = λ k. IsWhole (has_numbers w) k t.body × (body_length (has_numbers v) s.which ≡ body_length (has_numbers w) k) × (whole_step (has_numbers w) k t.body ≡ Frame g) in
-    let is : IsWhole (has_numbers w) s.which t.body × (body_length (has_numbers v) s.which ≡ body_length (has_numbers w) s.which) × (whole_step (has_numbers w) s.which t.body ≡ Frame g) =
-    subst P which (t.whole, len, t.again) in
-    bodies_same v w f g s.which s.body t.body x y s.whole is.0 is.1 behind s.again is.2

@@ -1,9 +1,12 @@
 pub mod LastOctetLemmas
 pub mod TableLemmas
 pub mod BodyLemmas
+pub mod SpellingLemmas
+pub mod EachFrame
+pub mod OneSpelling
 pub mod ShapeLemmas
 pub mod StepLemmas
 pub mod StreamLemmas
 pub mod ReadingLemmas
-pub mod SpellingLemmas
 pub mod OneFrameLemmas
+pub mod VersionLaws

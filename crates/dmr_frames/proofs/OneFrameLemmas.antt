@@ -10,7 +10,7 @@ use Rattle.dmr_frames.specs.Frames.{IsFrame, spelling}
 use Rattle.dmr_frames.specs.Stream.{IsOpen, IsStep}
 use Rattle.dmr_frames.specs.Reading.{step_at}
 use Rattle.dmr_frames.proofs.StepLemmas.{step_sound}
-use Rattle.dmr_frames.proofs.BodyLemmas.{spelled_once}
+use Rattle.dmr_frames.proofs.OneSpelling.{spelled_once}
 use Rattle.dmr_frames.proofs.StreamLemmas.{open_no_spelling}
 
 inside : (v : Version) (q : List ℕ) (x : ℕ) (more : List ℕ) (f : FrameIn) (s : Step) → IsFrame v f → q ++ x ∷ more ≡ spelling f → 0 < length more → IsStep v q x s → s ≡ Need

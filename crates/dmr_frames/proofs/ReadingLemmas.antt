@@ -18,7 +18,7 @@ use Rattle.dmr_frames.specs.Stream.{IsOpen, IsFaulty, Reads, AreFrames, IsStep}
 use Rattle.dmr_frames.specs.Shape.{AreSmall}
 use Rattle.dmr_frames.specs.Reading.{step_at, step_from, rest_after_octet, rest_after, frame_of, frames_from, rest_after_octets}
 use Rattle.dmr_frames.proofs.TableLemmas.{small-front}
-use Rattle.dmr_frames.proofs.BodyLemmas.{spelling-small}
+use Rattle.dmr_frames.proofs.OneSpelling.{spelling-small}
 use Rattle.dmr_frames.proofs.StreamLemmas.{readings-same}
 use Rattle.dmr_frames.proofs.StepLemmas.{step_sound}
 

@@ -5,11 +5,13 @@ use Rattle.dmr_frames.specs.declared.table.FrameKind.{FrameKind}
 use Rattle.dmr_frames.specs.declared.version.Version.{Version}
 use Rattle.dmr_frames.specs.Versions.{has_numbers}
 use Rattle.dmr_frames.specs.Table.{frame_row, carrier_kind, body_length}
-use Rattle.dmr_frames.specs.Reading.{whole_step}
+use Rattle.dmr_frames.specs.Frames.{whole_step}
 use Rattle.dmr_frames.specs.Stream.{IsOpen}
 use Rattle.dmr_frames.specs.Shape.{AreSmall, AreFitting, IsWhole, IsShapeOf, IsShape}
-use Rattle.dmr_frames.proofs.TableLemmas.{none_small, small-front, IsCarriers, kind_found, fitting-front, whole-zeros, length-most}
-use Rattle.dmr_frames.proofs.BodyLemmas.{IsFrameStep, whole_frame, Follows, follows}
+use Rattle.dmr_frames.proofs.TableLemmas.{none_small, small-front, fitting-front}
+use Rattle.dmr_frames.proofs.BodyLemmas.{IsFrameStep}
+use Rattle.dmr_frames.proofs.EachFrame.{IsCarriersIn, kind_found, length-most, whole-zeros, whole_frame}
+use Rattle.dmr_frames.proofs.OneSpelling.{Follows, follows}
 
 -- ---- an open front has this shape
 
@@ -39,12 +41,12 @@ shape-from_open v (octet ∷ rest) (f, x, more, is, e) =
 
 open_kind : (v : Version) (octet : ℕ) (k : FrameKind) (rest : List ℕ) → carrier_kind v octet ≡ Some k → IsShapeOf (has_numbers v) (Some k) rest → IsOpen v (octet ∷ rest)
 open_kind v octet k [] known h =
-    let found : (octet ≡ (frame_row k).octet) × IsCarriers k = kind_found v octet k known in
+    let found : (octet ≡ (frame_row k).octet) × IsCarriersIn v k = kind_found v octet k known in
     let n : ℕ = body_length (has_numbers v) k in
     let frame : IsFrameStep v k (replicate n 0) (whole_step (has_numbers v) k (replicate n 0)) = whole_frame v k (replicate n 0) found.1 (whole-zeros (has_numbers v) k [] n none_small (λ i lt. absurd (omega arith)) (omega arith)) in
     (frame.0, n, replicate n 0, frame.2, ap (λ (o : ℕ). o ∷ n ∷ replicate n 0) found.0 ∙ frame.3)
 open_kind v octet k (n ∷ body) known h =
-    let found : (octet ≡ (frame_row k).octet) × IsCarriers k = kind_found v octet k known in
+    let found : (octet ≡ (frame_row k).octet) × IsCarriersIn v k = kind_found v octet k known in
     let m : ℕ = body_length (has_numbers v) k - length body - 1 in
     let full : length body + suc m ≡ body_length (has_numbers v) k = omega (arith, h.1.short) in
     let all : List ℕ = body ++ replicate (suc m) 0 in

@@ -3,13 +3,11 @@ use Rattle.std.proofs.Common.{◌≡◌, ℕ, ◌+◌, ◌≤◌, Bool, Option, 
 use Rattle.std.proofs.lemmas.List.{take_at, drop_at}
 use Rattle.dmr_bits.specs.Words.{word_octets, word_of}
 use Rattle.dmr_bits.proofs.Laws.{word_octets-octets, word_of-word_octets}
-use Rattle.dmr_frames.specs.declared.frame.FrameIn.{FrameIn}
-use Rattle.dmr_frames.specs.declared.frame.FrameIn.TheVariants.{Hello, Rx, Poll, Active, Bye}
 use Rattle.dmr_frames.specs.declared.frame.FrameOut.{FrameOut}
 use Rattle.dmr_frames.specs.declared.frame.FrameOut.TheVariants.{Welcome, Tx, Done, Refused}
 use Rattle.dmr_frames.specs.declared.table.FrameKind.TheVariants as kind
 use Rattle.dmr_frames.specs.declared.frame.Refusal.TheVariants.{BadVersion, WrongCarrier}
-use Rattle.dmr_frames.specs.Frames.{IsFrameOut, burst_octets, spelling, spelling_out}
+use Rattle.dmr_frames.specs.Frames.{IsFrameOut, burst_octets, spelling_out}
 use Rattle.dmr_frames.specs.Table.{body_length}
 use Rattle.dmr_frames.specs.Versions.{has_numbers, version_by}
 use Rattle.dmr_frames.specs.Limits.{longest_frame}
@@ -80,18 +78,11 @@ pub burst-more : (number : Option ℕ) (slot : ℕ) (octets : List ℕ) → burs
 burst-more None slot octets = refl
 burst-more (Some n) slot octets = refl
 
-length-burst : (number : Option ℕ) (slot : ℕ) (word : List Bool) → length (burst_octets number slot (word_octets word)) ≡ body_length (has_numbers (version_by number)) kind.Tx
+pub length-burst : (number : Option ℕ) (slot : ℕ) (word : List Bool) → length (burst_octets number slot (word_octets word)) ≡ body_length (has_numbers (version_by number)) kind.Tx
 length-burst None slot word = omega (arith, (word_octets-octets word).len)
 length-burst (Some n) slot word = omega (arith, (word_octets-octets word).len)
 
 -- the second octet counts those after it
-pub length-spelling : (f : FrameIn) → length (spelling f) ≡ get_or (spelling f) 1 0 + 2
-length-spelling (Hello v c l) = omega arith
-length-spelling (Rx number slot word) = omega (arith, length-burst number slot word)
-length-spelling Poll = omega arith
-length-spelling (Active slot) = omega arith
-length-spelling Bye = omega arith
-
 pub length-spelling_out : (f : FrameOut) → length (spelling_out f) ≡ get_or (spelling_out f) 1 0 + 2
 length-spelling_out (Welcome v) = omega arith
 length-spelling_out (Tx number slot word) = omega (arith, length-burst number slot word)
@@ -100,16 +91,9 @@ length-spelling_out (Refused r) = omega arith
 
 -- ---- how long a frame is
 
-burst-le : (number : Option ℕ) (slot : ℕ) (word : List Bool) → length (burst_octets number slot (word_octets word)) ≤ 27
+pub burst-le : (number : Option ℕ) (slot : ℕ) (word : List Bool) → length (burst_octets number slot (word_octets word)) ≤ 27
 burst-le None slot word = omega (arith, (word_octets-octets word).len)
 burst-le (Some number) slot word = omega (arith, (word_octets-octets word).len)
-
-pub spelling-le : (f : FrameIn) → length (spelling f) ≤ longest_frame
-spelling-le (Hello version carrier lpcn) = omega arith
-spelling-le (Rx number slot word) = omega (arith, burst-le number slot word)
-spelling-le Poll = omega arith
-spelling-le (Active slot) = omega arith
-spelling-le Bye = omega arith
 
 pub spelling_out-le : (f : FrameOut) → length (spelling_out f) ≤ longest_frame
 spelling_out-le (Welcome version) = omega arith

@@ -11,10 +11,13 @@ use Rattle.dmr_frames.specs.declared.version.Version.{Version}
 use Rattle.dmr_frames.specs.Versions.{has_numbers}
 use Rattle.dmr_frames.specs.Table.{frame_row, carrier_kind, body_length, body_fault}
 use Rattle.dmr_frames.specs.Stream.{Begins, IsOpen, IsStep}
-use Rattle.dmr_frames.specs.Reading.{whole_step, length_step, unless_fault, body_step, kind_step, step_at}
+use Rattle.dmr_frames.specs.Frames.{whole_step}
+use Rattle.dmr_frames.specs.Reading.{length_step, unless_fault, body_step, kind_step, step_at}
 use Rattle.dmr_frames.specs.Shape.{AreFitting, IsBegun, IsWhole, IsShapeOf, IsShape}
-use Rattle.dmr_frames.proofs.TableLemmas.{none_small, small-cons, small-append, whole-last, some_same, none_some, IsCarriers, kind_found, fitting-one, cause_at}
-use Rattle.dmr_frames.proofs.BodyLemmas.{IsFrameStep, whole_frame, Follows, follows}
+use Rattle.dmr_frames.proofs.TableLemmas.{none_small, small-cons, small-append, whole-last, some_same, none_some, fitting-one}
+use Rattle.dmr_frames.proofs.BodyLemmas.{IsFrameStep}
+use Rattle.dmr_frames.proofs.EachFrame.{IsCarriersIn, kind_found, cause_at, whole_frame}
+use Rattle.dmr_frames.proofs.OneSpelling.{Follows, follows}
 use Rattle.dmr_frames.proofs.ShapeLemmas.{open-from_shape, shape-from_open}
 
 no_truth : false ≡ true → ⊥
@@ -42,7 +45,7 @@ type_sound v x (Some k) e = open_shape v x k [] e tt
 -- a whole body brings its frame
 whole_sound : (v : Version) (octet : ℕ) (k : FrameKind) (body q : List ℕ) (x : ℕ) → carrier_kind v octet ≡ Some k → IsWhole (has_numbers v) k body → q ++ x ∷ [] ≡ octet ∷ body_length (has_numbers v) k ∷ body → IsStep v q x (whole_step (has_numbers v) k body)
 whole_sound v octet k body q x known w e =
-    let found : (octet ≡ (frame_row k).octet) × IsCarriers k = kind_found v octet k known in
+    let found : (octet ≡ (frame_row k).octet) × IsCarriersIn v k = kind_found v octet k known in
     let frame : IsFrameStep v k body (whole_step (has_numbers v) k body) = whole_frame v k body found.1 w in
     let P : Step → Type 0 = λ s. IsStep v q x s in
     subst P (sym frame.1) (frame.2, e ∙ ap (λ (o : ℕ). o ∷ body_length (has_numbers v) k ∷ body) found.0 ∙ frame.3)
@@ -104,7 +107,7 @@ body_cases : (v : Version) (octet : ℕ) (k : FrameKind) (n : ℕ) (body : List 
     IsStep v (octet ∷ n ∷ body) x (unless_fault m (cond (nat_lt (length body + 1) (body_length (has_numbers v) k)) Need (whole_step (has_numbers v) k (body ++ x ∷ []))))
 body_cases v octet k n body x None known len h lt e = more_cases v octet k n body x (nat_lt (length body + 1) (body_length (has_numbers v) k)) known len h lt e refl
 body_cases v octet k n body x (Some cause) known len h lt e =
-    (not_octet v octet k n body x cause known e, cause_at (has_numbers v) k (length body) x cause (kind_found v octet k known).1 e)
+    (not_octet v octet k n body x cause known e, cause_at (has_numbers v) k (length body) x cause (kind_found v octet k known).1.0 e)
 
 kind_sound : (v : Version) (octet : ℕ) (m : Option FrameKind) (rest : List ℕ) (x : ℕ) → carrier_kind v octet ≡ m → IsShapeOf (has_numbers v) m rest → x < 256 → IsStep v (octet ∷ rest) x (kind_step (has_numbers v) m rest x)
 unfolding kind_step length_step body_step

@@ -10,7 +10,7 @@ use Rattle.dmr_frames.specs.Frames.{IsFrame, spelling}
 use Rattle.dmr_frames.specs.Rest.{Rest, Open, Faulty}
 use Rattle.dmr_frames.specs.Stream.{Begins, IsOpen, IsFaulty, IsRest, Reads, AreFrames, fault_at}
 use Rattle.dmr_frames.specs.Versions.{has_numbers, version_of, table_after, table_after_frames}
-use Rattle.dmr_frames.proofs.BodyLemmas.{spelled_once}
+use Rattle.dmr_frames.proofs.OneSpelling.{spelled_once}
 
 -- two ways to part a list: one front goes on to the other
 pub append_cases : {A : Type 0} (a b c d : List A) → a ++ b ≡ c ++ d → ((m : List A) × (c ≡ a ++ m) × (b ≡ m ++ d)) ⊎ ((m : List A) × (a ≡ c ++ m) × (d ≡ m ++ b))

@@ -1,8 +1,8 @@
 -- The table of frames: which frame a type octet is of, and which octets of a body are faults.
-use Rattle.std.proofs.Common.{◌≡◌, ◌==◌, ℕ, zero, suc, ◌+◌, ◌-◌, ◌%◌, ◌<◌, ◌≤◌, nat_lt, cond, Bool, true, false, Option, Some, None, List, [], ◌∷◌, ◌++◌, length, get_or, replicate, refl, sym, ap, ◌∙◌, arith, ⊎_elim, length-append, subst}
+use Rattle.std.proofs.Common.{◌≡◌, ◌==◌, ℕ, zero, suc, ◌+◌, ◌-◌, ◌%◌, ◌<◌, ◌≤◌, nat_lt, cond, Bool, true, false, Some, None, List, [], ◌∷◌, ◌++◌, length, get_or, replicate, refl, sym, ap, ◌∙◌, arith, ⊎_elim, length-append, subst}
 use Rattle.std.proofs.Math.Seq.{get_or-append_seam}
 use Rattle.std.proofs.lemmas.Bool.{cases_lt, eqb-true, le-ltb}
-use Rattle.std.proofs.lemmas.List.{get_or_append_left, get_or-append_right, get_or-replicate, get_or_past, length-replicate}
+use Rattle.std.proofs.lemmas.List.{get_or_append_left}
 use Rattle.dmr_frames.specs.declared.frame.Cause.{Cause}
 use Rattle.dmr_frames.specs.declared.frame.Cause.TheVariants.{BadSlot, BadPad}
 use Rattle.dmr_frames.specs.declared.table.Field.{Field}
@@ -39,38 +39,29 @@ small-zeros (suc n) = small-cons 0 (replicate n 0) (omega arith) (small-zeros n)
 
 -- ---- the frame that has a type octet
 
--- the frame comes from a carrier
-abbrev pub IsCarriers : FrameKind → Type 0
-IsCarriers kind.Hello = Unit {0}
-IsCarriers kind.Rx = Unit {0}
-IsCarriers kind.Poll = Unit {0}
-IsCarriers kind.Active = Unit {0}
-IsCarriers kind.Bye = Unit {0}
-IsCarriers other = ⊥
-
-abbrev AreCarriers : List FrameKind → Type 0
-AreCarriers [] = Unit {0}
-AreCarriers (k ∷ kinds) = IsCarriers k × AreCarriers kinds
-
 pub some_same : {A : Type 0} (a b : A) → Some a ≡ Some b → a ≡ b
 some_same a b e = cc
 
 pub none_some : {A : Type 0} (a : A) → None ≡ Some a → ⊥
 none_some a e = cc
 
-among_is : (v : Version) (kinds : List FrameKind) (x : ℕ) (k : FrameKind) → AreCarriers kinds → kind_among v kinds x ≡ Some k → (x ≡ (frame_row k).octet) × IsCarriers k
-among_is v [] x k all e = absurd (none_some k e)
-among_is v (j ∷ kinds) x k all e = at (x == (frame_row j).octet) (is_since (frame_row j).since v) (λ d. among_is v kinds x k all.1 d) refl e
-  where
-    at : (a b : Bool) → (kind_among v kinds x ≡ Some k → (x ≡ (frame_row k).octet) × IsCarriers k) → (x == (frame_row j).octet) ≡ a → cond a (cond b (Some j) None) (kind_among v kinds x) ≡ Some k → (x ≡ (frame_row k).octet) × IsCarriers k
-    at true true later ea e =
-        let P : FrameKind → Type 0 = λ i. (x ≡ (frame_row i).octet) × IsCarriers i in
-        subst P (some_same j k e) (eqb-true x (frame_row j).octet ea, all.0)
-    at true false later ea e = absurd (none_some k e)
-    at false b later ea e = later e
+-- each of these frames is such a one
+abbrev pub AreAll : (FrameKind → Type 0) → List FrameKind → Type 0
+AreAll P [] = Unit {0}
+AreAll P (k ∷ kinds) = P k × AreAll P kinds
 
-pub kind_found : (v : Version) (x : ℕ) (k : FrameKind) → carrier_kind v x ≡ Some k → (x ≡ (frame_row k).octet) × IsCarriers k
-kind_found v x k e = among_is v carrier_kinds x k (tt, (tt, (tt, (tt, (tt, tt))))) e
+-- the frame of a type octet, of these: it has that octet, is one of these, and exists in the version
+pub among_is : (P : FrameKind → Type 0) (v : Version) (kinds : List FrameKind) (x : ℕ) (k : FrameKind) → AreAll P kinds → kind_among v kinds x ≡ Some k → (x ≡ (frame_row k).octet) × P k × (is_since (frame_row k).since v ≡ true)
+among_is P v [] x k all e = absurd (none_some k e)
+among_is P v (j ∷ kinds) x k all e = at (x == (frame_row j).octet) (is_since (frame_row j).since v) (λ d. among_is P v kinds x k all.1 d) refl refl e
+  where
+    at : (a b : Bool) → (kind_among v kinds x ≡ Some k → (x ≡ (frame_row k).octet) × P k × (is_since (frame_row k).since v ≡ true)) → (x == (frame_row j).octet) ≡ a → is_since (frame_row j).since v ≡ b →
+        cond a (cond b (Some j) None) (kind_among v kinds x) ≡ Some k → (x ≡ (frame_row k).octet) × P k × (is_since (frame_row k).since v ≡ true)
+    at true true later ea eb e =
+        let Q : FrameKind → Type 0 = λ i. (x ≡ (frame_row i).octet) × P i × (is_since (frame_row i).since v ≡ true) in
+        subst Q (some_same j k e) (eqb-true x (frame_row j).octet ea, all.0, eb)
+    at true false later ea eb e = absurd (none_some k e)
+    at false b later ea eb e = later e
 
 -- a type octet is that of one frame, in whichever version
 among_same : (v w : Version) (kinds : List FrameKind) (x : ℕ) (i j : FrameKind) → kind_among v kinds x ≡ Some i → kind_among w kinds x ≡ Some j → i ≡ j
@@ -87,64 +78,19 @@ among_same v w (k ∷ kinds) x i j d e = at (x == (frame_row k).octet) (is_since
 pub kind_same : (v w : Version) (x : ℕ) (i j : FrameKind) → carrier_kind v x ≡ Some i → carrier_kind w x ≡ Some j → i ≡ j
 kind_same v w x i j d e = among_same v w carrier_kinds x i j d e
 
--- a type octet is an octet
-pub octet_small : (k : FrameKind) → (frame_row k).octet < 256
-octet_small kind.Hello = omega arith
-octet_small kind.Rx = omega arith
-octet_small kind.Poll = omega arith
-octet_small kind.Active = omega arith
-octet_small kind.Bye = omega arith
-octet_small kind.Welcome = omega arith
-octet_small kind.Tx = omega arith
-octet_small kind.Done = omega arith
-octet_small kind.Refused = omega arith
-
 -- ---- octets that are no fault
 
-both_none : (b : Bool) → ◌≡◌ {A = Option Cause} (cond b None None) None
-both_none true = refl
-both_none false = refl
-
 -- octets of these fields are never a fault
-abbrev AreFree : List Field → Type 0
+abbrev pub AreFree : List Field → Type 0
 AreFree [] = Unit {0}
-AreFree (field.Slot ∷ fields) = ⊥
-AreFree (field.Word ∷ fields) = ⊥
-AreFree (other ∷ fields) = AreFree fields
-
-free-field : (f : Field) (fields : List Field) (place x : ℕ) → AreFree (f ∷ fields) → (field_fault f place x ≡ None) × AreFree fields
-free-field field.Version fields place x all = (refl, all)
-free-field field.Carrier fields place x all = (refl, all)
-free-field field.Lpcn fields place x all = (refl, all)
-free-field field.Number fields place x all = (refl, all)
-free-field field.Slot fields place x all = absurd all
-free-field field.Word fields place x all = absurd all
-free-field field.Reason fields place x all = (refl, all)
+AreFree (f ∷ fields) = ((place x : ℕ) → field_fault f place x ≡ None) × AreFree fields
 
 pub free_none : (b : Bool) (fields : List Field) (place x : ℕ) → AreFree fields → fields_fault b fields place x ≡ None
 free_none b [] place x all = refl
-free_none b (f ∷ fields) place x all = at (nat_lt place (field_length b f)) (free_none b fields (place - field_length b f) x (free-field f fields place x all).1)
+free_none b (f ∷ fields) place x all = at (nat_lt place (field_length b f)) (free_none b fields (place - field_length b f) x all.1)
   where
     at : (c : Bool) → fields_fault b fields (place - field_length b f) x ≡ None → cond c (field_fault f place x) (fields_fault b fields (place - field_length b f) x) ≡ None
-    at true later = (free-field f fields place x all).0
-    at false later = later
-
-zero-field : (f : Field) (place : ℕ) → field_fault f place 0 ≡ None
-zero-field field.Version place = refl
-zero-field field.Carrier place = refl
-zero-field field.Lpcn place = refl
-zero-field field.Number place = refl
-zero-field field.Slot place = refl
-zero-field field.Word place = both_none (place == 24)
-zero-field field.Reason place = refl
-
--- the octet 0 is nowhere a fault
-zero_none : (b : Bool) (fields : List Field) (place : ℕ) → fields_fault b fields place 0 ≡ None
-zero_none b [] place = refl
-zero_none b (f ∷ fields) place = at (nat_lt place (field_length b f)) (zero_none b fields (place - field_length b f))
-  where
-    at : (c : Bool) → fields_fault b fields (place - field_length b f) 0 ≡ None → cond c (field_fault f place 0) (fields_fault b fields (place - field_length b f) 0) ≡ None
-    at true later = zero-field f place
+    at true later = all.0 place x
     at false later = later
 
 -- a place after a field is one of the fields after it
@@ -174,31 +120,10 @@ fitting-one b k body x h e = fitting-append b k body (x ∷ []) h (λ i past lt.
     let at : length body ≡ i = omega (arith, length-append body (x ∷ [])) in
     subst P at (subst Q (sym (get_or-append_seam body x [] 0)) e))
 
-zeros_at : (n k : ℕ) → ◌≡◌ {A = ℕ} (get_or (replicate n 0) k 0) 0
-zeros_at n k =
-    ⊎_elim
-    (λ (lt : k < n). get_or-replicate {A = ℕ} n k 0 0 lt)
-    (λ (le : n ≤ k). get_or_past {X = ℕ} (replicate n 0) k 0 (omega (arith, length-replicate {A = ℕ} n 0)))
-    (cases_lt k n)
-
-fitting-zeros : (b : Bool) (k : FrameKind) (body : List ℕ) (n : ℕ) → AreFitting b k body → AreFitting b k (body ++ replicate n 0)
-fitting-zeros b k body n h = fitting-append b k body (replicate n 0) h (λ i past lt.
-    let P : ℕ → Type 0 = λ y. body_fault b k i y ≡ None in
-    let at : get_or (body ++ replicate n 0) i 0 ≡ 0 = get_or-append_right body (replicate n 0) (length body) i 0 refl past ∙ zeros_at n (i - length body) in
-    subst P (sym at) (zero_none b (frame_row k).body i))
-
 pub fitting-front : (b : Bool) (k : FrameKind) (body rest : List ℕ) → AreFitting b k (body ++ rest) → AreFitting b k body
 fitting-front b k body rest h i lt =
     let P : ℕ → Type 0 = λ x. body_fault b k i x ≡ None in
     subst P (get_or_append_left body rest 0 i lt) (h i (omega (arith, lt, length-append body rest)))
-
--- a body that has begun goes on with zeros
-pub whole-zeros : (b : Bool) (k : FrameKind) (body : List ℕ) (n : ℕ) → AreSmall body → AreFitting b k body → length body + n ≡ body_length b k → IsWhole b k (body ++ replicate n 0)
-whole-zeros b k body n small fitting e = record {
-  all = omega (arith, e, length-append body (replicate n 0), length-replicate {A = ℕ} n 0);
-  small = small-append body (replicate n 0) small (small-zeros n);
-  fitting = fitting-zeros b k body n fitting;
-}
 
 -- its last octet makes it whole
 pub whole-last : (b : Bool) (k : FrameKind) (body : List ℕ) (x : ℕ) → IsBegun b k body → x < 256 → body_fault b k (length body) x ≡ None → body_length b k ≤ length body + 1 → IsWhole b k (body ++ x ∷ [])
@@ -207,21 +132,6 @@ whole-last b k body x h lt none le = record {
   small = small-append body (x ∷ []) h.small (small-cons x [] lt none_small);
   fitting = fitting-one b k body x h.fitting none;
 }
-
--- ---- how long a body is
-
-pub length-most : (b : Bool) (k : FrameKind) → body_length b k < 28
-length-most b kind.Hello = omega arith
-length-most false kind.Rx = omega arith
-length-most true kind.Rx = omega arith
-length-most b kind.Poll = omega arith
-length-most b kind.Active = omega arith
-length-most b kind.Bye = omega arith
-length-most b kind.Welcome = omega arith
-length-most false kind.Tx = omega arith
-length-most true kind.Tx = omega arith
-length-most b kind.Done = omega arith
-length-most b kind.Refused = omega arith
 
 -- ---- which fault it is
 
@@ -241,27 +151,16 @@ word_cause b i x cause e = at (nat_lt i 25) (i == 24) (x % 16 == 0) refl e
     at true true true eb e = absurd (none_some cause e)
     at true true false eb e = (eqb-true i 24 eb, e)
 
-rx_cause : (b : Bool) (place x : ℕ) (cause : Cause) → body_fault b kind.Rx place x ≡ Some cause → fault_at b (suc (suc place)) ≡ Some cause
+pub rx_cause : (b : Bool) (place x : ℕ) (cause : Cause) → body_fault b kind.Rx place x ≡ Some cause → fault_at b (suc (suc place)) ≡ Some cause
 rx_cause false zero x cause e = slot_cause x cause e
 rx_cause false (suc i) x cause e = let is : (i ≡ 24) × (Some BadPad ≡ Some cause) = word_cause false i x cause (sym (plain_word i x) ∙ e) in ap (λ (n : ℕ). fault_at false (suc (suc (suc n)))) is.0 ∙ is.1
 rx_cause true zero x cause e = absurd (none_some cause e)
 rx_cause true (suc zero) x cause e = slot_cause x cause e
 rx_cause true (suc (suc i)) x cause e = let is : (i ≡ 24) × (Some BadPad ≡ Some cause) = word_cause true i x cause (sym (numbered_word i x) ∙ e) in ap (λ (n : ℕ). fault_at true (suc (suc (suc (suc n))))) is.0 ∙ is.1
 
-active_cause : (b : Bool) (place x : ℕ) (cause : Cause) → body_fault b kind.Active place x ≡ Some cause → fault_at b (suc (suc place)) ≡ Some cause
+pub active_cause : (b : Bool) (place x : ℕ) (cause : Cause) → body_fault b kind.Active place x ≡ Some cause → fault_at b (suc (suc place)) ≡ Some cause
 active_cause b zero x cause e = slot_cause x cause e
 active_cause b (suc i) x cause e = absurd (none_some cause (sym (behind_field b field.Slot [] (suc i) i x (omega arith)) ∙ e))
 
-free_cause : (b : Bool) (k : FrameKind) (place x : ℕ) (cause : Cause) → AreFree (frame_row k).body → body_fault b k place x ≡ Some cause → fault_at b (suc (suc place)) ≡ Some cause
+pub free_cause : (b : Bool) (k : FrameKind) (place x : ℕ) (cause : Cause) → AreFree (frame_row k).body → body_fault b k place x ≡ Some cause → fault_at b (suc (suc place)) ≡ Some cause
 free_cause b k place x cause free e = absurd (none_some cause (sym (free_none b (frame_row k).body place x free) ∙ e))
-
-pub cause_at : (b : Bool) (k : FrameKind) (place x : ℕ) (cause : Cause) → IsCarriers k → body_fault b k place x ≡ Some cause → fault_at b (suc (suc place)) ≡ Some cause
-cause_at b kind.Hello place x cause is e = free_cause b kind.Hello place x cause tt e
-cause_at b kind.Rx place x cause is e = rx_cause b place x cause e
-cause_at b kind.Poll place x cause is e = free_cause b kind.Poll place x cause tt e
-cause_at b kind.Active place x cause is e = active_cause b place x cause e
-cause_at b kind.Bye place x cause is e = free_cause b kind.Bye place x cause tt e
-cause_at b kind.Welcome place x cause is e = absurd is
-cause_at b kind.Tx place x cause is e = absurd is
-cause_at b kind.Done place x cause is e = absurd is
-cause_at b kind.Refused place x cause is e = absurd is

@@ -1,6 +1,8 @@
--- The octets of each frame, in each version of the link format.
-use Rattle.std.specs.Prelude.{◌≡◌, ℕ, ◌/◌, ◌%◌, ◌<◌, Bool, true, false, List, [], ◌∷◌, length, Option, Some, None, IfSome}
-use Rattle.dmr_bits.specs.Words.{word_octets}
+-- The octets of each frame, in each version of the link format, and the frame of each whole body.
+use Rattle.std.specs.Prelude.{◌≡◌, ℕ, ◌+◌, ◌*◌, ◌/◌, ◌%◌, ◌<◌, Bool, true, false, List, [], ◌∷◌, length, Option, Some, None, IfSome}
+use Rattle.dmr_bits.specs.Words.{word_of, word_octets}
+use Rattle.dmr_frames.specs.declared.cutter.Step.{Step}
+use Rattle.dmr_frames.specs.declared.cutter.Step.TheVariants.{Need, Frame}
 use Rattle.dmr_frames.specs.declared.frame.FrameIn.{FrameIn}
 use Rattle.dmr_frames.specs.declared.frame.FrameIn.TheVariants.{Hello, Rx, Poll, Active, Bye}
 use Rattle.dmr_frames.specs.declared.frame.FrameOut.{FrameOut}
@@ -50,6 +52,40 @@ spelling (Rx number slot word) = frame_octets (version_by number) kind.Rx (burst
 spelling Poll = plain_octets kind.Poll []
 spelling (Active slot) = plain_octets kind.Active (slot ∷ [])
 spelling Bye = plain_octets kind.Bye []
+
+-- ---- the frame of a body
+
+-- the body of a HELLO
+unfoldable pub hello_step : List ℕ → Step
+hello_step (version ∷ carrier ∷ high ∷ low ∷ []) = Frame (Hello version carrier (256 * high + low))
+hello_step body = Need
+
+-- a slot and a word, after their number
+unfoldable pub burst_step : Option ℕ → List ℕ → Step
+burst_step number [] = Need
+burst_step number (slot ∷ octets) = Frame (Rx number slot (word_of octets))
+
+-- the body of an RX, which begins with a number where bursts are numbered
+unfoldable pub rx_step : Bool → List ℕ → Step
+rx_step false body = burst_step None body
+rx_step true [] = Need
+rx_step true (number ∷ body) = burst_step (Some number) body
+
+-- the body of an ACTIVE
+unfoldable pub active_step : List ℕ → Step
+active_step (slot ∷ []) = Frame (Active slot)
+active_step body = Need
+
+-- a whole body in which no octet is a fault
+unfoldable pub whole_step : Bool → FrameKind → List ℕ → Step
+whole_step numbered kind.Hello body = hello_step body
+whole_step numbered kind.Rx body = rx_step numbered body
+whole_step numbered kind.Poll body = Frame Poll
+whole_step numbered kind.Active body = active_step body
+whole_step numbered kind.Bye body = Frame Bye
+whole_step numbered other body = Need
+
+-- ---- frames to a carrier
 
 -- the octet of a refusal
 abbrev pub refusal_octet : Refusal → ℕ

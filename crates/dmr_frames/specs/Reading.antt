@@ -1,50 +1,18 @@
 -- What each octet brings, from the rest that it meets.
-use Rattle.std.specs.Prelude.{ℕ, ◌+◌, ◌*◌, Bool, true, false, List, [], ◌∷◌, ◌++◌, length, nat_lt, ◌==◌, not, Option, Some, None, is_some, if◌then◌else◌}
+use Rattle.std.specs.Prelude.{ℕ, ◌+◌, Bool, List, [], ◌∷◌, ◌++◌, length, nat_lt, ◌==◌, not, Option, Some, None, is_some, if◌then◌else◌}
 use Rattle.std.specs.List.{flat_map, fold, scan}
-use Rattle.dmr_bits.specs.Words.{word_of}
 use Rattle.dmr_frames.specs.declared.frame.FrameIn.{FrameIn}
-use Rattle.dmr_frames.specs.declared.frame.FrameIn.TheVariants.{Hello, Rx, Poll, Active, Bye}
 use Rattle.dmr_frames.specs.declared.frame.Cause.{Cause}
 use Rattle.dmr_frames.specs.declared.frame.Cause.TheVariants.{UnknownType, BadLength}
 use Rattle.dmr_frames.specs.declared.cutter.Step.{Step}
 use Rattle.dmr_frames.specs.declared.cutter.Step.TheVariants.{Need, Frame, Fault}
 use Rattle.dmr_frames.specs.declared.table.FrameKind.{FrameKind}
-use Rattle.dmr_frames.specs.declared.table.FrameKind.TheVariants as kind
 use Rattle.dmr_frames.specs.declared.version.Version.{Version}
 use Rattle.dmr_frames.specs.declared.version.FrameTable.{FrameTable}
+use Rattle.dmr_frames.specs.Frames.{whole_step}
 use Rattle.dmr_frames.specs.Rest.{Rest, Open, Faulty}
 use Rattle.dmr_frames.specs.Table.{body_length, body_fault, carrier_kind}
 use Rattle.dmr_frames.specs.Versions.{has_numbers, version_of, table_after}
-
--- the body of a HELLO
-unfoldable pub hello_step : List ℕ → Step
-hello_step (version ∷ carrier ∷ high ∷ low ∷ []) = Frame (Hello version carrier (256 * high + low))
-hello_step body = Need
-
--- a slot and a word, after their number
-unfoldable pub burst_step : Option ℕ → List ℕ → Step
-burst_step number [] = Need
-burst_step number (slot ∷ octets) = Frame (Rx number slot (word_of octets))
-
--- the body of an RX, which begins with a number where bursts are numbered
-unfoldable pub rx_step : Bool → List ℕ → Step
-rx_step false body = burst_step None body
-rx_step true [] = Need
-rx_step true (number ∷ body) = burst_step (Some number) body
-
--- the body of an ACTIVE
-unfoldable pub active_step : List ℕ → Step
-active_step (slot ∷ []) = Frame (Active slot)
-active_step body = Need
-
--- a whole body in which no octet is a fault
-unfoldable pub whole_step : Bool → FrameKind → List ℕ → Step
-whole_step numbered kind.Hello body = hello_step body
-whole_step numbered kind.Rx body = rx_step numbered body
-whole_step numbered kind.Poll body = Frame Poll
-whole_step numbered kind.Active body = active_step body
-whole_step numbered kind.Bye body = Frame Bye
-whole_step numbered other body = Need
 
 -- at a length octet: a frame without a body ends there
 unfoldable pub length_step : Bool → FrameKind → ℕ → Step

@@ -1,5 +1,5 @@
 -- The versions of the link format, and which one the frames of a connection are of.
-use Rattle.std.specs.Prelude.{ℕ, ◌==◌, Bool, true, false, List, Option, Some, None, if◌then◌else◌, fold}
+use Rattle.std.specs.Prelude.{ℕ, ◌==◌, ◌&&◌, Bool, true, false, List, Option, Some, None, if◌then◌else◌, fold}
 use Rattle.dmr_frames.specs.declared.frame.FrameIn.{FrameIn}
 use Rattle.dmr_frames.specs.declared.frame.FrameIn.TheVariants.{Hello}
 use Rattle.dmr_frames.specs.declared.version.Version.{Version}
@@ -28,19 +28,18 @@ abbrev pub version_by : Option ℕ → Version
 version_by None = V1
 version_by (Some number) = V2
 
--- version 2, where versions up to this one are served
-abbrev pub second_within : Version → Option Version
-second_within V1 = None
-second_within V2 = Some V2
-
 -- the version that an octet names, of those up to the greatest that is served
 abbrev pub version_named : Version → ℕ → Option Version
-version_named greatest octet = if octet == 0x01 then Some V1 else if octet == 0x02 then second_within greatest else None
+version_named greatest octet = if octet == 0x01 then Some V1 else if octet == 0x02 && is_since V2 greatest then Some V2 else None
 
 -- a version, or else the first
 abbrev pub or_first : Option Version → Version
 or_first None = V1
 or_first (Some version) = version
+
+-- the version that an octet names, of all that there are, or else the first
+abbrev pub named_or_first : ℕ → Version
+named_or_first octet = or_first (version_named V2 octet)
 
 -- the version that a first frame chooses: a HELLO that of its octet, if that is served; any other frame the first
 abbrev pub chosen_by : Version → FrameIn → Version

@@ -10,7 +10,8 @@ ghost use Rattle.dmr_frames.specs.declared.frame.FrameIn.{FrameIn};
 ghost use Rattle.dmr_frames.specs.declared.version.FrameTable.{FrameTable};
 ghost use Rattle.dmr_frames.specs.Stream.{Reads};
 ghost use Rattle.dmr_frames.specs.Reading.{frame_of, step_from, rest_after_octet};
-ghost use Rattle.dmr_frames.specs.Reading.{step_at, length_step, body_step, whole_step, hello_step, rx_step, burst_step, active_step};
+ghost use Rattle.dmr_frames.specs.Frames.{whole_step, hello_step, rx_step, burst_step, active_step};
+ghost use Rattle.dmr_frames.specs.Reading.{step_at, length_step, body_step};
 
 use crate::frame::{Cause, FrameIn, LONGEST_FRAME};
 use crate::table::FrameKind;
@@ -193,7 +194,7 @@ fn read_body(version: Version, kind: FrameKind, body: &[u8], octet: u8) -> Step
 }
 
 /// Returns the frame of a whole body.
-#[tactic(auto, unfolding(crate::specs::Reading::whole_step))]
+#[tactic(auto, unfolding(crate::specs::Frames::whole_step))]
 fn read_whole(version: Version, kind: FrameKind, body: &[u8]) -> Step
     requires { IsWhole (has_numbers version) kind body.now }
     ensures { result ≡ whole_step (has_numbers version) kind body.now }
@@ -209,7 +210,7 @@ fn read_whole(version: Version, kind: FrameKind, body: &[u8]) -> Step
 }
 
 /// Returns the HELLO that has this body.
-#[tactic(auto, unfolding(crate::specs::Reading::hello_step))]
+#[tactic(auto, unfolding(crate::specs::Frames::hello_step))]
 fn read_hello(body: &[u8]) -> Step
     ensures { result ≡ hello_step body.now }
 {
@@ -224,7 +225,7 @@ fn read_hello(body: &[u8]) -> Step
 }
 
 /// Returns the RX that has this body, which begins with a number where bursts are numbered.
-#[tactic(auto, unfolding(crate::specs::Reading::rx_step))]
+#[tactic(auto, unfolding(crate::specs::Frames::rx_step))]
 fn read_rx(numbered: bool, body: &[u8]) -> Step
     requires { IsRxBody numbered body.now }
     ensures { result ≡ rx_step numbered body.now }
@@ -239,7 +240,7 @@ fn read_rx(numbered: bool, body: &[u8]) -> Step
 }
 
 /// Returns the RX of a slot and a word, after the number, if there is one.
-#[tactic(auto, unfolding(crate::specs::Reading::burst_step))]
+#[tactic(auto, unfolding(crate::specs::Frames::burst_step))]
 fn read_burst(number: Option<u8>, burst: &[u8]) -> Step
     requires { IsBurst burst.now }
     ensures { result ≡ burst_step number burst.now }
@@ -269,7 +270,7 @@ fn read_word(octets: &[u8]) -> Word196
 }
 
 /// Returns the ACTIVE that has this body.
-#[tactic(auto, unfolding(crate::specs::Reading::active_step))]
+#[tactic(auto, unfolding(crate::specs::Frames::active_step))]
 fn read_active(body: &[u8]) -> Step
     requires { IsActiveBody body.now }
     ensures { result ≡ active_step body.now }

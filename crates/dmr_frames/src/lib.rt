@@ -9,7 +9,6 @@
 #![tactic(auto)]
 
 mod cutter;
-mod display;
 mod frame;
 pub mod laws;
 mod table;

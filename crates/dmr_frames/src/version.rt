@@ -2,7 +2,7 @@
 
 ghost use Rattle.std.specs.Prelude.{◌≡◌};
 ghost use Rattle.dmr_frames.specs.declared.version.Version.{Version};
-ghost use Rattle.dmr_frames.specs.Versions.{chosen_by, has_numbers, is_since, or_first, version_by, version_named, version_octet, version_of, table_after};
+ghost use Rattle.dmr_frames.specs.Versions.{chosen_by, has_numbers, is_since, named_or_first, version_by, version_named, version_octet, version_of, table_after};
 
 use crate::frame::FrameIn;
 
@@ -63,19 +63,21 @@ impl Version {
     pub fn named(self, octet: u8) -> Option<Version>
         ensures { result ≡ version_named self octet }
     {
-        match octet {
-            0x01 => Some(Version::V1),
-            0x02 => match self {
-                Version::V1 => None,
-                Version::V2 => Some(Version::V2),
-            },
-            _ => None,
+        let version = match octet {
+            0x01 => Version::V1,
+            0x02 => Version::V2,
+            _ => return None,
+        };
+        if self.is_since(version) {
+            Some(version)
+        } else {
+            None
         }
     }
 
     /// Returns the version that an octet names, and version 1 if it names none.
     pub fn named_or_first(octet: u8) -> Version
-        ensures { result ≡ or_first (version_named Version.V2 octet) }
+        ensures { result ≡ named_or_first octet }
     {
         match Version::NEWEST.named(octet) {
             Some(version) => version,

@@ -42,7 +42,7 @@ passed_end ended.Paused = refl
 passed_end ended.GateShut = refl
 
 module _ (xs : List Happening) (stop : Ended) where
-  -- nothing comes behind what is out of order
+  -- nothing comes after what is out of order
   stray : {P : Type 0} → stage_after_all Disordered xs ≡ stage_at stop → P
   stray at = absurd (not_disordered stop (sym (stays_disordered xs) ∙ at))
 

@@ -1,4 +1,4 @@
--- The octets of frames, one behind another, and the number of the next TX.
+-- The octets of frames, one after another, and the number of the next TX.
 use Rattle.std.proofs.Common.{◌≡◌, ℕ, ◌+◌, ◌<◌, List, [], ◌∷◌, ◌++◌, Option, length, take, get_or, sym, ap, ◌∙◌, append_assoc}
 use Rattle.std.proofs.lemmas.List.{append-nil}
 use Rattle.std.proofs.lemmas.List.{take_more as take_item}
@@ -51,7 +51,7 @@ module _ {X : Type 0} (f : X → List FrameOut) (start next : Option ℕ) (items
       ∙ append_assoc before (frames_text start (flat_map f (take i items))) (frames_text next (f item))
       ∙ ap (λ (t : List ℕ). before ++ t) (sym text_item)
 
--- and DONE behind all of them
+-- and DONE after all of them
 pub put_done : (start : Option ℕ) (before text octets out : List ℕ) (frames all : List FrameOut) → frames ≡ all → text ≡ before ++ frames_text start frames → octets ≡ spelling_out Done → out ≡ text ++ octets →
     out ≡ before ++ frames_text start (all ++ Done ∷ [])
 put_done start before text octets out frames all same put done whole =

@@ -1,5 +1,5 @@
 -- The number of a connection's next TX stays one of its version.
-use Rattle.std.proofs.Common.{◌≡◌, ◌+◌, ◌%◌, ℕ, List, [], ◌∷◌, ◌++◌, Bool, true, false, Option, Some, None, refl, sym, subst, arith}
+use Rattle.std.proofs.Common.{◌≡◌, ◌+◌, ◌%◌, ℕ, List, [], ◌∷◌, ◌++◌, Bool, true, false, Option, Some, None, refl, sym, ap, ◌∙◌, subst, arith}
 use Rattle.std.specs.Prelude.{is_some, option_map, flat_map, if◌then◌else◌}
 use Rattle.std.proofs.lemmas.List.{append-nil}
 use Rattle.dmr_plan.specs.declared.settings.Settings.{Settings}
@@ -9,10 +9,11 @@ use Rattle.dmr_frames.specs.declared.frame.FrameOut.TheVariants as out
 use Rattle.dmr_frames.specs.declared.cutter.Step.{Step}
 use Rattle.dmr_frames.specs.declared.cutter.Step.TheVariants.{Need, Frame, Fault}
 use Rattle.dmr_frames.specs.declared.version.Version.{Version}
-use Rattle.dmr_frames.specs.declared.version.Version.TheVariants.{V1, V2}
+use Rattle.dmr_frames.specs.declared.version.Version.TheVariants.{V1}
 use Rattle.dmr_frames.specs.declared.version.FrameTable.{FrameTable}
 use Rattle.dmr_frames.specs.declared.version.FrameTable.TheVariants.{First, Later}
-use Rattle.dmr_frames.specs.Frames.{IsNumbered}
+use Rattle.dmr_frames.specs.Frames.{IsNumbered, IsNumberWhere}
+use Rattle.dmr_frames.proofs.VersionLaws.{octet_names}
 use Rattle.dmr_frames.specs.Reading.{step_at, rest_after}
 use Rattle.dmr_frames.specs.Rest.{Open, Faulty}
 use Rattle.dmr_frames.specs.Versions.{has_numbers, version_octet, chosen_by}
@@ -83,21 +84,37 @@ numbered_said plan facts next (Some (Unheeded fault)) = refl
 
 -- ---- the number of a version
 
+-- the number of a first TX, where bursts are numbered or not
+abbrev first_where : Bool → Option ℕ
+first_where numbered = if numbered then Some 0 else None
+
+first_is : (version : Version) → first_number (version_octet version) ≡ first_where (has_numbers version)
+first_is version = ap (λ (v : Version). first_where (has_numbers v)) (octet_names version)
+
+some_where : (b : Bool) → b ≡ is_some (first_where b)
+some_where true = refl
+some_where false = refl
+
 -- a version that numbers bursts begins with a number, and no other does
 pub numbers_by_version : (version : Version) → has_numbers version ≡ is_some (first_number (version_octet version))
-numbers_by_version V1 = refl
-numbers_by_version V2 = refl
+numbers_by_version version = some_where (has_numbers version) ∙ ap (λ (n : Option ℕ). is_some n) (sym (first_is version))
+
+begins_where : (b : Bool) → IsNumberWhere b (first_where b)
+begins_where true = omega arith
+begins_where false = tt
 
 -- a WELCOME begins the numbers of its version
 pub begins_numbered : (version : Version) → IsNumbered version (first_number (version_octet version))
-begins_numbered V1 = tt
-begins_numbered V2 = omega arith
+begins_numbered version = let P : Option ℕ → Type 0 = λ n. IsNumbered version n in subst P (sym (first_is version)) (begins_where (has_numbers version))
+
+counted_where : (b : Bool) (next : Option ℕ) → IsNumberWhere b next → IsNumberWhere b (counted next)
+counted_where false None is = is
+counted_where false (Some n) is = absurd is
+counted_where true None is = absurd is
+counted_where true (Some n) is = omega arith
 
 counted_numbered : (version : Version) (next : Option ℕ) → IsNumbered version next → IsNumbered version (counted next)
-counted_numbered V1 None is = is
-counted_numbered V1 (Some n) is = absurd is
-counted_numbered V2 None is = absurd is
-counted_numbered V2 (Some n) is = omega arith
+counted_numbered version next is = counted_where (has_numbers version) next is
 
 -- the number after the answer to an event is one of the same version
 pub event_frames_number : (version : Version) (event : Event) (acts : List Act) (next : Option ℕ) → IsNumbered version next → IsNumbered version (next_after_frames next (event_frames event acts))

@@ -1,4 +1,4 @@
--- What octets bring and put out: the next one, and those behind it.
+-- What octets bring and put out: the next one, and those after it.
 use Rattle.std.proofs.Common.{◌≡◌, ℕ, ◌+◌, ◌<◌, ◌≤◌, Bool, List, ◌∷◌, ◌++◌, Option, Some, None, length, drop, drop-cons, get_or, sym, ap, ◌∙◌, append_assoc, arith, add-one}
 use Rattle.std.proofs.lemmas.List.Sums.{fold-append}
 use Rattle.dmr_core.specs.State.{SiteState as Site}

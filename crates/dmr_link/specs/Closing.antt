@@ -31,7 +31,7 @@ ended_of (closing.Refused why hello) = ended.BadFrame why
 
 -- ---- by the frames of a connection
 
--- a fault behind the last frame
+-- a fault after the last frame
 abbrev pub fault_of : Rest → Option Closing
 fault_of (Open table octets) = None
 fault_of (Faulty why) = Some (closing.Bad why)

@@ -52,7 +52,7 @@ is_read other = 0
 -- ---- their order
 
 -- where a call stands: outside the gate; within it, with an event to hand in; within it, when the desk has taken the event; when
--- it has left the gate and the desk took none; before a shut gate; behind a read that would block; or where it should not
+-- it has left the gate and the desk took none; before a shut gate; after a read that would block; or where it should not
 pub data Stage : Type 0 where
   Outside : Stage
   Within : Stage
@@ -103,7 +103,7 @@ stage_at ended.GateShut = ShutOut
 stage_at ended.Idle = Blocked
 stage_at other = Outside
 
--- where it stands behind a step of it, which stopped it or not
+-- where it is after a step of it, which stopped it or not
 abbrev pub stage_after : {X : Type 0} → Result X Ended → Stage
 stage_after (Ok done) = Outside
 stage_after (Err stop) = stage_at stop

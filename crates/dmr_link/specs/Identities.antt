@@ -1,15 +1,15 @@
 -- Which carriers a site has, and what each has to say in its HELLO.
-use Rattle.std.specs.Prelude.{ℕ, ◌==◌, Option, option_map, if◌then◌else◌}
+use Rattle.std.specs.Prelude.{ℕ, Option, option_map}
 use Rattle.dmr_plan.specs.declared.settings.Settings.{Settings}
 use Rattle.dmr_plan.specs.declared.carriers.CarrierRow.{CarrierRow}
 use Rattle.dmr_plan.specs.Carriers.{row_with}
 use Rattle.dmr_frames.specs.declared.version.Version.{Version}
-use Rattle.dmr_frames.specs.declared.version.Version.TheVariants.{V1, V2}
+use Rattle.dmr_frames.specs.Versions.{named_or_first}
 use Rattle.dmr_link.specs.declared.connection.CarrierIdentity.{CarrierIdentity}
 
 -- the greatest version of the link that a site serves
 abbrev pub greatest_of : Settings → Version
-greatest_of plan = if plan.link_version == 2 then V2 else V1
+greatest_of plan = named_or_first plan.link_version
 
 -- the plan's carrier of a number, if it has one
 abbrev pub who_of : Settings → ℕ → Option CarrierIdentity

@@ -1,14 +1,13 @@
--- The numbers of a connection's TX frames: none in version 1 of the link; in version 2 they are counted from 0, and 255 is followed by 0.
-use Rattle.std.specs.Prelude.{ℕ, ◌+◌, ◌%◌, ◌==◌, List, Option, Some, None, option_map, if◌then◌else◌, flat_map, fold, scan}
+-- The numbers of a connection's TX frames: in a version that numbers bursts they are counted from 0, and 255 is followed by 0.
+use Rattle.std.specs.Prelude.{ℕ, ◌+◌, ◌%◌, List, Option, Some, None, option_map, if◌then◌else◌, flat_map, fold, scan}
 use Rattle.dmr_frames.specs.declared.frame.FrameOut.{FrameOut}
 use Rattle.dmr_frames.specs.declared.frame.FrameOut.TheVariants as out
-use Rattle.dmr_frames.specs.declared.version.Version.TheVariants.{V2}
 use Rattle.dmr_frames.specs.Frames.{spelling_out}
-use Rattle.dmr_frames.specs.Versions.{version_octet}
+use Rattle.dmr_frames.specs.Versions.{has_numbers, named_or_first}
 
 -- the number of a connection's first TX, by the version in its WELCOME
 abbrev pub first_number : ℕ → Option ℕ
-first_number version = if version == version_octet V2 then Some 0 else None
+first_number version = if has_numbers (named_or_first version) then Some 0 else None
 
 -- the octets of a frame; a TX has the number whose turn it is
 abbrev pub frame_text : Option ℕ → FrameOut → List ℕ
@@ -25,6 +24,6 @@ next_after next other = next
 abbrev pub frames_text : Option ℕ → List FrameOut → List ℕ
 frames_text next frames = flat_map (λ text. text) (scan next_after frame_text next frames)
 
--- the number of the next TX behind them
+-- the number of the next TX after them
 abbrev pub next_after_frames : Option ℕ → List FrameOut → Option ℕ
 next_after_frames next frames = fold next_after next frames

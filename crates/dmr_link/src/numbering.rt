@@ -42,7 +42,7 @@ impl Numbering {
         Numbering { next: None }
     }
 
-    /// Spells a frame as it goes out behind those before it: a TX with its number. A WELCOME begins the numbers.
+    /// Spells a frame as it goes out after those before it: a TX with its number. A WELCOME begins the numbers.
     pub fn spell(&mut self, frame: &FrameOut) -> ArrayVec<u8, LONGEST_FRAME>
         ensures octets { result.items ≡ frame_text self.old frame.now }
         ensures next { self.new ≡ next_after self.old frame.now }

@@ -7,7 +7,7 @@ use crate::notices::SiteNotice;
 use dmr_core::Event;
 use dmr_pdu::CarrierNo;
 
-/// A queue of two places: the event that is kept, and behind it the Lost that an Up still lacks.
+/// A queue of two places: the event that is kept, and after it the Lost that an Up still lacks.
 #[derive(Clone, Copy, Debug, PartialEq, Eq)]
 pub struct Pending {
     /// The event that no desk has taken yet.

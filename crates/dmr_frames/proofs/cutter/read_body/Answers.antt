@@ -3,7 +3,8 @@ use Rattle.std.proofs.lemmas.List.{length-drop, length-replicate}
 use Rattle.dmr_frames.specs.Versions.{has_numbers}
 use Rattle.dmr_frames.specs.Shape.{IsWhole}
 use Rattle.dmr_frames.specs.declared.frame.TheConstants.{LONGEST_FRAME}
-use Rattle.dmr_frames.proofs.TableLemmas.{whole-last, length-most}
+use Rattle.dmr_frames.proofs.TableLemmas.{whole-last}
+use Rattle.dmr_frames.proofs.EachFrame.{length-most}
 use Rattle.dmr_frames.proofs.LastOctetLemmas.{copied}
 use Rattle.dmr_frames.proofs.cutter.read_body.Goals as goal
 

@@ -1,4 +1,5 @@
-use Rattle.dmr_frames.proofs.SpellingLemmas.{spelling-le, spelling_out-le}
+use Rattle.dmr_frames.proofs.SpellingLemmas.{spelling_out-le}
+use Rattle.dmr_frames.proofs.EachFrame.{spelling-le}
 use Rattle.dmr_frames.proofs.laws.limits_are_stated.Goals as goal
 
 pub returns-clause-from_carrier : goal.returns-clause-from_carrier

@@ -1,5 +1,6 @@
-use Rattle.dmr_frames.proofs.BodyLemmas.{spelled_once}
-use Rattle.dmr_frames.proofs.SpellingLemmas.{spelled_out_once, length-spelling, length-spelling_out}
+use Rattle.dmr_frames.proofs.OneSpelling.{spelled_once}
+use Rattle.dmr_frames.proofs.SpellingLemmas.{spelled_out_once, length-spelling_out}
+use Rattle.dmr_frames.proofs.EachFrame.{length-spelling}
 use Rattle.dmr_frames.proofs.laws.spellings_part.Goals as goal
 
 pub returns-clause-from_carrier : goal.returns-clause-from_carrier

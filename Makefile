@@ -115,7 +115,7 @@ install: build/dmr_trunk build/dmr_decode build/dmr_trunk.1 ## the programs, too
 	for tool in siteview timeline capture carriers; do sed -e "s|@TOOL@|$$tool|" -e 's|@PYTHON_LIB@|$(PYTHON_LIB)|' python/launcher.in >$(DESTDIR)$(PREFIX)/bin/dmr_$$tool && chmod 755 $(DESTDIR)$(PREFIX)/bin/dmr_$$tool || exit; done
 	install -D -m 644 build/dmr_trunk.1 $(DESTDIR)$(PREFIX)/share/man/man1/dmr_trunk.1
 	sed 's|@PREFIX@|$(PREFIX)|' deploy/dmr_trunk.service >$(DESTDIR)$(PREFIX)/lib/systemd/system/dmr_trunk.service
-	install -m 644 docs/OPERATING.md docs/SITE_FILE.md docs/FORMATS.md LICENSE-APACHE LICENSE-MIT $(DESTDIR)$(PREFIX)/share/doc/dmr_trunk
+	install -m 644 docs/OPERATING.md docs/SITE_FILE.md docs/FORMATS.md docs/LINK.md LICENSE-APACHE LICENSE-MIT $(DESTDIR)$(PREFIX)/share/doc/dmr_trunk
 	install -m 644 sites/*.toml $(DESTDIR)$(PREFIX)/share/doc/dmr_trunk/examples
 	install -m 644 examples/scripts/*.txt $(DESTDIR)$(PREFIX)/share/doc/dmr_trunk/examples/scripts
 	install -m 644 examples/expected/*.txt $(DESTDIR)$(PREFIX)/share/doc/dmr_trunk/examples/expected

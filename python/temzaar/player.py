@@ -336,8 +336,10 @@ class Play:
             self.slots.fill()
             self.faults["fills with another backoff than the noise that was sent makes"] += not carrier.backoff.is_in(pdu)
         self.radios.receive(pdu, carrier.number, slot, time.monotonic())
-        if is_grant(pdu):
-            self.slots.grant((self.by_lpcn.get(pdu["lpcn"]), pdu["slot"]), pdu, carrier.queued_since, now)
+        granted = self.by_lpcn.get(pdu["lpcn"]) if is_grant(pdu) else None
+        if granted is not None:
+            # a carrier that is not played has its P_CLEARs sent elsewhere, so its slots cannot be judged
+            self.slots.grant((granted, pdu["slot"]), pdu, carrier.queued_since, now)
         elif pdu.name == "P_CLEAR":
             self.slots.clear((carrier.number, slot), pdu, carrier.sent, now)
 

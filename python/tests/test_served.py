@@ -123,6 +123,30 @@ class Played(unittest.TestCase):
             self.assertEqual(done.returncode, 0, done.stdout + done.stderr)
 
 
+    def test_beside_another_client(self) -> None:
+        """The control carrier is played while another client serves the other carrier, to which its P_CLEARs go: the slots there are not judged."""
+        site, ends = Site(TWO_CARRIERS, first_port=PORT + 80, hang=5), threading.Event()
+        with tempfile.TemporaryDirectory() as folder, Controller(program("dmr_trunk"), site) as controller:
+            path = os.path.join(folder, "site.toml")
+            with open(path, "w", encoding="utf-8") as it:
+                it.write(site.text())
+            controller.wait_until_served()
+            other, cleared = Carrier(site.row(1), 1), []
+
+            def poll() -> None:
+                while not ends.wait(0.02):
+                    cleared.extend(other.ask(POLL))
+
+            client = threading.Thread(target=poll)
+            client.start()
+            done = run_tool("carriers", "--site", path, "--carriers", "1", "--radios", "8", "--seconds", "5")
+            ends.set()
+            client.join()
+            other.stream.close()
+        self.assertEqual(done.returncode, 0, done.stdout + done.stderr)
+        self.assertGreater(len(cleared), 2)
+
+
 class Relay:
     """Passes connections on to ports that are `shift` higher, what comes from a carrier up to `latest` seconds late."""
 

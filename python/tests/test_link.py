@@ -111,6 +111,7 @@ class Calls(unittest.TestCase):
     def script(self, link: Link) -> tuple[list[str], bytes]:
         """What carrier 0 sends, and what it is to receive."""
         lines, sent = ["open 0", f"bytes 0 {hello(0, 1, link.version).hex()}"], [welcome(link.version)]
+        fillers, late = 0, ""
 
         def poll(octets: bytes, *names: str) -> None:
             """The carrier sends octets and polls; the bursts of these names come, the first on slot 0."""
@@ -120,26 +121,31 @@ class Calls(unittest.TestCase):
                 link.take_tx(frame_of(sent[-1]))
             sent.append(DONE)
 
-        poll(link.rx(0, BURSTS["register 1001"]), "accepted 1001")
-        poll(link.rx(0, BURSTS["register 1002"]), "accepted 1002")
-        poll(link.rx(0, BURSTS["call 91"]), "grant 91")
-        for filler in range(1, 3 * self.HANG):
-            lines.append("tick")
-            poll(active(1), "aloha" if filler % 4 else "late 91")
-        lines.append(f"tick {self.HANG - 1}")
-        poll(b"", "late 91")
-        lines.append("tick")
-        poll(b"", "aloha", "clear 91")
-        poll(link.rx(0, BURSTS["call 1002"]), "wait 1001")
-        poll(b"", "ahoy 1002")
-        poll(link.rx(0, BURSTS["answer 1002"]), "grant 1002")
-        for _ in range(3 * self.HANG):
-            lines.append("tick")
-            poll(active(1), "aloha")
-        lines.append(f"tick {self.HANG - 1}")
-        poll(b"", "aloha")
-        lines.append("tick")
-        poll(b"", "aloha", "clear 1002")
+        def filler() -> str:
+            """The name of the next filler: every fourth is the late grant of the call, if one is active."""
+            nonlocal fillers
+            fillers += 1
+            return late if late and fillers % 4 == 0 else "aloha"
+
+        section = LINK[LINK.index("### Two calls"):LINK.index("## Conformance")]
+        for what, rest, came in re.findall(r"^\| (RX slot 0|ACTIVE slot 1|no ACTIVE) (.*?) \| (.*) \|$", section, re.M):
+            names = re.findall(r"`([\w ]+)`", came)
+            if what == "RX slot 0":
+                poll(link.rx(0, BURSTS[rest.split("`")[1]]), names[0])
+                for name in names[1:]:
+                    poll(b"", name)
+            elif what == "ACTIVE slot 1":
+                late = names[1] if len(names) > 1 else ""
+                for _ in range(3 * self.HANG - 1):
+                    lines.append("tick")
+                    poll(active(1), filler())
+            else:
+                lines.append(f"tick {self.HANG - 1}")
+                poll(b"", filler())
+                lines.append("tick")
+                late = ""
+                poll(b"", filler(), names[0])
+        self.assertEqual(fillers, 2 * (3 * self.HANG + 1))
         return lines, b"".join(sent)
 
     def test_both_versions(self) -> None:

@@ -24,7 +24,7 @@ ALWAYS = {"move", "stay"}
 
 def transcripts() -> list[list[str]]:
     """The indented blocks of the section on the console."""
-    section = OPERATING[OPERATING.index("## The console"):OPERATING.index("## Statuses and messages")]
+    section = re.split(r"^## ", OPERATING[OPERATING.index("## The console"):], maxsplit=2, flags=re.M)[1]
     blocks = re.findall(r"(?:^    .*\n)+", section, re.M)
     return [[line[4:] for line in block.splitlines()] for block in blocks]
 

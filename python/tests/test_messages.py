@@ -1,0 +1,101 @@
+"""docs/OPERATING.md has each note, cause and message of the controller, and none that its sources do not have."""
+import re
+import unittest
+
+from tests.support import TOP, read_document, table_rows
+
+OPERATING = read_document("OPERATING.md")
+CRATES = TOP / "crates"
+# What stands for a value: in the sources a format's braces, in the document a word in upper case.
+HOLE = r"\{[\w.]*\}"
+WORD = r"[A-Z]+(?::[A-Z]+)?"
+PROGRAM = "dmr_trunk: "
+
+
+def source(name: str) -> str:
+    """The text of a source file, by its path in crates/."""
+    return (CRATES / name).read_text(encoding="utf-8")
+
+
+def literals(text: str, pattern: str) -> list[str]:
+    """The string literals that a pattern leads to."""
+    return re.findall(pattern + r'"((?:[^"\\]|\\.)*)"', text)
+
+
+def as_pattern(literal: str) -> str:
+    """A pattern of what the document may write for a format: a word in upper case for each value."""
+    return WORD.join(re.escape(part) for part in re.split(HOLE, literal))
+
+
+def function(text: str, name: str) -> str:
+    """The text of a function or an impl, from its name to the next line that closes it."""
+    begins = text.index(name)
+    return text[begins:text.index("\n}", begins)]
+
+
+def notes() -> list[str]:
+    """The notes: what the program's log is handed, its own name put in."""
+    found = literals(source("dmr_trunk/src/notes.rt"), r"(?:info|warn)!\(\*self\.rt; target: TARGET, ")
+    return [it.replace("{TARGET}", "dmr_trunk").replace("{noun}", "carriers") for it in found]
+
+
+def causes() -> list[str]:
+    """The causes of a connection's end: the plain ones, and each fault of the link with the numbers that follow it."""
+    text = source("dmr_trunk/src/cause.rt")
+    plain = [it for it in literals(function(text, "impl fmt::Display for Cause"), r'write!\(f, ') if "{" not in it and it != ")"]
+    with_both, with_version = literals(function(text, "fn write_numbers"), r"write!\(\s*f,\s*")
+    faults = literals(function(source("dmr_frames/src/frame.rt"), "impl fmt::Display for Cause"), r"=> ")
+    more = {"BadVersion": f" ({with_version})", "WrongCarrier": f" ({with_both})"}
+    return [*plain, *(f"link fault: {it}{more.get(it.partition(',')[0], '')}" for it in faults)]
+
+
+def messages() -> list[str]:
+    """What the program writes to standard error when it ends: the texts of faults, after its name, and those of refused words."""
+    fault = source("dmr_command/src/fault.rt")
+    desk = source("dmr_desk/src/fault.rt")
+    replay = literals(source("dmr_replay/src/replaying.rt"), r"#\[error\(")
+    own = literals(fault, r"write!\(\s*f,\s*")
+    errors = {name: literals(function(desk, f"pub enum {name}"), r"#\[error\(") for name in ("OpenFault", "TermFault")}
+    # the faults of a term that have their texts from dmr_desk: no stations, and a desk that is not opened, except for lack of memory
+    stations, unopened = errors["TermFault"][0], errors["TermFault"][1]
+    others = [stations, *(unopened.replace("{0}", it) for it in errors["OpenFault"] if it != "out of memory")]
+    words = [*literals(source("dmr_command/src/words.rt"), r"words_refused\(err, "), *literals(source("dmr_trunk/src/main.rt"), r"words_refused\(\s*err,\s*")]
+    texts = [*replay, *(it for it in own if it != "{other}"), *others]
+    return [*dict.fromkeys(PROGRAM + it for it in texts), *words]
+
+
+def column_of(heading: str, column: int) -> list[str]:
+    """The cells of a column in the table after a heading."""
+    return [row[column] for row in table_rows(OPERATING, heading)]
+
+
+class Messages(unittest.TestCase):
+    """Both ways: the document has what the sources have, and nothing else."""
+
+    def compare(self, documented: list[str], formats: list[str]) -> None:
+        """Each documented text is one of the formats, and each format is documented."""
+        for text in documented:
+            with self.subTest("documented", text=text):
+                self.assertTrue(any(re.fullmatch(as_pattern(it), text) for it in formats), f"no source has: {text}")
+        for it in formats:
+            with self.subTest("in the sources", format=it):
+                self.assertTrue(any(re.fullmatch(as_pattern(it), text) for text in documented), f"not documented: {it}")
+
+    def test_notes(self) -> None:
+        self.assertEqual(len(notes()), 7)
+        self.compare(column_of("## Notes", 1), notes())
+
+    def test_levels(self) -> None:
+        text = source("dmr_trunk/src/notes.rt")
+        for level, note in ((row[0], row[1]) for row in table_rows(OPERATING, "## Notes")):
+            found = [it.replace("{TARGET}", "dmr_trunk").replace("{noun}", "carriers") for it in literals(text, rf"{level.lower()}!\(\*self\.rt; target: TARGET, ")]
+            self.assertTrue(any(re.fullmatch(as_pattern(it), note) for it in found), note)
+
+    def test_causes(self) -> None:
+        self.assertEqual(len(causes()), 15)
+        self.compare(column_of("### Why a connection ended", 0), causes())
+
+    def test_messages(self) -> None:
+        documented = [text for text in column_of("## Statuses and messages", 1) if text and not text.startswith(("the text of", "error: .."))]
+        self.assertGreaterEqual(len(messages()), 15)
+        self.compare(documented, messages())

@@ -7,6 +7,8 @@ DESTDIR ?=
 VERSION = $(shell ci/version)
 # where Debian keeps Python packages, below the prefix
 PYTHON_LIB = $(PREFIX)/lib/python3/dist-packages
+DOC = $(PREFIX)/share/doc/dmr_trunk
+MAN = $(PREFIX)/share/man
 
 help: ## this list
 	@sed -n 's/^\([a-z][a-z-]*\):[^#]*## \(.*\)/\1@\2/p' $(MAKEFILE_LIST) | awk -F@ '{ printf "make %-15s %s\n", $$1, $$2 }'
@@ -96,26 +98,25 @@ trusted: ## lists the definitions that a reader has to believe, in docs/TRUSTED.
 maps: ## draws the maps of the crates and of a connection's states again, in docs/pictures
 	ci/draw-map
 
-build/dmr_trunk.1: docs/OPERATING.md ci/manual crates/dmr_command/src/version.rt
-	mkdir -p build && ci/manual $(VERSION) <docs/OPERATING.md >$@
-
-package: build/dmr_trunk build/dmr_decode build/dmr_trunk.1 ## a Debian package of the proved programs, at build/dmr-trunk_VERSION_ARCH.deb
+package: build/dmr_trunk build/dmr_decode ## a Debian package of the proved programs, at build/dmr-trunk_VERSION_ARCH.deb
 	ci/package $(VERSION)
 
 package-check: package ## installs the package in a clean root and serves a site there (as root; wants debootstrap and a network)
 	ci/check-package build/dmr-trunk_$(VERSION)_*.deb
 
-install: build/dmr_trunk build/dmr_decode build/dmr_trunk.1 ## the programs, tools, manual page, unit, examples and documents [PREFIX=/usr/local] [DESTDIR=]
+install: build/dmr_trunk build/dmr_decode ## the programs, tools, manual pages, unit, examples and documents [PREFIX=/usr/local] [DESTDIR=]
 	install -D -m 755 build/dmr_trunk $(DESTDIR)$(PREFIX)/bin/dmr_trunk
 	install -D -m 755 build/dmr_decode $(DESTDIR)$(PREFIX)/bin/dmr_decode
-	install -d $(DESTDIR)$(PREFIX)/lib/systemd/system $(DESTDIR)$(PREFIX)/share/doc/dmr_trunk/examples/scripts $(DESTDIR)$(PREFIX)/share/doc/dmr_trunk/examples/expected
+	install -d $(DESTDIR)$(PREFIX)/lib/systemd/system $(DESTDIR)$(DOC)/examples/scripts $(DESTDIR)$(DOC)/examples/expected $(DESTDIR)$(DOC)/pictures
 	install -d $(DESTDIR)$(PYTHON_LIB)/temzaar/cli
 	install -m 644 python/temzaar/*.py $(DESTDIR)$(PYTHON_LIB)/temzaar
 	install -m 644 python/temzaar/cli/*.py $(DESTDIR)$(PYTHON_LIB)/temzaar/cli
 	for tool in siteview timeline capture carriers; do sed -e "s|@TOOL@|$$tool|" -e 's|@PYTHON_LIB@|$(PYTHON_LIB)|' python/launcher.in >$(DESTDIR)$(PREFIX)/bin/dmr_$$tool && chmod 755 $(DESTDIR)$(PREFIX)/bin/dmr_$$tool || exit; done
-	install -D -m 644 build/dmr_trunk.1 $(DESTDIR)$(PREFIX)/share/man/man1/dmr_trunk.1
+	for section in 1 5 8; do install -d $(DESTDIR)$(MAN)/man$$section && for page in deploy/man/*.$$section; do sed -e 's|@VERSION@|$(VERSION)|' -e 's|@PREFIX@|$(PREFIX)|' $$page >$(DESTDIR)$(MAN)/man$$section/$${page##*/} || exit; done || exit; done
+	ln -sf ../man8/dmr_trunk.8 $(DESTDIR)$(MAN)/man1/dmr_trunk.1
 	sed 's|@PREFIX@|$(PREFIX)|' deploy/dmr_trunk.service >$(DESTDIR)$(PREFIX)/lib/systemd/system/dmr_trunk.service
-	install -m 644 docs/OPERATING.md docs/SITE_FILE.md docs/FORMATS.md docs/LINK.md LICENSE-APACHE LICENSE-MIT $(DESTDIR)$(PREFIX)/share/doc/dmr_trunk
-	install -m 644 sites/*.toml $(DESTDIR)$(PREFIX)/share/doc/dmr_trunk/examples
-	install -m 644 examples/scripts/*.txt $(DESTDIR)$(PREFIX)/share/doc/dmr_trunk/examples/scripts
-	install -m 644 examples/expected/*.txt $(DESTDIR)$(PREFIX)/share/doc/dmr_trunk/examples/expected
+	install -m 644 docs/OPERATING.md docs/SITE_FILE.md docs/FORMATS.md docs/LINK.md docs/GLOSSARY.md docs/GUARANTEES.md CHANGELOG.md LICENSE-APACHE LICENSE-MIT $(DESTDIR)$(DOC)
+	install -m 644 docs/pictures/*.svg docs/pictures/*.png $(DESTDIR)$(DOC)/pictures
+	install -m 644 sites/*.toml $(DESTDIR)$(DOC)/examples
+	install -m 644 examples/scripts/*.txt $(DESTDIR)$(DOC)/examples/scripts
+	install -m 644 examples/expected/*.txt $(DESTDIR)$(DOC)/examples/expected

@@ -1,0 +1,245 @@
+"""The manual pages in deploy/man: their form, and that they say of options, statuses and keys what the programs and the documents say."""
+import os
+import re
+import shlex
+import shutil
+import subprocess
+import tempfile
+import unittest
+from typing import NamedTuple
+
+from tests.support import TOP, program, read_document, run_tool, table_rows
+from tests.test_messages import as_pattern, messages
+
+MAN = TOP / "deploy" / "man"
+PAGES = sorted(it.name for it in MAN.iterdir())
+TOOLS = ("siteview", "timeline", "capture", "carriers")
+WANTED = {"dmr_trunk.8", "dmr_trunk.5", "dmr_decode.1", *(f"dmr_{tool}.1" for tool in TOOLS)}
+# The order of sections; a page leaves out those that do not apply.
+ORDER = ("NAME", "SYNOPSIS", "DESCRIPTION", "COMMANDS", "OPTIONS", "CONSOLE", "SIGNALS", "EXIT STATUS", "DIAGNOSTICS", "ENVIRONMENT", "FILES", "SECURITY", "EXAMPLES", "SEE ALSO")
+ALWAYS = {"NAME", "SYNOPSIS", "DESCRIPTION", "EXAMPLES", "SEE ALSO"}
+JOINED = ("BI", "BR", "IB", "IR", "RB", "RI")
+# A reader of an installed page has no source tree.
+SOURCE_TREE = re.compile(r"(?<![\w/])(?:tools|docs|build|crates|sites|ci|python|trials|cases|bench|deploy)/|\bmake \w")
+# Texts of faults that no accepted site file leads to.
+NEVER = ("dmr_trunk: there is not", "dmr_trunk: the desk was not opened", "error: ")
+
+
+class Entry(NamedTuple):
+    """An item of a page's list: its tags, and the text below them."""
+    tags: list[str]
+    text: str
+
+
+def unescaped(text: str) -> str:
+    """A roff text without its escapes."""
+    text = re.sub(r"\\f[BIRP]|\\c$", "", text)
+    for escape, character in ((r"\-", "-"), (r"\ ", " "), (r"\(lq", "“"), (r"\(rq", "”")):
+        text = text.replace(escape, character)
+    return text
+
+
+def plain(line: str) -> str:
+    """The words of a line, without the macro before them."""
+    if not line.startswith("."):
+        return unescaped(line)
+    macro, _, rest = line[1:].partition(" ")
+    words = [unescaped(it) for it in shlex.split(rest.replace("\\", "\\\\").replace("'", "\\'"))] if rest else []
+    return ("" if macro in JOINED else " ").join(words)
+
+
+def sections_of(page: str) -> dict[str, list[str]]:
+    """The lines of each section of a page."""
+    found: dict[str, list[str]] = {}
+    for line in (MAN / page).read_text(encoding="utf-8").splitlines():
+        if line.startswith(".SH "):
+            found[line[4:]] = []
+        elif found:
+            found[list(found)[-1]].append(line)
+    return found
+
+
+def entries_of(lines: list[str]) -> list[Entry]:
+    """The items of the lists in some lines."""
+    found: list[Entry] = []
+    tagged = inside = False
+    for line in lines:
+        macro = line[1:3] if line.startswith(".") else ""
+        if macro in ("TP", "TQ"):
+            if macro == "TP":
+                found.append(Entry([], ""))
+            tagged = inside = True
+        elif macro in ("PP", "RS", "RE", "SS"):
+            inside = False
+        elif tagged:
+            found[-1].tags.append(plain(line))
+            tagged = False
+        elif inside:
+            found[-1] = found[-1]._replace(text=f"{found[-1].text} {plain(line)}".strip())
+    return found
+
+
+def options_of(help_text: str) -> dict[str, str]:
+    """The options of a help text, each as it is written, with its text."""
+    found, last = {}, ""
+    for line in help_text.split("ptions:\n", 1)[1].splitlines():
+        if option := re.match(r"^ {2,6}(-\S.*?)(?:  +(\S.*))?$", line):
+            last = option[1].replace("<", "").replace(">", "")
+            found[last] = option[2] or ""
+        elif line.startswith("   ") and last:
+            found[last] = f"{found[last]} {line.strip()}".strip()
+        elif line:
+            last = ""
+    return found
+
+
+def says(text: str, wanted: str) -> bool:
+    """Whether a text begins with the wanted one, but for the case of its first letter, and then ends a sentence."""
+    return text[:1].lower() + text[1:len(wanted)] == wanted[:1].lower() + wanted[1:] and text[len(wanted):len(wanted) + 1] in ("", ".")
+
+
+class Form(unittest.TestCase):
+    """The form of each page."""
+
+    def test_there_is_a_page_for_each(self) -> None:
+        self.assertEqual(set(PAGES), WANTED)
+
+    def test_sections(self) -> None:
+        for page in PAGES:
+            with self.subTest(page):
+                found = sections_of(page)
+                self.assertLessEqual(ALWAYS, set(found))
+                self.assertEqual([it for it in ORDER if it in found], [*found])
+                name, number = page.split(".")
+                text = (MAN / page).read_text(encoding="utf-8")
+                self.assertRegex(text, rf'^\.TH {name.upper()} {number} \d{{4}}-\d\d-\d\d "Temzaar @VERSION@" ".*"\n')
+                self.assertTrue(found["NAME"][0].startswith(rf"{name} \- "), found["NAME"])
+
+    def test_no_path_of_the_source_tree(self) -> None:
+        for page in PAGES:
+            for line in (MAN / page).read_text(encoding="utf-8").splitlines():
+                self.assertIsNone(SOURCE_TREE.search(line), f"{page}: {line}")
+
+    def test_pages_that_are_named_exist(self) -> None:
+        for page in PAGES:
+            named = re.findall(r"^\.(?:BR|RB) (?:\( )?(dmr_\w+) \((\d)\)", (MAN / page).read_text(encoding="utf-8"), re.M)
+            self.assertTrue(named)
+            for name, number in named:
+                self.assertIn(f"{name}.{number}", PAGES, page)
+
+    def test_tools_for_pages_find_nothing(self) -> None:
+        for words in (["lexgrog"], ["groff", "-ww", "-man", "-Tutf8", "-z"], ["man", "--warnings", "-E", "UTF-8", "-l", "-Tutf8", "-Z"]):
+            if not shutil.which(words[0]):
+                self.skipTest(f"there is no {words[0]}: the packages man-db and groff have it")
+            for page in PAGES:
+                with self.subTest(words[0], page=page):
+                    done = subprocess.run([*words, str(MAN / page)], capture_output=True, text=True, check=False, env={**os.environ, "LC_ALL": "C.UTF-8", "MANPAGER": "cat"})
+                    self.assertEqual((done.returncode, done.stderr), (0, ""))
+
+
+class Options(unittest.TestCase):
+    """The options, and their texts."""
+
+    def compare(self, page: str, wanted: dict[str, str]) -> None:
+        """The page has the wanted options, and their texts."""
+        entries = {entry.tags[0]: entry.text for entry in entries_of(sections_of(page)["OPTIONS"])}
+        self.assertEqual(set(entries), set(wanted))
+        for option, text in wanted.items():
+            # what clap adds to an option that has a default
+            text = re.sub(r" \[default: .*\]$", "", text)
+            self.assertTrue(says(entries[option], text), f"{page}: {option}: {entries[option]} / {text}")
+
+    def test_of_tools(self) -> None:
+        for tool in TOOLS:
+            with self.subTest(tool):
+                done = run_tool(tool, "--help", env={**os.environ, "COLUMNS": "1000"})
+                self.compare(f"dmr_{tool}.1", options_of(done.stdout))
+
+    def test_of_the_controller_in_its_source(self) -> None:
+        text = (TOP / "crates/dmr_command/src/words.rt").read_text(encoding="utf-8")
+        options = re.findall(r'\.long\("(\w+)"\)(.*?)\.help\("((?:[^"\\]|\\.)*)"\)', text, re.S)
+        values = [re.search(r'\.value_name\("(\w+)"\)', between) for _, between, _ in options]
+        wanted = {f"--{name}{' ' + value[1] if value else ''}": said for (name, _, said), value in zip(options, values)}
+        self.assertEqual(len(wanted), 4)
+        self.compare("dmr_trunk.8", {**wanted, "-h, --help": "Print help", "-V, --version": "Print version"})
+
+    def test_of_the_controller(self) -> None:
+        done = subprocess.run([program("dmr_trunk"), "--help"], capture_output=True, text=True, check=False)
+        self.assertEqual((done.returncode, done.stdout), (2, ""))
+        self.compare("dmr_trunk.8", options_of(done.stderr))
+
+    def test_of_the_decoder(self) -> None:
+        text = (TOP / "crates/dmr_decode/src/main.rt").read_text(encoding="utf-8")
+        commands = dict(re.findall(r"^  dmr_decode (\S+(?: [A-Z.]+)?)  +(\S.*)$", text[:text.index('";\n')], re.M))
+        self.assertEqual(len(commands), 7)
+        entries = {entry.tags[0]: entry.text for entry in entries_of(sections_of("dmr_decode.1")["COMMANDS"])}
+        self.assertEqual(set(entries), set(commands))
+        for command, said in commands.items():
+            self.assertTrue(says(entries[command], said), f"{command}: {entries[command]} / {said}")
+
+
+class Statuses(unittest.TestCase):
+    """The exit statuses, and the messages of the controller."""
+
+    def statuses(self, page: str) -> list[str]:
+        """The statuses of a page."""
+        return [entry.tags[0] for entry in entries_of(sections_of(page)["EXIT STATUS"])]
+
+    def test_of_tools(self) -> None:
+        for tool in TOOLS:
+            with self.subTest(tool):
+                said = re.search(r"^Status: (.*?)\n\n", run_tool(tool, "--help", env={**os.environ, "COLUMNS": "1000"}).stdout, re.M | re.S)
+                # carriers says its status in a sentence: 0 if all checks held
+                wanted = re.findall(r"(?:^|; )(\d) ", said[1]) if said else ["0", "1", "2"]
+                self.assertEqual(self.statuses(f"dmr_{tool}.1"), wanted)
+
+    def test_of_programs(self) -> None:
+        for page, source in (("dmr_trunk.8", "dmr_command/src/words.rt"), ("dmr_decode.1", "dmr_decode/src/main.rt")):
+            said = re.search(r"^Status: (.*)$", (TOP / "crates" / source).read_text(encoding="utf-8"), re.M)
+            assert said
+            self.assertEqual(self.statuses(page), re.findall(r"(?:^|; )(\d) ", said[1]))
+
+    def test_of_the_operators_guide(self) -> None:
+        rows = table_rows(read_document("OPERATING.md"), "## Statuses and messages")
+        self.assertEqual(self.statuses("dmr_trunk.8"), list(dict.fromkeys(row[0] for row in rows)))
+
+    def test_messages(self) -> None:
+        tags = [tag for entry in entries_of(sections_of("dmr_trunk.8")["DIAGNOSTICS"]) for tag in entry.tags]
+        wanted = [it for it in messages() if not it.startswith(NEVER)]
+        for it in wanted:
+            self.assertTrue(any(re.fullmatch(as_pattern(it), tag) for tag in tags), it)
+        self.assertEqual(len(tags), len(wanted))
+
+
+class SiteFile(unittest.TestCase):
+    """The page of the site file."""
+
+    def test_keys(self) -> None:
+        document = read_document("SITE_FILE.md")
+        wanted = [f"{key} ({value}; {'required' if missing == 'fault' else 'default ' + missing})" for key, value, missing, _ in table_rows(document, "| key | value | if missing")]
+        inner = [f"{key} ({value})" for key, value, _ in table_rows(document, "| key | value | what")]
+        place = next(n for n, it in enumerate(wanted) if it.startswith("carrier ")) + 1
+        tags = [tag for entry in entries_of(sections_of("dmr_trunk.5")["DESCRIPTION"]) for tag in entry.tags]
+        self.assertEqual(tags, [*wanted[:place], *inner, *wanted[place:]])
+
+    def test_texts_of_faults(self) -> None:
+        wanted = [row[0] for row in table_rows(read_document("SITE_FILE.md"), "## Messages")]
+        self.assertEqual([entry.tags[0] for entry in entries_of(sections_of("dmr_trunk.5")["DIAGNOSTICS"])], wanted)
+
+    def test_example_is_accepted(self) -> None:
+        lines = sections_of("dmr_trunk.5")["EXAMPLES"]
+        text = "\n".join(line.removeprefix("    ") for line in lines[lines.index(".EX") + 1:lines.index(".EE")]) + "\n"
+        built = program("dmr_trunk")
+        with tempfile.NamedTemporaryFile("w", suffix=".toml") as site:
+            site.write(text)
+            site.flush()
+            done = subprocess.run([built, "--site", site.name, "--script", os.devnull], capture_output=True, text=True, check=False)
+        self.assertEqual((done.returncode, done.stdout, done.stderr), (0, "carrier 0 -\ncarrier 1 -\n", ""))
+
+
+class Console(unittest.TestCase):
+    """The commands of the console."""
+
+    def test_commands(self) -> None:
+        wanted = [row[0] for row in table_rows(read_document("FORMATS.md"), "## Console")]
+        self.assertEqual([entry.tags[0] for entry in entries_of(sections_of("dmr_trunk.8")["CONSOLE"])], wanted)

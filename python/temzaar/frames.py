@@ -1,6 +1,6 @@
 """The frames of the link (docs/FORMATS.md, "Link frames"), in both versions: how they are written, cut from a stream, and numbered.
 
-The versions differ in RX and TX alone, to which version 2 gives a number. One cutter serves both directions: the first frame of a stream tells the
+The versions differ in RX and TX alone, which have a number in version 2. One cutter serves both directions: the first frame of a stream has the
 version, a HELLO towards the controller and a WELCOME towards the carrier.
 """
 from collections.abc import Iterator
@@ -141,7 +141,7 @@ class Cutter:
         length = self._length()
         if len(self.octets) > 1 and self.octets[1] != length:
             return Fault.BAD_LENGTH
-        # the slot is the only octet of an ACTIVE, and stands before the word of an RX or TX
+        # the slot is the only octet of an ACTIVE, and comes before the word of an RX or TX
         place = {FrameType.RX: 2 + length - BURST_PART, FrameType.TX: 2 + length - BURST_PART, FrameType.ACTIVE: 2}.get(FrameType(self.octets[0]))
         if place is not None and len(self.octets) > place and self.octets[place] > 1:
             return Fault.BAD_SLOT

@@ -1,11 +1,16 @@
 """The calls of a slot, read off the air: which call a grant belongs to, also a grant that is sent after its call's P_CLEAR.
 
 A grant waits for the control slot, a P_CLEAR for the call's own slot. If many PDUs wait and the hang time is short, a call may have ended, and may have
-been cleared, before its grant is sent (docs/SITE_MACHINE.md, "Words"). Such a grant belongs to a call that has ended. These rules tell it from the
-grant of a call that begins: a slot is free only after every P_CLEAR and every grant of the call before has been sent; a fill says that nothing waits for
-the control slot; grants and P_CLEARs come in as many copies as the site file says; a second call of the same parties needs a second request. If the
-same parties are granted again before a fill, and no request of theirs was heard, the next PDU decides: their P_CLEAR, or a late entry, says that
-another call began.
+been cleared, before its grant is sent (docs/SITE_MACHINE.md, "Words"). Such a grant belongs to a call that has ended. These rules distinguish it from
+the grant of a call that begins:
+
+- A slot is free only after every P_CLEAR and every grant of the call before has been sent.
+- A fill shows that nothing waits for the control slot.
+- Grants and P_CLEARs come in as many copies as the site file says.
+- A second call of the same parties needs a second request.
+
+If the same parties are granted again before a fill, and no request of theirs was received, the next PDU decides. Their P_CLEAR, or a late entry, shows
+that another call began.
 """
 from collections.abc import Hashable
 from dataclasses import dataclass, field
@@ -88,7 +93,7 @@ class Call:
 
 @dataclass
 class SlotCalls:
-    """The calls of one slot, as its events tell of them.
+    """The calls of one slot, by its events.
 
     `calls` are those with a grant that was sent while they were active. `ended` has the marks of the grants of calls that had ended.
     """
@@ -103,13 +108,13 @@ class SlotCalls:
     clears: int = 0
     # grants of the last call's parties, of that call or of one that began after it: their mark, parties, and whether they are late
     doubtful: list[tuple[Mark, Parties, bool]] = field(default_factory=list)
-    # who was heard to request a call since the last one ended
+    # who has requested a call since the last one ended
     requested: list[Parties] = field(default_factory=list)
     # whether the slot's carrier is up
     up: bool = True
 
     def request(self, parties: Parties) -> None:
-        """A request for a call was heard, for whatever slot."""
+        """A request for a call was received, whatever its slot."""
         self.requested.append(parties)
 
     def grant(self, mark: Mark, parties: Parties, late: bool) -> None:

@@ -29,7 +29,7 @@ SlotKey = tuple[int | None, int]
 
 
 class Options(Protocol):
-    """What a play is told: the command line of `carriers`, or a test's stand-in."""
+    """The settings of a play: the command line of `carriers`, or a test's stand-in."""
     radios: int
     seed: int
     link_version: int | None
@@ -106,7 +106,7 @@ class Radios:
         return self.burst(octets)
 
     def next_request(self, now: float, backoff: Backoff) -> bytes | None:
-        """The 25 octets that a radio sends on the control slot in this frame, or None. The backoff is told of noise."""
+        """The 25 octets that a radio sends on the control slot in this frame, or None. Noise is reported to the backoff."""
         if self.to_send:
             return self.burst(self.to_send.pop())
         if self.random.random() < 0.02:
@@ -176,7 +176,7 @@ class Radios:
 
 @dataclass(frozen=True)
 class Sign:
-    """A grant, a P_CLEAR or a loss that was seen of a slot: whose (None for a loss), since when at the earliest it can have been so, and when it came."""
+    """A grant, a P_CLEAR or a loss that a slot showed. `parties` is None for a loss. It came at `received`, and can have been so since `since` at the earliest."""
     grants: bool
     parties: Parties | None
     since: float

@@ -5,7 +5,7 @@ from dataclasses import dataclass
 from temzaar import code
 from temzaar.frames import FROM_CARRIER, TO_CARRIER, Cutter, Frame, FrameType, Link, welcome
 
-# The key of what goes to operators, beside those of carriers.
+# The key of what goes to operators; other keys are carrier numbers.
 OPERATORS = -1
 
 
@@ -111,7 +111,7 @@ class Event:
 
 
 class Replay:
-    """A script beside what its replay printed: the events of both, in their order.
+    """A script together with what its replay printed: the events of both, in their order.
 
     The events are `up`, `lost`, `heard` (an RX; without octets if it is not a codeword), `active`, `polled`, `sent` (a TX) and `said` (an
     operator's octets). SessionFault: what was printed does not answer this script.

@@ -8,8 +8,8 @@ Row = dict[str, Any]
 class Site:
     """A site: the values of its file, and its carriers.
 
-    `carriers` keeps at most so many carriers, the control carrier always among them. With `first_port` the console listens on that port of the
-    loopback address and the carriers on the ports after it. `changes` are other keys of the file.
+    `carriers` is the greatest number of carriers that are kept, the control carrier always among them. With `first_port` the console listens on that port of
+    the loopback address and the carriers on the ports after it. `changes` are other keys of the file.
     """
 
     def __init__(self, path: str, carriers: int = 16, first_port: int | None = None, **changes: Any) -> None:
@@ -81,5 +81,5 @@ class Site:
         return listed[::max(1, len(listed) // count)][:count]
 
     def register_options(self) -> int:
-        """The options of a request that registers, where the site tells joining from leaving by an option bit."""
+        """The options of a request that registers, if the site distinguishes joining from leaving by an option bit."""
         return 1 << self.plan["leave_bit"] if "leave_bit" in self.plan else 0

@@ -1,8 +1,8 @@
-"""Where the ticks of a recorded session fell. No port of a site tells its ticks, so they are found by replaying.
+"""Finds the ticks of a recorded session. No port of a site shows its ticks, so they are found by replaying.
 
-A site's clock is even, so the first guesses are even rows of ticks, in several phases, beside the times of what was recorded. A tick shows only where
-it changes an answer. Where a replay's answers first differ, the search moves a tick across the piece that is answered otherwise, or across one of those
-before it (where a call began, say), nearest first. Of all placings tried, it goes on from the one whose answers agree for longest.
+A site's clock is even, so the first guesses are even rows of ticks, in several phases, over the recorded times. A tick shows only if it changes an
+answer. If a replay's answers differ, the search takes the first piece that is answered otherwise. It moves a tick across this piece, or across one
+before it, such as the piece with which a call began, nearest first. Of all placings tried, it goes on from the one whose answers agree for longest.
 """
 import heapq
 from collections.abc import Iterator, Mapping
@@ -12,8 +12,8 @@ from typing import Protocol
 from temzaar import process
 from temzaar.script import OPERATORS, Input, read_printed
 
-# How many phases are tried; across how many pieces before the first difference a tick is moved; how many placings are replayed at most; and how many are
-# kept to go on from.
+# The number of phases that are tried. The number of pieces before the first difference across which a tick is moved. The most placings that are replayed, and
+# that are kept to go on from.
 PHASES, REACH_BACK, MOST_PLACINGS, MOST_KEPT = 24, 48, 3000, 100
 
 # How many ticks come before each piece, and after the last.
@@ -56,7 +56,7 @@ class Program:
 
 
 def script_lines(pieces: list[Piece], gaps: Gaps) -> list[str]:
-    """The lines of the script of these pieces, with so many ticks before each and after the last."""
+    """The lines of the script of these pieces, with the ticks of `gaps` before each and after the last."""
     lines = []
     for piece, ticks in zip([*pieces, None], gaps, strict=True):
         if ticks:
@@ -67,7 +67,7 @@ def script_lines(pieces: list[Piece], gaps: Gaps) -> list[str]:
 
 
 def even_gaps(pieces: list[Piece], seconds: float, phase: float) -> Gaps:
-    """Even ticks of so many seconds, the first of them `phase` of a tick after the first piece."""
+    """Even ticks of `seconds`, the first of them `phase` of a tick after the first piece."""
     gaps, done = [], 0
     for piece in pieces:
         due = int((piece.time - pieces[0].time) / seconds + 1 - phase)
@@ -154,7 +154,7 @@ class Search:
 
 
 def place_ticks(pieces: list[Piece], seconds: float, program: Replayer) -> Search:
-    """Searches for a placing of ticks of so many seconds. `is_done` of the result says whether one was found."""
+    """Searches for a placing of ticks of `seconds` each. `is_done` of the result says whether one was found."""
     search = Search(pieces, program)
     for phase in range(PHASES):
         search.consider(even_gaps(pieces, seconds, phase / PHASES), 0)

@@ -1,8 +1,8 @@
-"""A play in which things go wrong: carriers that break off, send no frames, stop reading or fall silent; an operator who behaves no better; a controller
-that is stopped and continued, and kept short of descriptors and memory.
+"""A play in which things go wrong. Carriers break off, send no frames, stop reading or fall silent, and an operator behaves no better. The controller
+is stopped and continued, and kept short of descriptors and memory.
 
 Everything is drawn from a seed, and counted. Each connection that the controller ends must be one that it had to end. Each poll on another connection
-is answered. When the trouble is over, everybody is served as if there had been none.
+is answered. After the trouble, everybody is served as if there had been none.
 """
 import re
 import resource
@@ -28,8 +28,8 @@ MOST_AWAITED = 100
 SOON = 10.0
 # Seconds within which the buffers of the controller's system are full of DONEs, two octets for each poll.
 FLOOD = 180.0
-# How many times longer silence may take than the plan's time. The controller counts it in parts of 25 ms that a worker has waited; while a carrier floods
-# the site, terms of 5,000 entries end some 15 times a second, and a waiting worker completes one or two parts in each.
+# How many times longer silence may take than the plan's time. The controller counts silence in parts of 25 ms that a worker has waited. While a carrier
+# floods the site, terms of 5,000 entries end some 15 times a second, and a waiting worker completes one or two parts in each.
 SLOWED = 4
 
 NO_FRAMES = (

@@ -10,7 +10,7 @@ from tests.support import SITES, TOP
 
 FOLDER = TOP / "cases"
 USUAL_SITE = "two_carriers"
-# What a fault calls the two files.
+# The names of the two files in a fault.
 SITE_FILE, SCRIPT_FILE = "the.toml", "the.txt"
 
 
@@ -24,7 +24,7 @@ def without_note(line: str) -> str:
 
 
 def plain(text: str) -> str:
-    """A text without what is in it for a reader's sake.
+    """A text without the notes and breaks that are for readers.
 
     A line that begins with two spaces continues the line before it: the first such line is set off by one space, and the words of all are joined. A note
     after a line is left out. All else stays as it is.
@@ -92,12 +92,12 @@ class Case:
 
 @dataclass
 class Changes:
-    """How the site of a case differs from a file of sites/."""
+    """The changes that a case makes to a file of sites/."""
     name: str = USUAL_SITE
     lines: list[str] = field(default_factory=list)
 
     def site_name(self) -> str:
-        """What the changed site is called."""
+        """The name of the changed site."""
         return ", ".join([self.name, *self.lines])
 
     def text(self) -> str:
@@ -112,7 +112,7 @@ class Changes:
 
 
 def read_head(file: str, lines: list[str]) -> Case:
-    """A case from its lines before the first section. CaseFault: a line is none of a case."""
+    """A case from its lines before the first section. CaseFault: a line is not one that a case has."""
     name, *others = lines
     changes, case = Changes(), Case(file, name, "", None)
     for line in others:

@@ -107,7 +107,7 @@ def listed_reasons() -> list[int]:
 
 
 def make_traffic(draws: random.Random, each: int) -> Traffic:
-    """A script of two carriers: so many bursts of each PDU with up to three bits flipped, each reason, each kind, and noise."""
+    """A script of two carriers: `each` bursts of each PDU with up to three bits flipped, each reason, each kind, and noise."""
     known: dict[bytes, Flipped] = {}
     lines = ["open 0", "bytes 0 010401000001"]
     drawn = [random_pdu(name, draws) for name in pdus.LAYOUTS for _ in range(each)]

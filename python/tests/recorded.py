@@ -1,7 +1,7 @@
 """Sessions as `capture` records them, made without a clock: the same each time.
 
-A session is a row of pieces with the times at which they were recorded, and the answers of a site that took them between other ticks than those times
-say. `Clock` is a site so simple that its answers can be seen to be right; `record_session` has the controller itself answer.
+A session is a row of pieces with the times at which they were recorded, and the answers of a site. The site took the pieces between other ticks than
+the times say. `Clock` is a site so simple that a reader can see its answers to be right; in `record_session` the controller itself answers.
 """
 import random
 from collections.abc import Mapping

@@ -10,7 +10,7 @@ from temzaar.sitefile import Site
 from tests.support import TWO_CARRIERS, program, read_document, table_rows
 
 PORT = 17500
-# for how many seconds a note or an answer is waited for, and after how many waits of 100 ms a connection is silent that is not to be
+# seconds to wait for a note or an answer, and waits of 100 ms until silence ends a connection that something else is to end
 PATIENCE = 60
 LONG = 600
 CARRIER, LPCN = 1, 2
@@ -37,7 +37,7 @@ CLOSED_BY_CONTROLLER = {
 
 
 def documented_causes() -> list[re.Pattern[str]]:
-    """The causes in the table of docs/OPERATING.md; a capital letter alone stands for a number."""
+    """The causes in the table of docs/OPERATING.md; a capital letter alone means a number."""
     rows = table_rows(read_document("OPERATING.md"), "### Why a connection ended")
     return [re.compile(re.sub(r"\b[A-Z]\b", r"\\d+", re.escape(row[0]))) for row in rows]
 
@@ -46,8 +46,8 @@ class Closings(unittest.TestCase):
     """Connections that end, and the notes of their ends."""
 
     def serve(self, silence: int) -> None:
-        """Serves the site. A connection is silent after so many waits of 100 ms: many where something else is to end it, so that a busy machine
-        does not make it silent first."""
+        """Serves the site. A connection is silent after `silence` waits of 100 ms. If something else is to end it, these are many, so that a busy
+        machine does not make it silent first."""
         self.site = Site(TWO_CARRIERS, first_port=PORT, silence=silence)
         self.controller = Controller(program("dmr_trunk"), self.site)
         self.addCleanup(self.controller.stop)
@@ -74,7 +74,7 @@ class Closings(unittest.TestCase):
         return found[0]
 
     def check(self, cause: str, wanted: str) -> None:
-        """The cause is the wanted one, and one of those that the document explains."""
+        """The cause is the expected one, and one of those that the document explains."""
         self.assertRegex(cause, rf"^{wanted}$")
         self.assertTrue(any(it.fullmatch(cause) for it in documented_causes()), cause)
 
@@ -100,5 +100,5 @@ class Closings(unittest.TestCase):
     def test_silence(self) -> None:
         self.serve(5)
         self.check(self.cause_of(f"carrier {CARRIER}", self.site.row(CARRIER)["port"], UP), "silence")
-        # an operator's octets that are no command are answered, and close nothing
+        # an operator's octets that are not a command are answered, and close nothing
         self.check(self.cause_of("console", self.site.console_port, UP + BYE + b"\n" + b"x" * 500), "silence")

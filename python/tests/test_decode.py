@@ -28,7 +28,7 @@ class Program(unittest.TestCase):
         self.program, self.draws = program("dmr_decode"), random.Random(1)
 
     def expect(self, words: list[str], text: str, wanted: str) -> None:
-        """The program, with these words and this input, prints what is wanted."""
+        """The program, with these words and this input, prints the expected text."""
         done = subprocess.run([self.program, *words], input=text, capture_output=True, text=True, check=False)
         self.assertEqual(done.stdout.split("\n"), wanted.split("\n"), f"{words} {done.stderr}")
 

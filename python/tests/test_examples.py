@@ -19,17 +19,17 @@ def tx(slot: int, octets: bytes) -> bytes:
 
 
 def registered(radio: int) -> bytes:
-    """The answer to a poll that tells a radio that it is registered."""
+    """The answer to a poll: a radio's registration is acknowledged."""
     return tx(0, pdus.write("C_ACKD", reason=REASONS["Reg_Accepted"], target=radio, additional=REGI)) + DONE
 
 
 def queued(radio: int, group: int) -> bytes:
-    """The answer to a poll that tells a radio to wait for a slot."""
+    """The answer to a poll: a radio's request is acknowledged as queued for a slot."""
     return tx(0, pdus.write("C_ACKD", reason=REASONS["Queued_For_Resource"], target=radio, additional=group)) + DONE
 
 
 def granted(radio: int, group: int, lpcn: int, slot: int) -> bytes:
-    """The answer to a poll that grants a talkgroup call."""
+    """The answer to a poll: a talkgroup call is granted."""
     return tx(0, pdus.write("TV_GRANT", lpcn=lpcn, slot=slot, target=group, source=radio)) + DONE
 
 
@@ -53,7 +53,7 @@ EXPECTED = {
         [WELCOME],
         [],
     ),
-    # both calls on carrier 1 end with its connection, so 1002 is given the first of its slots once more
+    # both calls on carrier 1 end with its connection, so 1002 gets the first of its slots again
     "lost_carrier": (
         [WELCOME, *FOUR_REGISTER[:3], *THREE_CALL, granted(1002, 92, 2, 0)],
         [WELCOME, WELCOME],

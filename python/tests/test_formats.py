@@ -14,7 +14,7 @@ FORMATS = read_document("FORMATS.md")
 
 
 def expand(frames: str) -> str:
-    """Frames in which a check in brackets stands for the 25 octets of its burst."""
+    """Frames in which a check in brackets means the 25 octets of its burst."""
     rows = table_rows(FORMATS, "| ten octets")
     bursts = {check: code.burst_of(bytes.fromhex(octets)).hex() for octets, check, _ in rows if not octets.startswith("ten")}
     return re.sub(r"\[(\w{4})\]", lambda it: bursts[it[1]], frames)

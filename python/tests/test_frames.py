@@ -17,7 +17,7 @@ def cut(octets: bytes, size: int, kinds: frozenset[FrameType] = FROM_CARRIER) ->
 
 
 class Cutting(unittest.TestCase):
-    """A stream gives the same frames however it is cut."""
+    """A stream is cut into the same frames whatever its pieces."""
 
     STREAMS = (
         (FROM_CARRIER, hello(3, 7, 1) + rx(1, WORD) + POLL + active(1) + BYE),

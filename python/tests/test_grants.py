@@ -24,8 +24,8 @@ from tests.support import TWO_CARRIERS, program, run_tool
 class Reading(NamedTuple):
     """What is seen of one slot, in order, and the calls that it means.
 
-    The signs: G group/caller, L the same late, R radio/caller: grants; C group, c radio: a P_CLEAR; F: a fill; X, U: the carrier is lost, comes up;
-    E: the control carrier is lost; Q: a request is heard. The calls are parties, the place of the first grant, and that of the end.
+    Grants: G group/caller, L the same late, R radio/caller. P_CLEARs: C group, c radio. F: a fill. X, U: the carrier is lost, comes up. E: the control
+    carrier is lost. Q: a request is received. The calls are parties, the place of the first grant, and that of the end.
     """
     name: str
     grant_copies: int
@@ -149,7 +149,7 @@ class Slot(unittest.TestCase):
 
 @dataclass
 class Options:
-    """What a play is told."""
+    """The settings of a play."""
     radios: int = 4
     seed: int = 1
     link_version: int | None = None
@@ -230,7 +230,7 @@ def heard(*frames: bytes) -> str:
 
 
 def polls(count: int) -> str:
-    """So many polls of carrier 0."""
+    """`count` polls of carrier 0."""
     return f"bytes 0 {POLL.hex()}\n" * count
 
 
@@ -241,8 +241,8 @@ Answer = tuple[bytes, bytes | None]
 
 
 class Script(NamedTuple):
-    """A script: its version of the link, its lines after HELLO, the answers to its polls, and how many calls, grants of calls that had ended, late grants
-    and bursts are drawn."""
+    """A script, the answers to its polls, and what is drawn of it. `version` is that of the link, `lines` follow the HELLO. `drawn` has the numbers of calls,
+    of grants of calls that had ended, of late grants and of bursts."""
     name: str
     version: int
     lines: str

@@ -15,7 +15,7 @@ from tests.support import TWO_CARRIERS, program, read_document, table_rows
 LINK, FORMATS = read_document("LINK.md"), read_document("FORMATS.md")
 BURSTS = {name: bytes.fromhex(burst) for name, _, _, burst in table_rows(LINK, "## Bursts for tests")}
 PORT = 17600
-# for how many seconds the end of a connection is waited for
+# seconds to wait for the end of a connection
 PATIENCE = 60
 
 
@@ -104,7 +104,7 @@ class Charts(unittest.TestCase):
 
 
 class Calls(unittest.TestCase):
-    """The table "Two calls", replayed in both versions, so that ticks come where they are wanted."""
+    """The table "Two calls", replayed in both versions, so that the test decides when ticks come."""
 
     HANG = 100
 

@@ -94,7 +94,7 @@ def options_of(help_text: str) -> dict[str, str]:
 
 
 def says(text: str, wanted: str) -> bool:
-    """Whether a text begins with the wanted one, but for the case of its first letter, and then ends a sentence."""
+    """Whether a text begins with the expected one, except for the case of its first letter, and then ends a sentence."""
     return text[:1].lower() + text[1:len(wanted)] == wanted[:1].lower() + wanted[1:] and text[len(wanted):len(wanted) + 1] in ("", ".")
 
 
@@ -141,7 +141,7 @@ class Options(unittest.TestCase):
     """The options, and their texts."""
 
     def compare(self, page: str, wanted: dict[str, str]) -> None:
-        """The page has the wanted options, and their texts."""
+        """The page has the expected options, and their texts."""
         entries = {entry.tags[0]: entry.text for entry in entries_of(sections_of(page)["OPTIONS"])}
         self.assertEqual(set(entries), set(wanted))
         for option, text in wanted.items():

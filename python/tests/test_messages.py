@@ -6,7 +6,7 @@ from tests.support import TOP, read_document, table_rows
 
 OPERATING = read_document("OPERATING.md")
 CRATES = TOP / "crates"
-# What stands for a value: in the sources a format's braces, in the document a word in upper case.
+# What means a value: in the sources a format's braces, in the document a word in upper case.
 HOLE = r"\{[\w.]*\}"
 WORD = r"[A-Z]+(?::[A-Z]+)?"
 PROGRAM = "dmr_trunk: "
@@ -34,7 +34,7 @@ def function(text: str, name: str) -> str:
 
 
 def notes() -> list[str]:
-    """The notes: what the program's log is handed, its own name put in."""
+    """The notes: the texts that the program's log receives, with its own name."""
     found = literals(source("dmr_trunk/src/notes.rt"), r"(?:info|warn)!\(\*self\.rt; target: TARGET, ")
     return [it.replace("{TARGET}", "dmr_trunk").replace("{noun}", "carriers") for it in found]
 

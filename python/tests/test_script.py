@@ -11,7 +11,7 @@ ACCEPTED = bytes.fromhex("A00000C40003E9FFFEC6")
 
 
 def replayed(lines: list[bytes | str], *sent: bytes) -> list[tuple[str, int, int]]:
-    """The events of a script of carrier 0, whose octets stand for themselves, and of what was sent to it: what, tick and slot."""
+    """The events of a script of carrier 0, with octets as pieces of its connection, and of what was sent to it: what, tick and slot."""
     inputs = read_script("\n".join(it if isinstance(it, str) else f"bytes 0 {it.hex()}" for it in lines))
     return [(it.what, it.tick, it.slot) for it in Replay(inputs, {0: b"".join(sent)}).events]
 

@@ -1,4 +1,4 @@
-"""The commands over a controller that is served on loopback. All of it is skipped where the program was not built."""
+"""The commands over a controller that is served on loopback. All of it is skipped if the program was not built."""
 import os
 import random
 import signal
@@ -47,7 +47,7 @@ class Pictures(unittest.TestCase):
 
 
 class Listening(unittest.TestCase):
-    """Where a served site listens, and what the program reports if it cannot listen there."""
+    """The address on which a served site listens, and what the program reports if it cannot listen there."""
 
     # an address of the loopback network that is not the one that a site file without `address` means
     OTHER = "127.0.0.2"

@@ -1,17 +1,18 @@
-"""Stands between carriers, operators and a controller, and writes what comes as a script that replays to the same octets.
+"""Passes octets between carriers, operators and a controller, and writes them as a script that replays to the same octets.
 
     capture --site site.toml --program build/dmr_trunk --out incident.txt
 
 It listens on the ports of the site file, starts the controller on ports further up (--shift, 10000; on loopback), and passes everything on, both ways,
-until Ctrl-C or --seconds. Then it writes the script, and beside it, as incident.txt.out, what was sent, as a replay prints it, and searches for the
-ticks. With --running the controller is one that runs already: its site file is this one but for its ports, which are higher by --shift. The site must
-be empty then: no carrier, no radio and no call.
+until Ctrl-C or --seconds. Then it writes the script, and to incident.txt.out what was sent, as a replay prints it, and searches for the
+ticks. With --running the controller is one that runs already: its site file is this one except for its ports, which are higher by --shift. The site
+must be empty then: no carrier, no radio and no call.
 
 What is certain. Each piece is handed to the controller only after the piece before it is answered, so the script has them in the order in which the
-site took them. Frames that bring no answer (RX, ACTIVE) wait for the next frame that does; after a fifth of a second they go alone, and their order
-beside other carriers' pieces is then not certain. If the tool ends with 'replays to the same octets', it has replayed the script and compared every
-octet. What is not certain. The site's ticks cannot be seen. The script's ticks are placed so that the answers are the same, which may be another place
-than that at which they fell, where no answer shows the difference. What was on the site before is not in the script.
+site took them. Frames without an answer (RX, ACTIVE) wait for the next frame that has one. After a fifth of a second they go alone; then their order
+among other carriers' pieces is not certain. If the tool ends with 'replays to the same octets', it has replayed the script and compared every octet.
+
+What is not certain. The site's ticks cannot be seen. The tool places the script's ticks so that the answers are the same. If no answer shows the
+difference, a tick may have fallen elsewhere. What was on the site before is not in the script.
 
 Status: 0 the script replays to the same octets; 1 a file, a port or the controller, named on standard error; 2 the words; 3 a script was written, and
 no placing of the ticks was found that gives the same octets: the tool prints where they first differ.
@@ -128,7 +129,7 @@ class CarrierSide(Side):
     def __init__(self, capture: "Capture", carrier: int, stream: socket.socket, port: int) -> None:
         super().__init__(capture, carrier, stream, port)
         self.cutter, self.up = Cutter(FROM_CARRIER), False
-        # octets that were cut and not handed over yet, and their frames; None stands for octets from which no frame can follow
+        # octets that were cut and not handed over yet, and their frames; None marks octets from which no frame can follow
         self.cut = b""
         self.waiting: list[Frame | None] = []
         capture.pieces.append(Piece(Input("open", carrier), time.monotonic()))

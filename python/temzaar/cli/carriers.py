@@ -7,15 +7,21 @@ Each carrier sends HELLO and then polls, every 60 ms as on the air (--fast: as s
 and one another, answer when they are called, and talk for a while; up to three bits of each burst are flipped. Carriers speak the greatest version
 of the link that the site file serves (--link-version: another one). In version 2 they retransmit one RX in ten.
 
-The tool checks that every burst that comes is a codeword with its check, in version 2 with the next number; that each registration is acknowledged,
-and no more often than it was asked for; that the backoff says what noise was sent; that no slot is granted to a call while another holds it; and that
-each poll is answered. It prints counts, how long the answer to a poll took, and the controller's share of one processor. The status is 0 if all
-checks held. A late grant, also a late entry, is counted apart from those that begin a call, and radios that hear one listen. A grant may wait until
-its call has ended and been cleared: that is not a fault, and it is counted too.
+The tool checks that
 
-With --program and --faults things go wrong all the time but for the beginning and the end: connections break off within frames; carriers stop reading,
-fall silent, or send no frames; the controller is stopped and continued, and kept short of descriptors and memory. Polls that were lost are counted by
-why, and no others may be lost; in the end everybody is served.
+- every burst received is a codeword with its check, in version 2 with the next number,
+- each registration is acknowledged, and no more often than a radio asked for it,
+- the backoff follows the noise that was sent,
+- no slot is granted to a call while another call holds it,
+- each poll is answered.
+
+It prints counts, how long the answer to a poll took, and the controller's share of one processor. The status is 0 if all checks held. Late grants,
+also late entries, are counted apart from grants that begin a call. A radio that receives one listens. A grant may wait until its call has ended and
+been cleared: that is not a fault, and it is counted too.
+
+With --program and --faults things go wrong all the time, except at the beginning and at the end. Connections break off within frames; carriers stop
+reading, fall silent, or send no frames; the controller is stopped and continued, and kept short of descriptors and memory. Lost polls are counted by
+reason. No others may be lost, and in the end everybody is served.
 """
 import argparse
 import signal

@@ -6,7 +6,7 @@
 
 Live, the keys type a line to the operator's console; Enter sends it, and the answer is shown below the picture. Ctrl-C or Ctrl-D leaves. One operator
 is served at a time: while siteview is connected, another console waits, so type here. An age is how long siteview has seen a call or a request; `>`
-says that it was there before. The controller tells no ages, so --once shows none.
+says that it was there before. The controller reports no ages, so --once shows none.
 
 Status: 0 it was left, or the picture printed; 1 the site file or the console, named on standard error; 2 the words.
 """
@@ -167,7 +167,7 @@ class Screen:
         sys.stdout.flush()
 
     def keys(self, seconds: float) -> str:
-        """What is typed within so many seconds; the end of input counts as Ctrl-D."""
+        """What is typed within `seconds`; the end of input counts as Ctrl-D."""
         if select.select([sys.stdin], [], [], seconds)[0]:
             return os.read(sys.stdin.fileno(), 256).decode("utf-8", "replace") or LEAVE
         return ""
@@ -195,7 +195,7 @@ class Prompt:
 
 
 def watch(console: Console, name: str, seconds: float) -> None:
-    """Shows the site, a new picture every so many seconds, until it is left."""
+    """Shows the site, a new picture every `seconds`, until the user leaves it."""
     ages, prompt = Ages(), Prompt(console)
     with Screen() as screen:
         while True:

@@ -3,11 +3,16 @@
     timeline --site site.toml --script incident.txt --program build/dmr_trunk --out incident.svg
     timeline --site site.toml --script incident.txt --printed incident.out --out incident.svg
 
---printed is what `dmr_trunk --site site.toml --script incident.txt` printed; with --program the tool runs that itself. A call's bar goes from the
-first grant that was sent for it to its P_CLEAR, or to the loss of its carrier; a call of which no grant was sent before its end has none. Marks: grants
-(a triangle that points up, on the control slot; light if it is late, hollow if its call has ended), clears (one that points down), acknowledgements,
-bursts that were heard, polls on the rows' lower edges, an operator's lines on a row of their own. Point at a mark to read what it is. Ticks are drawn
-to one scale; what comes within a tick is spread out, in its order.
+--printed is what `dmr_trunk --site site.toml --script incident.txt` printed; with --program the tool runs that itself. A call's bar goes from its first
+grant to its P_CLEAR, or to the loss of its carrier. If no grant was sent before a call's end, it has no bar. Marks:
+
+- a grant: a triangle that points up, on the control slot; light if it is late, hollow if its call has ended
+- a clear: a triangle that points down
+- acknowledgements, and bursts that were received
+- polls, on the rows' lower edges
+- an operator's lines, on a row of their own
+
+Point at a mark to read what it is. Ticks are drawn to one scale; what comes within a tick is spread out, in its order.
 
 Status: 0 drawn; 1 a file, the program, or a script and an output that do not belong together, named on standard error; 2 the words.
 """
@@ -64,7 +69,7 @@ class Axis:
 
 
 class Calls:
-    """The calls that grants, clears and losses tell of, slot by slot. A grant is known by the index of its event."""
+    """The calls that grants, clears and losses show, slot by slot. A grant is known by the index of its event."""
 
     def __init__(self, plan: dict[str, Any], events: list[Event]) -> None:
         self.by_lpcn = {row["lpcn"]: row["number"] for row in plan["carrier"]}

@@ -1,5 +1,5 @@
 /* Preloaded into a program, refuses its allocation of number REFUSE and the start of its thread of number REFUSE_THREAD, each
-   counted from 1. The file of descriptor 9, which must be open for reading and writing, always has how many allocations and how many
+   counted from 1. The file of descriptor 9 must be open for reading and writing. It always has how many allocations and how many
    threads were asked for so far, as two numbers of 8 octets. */
 #define _GNU_SOURCE
 #include <dlfcn.h>

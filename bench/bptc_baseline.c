@@ -1,15 +1,15 @@
 /*
- * What `make bench` compares with: two decoders of the block product turbo code BPTC(196,96), two encoders and two ways
- * to the check of a control block, in C.
+ * The coders in C that `make bench` compares with: two decoders of the block product turbo code BPTC(196,96), two encoders,
+ * and two ways to compute the check of a control block.
  *
- *   plain   words are 196 truth values, put in the order of the grid; each line has its syndrome from its equations, bit
- *           by bit, as open DMR stacks have it
- *   packed  words are four words of 64 bits; each equation is a mask, and a parity is that of the set bits under it
+ *     plain   words are 196 truth values, arranged in the order of the grid; each line has its syndrome from its equations, bit
+ *             by bit, as open DMR stacks have it
+ *     packed  words are four words of 64 bits; each equation is a mask, and a parity is that of the set bits under it
  *
  * Each answers as the proved decoder does: the information of the codeword that differs in at most three of the places 1
  * to 195, or none. Before any time is taken, the two are checked against each other on ten thousand words of each kind.
- * The words are those of crates/dmr_bench: the same generator from the same seed. Prints lines "what plain packed
- * count sum": the two rates, in words a second, how many were decoded, encoded or checked, and a sum of what came out.
+ * The words are those of crates/dmr_bench: the same generator from the same seed. The program prints lines "what plain
+ * packed count sum": the two rates, in words a second, how many were decoded, encoded or checked, and a sum of the results.
  */
 #define _POSIX_C_SOURCE 200809L
 #include <stdint.h>
@@ -31,7 +31,7 @@ static const uint8_t COLUMN_COUNTS[4] = {6, 7, 8, 6};
 
 static uint8_t place_of[ROWS][COLUMNS];
 static uint8_t information_place[96];
-/* Which bit of a line is wrong, by its syndrome; 15 where none is. */
+/* Which bit of a line is wrong, by its syndrome; 15 if none is. */
 static uint8_t row_wrong[16], column_wrong[16];
 static Packed row_mask[ROWS][4], column_mask[COLUMNS][4];
 static uint16_t check_table[256];

@@ -1,21 +1,21 @@
 /*
- * Coders in C that use the tables of the proved coder, and better ones: what the proved coder should be measured against.
+ * Coders in C that use the tables of the proved coder, and better ones. The proved coder should be measured against these.
  *
- *   same         the algorithm and the tables of crates/dmr_bptc: groups of four places, the sums of the word taken three times
- *   incremental  the same tables, but only failing lines are visited, sums are kept up to date, and a word with more than
- *                three failing columns is given up at once
- *   octets       as incremental, over tables of groups of eight places (200 KB)
+ *     same         the algorithm and the tables of crates/dmr_bptc: groups of four places, the sums of the word taken three times
+ *     incremental  the same tables, but only failing lines are visited, sums are kept up to date, and a word with more than
+ *                  three failing columns is rejected at once
+ *     octets       as incremental, over tables of groups of eight places (200 KB)
  *
- * The encoders go by groups of four and of eight bits, and so do those that add the check in the same pass ("seal"). The
- * check goes by one table of 256 entries, look-up after look-up as in crates/dmr_csbk, and by ten independent tables.
+ * The encoders work on groups of four and of eight bits, and so do those that add the check in the same pass ("seal"). The
+ * check uses one table of 256 entries, look-up after look-up as in crates/dmr_csbk, or ten independent tables.
  *
- *   bptc_tables --check COUNT        compares all of them with the reference of coder.h, on COUNT words with 0 to 8 flips,
- *                                    with bursts of errors in one line, and at random
- *   bptc_tables [WHAT [COUNT]]       takes COUNT words of each kind (200,000) once, and prints a line for each figure,
- *                                    "figure variant rate count sum": words a second, how many were decoded, encoded or
- *                                    checked, and a sum of what came out. WHAT: clean, flips, random, encode; else all
+ *     bptc_tables --check COUNT        compares all of them with the reference of coder.h, on COUNT words with 0 to 8 flips,
+ *                                      with bursts of errors in one line, and at random
+ *     bptc_tables [WHAT [COUNT]]       takes COUNT words of each kind (200,000) once, and prints a line for each figure,
+ *                                      "figure variant rate count sum": words a second, how many were decoded, encoded or
+ *                                      checked, and a sum of what came out. WHAT: clean, flips, random, encode; else all
  *
- * It is no part of the product, and nothing in it is proved. What it lacks beside the proved coder: see coder.h.
+ * It is not part of the product, and nothing in it is proved. coder.h says what it lacks compared with the proved coder.
  */
 #define _POSIX_C_SOURCE 200809L
 #include "words.h"
@@ -84,7 +84,7 @@ static const Check CHECKS[] = {{"same", check_same}, {"octets", check_octets}};
 
 /* ---- comparison with the reference */
 
-/* Adds a codeword that has reserved bits alone and their parities. */
+/* Adds a codeword that has only reserved bits and their parities. */
 static void add_reserved(Word *word) {
     for (int bit = 0; bit < 3; bit++) {
         Grid grid = {0};
@@ -95,7 +95,7 @@ static void add_reserved(Word *word) {
     }
 }
 
-/* A codeword to which an error of some kind came: 0 to 8 flips, random bits, or several flips within one line. */
+/* A codeword with an error of some kind: 0 to 8 flips, random bits, or several flips within one line. */
 static void damage(Word *word, int kind) {
     int line = next_word(), count = 1 + next_word() % 5;
     if (kind < 9)

@@ -1,4 +1,4 @@
-"""Reads what `valgrind --tool=callgrind` writes: how many instructions each function took by itself, and how often it was called.
+"""Reads the files of `valgrind --tool=callgrind`: how many instructions each function took by itself, and how often it was called.
 
 It reads the one cost of callgrind's usual output, instructions ("events: Ir"), in files with line numbers. Costs of different files and objects add up by the
 function's name.
@@ -6,7 +6,7 @@ function's name.
 import re
 from dataclasses import dataclass, field
 
-# A cost line: a position, absolute, relative or `*` for the same again, and a cost. A function's name: its number, and the name where it stands first.
+# A cost line: a position, absolute, relative or `*` for the same again, and a cost. A function's name: its number, and at its first use the name.
 _COST = re.compile(r"(?:\+\d+|-\d+|\*|\d+) (\d+)")
 _NAME = re.compile(r"(c?fn)=\((\d+)\)(?: (.*))?")
 

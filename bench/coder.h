@@ -3,7 +3,7 @@
  *
  * It is: decoders, encoders and checks that give the same octets as crates/dmr_bptc and crates/dmr_csbk. Each decoder
  * answers with the information of the one codeword that differs from the word in at most three of the places 1 to 195, or
- * with none. A slow reference, made from the equations alone, stands beside them to compare with.
+ * with none. A slow reference, made from the equations alone, is there to compare them with.
  *
  * It is not: proved. No function checks the length of what it is given. Indices come from masked values, and only the
  * comparison with the reference says that they stay inside their tables. The tables are made at the start by
@@ -342,8 +342,8 @@ static inline uint64_t failing_lines(uint64_t syndromes) {
 
 /*
  * Visits failing lines only, and keeps the sums up to date: a flip adds what its place adds. More than three failing
- * columns cannot be three wrong cells; once the columns are mended, at most four cells are wrong: three in one column,
- * and the one that mending it flipped.
+ * columns cannot be three wrong cells. Once the columns are mended, at most four cells are wrong: three in one column, and
+ * the one that was flipped to mend it.
  */
 static inline __attribute__((always_inline)) bool decode_incrementally(Sums sums, uint8_t octets[12]) {
     if (__builtin_expect(!is_codeword(sums), 0)) {

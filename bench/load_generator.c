@@ -2,17 +2,17 @@
  * Plays carriers that poll against a served site, on loopback, and prints how long the answers took. `tools/carriers` plays
  * radios too and looks at each answer; this one looks at the frames alone, and disturbs the machine less.
  *
- *   load_generator [-p BASE_PORT] [-n CARRIERS] [-l FIRST_LPCN] [-L LPCN_STEP] [-v VERSION] [-s SECONDS] [-u MICROSECONDS]
- *                  [-f] [-S] [-T THREADS] [-P PID] [-a ACTIVES] [-r POLLS] [-c CONTROL]
+ *     load_generator [-p BASE_PORT] [-n CARRIERS] [-l FIRST_LPCN] [-L LPCN_STEP] [-v VERSION] [-s SECONDS] [-u MICROSECONDS]
+ *                    [-f] [-S] [-T THREADS] [-P PID] [-a ACTIVES] [-r POLLS] [-c CONTROL]
  *
- *   -u N   each carrier polls each N microseconds (60,000, the rate of the air), the carriers spread evenly
- *   -f     as fast as it goes: the next POLL follows the DONE of the last
- *   -S     asks the system again and again, and does not wait: then no wake-up of its own is part of a figure
- *   -a N   N frames ACTIVE before each POLL, in the same write
- *   -r N   every Nth POLL of the control carrier has the RX of a registration before it
- *   -P N   reads processor time, memory, threads and context switches of the process N, which should be the server
+ *     -u N   each carrier polls each N microseconds (60,000, the rate of the air), the carriers spread evenly
+ *     -f     as fast as possible: the next POLL follows the DONE of the last
+ *     -S     asks the system in a loop instead of waiting, so that no wake-up of its own is part of a figure
+ *     -a N   N frames ACTIVE before each POLL, in the same write
+ *     -r N   every Nth POLL of the control carrier has the RX of a registration before it
+ *     -P N   reads processor time, memory, threads and context switches of the process N, which should be the server
  *
- * A time is from just before the write of a POLL to the last octet of its DONE read; "from due": from when the POLL was due.
+ * A time is from just before the write of a POLL until the last octet of its DONE is read; "from due": from when the POLL was due.
  * It is a bench: any fault of a connection ends it with status 1.
  */
 #define _GNU_SOURCE

@@ -12,7 +12,7 @@ BENCH = pathlib.Path(__file__).resolve().parent
 TOP = BENCH.parent
 # The processor that rt builds for. Programs in C are built for it too, and one for the processor at hand.
 RT_PROCESSOR, THIS_PROCESSOR = "x86-64-v2", "native"
-# The compilers of the C; the best of what they make counts. `rt` compiles with a clang of its own.
+# The compilers of the C; the best of their programs counts. `rt` compiles with a clang of its own.
 COMPILERS = ("cc", "clang")
 FLAGS = ("-std=c11", "-O3", "-Wall", "-Wextra")
 
@@ -40,7 +40,7 @@ LOADS = (Load("polls", "idle polls"), Load("registrations", "registrations"), Lo
 
 
 def proved(name: str) -> str:
-    """The path of a proved program: in the folder that TEMZAAR_PROGRAMS names, else where rt leaves it, or in build/. Missing: there is none."""
+    """The path of a proved program: in the folder that TEMZAAR_PROGRAMS names, else in the folder in which rt leaves it, or in build/. Missing: there is none."""
     named = os.environ.get("TEMZAAR_PROGRAMS")
     for folder in [pathlib.Path(named)] if named else [TOP / "crates" / name / "out", TOP / "build"]:
         if (folder / name).is_file():

@@ -1,9 +1,9 @@
 #!/usr/bin/env python3
 """Prints a random script like a busy hour, for the site of the loads: bench/random_script.py CARRIERS ROUNDS SEED VERSION
 
-In each round the control slot receives a request, an answer or nonsense, with up to four flipped bits; each carrier polls, with voice or without; in half
-of the rounds the clock goes on, and now and then a carrier is cut and connects again. In version 2 of the link some bursts come twice. A script of fewer
-rounds is the beginning of one of more rounds with the same seed. Bursts are coded by the tools' own package.
+In each round the control slot receives a request, an answer or nonsense, with up to four flipped bits, and each carrier polls, with voice or without. In
+half of the rounds the clock goes on. Now and then a carrier is cut and connects again. In version 2 of the link some bursts come twice. A script of fewer
+rounds is the beginning of one of more rounds with the same seed. The tools' own package codes the bursts.
 """
 import pathlib
 import random
@@ -48,7 +48,7 @@ def site_text(carriers: int, link_version: int) -> str:
 
 
 class Draws:
-    """Draws what comes to the site."""
+    """Draws the input of the site."""
 
     def __init__(self, seed: int, version: int) -> None:
         self.random, self.version, self.number = random.Random(seed), version, 0

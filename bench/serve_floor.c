@@ -1,15 +1,15 @@
 /*
- * What serving costs at least: servers in C that cut the frames of the link, and answer a HELLO by a WELCOME and a POLL by
- * constant octets, over loopback. They are measured with bench/load_generator.c, beside `dmr_trunk --serve`.
+ * The least that serving costs: servers in C that cut the frames of the link, and answer a HELLO by a WELCOME and a POLL by
+ * constant octets, over loopback. They are measured with bench/load_generator.c, as `dmr_trunk --serve` is.
  *
- *   serve_floor epoll|threads|mutex [-p BASE_PORT] [-n CARRIERS] [-a OCTETS] [-c CONTROL]
+ *     serve_floor epoll|threads|mutex [-p BASE_PORT] [-n CARRIERS] [-a OCTETS] [-c CONTROL]
  *
- *   epoll     one thread, one epoll, one read and one write for each wake-up
- *   threads   a thread for each connection, with blocking reads and writes
- *   mutex     as threads, and each POLL takes one lock, as the desk of the proved controller does
- *   -a N      each POLL is answered by N octets, 2 at least; else the control carrier's by a TX and DONE, the others' by DONE
+ *     epoll     one thread, one epoll, one read and one write for each wake-up
+ *     threads   a thread for each connection, with blocking reads and writes
+ *     mutex     as threads, and each POLL takes one lock, as the desk of the proved controller does
+ *     -a N      answers each POLL by N octets, 2 at least; else the control carrier's by a TX and DONE, the others' by DONE
  *
- * It is no controller: there is no site behind it, what a carrier says is not looked at, and it runs until it is killed.
+ * It is not a controller: it has no site, ignores what a carrier says, and runs until it is killed.
  */
 #define _GNU_SOURCE
 #include <arpa/inet.h>

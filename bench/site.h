@@ -1,11 +1,11 @@
 /*
- * A site in plain C: its plan, and all that is kept between two events. site_machine.h has its rules, site_link.h the link.
+ * A site in plain C: its plan, and all that it keeps between two events. site_machine.h has its rules, site_link.h the link.
  *
  * It is: the whole site machine of crates/dmr_core but for operators, with late entries and both versions of the link, for
- * one thread. It gives the same octets as the engine of crates/dmr_link. It is what our engine should be measured against.
+ * one thread. It writes the same octets as the engine of crates/dmr_link, and our engine should be measured against it.
  *
  * It is not a controller, and nothing in it is proved. It takes no site file: a plan is written by the program that uses
- * it, and no rule of the site file is checked. All room is reserved once, in one block; the caller gives a buffer for what
+ * it, and no rule of the site file is checked. All room is reserved once, in one block; the caller passes a buffer for what
  * goes out, and nothing checks that it is large enough. There is no console, and no journal that could be audited.
  */
 #ifndef SITE_H

@@ -1,15 +1,15 @@
 /*
- * Plays loads to the site of site.h, and replays scripts on it: what stands beside `dmr_bench --load` and
- * `dmr_trunk --script` in `make bench`.
+ * Plays loads to the site of site.h, and replays scripts on it. `make bench` compares it with `dmr_bench --load` and
+ * `dmr_trunk --script`.
  *
- *   site_bench --load LOAD CARRIERS RADIOS FRAMES   plays frames of a load, and prints "rate octets sum events": events a
- *                                                   second, how many octets went out, their sum, and how many events came
- *   site_bench --replay SCRIPT CARRIERS VERSION     prints what `dmr_trunk --script` prints, of a script with `open`, `cut`,
- *                                                   `bytes` and `tick`, on the site of the loads, which serves versions up
- *                                                   to VERSION of the link; it checks nothing of the script
+ *     site_bench --load LOAD CARRIERS RADIOS FRAMES   plays frames of a load, and prints "rate octets sum events": events a
+ *                                                     second, how many octets went out, their sum, and how many events came
+ *     site_bench --replay SCRIPT CARRIERS VERSION     prints what `dmr_trunk --script` prints, of a script with `open`, `cut`,
+ *                                                     `bytes` and `tick`, on the site of the loads, which serves versions up
+ *                                                     to VERSION of the link; it checks nothing of the script
  *
  * LOAD: polls, registrations, joins, calls, busy. The loads, and what an event is, are those of crates/dmr_bench.
- * It is a bench, not a controller; what the site lacks is said in site.h.
+ * It is a bench, not a controller; site.h says what the site lacks.
  */
 #define _POSIX_C_SOURCE 200809L
 #include "site_link.h"
@@ -162,7 +162,7 @@ __attribute__((noinline)) static void play(Scene *scene, Load load, int frames) 
     drop_output(scene);
 }
 
-/* Brings all carriers up, and registers the radios. */
+/* Connects all carriers, and registers the radios. */
 static void set_up(Scene *scene, int carriers, uint32_t radios) {
     begin_scene(scene, carriers, 1);
     for (int carrier = 0; carrier < carriers; carrier++) {

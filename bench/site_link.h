@@ -1,6 +1,6 @@
 /*
  * The link of a site in plain C (docs/FORMATS.md, "Link frames"): octets of carriers to events, and answers to octets, in
- * both versions. A whole frame is read where it stands in the piece; a part of one is kept.
+ * both versions. A whole frame is read in place; a part of one is kept.
  *
  * It writes to a buffer of the caller, and checks no room: a poll writes 58 octets at most in version 1, 60 in version 2.
  */

@@ -1,9 +1,9 @@
 /*
- * The rules of a site (docs/SITE_MACHINE.md) in plain C: what each event changes, and which PDUs it queues. What is not
+ * The rules of a site (docs/SITE_MACHINE.md) in plain C: what each event changes, and which PDUs it queues. Not
  * here: octets of the link, which site_link.h reads and writes, and operators.
  *
  * Functions trust their arguments: slots are below SLOTS, lists and queues have room. The limits of requests and of copies
- * see to it, as they do in the proved machine; here nothing but tests says so.
+ * ensure this, as in the proved machine; here only tests show it.
  */
 #ifndef SITE_MACHINE_H
 #define SITE_MACHINE_H
@@ -172,7 +172,7 @@ static inline void end_call(Site *s, int at) {
 
 typedef enum { FREE, IN_CALL, IN_ASK, IN_LINE } Engagement;
 
-/* What engages a radio, and where in its list that is. */
+/* What engages a radio, and the place of that in its list. */
 static inline Engagement engagement_of(const Site *s, uint32_t radio, int *at) {
     for (int i = 0; i < s->call_count; i++)
         if (s->calls[i].source == radio || (!s->calls[i].group && s->calls[i].target == radio)) return *at = i, IN_CALL;
@@ -389,7 +389,7 @@ static inline void tick(Site *s) {
     }
 }
 
-/* Forgets what waits and stands on a carrier; of the control carrier also asks, lines, noises and fills. */
+/* Forgets the calls and the waiting PDUs of a carrier; of the control carrier also asks, lines, noises and fills. */
 static inline void reset_carrier(Site *s, int carrier) {
     for (int i = s->call_count - 1; i >= 0; i--)
         if (s->calls[i].slot / 2 == carrier) drop_call(s, i);

@@ -1,12 +1,12 @@
 /*
- * The site of site.h behind TCP ports: one thread, one epoll, a timer for the ticks. It is measured with
- * bench/load_generator.c, beside `dmr_trunk --serve`.
+ * The site of site.h over TCP ports: one thread, one epoll, a timer for the ticks. It is measured with
+ * bench/load_generator.c, as `dmr_trunk --serve` is.
  *
- *   site_server [-p BASE_PORT] [-n CARRIERS] [-c CONTROL] [-l FIRST_LPCN] [-L LPCN_STEP] [-j]
+ *     site_server [-p BASE_PORT] [-n CARRIERS] [-c CONTROL] [-l FIRST_LPCN] [-L LPCN_STEP] [-j]
  *
- *   -j   keeps a journal too: what answered each event, 64 octets each, in a ring of 100,000
+ *     -j   keeps a journal too: the answer of each event, 64 octets each, in a ring of 100,000
  *
- * It is no controller. It reads no site file, has no operators, no terms and no audit. It does not wait for a peer that
+ * It is not a controller. It reads no site file, has no operators, no terms and no audit. It does not wait for a peer that
  * reads nothing: a write that is not taken whole ends the connection. It runs until it is killed.
  */
 #define _GNU_SOURCE

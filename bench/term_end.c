@@ -1,10 +1,10 @@
 /*
- * What the parts of a term's end cost in C, each as the proved desk does it and in another way:
+ * Measures what the parts of a term's end cost in C, each as the proved desk does it and in another way:
  *
- *   stop     17 workers that wait in parts of 25 ms and look whether the term is over, or are woken; all are joined
- *   audit    18 views compared with a journal of N entries: a pass over the journal for each view, or one pass for all;
- *            with entries of 1,304 octets, or of 64
- *   memory   what it takes to give the journal and the views back to the system
+ *     stop     17 workers that wait in parts of 25 ms and look whether the term is over, or are woken; all are joined
+ *     audit    18 views compared with a journal of N entries: a pass over the journal for each view, or one pass for all;
+ *              with entries of 1,304 octets, or of 64
+ *     memory   what it takes to give the journal and the views back to the system
  *
  * It models these parts alone: there is no site, no lock, and no entry that means anything. Nothing in it is proved.
  */

@@ -225,7 +225,7 @@ static void spread(const Packed *word, Plain *plain) {
     for (int p = 0; p < PLACES; p++) plain->bit[p] = bit_of(word, p);
 }
 
-/* So that each octet that is decoded has to be made. */
+/* The sum of decoded octets, so that the compiler must compute each of them. */
 static uint64_t sum_of(const uint8_t octets[12]) {
     uint64_t sum = 0;
     for (int i = 0; i < 12; i++) sum += octets[i];

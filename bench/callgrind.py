@@ -24,7 +24,7 @@ class Profile:
     inclusive: dict[str, int] = field(default_factory=dict)
 
     def less(self, other: "Profile") -> "Profile":
-        """What this run took more than another."""
+        """The instructions and calls of this run less those of another."""
         def subtract(some: dict[str, int], others: dict[str, int]) -> dict[str, int]:
             return {name: some.get(name, 0) - others.get(name, 0) for name in {**some, **others}}
         return Profile(self.total - other.total, subtract(self.own, other.own), subtract(self.calls, other.calls), subtract(self.inclusive, other.inclusive))

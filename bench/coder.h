@@ -60,7 +60,7 @@ static const uint8_t COLUMN_EQUATIONS[4][8] = {
 static const uint8_t ROW_CELLS[4] = {8, 8, 8, 8};
 static const uint8_t COLUMN_CELLS[4] = {6, 7, 8, 6};
 
-/* What one place adds to the sums of a word, and what each group of four or eight places adds. */
+/* The sums that one place adds to those of a word, and the sums that each group of four or eight places adds. */
 static Sums place_sums[PLACES + 60] __attribute__((aligned(64)));
 static Sums nibble_sums[49][16] __attribute__((aligned(64)));
 static Sums octet_sums[25][256] __attribute__((aligned(64)));

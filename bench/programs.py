@@ -60,12 +60,12 @@ def build(source: str, processor: str, folder: str) -> list[str]:
 
 
 def output_of(words: Sequence[str]) -> str:
-    """What a program prints. CalledProcessError: it ended with another status than 0."""
+    """The output of a program. CalledProcessError: it ended with a status other than 0."""
     return subprocess.run(words, check=True, stdout=subprocess.PIPE, text=True).stdout
 
 
 def timed_output(words: Sequence[str]) -> tuple[str, float]:
-    """What a program prints, and the seconds of processor time that it took."""
+    """The output of a program, and the seconds of processor time that it took."""
     before = resource.getrusage(resource.RUSAGE_CHILDREN)
     printed = output_of(words)
     after = resource.getrusage(resource.RUSAGE_CHILDREN)

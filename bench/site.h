@@ -66,7 +66,7 @@ typedef struct {
     uint32_t first, last;
 } Range;
 
-/* What a site file says. Times are in ticks. */
+/* The values of a site file. Times are in ticks. */
 typedef struct {
     uint32_t system, regi, tsi;
     uint32_t hang, maximum, ahoy_wait, ahoy_tries, grant_copies, clear_copies, backoff_low, backoff_high;

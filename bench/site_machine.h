@@ -172,7 +172,7 @@ static inline void end_call(Site *s, int at) {
 
 typedef enum { FREE, IN_CALL, IN_ASK, IN_LINE } Engagement;
 
-/* What engages a radio, and the place of that in its list. */
+/* The kind of thing that engages a radio, and its place in the list of that kind. */
 static inline Engagement engagement_of(const Site *s, uint32_t radio, int *at) {
     for (int i = 0; i < s->call_count; i++)
         if (s->calls[i].source == radio || (!s->calls[i].group && s->calls[i].target == radio)) return *at = i, IN_CALL;

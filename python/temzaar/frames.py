@@ -44,7 +44,7 @@ class Fault(Enum):
 
 
 class Burst(NamedTuple):
-    """What an RX or a TX carries: its number (None in version 1), its slot and the 25 octets of its word."""
+    """The contents of an RX or a TX: its number (None in version 1), its slot and the 25 octets of its word."""
     number: int | None
     slot: int
     word: bytes
@@ -60,7 +60,7 @@ class Frame(NamedTuple):
         return bytes([self.kind, len(self.body)]) + self.body
 
     def burst(self) -> Burst:
-        """What an RX or a TX carries."""
+        """The contents of an RX or a TX."""
         return Burst(self.body[0] if len(self.body) > BURST_PART else None, self.body[-26], self.body[-25:])
 
 
@@ -135,7 +135,7 @@ class Cutter:
         return BODY_LENGTHS[FrameType(self.octets[0])][(self.version or 1) - 1]
 
     def _fault_of_head(self) -> Fault | None:
-        """What the type, length or slot of the frame that has begun shows."""
+        """The fault that the type, length or slot of the frame that has begun shows."""
         if self.octets[0] not in self.kinds:
             return Fault.UNKNOWN_TYPE
         length = self._length()
@@ -166,7 +166,7 @@ class Link:
         return octets
 
     def take_tx(self, frame: Frame) -> Burst | None:
-        """What a TX carries; None if it is of the other version, or does not have the next number."""
+        """The contents of a TX; None if it is of the other version, or does not have the next number."""
         burst = frame.burst()
         if len(frame.body) != BODY_LENGTHS[FrameType.TX][self.version - 1] or burst.number != self.next_tx:
             return None

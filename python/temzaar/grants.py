@@ -29,7 +29,7 @@ FILLS = ("C_ALOHA", "C_MOVE")
 
 @dataclass(frozen=True)
 class Parties:
-    """Whom a grant or a P_CLEAR names: a talkgroup or a radio, and the caller, whom a P_CLEAR does not name."""
+    """The parties of a grant or a P_CLEAR: a talkgroup or a radio, and the caller, whom a P_CLEAR does not name."""
     group: bool
     target: int
     source: int | None = None
@@ -43,17 +43,17 @@ class Parties:
 
 
 def granted_parties(pdu: Pdu) -> Parties:
-    """Whom a grant names."""
+    """The parties of a grant."""
     return Parties(pdu.name == "TV_GRANT", pdu["target"], pdu["source"])
 
 
 def cleared_parties(pdu: Pdu) -> Parties:
-    """Whom a P_CLEAR names; its source is the site."""
+    """The parties of a P_CLEAR; its source is the site."""
     return Parties(bool(pdu["group"]), pdu["target"])
 
 
 def requested_parties(pdu: Pdu) -> Parties | None:
-    """Whom a request for a call names; None for anything else."""
+    """The parties of a request for a call; None for anything else."""
     if pdu.name != "C_RAND" or pdu["kind"] not in (pdus.INDIVIDUAL_VOICE, pdus.TALKGROUP_VOICE):
         return None
     return Parties(pdu["kind"] == pdus.TALKGROUP_VOICE, pdu["target"], pdu["source"])

@@ -116,7 +116,7 @@ def value_in_words(field: str, value: int) -> str:
 
 
 def reason_in_words(reason: int) -> str:
-    """What the tools call a reason: its words, or its octet in hexadecimal if it has no name."""
+    """The tools' text for a reason: its words, or its octet in hexadecimal if it has no name."""
     return REASONS[reason].words if reason in REASONS else hex(reason)
 
 

@@ -72,7 +72,7 @@ class Backoff:
 
 
 class CarrierInPlay(Protocol):
-    """What the play needs of a carrier, in order or in trouble."""
+    """The part of a carrier that the play needs, in order or in trouble."""
     number: int
     link: Link
     backoff: Backoff
@@ -189,7 +189,7 @@ class Sign:
 
 
 class Slots:
-    """What was seen of each slot: whether one call at a time is active on it, and which grants were of calls that had ended."""
+    """The signs that each slot showed: whether one call at a time is active on it, and which grants were of calls that had ended."""
 
     def __init__(self, plan: dict[str, Any]) -> None:
         self.calls = SiteCalls(plan)
@@ -390,13 +390,13 @@ class Play:
         self.faults["polls without an answer"] += len(awaited)
 
     def check_slots(self) -> None:
-        """Counts what the slots show to be wrong."""
+        """Counts the faults that the slots show."""
         self.counts["grants of calls that had ended"] = self.slots.ended()
         self.faults["grants on a slot on which another stands"] = self.slots.overlaps()
         self.faults["registrations acknowledged more often than they were asked for"] = self.radios.not_asked
 
     def judge(self) -> Counter[str]:
-        """What was wrong, by how often."""
+        """The faults, each with how often it occurred."""
         self.check_slots()
         self.faults["registrations without an acknowledgement"] += self.radios.registrations - self.radios.acknowledged
         if not self.radios.acknowledged:
@@ -404,7 +404,7 @@ class Play:
         return +self.faults
 
     def report(self, seconds: float, share: float | None, say: Callable[[str], None] = print) -> bool:
-        """Says counts, times and what was wrong; `share` is the controller's share of a processor. Whether nothing was wrong."""
+        """Prints counts, times and faults; `share` is the controller's share of a processor. Whether there is no fault."""
         faults, polls = self.judge(), len(self.times)
         say(f"{len(self.site.rows)} carriers, version {self.version} of the link, {len(self.radios.radios)} radios, {seconds:.0f} s: {polls} polls answered, {polls / seconds:.0f} a second")
         self.counts["registrations"], self.counts["registrations acknowledged"] = self.radios.registrations, self.radios.acknowledged

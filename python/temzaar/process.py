@@ -15,7 +15,7 @@ from temzaar.sitefile import Site
 
 
 class Process:
-    """What the system says of a process that runs."""
+    """The system's figures of a process that runs."""
 
     def __init__(self, pid: int) -> None:
         self.pid = pid
@@ -118,7 +118,7 @@ def connect(address: str, port: int, seconds: float = 10.0) -> socket.socket:
 
 
 def replay(program: str, site: str, script: str) -> str:
-    """What the controller prints when it replays the text of a script. SessionFault: it cannot be run, or refuses the script."""
+    """The output of the controller that replays the text of a script. SessionFault: it cannot be run, or refuses the script."""
     try:
         done = subprocess.run([program, "--site", site, "--script", "/dev/stdin"], input=script.encode("utf-8"), capture_output=True, check=False)
     except OSError as fault:

@@ -65,7 +65,7 @@ def read_script(text: str) -> list[Input]:
 
 
 def read_printed(text: str) -> tuple[dict[int, bytes], str]:
-    """What a replay printed: the octets that went to each carrier, and the text that went to operators."""
+    """The output of a replay: the octets that went to each carrier, and the text that went to operators."""
     carriers, told = {}, text
     while told.startswith("carrier "):
         line, _, told = told.partition("\n")
@@ -91,7 +91,7 @@ def frames_to_carrier(octets: bytes) -> list[Frame]:
 
 
 def split_connection(octets: bytes) -> tuple[bytes, bytes]:
-    """What went to a carrier on its first connection, and the rest."""
+    """The octets that went to a carrier on its first connection, and the rest."""
     end = 0
     while len(octets) >= end + 2 and (end == 0 or octets[end] not in (FrameType.WELCOME, FrameType.REFUSED)):
         end += 2 + octets[end + 1]

@@ -22,18 +22,18 @@ Gaps = list[int]
 
 @dataclass
 class Piece:
-    """What came in one piece, when it was handed to the site, and what the site answered before the next piece was handed in."""
+    """The input of one piece, when it was handed to the site, and what the site answered before the next piece was handed in."""
     input: Input
     time: float
     answer: bytes = b""
 
     def to(self) -> int:
-        """Whom the answer went to: a carrier, or `OPERATORS`."""
+        """The receiver of the answer: a carrier, or `OPERATORS`."""
         return self.input.carrier
 
 
 class Replayer(Protocol):
-    """What replays a script: the controller, or a test's model of one. `replays` counts its calls."""
+    """Something that replays a script: the controller, or a test's model of one. `replays` counts its calls."""
     replays: int
 
     def replay(self, lines: list[str]) -> Mapping[int, bytes]:

@@ -86,7 +86,7 @@ class Case:
         return f"{self.file}: {self.name}"
 
     def answer(self) -> str:
-        """What the replay prints to standard output; if it is refused, standard error and the status as lines after that."""
+        """The standard output of the replay; if it is refused, standard error and the status as lines after that."""
         return self.printed + (f"{self.fault}status {self.status}\n" if self.status else "")
 
 

@@ -1,4 +1,4 @@
-"""What `dmr_decode` has to say of scripts, replays and PDUs, from docs/FORMATS.md alone."""
+"""The expected output of `dmr_decode` for scripts, replays and PDUs, from docs/FORMATS.md alone."""
 import random
 from typing import NamedTuple
 
@@ -10,19 +10,19 @@ MOST_FLIPS = 3
 
 
 class Flipped(NamedTuple):
-    """What a burst was made of: ten octets, and the places that were flipped."""
+    """The origin of a burst: ten octets, and the places that were flipped."""
     octets: bytes
     places: list[int]
 
 
 class Traffic(NamedTuple):
-    """A script, and what its bursts were made of."""
+    """A script, and the origin of its bursts."""
     script: str
     known: dict[bytes, Flipped]
 
 
 def corrected_lines(places: list[int]) -> list[str]:
-    """What is said of flipped places."""
+    """The output for flipped places."""
     cells = []
     for place in sorted(it for it in places if it):
         row, column = code.cell_at(place)
@@ -32,7 +32,7 @@ def corrected_lines(places: list[int]) -> list[str]:
 
 
 def word_lines(word: bytes, known: dict[bytes, Flipped]) -> list[str]:
-    """What is said of a word."""
+    """The output for a word."""
     octets = code.octets_of(word)
     if octets:
         return ["      " + pdus.read(octets).in_words(octets)]
@@ -43,7 +43,7 @@ def word_lines(word: bytes, known: dict[bytes, Flipped]) -> list[str]:
 
 
 def frame_lines(place: int, frame: Frame, known: dict[bytes, Flipped]) -> list[str]:
-    """What is said of a frame that begins at a place of a stream."""
+    """The output for a frame that begins at a place of a stream."""
     kind, body = frame
     if kind in (FrameType.RX, FrameType.TX):
         number, slot, word = frame.burst()
@@ -59,7 +59,7 @@ def frame_lines(place: int, frame: Frame, known: dict[bytes, Flipped]) -> list[s
 
 
 def script_text(script: str, known: dict[bytes, Flipped]) -> str:
-    """What is said of a script: each line, and the frames that end in it."""
+    """The output for a script: each line, and the frames that end in it."""
     said: list[str] = []
     cutters: dict[str, Cutter] = {}
     places: dict[str, int] = {}
@@ -76,7 +76,7 @@ def script_text(script: str, known: dict[bytes, Flipped]) -> str:
 
 
 def replay_text(printed: str, known: dict[bytes, Flipped]) -> str:
-    """What is said of a printed replay."""
+    """The output for a printed replay."""
     said = []
     for line in printed.split("\n")[:-1]:
         words = line.split(" ")

@@ -63,7 +63,7 @@ def clock_session(seed: int, uneven: float, hang: int = 4, count: int = 300) -> 
 
 
 class Talk:
-    """What carriers and radios send: calls to all talkgroups again and again, some of them marked by activity for a while. The control carrier speaks
+    """The input of carriers and radios: calls to all talkgroups again and again, some of them marked by activity for a while. The control carrier speaks
     version 2 of the link, the others version 1."""
 
     def __init__(self, site: Site, draws: random.Random) -> None:

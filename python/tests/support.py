@@ -1,4 +1,4 @@
-"""What the tests share: the repository's files, the controller's programs, and readers of the documents."""
+"""The parts that tests share: the repository's files, the controller's programs, and readers of the documents."""
 import os
 import pathlib
 import re

@@ -50,7 +50,7 @@ class InC(unittest.TestCase):
             self.assertEqual(self.replay(single, 2, version), self.replay(lines, 2, version))
 
     def replay(self, lines: list[str], carriers: int, version: int) -> list[str]:
-        """What the site prints of a script."""
+        """The output of the site in C for a script."""
         script = pathlib.Path(self.folder) / "script"
         script.write_text("".join(f"{line}\n" for line in lines), encoding="ascii")
         words = [f"{self.folder}/site_bench", "--replay", str(script), str(carriers), str(version)]

@@ -11,7 +11,7 @@ SAMPLE = (TOP / "python" / "tests" / "callgrind.sample").read_text(encoding="utf
 
 
 class Profiles(unittest.TestCase):
-    """What is read."""
+    """The values read."""
 
     def test_own_instructions(self) -> None:
         profile = read_profile(SAMPLE)

@@ -14,7 +14,7 @@ CASES = list(read_cases())
 
 
 class Reading(unittest.TestCase):
-    """What a text is read as."""
+    """The meaning of a text."""
 
     def test_notes_go_and_lines_are_continued(self) -> None:
         text = "# a\n\nopen 0  # b\ncarrier 0\n  81 01  # c\n  82\ncarrier 1 -\nsay  a \r\n b"
@@ -42,7 +42,7 @@ class Reading(unittest.TestCase):
 
 
 class Sessions(unittest.TestCase):
-    """What is printed answers the script: the package reads both as one session."""
+    """The output answers the script: the package reads both as one session."""
 
     def test_each_is_a_session(self) -> None:
         taken = [case for case in CASES if case.status == 0]
@@ -69,7 +69,7 @@ class Controlled(unittest.TestCase):
         self.program = program("dmr_trunk")
 
     def answer(self, site: bytes | None, script: bytes | None) -> str:
-        """What a replay prints, its fault and its status, as a case says it. None is a file that is not there."""
+        """The output of a replay, its fault and its status, in the form of a case. None is a file that is not there."""
         with tempfile.TemporaryDirectory() as folder:
             for name, octets in ((SITE_FILE, site), (SCRIPT_FILE, script)):
                 if octets is not None:

@@ -15,7 +15,7 @@ PATIENCE = 60
 LONG = 600
 CARRIER, LPCN = 1, 2
 UP = hello(CARRIER, LPCN)
-# What a carrier sends, and the cause that is noted; the controller closes each of these connections.
+# The octets that a carrier sends, and the cause that is noted; the controller closes each of these connections.
 CLOSED_BY_CONTROLLER = {
     UP + BYE: r"BYE",
     UP + POLL + BYE: r"BYE",

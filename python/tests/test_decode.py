@@ -1,4 +1,4 @@
-"""What `dmr_decode` says, compared with what docs/FORMATS.md says."""
+"""The output of `dmr_decode`, compared with docs/FORMATS.md."""
 import random
 import subprocess
 import unittest

@@ -82,7 +82,7 @@ EXPECTED = {
 
 
 def printed(name: str) -> str:
-    """What the replay of an example is to print."""
+    """The expected output of an example's replay."""
     first, second, told = EXPECTED[name]
     lines = [f"carrier {number} {b''.join(sent).hex().upper()}" for number, sent in enumerate((first, second))]
     return "".join(f"{line}\n" for line in lines + told)

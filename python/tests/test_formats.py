@@ -21,7 +21,7 @@ def expand(frames: str) -> str:
 
 
 class Session(unittest.TestCase):
-    """What comes, and what is sent."""
+    """The input, and the output."""
 
     def test_version_2(self) -> None:
         built = program("dmr_trunk")

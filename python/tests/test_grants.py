@@ -22,7 +22,7 @@ from tests.support import TWO_CARRIERS, program, run_tool
 
 
 class Reading(NamedTuple):
-    """What is seen of one slot, in order, and the calls that it means.
+    """The signs that one slot shows, in order, and the calls that they mean.
 
     Grants: G group/caller, L the same late, R radio/caller. P_CLEARs: C group, c radio. F: a fill. X, U: the carrier is lost, comes up. E: the control
     carrier is lost. Q: a request is received. The calls are parties, the place of the first grant, and that of the end.
@@ -69,8 +69,8 @@ READINGS = tuple(Reading(*it) for it in (
 
 
 class Sight(NamedTuple):
-    """What carriers saw of a slot: each sign, since when at the earliest it can have been so, and when it came. A grant's first time is that of the last
-    fill before it."""
+    """The signs that carriers saw of a slot. Each has a time since which it can have been so at the earliest, and the time when it came. A grant's first
+    time is that of the last fill before it."""
     name: str
     signs: tuple[tuple[str, float, float], ...]
     # how often a call is granted on another's slot, and how many grants are of calls that had ended
@@ -99,7 +99,7 @@ def pdu_octets(sign: str) -> bytes:
 
 
 def parties_of(sign: str) -> Parties:
-    """Whom a sign names."""
+    """The parties of a sign."""
     target, _, source = sign[1:].partition("/")
     return Parties(sign[0] not in "Rc", int(target), int(source) if source else None)
 
@@ -169,7 +169,7 @@ class SilentCarrier:
 
 
 class Played(unittest.TestCase):
-    """What a play makes of bursts."""
+    """The verdicts of a play on bursts."""
 
     def play(self, *bursts: tuple[int, bytes]) -> Play:
         """A play that is shown bursts, each for a slot, a second apart."""
@@ -273,7 +273,7 @@ SCRIPTS = (LATE_GRANT, LATE_ENTRY, NEXT_CALL, RETRANSMITTED)
 
 
 def printed(version: int, answers: list[Answer]) -> str:
-    """What a replay prints of these answers to polls, if carrier 0 of the two has a connection."""
+    """The output of a replay with these answers to polls, if carrier 0 of the two has a connection."""
     octets, number = welcome(version), 0 if version == 2 else None
     for answer in answers:
         for slot, pdu in enumerate(answer):
@@ -285,7 +285,7 @@ def printed(version: int, answers: list[Answer]) -> str:
 
 
 class Drawn(unittest.TestCase):
-    """What is drawn of scripts, and whether the program answers them as worked out here."""
+    """The drawing of scripts, and whether the program answers them as worked out here."""
 
     site = Site(TWO_CARRIERS, hang=1, link_version=2)
 

@@ -32,7 +32,7 @@ def frame_of(octets: bytes) -> Frame:
 
 
 def replayed(script: list[str], **changes: int) -> bytes:
-    """What goes to carrier 0 when a script is replayed."""
+    """The octets that go to carrier 0 when a script is replayed."""
     built = program("dmr_trunk")
     with tempfile.TemporaryDirectory() as folder:
         path = os.path.join(folder, "site.toml")
@@ -109,7 +109,7 @@ class Calls(unittest.TestCase):
     HANG = 100
 
     def script(self, link: Link) -> tuple[list[str], bytes]:
-        """What carrier 0 sends, and what it is to receive."""
+        """The lines of carrier 0's script, and the octets that it should receive."""
         lines, sent = ["open 0", f"bytes 0 {hello(0, 1, link.version).hex()}"], [welcome(link.version)]
         fillers, late = 0, ""
 
@@ -161,11 +161,11 @@ class Calls(unittest.TestCase):
 
 
 class Ends(unittest.TestCase):
-    """What a carrier sees when a connection ends, as the table says it, over a controller that is served on loopback."""
+    """The end of a connection as a carrier sees it and as the table describes it, over a controller that is served on loopback."""
 
     UP = hello(0, 1) + POLL
     ANSWERS = welcome(1) + burst_frame(FrameType.TX, 0, BURSTS["aloha"]) + DONE
-    # what is sent for each cause; a POLL after it is not answered
+    # the octets that provoke each cause; a POLL after them is not answered
     SENT = {
         "BYE": UP + BYE, "end of input": UP, "silence": UP,
         "link fault: BadVersion": hello(0, 1, 2), "link fault: WrongCarrier": hello(1, 1), "link fault: NoHello": POLL,

@@ -6,7 +6,7 @@ from tests.support import TOP, read_document, table_rows
 
 OPERATING = read_document("OPERATING.md")
 CRATES = TOP / "crates"
-# What means a value: in the sources a format's braces, in the document a word in upper case.
+# The place of a value: in the sources a format's braces, in the document a word in upper case.
 HOLE = r"\{[\w.]*\}"
 WORD = r"[A-Z]+(?::[A-Z]+)?"
 PROGRAM = "dmr_trunk: "
@@ -50,7 +50,7 @@ def causes() -> list[str]:
 
 
 def messages() -> list[str]:
-    """What the program writes to standard error when it ends: the texts of faults, after its name, and those of refused words."""
+    """The lines that the program writes to standard error when it ends: the texts of faults, after its name, and those of refused words."""
     fault = source("dmr_command/src/fault.rt")
     desk = source("dmr_desk/src/fault.rt")
     replay = literals(source("dmr_replay/src/replaying.rt"), r"#\[error\(")

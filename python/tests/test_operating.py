@@ -12,7 +12,7 @@ from tests.support import TWO_CARRIERS, program, read_document
 
 OPERATING = read_document("OPERATING.md")
 PARTIES = r"(group|radio) \d+ from \d+"
-# What each command may be answered, line by line; a list ends with `end`.
+# The possible answers of each command, line by line; a list ends with `end`.
 REPLIES = {
     "status": r"status carriers \d+ radios \d+ asks \d+ lines \d+ calls \d+ fill (aloha|move \d+)",
     "radios": r"radio \d+", "calls": rf"call \d+ [01] {PARTIES}", "lines": rf"line \d+ {PARTIES}", "slots": r"slot \d+ [01] (control|down|call|free|waiting)",

@@ -40,7 +40,7 @@ class Table(unittest.TestCase):
 
 
 class BothDirections(unittest.TestCase):
-    """What is written is read, and what is read is written."""
+    """Reading returns what was written, and writing what was read."""
 
     def test_round_trips(self) -> None:
         draws = random.Random(1)

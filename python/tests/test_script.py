@@ -40,7 +40,7 @@ class Reading(unittest.TestCase):
 
 
 class Events(unittest.TestCase):
-    """What a replay shows."""
+    """The events of a replay."""
 
     def test_a_registration(self) -> None:
         events = replayed(["open 0", hello(0, 1), rx(0, REGISTER), "tick 2", POLL, BYE], welcome(1), burst_frame(FrameType.TX, 0, code.burst_of(ACCEPTED)), DONE)

@@ -213,7 +213,7 @@ class Carrier:
 
 
 class Captured(unittest.TestCase):
-    """What capture writes of a session is what went over its ports. How well it finds ticks, `test_ticks` tries on sessions that are the same each time."""
+    """The script of a session that capture records is what went over its ports. `test_ticks` tests how well it finds ticks, on sessions that are the same each time."""
 
     TICK_MS, HANG, SHIFT = 10, 4, 100
 

@@ -60,7 +60,7 @@ class Example(unittest.TestCase):
 
 
 class Texts(unittest.TestCase):
-    """What the controller says of site files with one fault each."""
+    """The controller's messages for site files with one fault each."""
 
     def setUp(self) -> None:
         self.program = program("dmr_trunk")

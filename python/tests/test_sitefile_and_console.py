@@ -35,7 +35,7 @@ class SiteFile(unittest.TestCase):
 
 
 class Replies(unittest.TestCase):
-    """What replies say."""
+    """The meaning of replies."""
 
     def test_status(self) -> None:
         status = Status(["status carriers 1 radios 2 asks 0 lines 3 calls 4 fill move 7"])

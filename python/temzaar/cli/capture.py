@@ -262,7 +262,7 @@ class Capture:
 
 
 def printed_text(pieces: list[Piece], numbers: Iterable[int]) -> str:
-    """What was sent, as a replay prints it."""
+    """The octets that were sent, as a replay prints them."""
     lines = []
     for number in sorted(numbers):
         octets = b"".join(piece.answer for piece in pieces if piece.to() == number)
@@ -289,7 +289,7 @@ def require_empty_site(port: int) -> None:
 
 
 def record(options: argparse.Namespace, site: Site, stopped: list[bool]) -> list[Piece]:
-    """Passes everything on until `stopped` has an item, or the time is up. What was handed over."""
+    """Passes everything on until `stopped` has an item, or the time is up. The pieces that were handed over."""
     inner = Site(options.site)
     inner.shift_ports(options.shift)
     controller = None if options.running else Controller(options.program, inner)

@@ -33,12 +33,12 @@ LEAVE = "\x04"
 # A part of a row: its text, and the state that colours it.
 Part = tuple[str, str]
 Row = list[Part]
-# What has an age: a call on a slot, or a request in the queue.
+# Something with an age: a call on a slot, or a request in the queue.
 Standing = tuple[str, SlotKey | None, str]
 
 
 class Asked(Protocol):
-    """What answers lines: a console, or a test's stand-in."""
+    """Something that answers lines: a console, or a test's stand-in."""
 
     def ask(self, line: str) -> list[str]:
         """The lines of the reply to a line."""
@@ -46,7 +46,7 @@ class Asked(Protocol):
 
 
 class Picture:
-    """What the console says at one time. The answers come one after the other, so a call may end between two of them."""
+    """The answers of the console at one time. They come one after the other, so a call may end between two of them."""
 
     def __init__(self, console: Asked) -> None:
         self.status = Status(console.ask("status"))
@@ -69,7 +69,7 @@ class Picture:
 
 
 class Ages:
-    """Since when siteview has seen each call and each request."""
+    """The times since which siteview has seen each call and each request."""
 
     def __init__(self) -> None:
         # when each was first seen, and whether that was in the first picture; None before the first picture
@@ -167,7 +167,7 @@ class Screen:
         sys.stdout.flush()
 
     def keys(self, seconds: float) -> str:
-        """What is typed within `seconds`; the end of input counts as Ctrl-D."""
+        """The keys that are typed within `seconds`; the end of input counts as Ctrl-D."""
         if select.select([sys.stdin], [], [], seconds)[0]:
             return os.read(sys.stdin.fileno(), 256).decode("utf-8", "replace") or LEAVE
         return ""

@@ -106,7 +106,7 @@ class Calls:
 
 
 def event_in_words(event: Event) -> str:
-    """What an event is, in words."""
+    """An event in words."""
     if not event.octets:
         return {"heard": "a burst was heard (flipped bits, or noise)", "said": f"operator: {event.text.strip()}"}.get(event.what, event.what)
     pdu = pdus.read(event.octets)

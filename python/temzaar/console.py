@@ -96,7 +96,7 @@ def read_slots(reply: list[str]) -> dict[SlotKey, str]:
 
 
 def read_parties(words: list[str]) -> str:
-    """The parties of a call, `group G from R` or `radio T from R`, as the text that they are."""
+    """The parties of a call, as a text: `group G from R` or `radio T from R`."""
     if len(words) != 4 or words[0] not in ("group", "radio") or words[2] != "from":
         raise ConsoleFault(f"not the parties of a call: {' '.join(words)}")
     return " ".join(words)

@@ -84,7 +84,7 @@ class CarrierInPlay(Protocol):
 
 
 class Radios:
-    """The radios of a site: what they send on the control slot, and what they make of what is sent to them."""
+    """The radios of a site: what they send on the control slot, and how they react to what they receive."""
 
     def __init__(self, site: Site, count: int, seed: int, counts: Counter[str], slots: "Slots") -> None:
         self.site, self.counts, self.random, self.slots = site, counts, random.Random(seed), slots
@@ -260,7 +260,7 @@ class Carrier:
         self.play.counts["polls"] += 1
 
     def receive(self) -> bool:
-        """Takes what came. Whether the poll is answered. ConnectionError: the controller ended the connection, or sent a frame out of turn."""
+        """Processes the octets received. Whether the poll is answered. ConnectionError: the controller ended the connection, or sent a frame out of turn."""
         octets = self.stream.recv(4096)
         if not octets:
             raise ConnectionError(f"carrier {self.number}: the controller ended the connection")

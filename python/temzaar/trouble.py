@@ -114,7 +114,7 @@ class TroubledCarrier:
         self.counts["polls"] += 1
 
     def begin_trouble(self, kind: str, now: float) -> None:
-        """Something goes wrong with a connection that is in order."""
+        """Starts a trouble on a connection that is in order."""
         self.counts[f"trouble: {kind}"] += 1
         if kind == "broken off":
             octets = self.link.rx(0, bytes(25))
@@ -189,7 +189,7 @@ class TroubledCarrier:
         self.close(self.must_end or "for no reason", now)
 
     def receive(self, now: float) -> None:
-        """Takes what came."""
+        """Processes the octets received."""
         if self.trouble in ("deaf", "never reads"):
             return
         assert self.stream
@@ -313,7 +313,7 @@ class TroubledOperator:
         self.stream, self.deaf = None, False
 
     def receive(self, _now: float) -> None:
-        """Takes what came."""
+        """Processes the octets received."""
         if self.deaf or self.stream is None:
             return
         try:
@@ -381,7 +381,7 @@ class TroubledPlay(Play):
         return time.monotonic() - began
 
     def make_trouble(self, carriers: list[TroubledCarrier], now: float) -> None:
-        """Something goes wrong with a carrier; now and then the controller is stopped, or has no descriptor left."""
+        """Starts a trouble on a carrier; now and then the controller is stopped, or has no descriptor left."""
         if now >= self.next_trouble:
             self.next_trouble = now + self.random.expovariate(self.options.troubles)
             carrier = self.random.choice(carriers)

@@ -43,7 +43,7 @@ class Ended(Exception):
 
 
 class Upstream:
-    """The connection to the controller for one of ours."""
+    """The connection to the controller that belongs to one from a carrier or an operator."""
 
     def __init__(self, address: str, port: int) -> None:
         self.stream, self.octets = connect(address, port), b""
@@ -84,7 +84,7 @@ class Upstream:
 
 
 class Side:
-    """One connection through us: of a carrier, or of an operator."""
+    """A connection that is passed on: of a carrier, or of an operator."""
 
     def __init__(self, capture: "Capture", carrier: int, stream: socket.socket, port: int) -> None:
         self.capture, self.carrier, self.stream = capture, carrier, stream
@@ -93,7 +93,7 @@ class Side:
         self.since: float | None = None
 
     def receive(self) -> None:
-        """Takes what came. Ended: the other side closed the connection."""
+        """Takes the octets received. Ended: the other side closed the connection."""
         try:
             piece = self.stream.recv(65536)
         except OSError:
@@ -193,7 +193,7 @@ class OperatorSide(Side):
 
 
 class Capture:
-    """The ports, the connections through us, and what was handed over. SessionFault: a port cannot be listened on."""
+    """The ports, the connections that are passed on, and the pieces that were handed over. SessionFault: a port cannot be listened on."""
 
     def __init__(self, site: Site, shift: int) -> None:
         self.shift = shift

@@ -83,7 +83,7 @@ def play_site(options: argparse.Namespace, controller: Controller | None) -> int
 def main(words: Sequence[str] | None = None) -> int:
     """Runs the command. The status."""
     options = read_words(words)
-    # the controller is stopped, however this ends
+    # the controller is stopped after success and failure alike
     signal.signal(signal.SIGTERM, lambda *_: sys.exit(1))
     controller = Controller(options.program, options.served) if options.program else None
     try:

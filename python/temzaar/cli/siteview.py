@@ -76,7 +76,7 @@ class Ages:
         self.since: dict[Standing, tuple[float, bool]] | None = None
 
     def look(self, picture: Picture, now: float) -> None:
-        """Takes in a picture."""
+        """Records when the calls and requests of a picture were first seen."""
         before = self.since
         new = now, before is None
         self.since = {it: (before or {}).get(it, new) for it in picture.standings()}
@@ -144,7 +144,7 @@ def paint_rows(rows: Iterable[Row], width: int, height: int) -> str:
 
 
 class Screen:
-    """The terminal, while siteview shows: keys come one by one, and in the end the terminal is as before."""
+    """The terminal while siteview runs. Keys arrive one by one; at the end the terminal's settings are restored."""
 
     def __enter__(self) -> "Screen":
         self.before = termios.tcgetattr(sys.stdin)

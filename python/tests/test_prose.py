@@ -40,6 +40,9 @@ class Counted(unittest.TestCase):
         text = '//! Anew.\n\nfn behind() -> u8 { // anew\n    let a = "// anew"; let b = \'"\'; /* so\n    many */\n    /// ```\n    /// anew\n    /// ```\n    /// owed\n}\n'
         self.assertEqual(found("rt", text), [(1, "anew"), (3, "anew"), (4, "so many"), (9, "owed")])
 
+    def test_a_string_that_goes_on_in_the_next_line(self) -> None:
+        self.assertEqual(found("rt", 'let a = "anew \\\n    // anew";\n// anew\n'), [(3, "anew")])
+
     def test_definitions(self) -> None:
         self.assertEqual(found("antt", '-- once\n-- more\nbehind = "-- anew"\n  pub x : ℕ  -- anew\n'), [(1, "once more"), (4, "anew")])
 

@@ -58,7 +58,7 @@ class Counted(unittest.TestCase):
         self.assertEqual(found("c", '/* Anew\n * and anew. */\nchar *a = "/* anew */"; // owed\n'), [(1, "anew"), (2, "anew"), (3, "owed")])
 
     def test_plain_uses(self) -> None:
-        self.assertEqual(found("md", "There is no line. It is no longer up. Counts of late grants. It tells two such calls apart. A stand-in. Owing to it. `an Err`.\n"), [])
+        self.assertEqual(found("md", "There is no line. It is no longer up. Counts of late grants. It tells two such calls apart, and can tell why. Put in order. A stand-in. Owing to it. `an Err`.\n"), [])
 
     def test_other_uses(self) -> None:
         self.assertEqual(found("md", "It is no line. It tells so many. For want of it an `Err`. It wants one.\n"),

@@ -45,7 +45,7 @@ fmt: ## lays out the files of one crate, CRATE=dmr_pool, or of all
 test: ## everything: check-fast, the prover's gate (docs/GATE.md), check-programs; the last line counts all of it
 	@ci/check all
 
-check-fast: ## tables, maps, definitions, edits, documents and Python tests: a minute, no proof
+check-fast: ## tables, maps, definitions, edits, documents, prose and Python tests: a minute, no proof
 	@ci/check fast
 
 gate: ## the prover's gate alone: every proof, the must-fail edits, the tests and each program's stored run
@@ -115,7 +115,7 @@ install: build/dmr_trunk build/dmr_decode ## the programs, tools, manual pages, 
 	for section in 1 5 8; do install -d $(DESTDIR)$(MAN)/man$$section && for page in deploy/man/*.$$section; do sed -e 's|@VERSION@|$(VERSION)|' -e 's|@PREFIX@|$(PREFIX)|' $$page >$(DESTDIR)$(MAN)/man$$section/$${page##*/} || exit; done || exit; done
 	ln -sf ../man8/dmr_trunk.8 $(DESTDIR)$(MAN)/man1/dmr_trunk.1
 	sed 's|@PREFIX@|$(PREFIX)|' deploy/dmr_trunk.service >$(DESTDIR)$(PREFIX)/lib/systemd/system/dmr_trunk.service
-	install -m 644 docs/OPERATING.md docs/SITE_FILE.md docs/FORMATS.md docs/LINK.md docs/GLOSSARY.md docs/GUARANTEES.md CHANGELOG.md LICENSE-APACHE LICENSE-MIT $(DESTDIR)$(DOC)
+	install -m 644 docs/OPERATING.md docs/SITE_FILE.md docs/FORMATS.md docs/LINK.md docs/GLOSSARY.md docs/GUARANTEES.md docs/ASSURANCE.md CHANGELOG.md LICENSE-APACHE LICENSE-MIT $(DESTDIR)$(DOC)
 	install -m 644 docs/pictures/*.svg docs/pictures/*.png $(DESTDIR)$(DOC)/pictures
 	install -m 644 sites/*.toml $(DESTDIR)$(DOC)/examples
 	install -m 644 examples/scripts/*.txt $(DESTDIR)$(DOC)/examples/scripts

@@ -1,17 +1,20 @@
-//! The program's command line, and the texts and exit statuses that it ends with.
+//! The program's command line, the address that it listens at, and the texts and exit statuses that it ends with.
 //!
 //! [`choose`] reads the words of the command line, and returns the [`Job`] that they ask for. [`ServeFault`] says why serving ended; it
 //! has the text and the exit status of each reason. `status` has the exit statuses that a replay does not have, and their texts.
+//! A carrier's port and the console's are opened at [`listen_address`].
 //!
 //! This crate opens no socket, starts no thread and waits for nothing. `dmr_trunk` does the jobs.
 #![tactic(auto)]
 
 mod fault;
+mod listening;
 mod status;
 mod version;
 mod words;
 
 pub use fault::ServeFault;
+pub use listening::listen_address;
 pub use status::{AUDIT, WORDS, out_of_memory, words_refused};
 pub use version::VERSION;
 pub use words::{Job, choose};

@@ -104,7 +104,7 @@ Examples:
       replays a script, and prints what went out to each carrier and to operators
 
 Status: 0 done; 1 a file, a port or the output; 2 the words; 3 an audit; 4 memory or a thread.
-dmr_trunk(1) has more.";
+dmr_trunk(8) has more.";
 
 /// The command line as the word reader wants it. A parse of it has a value of the site file.
 fn command<'a>(alloc: Global) -> Result<Command<'a>, OutOfMemory>

@@ -1,3 +1,2 @@
 pub mod Replay
 pub mod Unsent
-pub mod Serving

@@ -1,12 +1,9 @@
 //! Serving: a site over TCP, term by term.
 
-ghost use Rattle.std.specs.Prelude.{◌≡◌};
-ghost use Rattle.dmr_trunk.specs.Serving.{IsListenAddress};
-
 use crate::notes::{Notes, Whose};
 use crate::pacer::ClockPacer;
 use crate::port::{PortFault, SocketPort};
-use dmr_command::ServeFault;
+use dmr_command::{ServeFault, listen_address};
 use dmr_core::Site;
 use dmr_desk::{ConsoleStation, Station, Term, run_term};
 use dmr_link::{ConsoleLink, Link, OpenGate, greatest_version};
@@ -14,7 +11,7 @@ use dmr_pdu::{CarrierNo, OutOfMemory};
 use dmr_plan::{CarrierRow, Plan};
 use log::Log;
 use std::alloc::Global;
-use std::net::{Ipv4Addr, Net, SocketAddr, SocketAddrV4};
+use std::net::Net;
 use std::sync::Wait;
 use std::thread::Threads;
 use std::time::Clock;
@@ -35,16 +32,6 @@ struct Standing<'a, R> {
     notes: Notes<'a, R>,
 }
 
-/// The address to listen at: the four octets of the plan's address, and the port.
-fn address_of(plan: &Plan, port: u16) -> SocketAddr
-    ensures { IsListenAddress plan.now.address port result }
-{
-    let [a, b, c, d] = plan.address() else {
-        unreachable!()
-    };
-    SocketAddr::V4(SocketAddrV4::new(Ipv4Addr::new(*a, *b, *c, *d), port))
-}
-
 /// Opens a port of the plan.
 fn open_port<'a, R: Net + Log>(
     rt: &'a R,
@@ -53,7 +40,7 @@ fn open_port<'a, R: Net + Log>(
     whose: Whose,
     port: u16,
 ) -> Result<SocketPort<'a, R>, ServeFault> {
-    match SocketPort::open(rt, alloc, whose, address_of(plan, port), plan.silence()) {
+    match SocketPort::open(rt, alloc, whose, listen_address(plan, port), plan.silence()) {
         Ok(opened) => Ok(opened),
         Err(PortFault::CannotListen) => Err(ServeFault::CannotListen(port)),
         Err(PortFault::NoPoll) => Err(ServeFault::NoPoll),

@@ -67,7 +67,7 @@ def tool() -> types.ModuleType:
 
 
 class Places(unittest.TestCase):
-    """What is where."""
+    """The lines that links name."""
 
     def setUp(self) -> None:
         self.tool = tool()
@@ -81,7 +81,7 @@ class Places(unittest.TestCase):
         self.tool.TOP = self.top
 
     def lines_of(self, words: str, path: str, line: int = 1) -> list[list[int]]:
-        """Where the links of a document with these words are."""
+        """The lines that the tool finds for the links of a document with these words."""
         document = self.top / "docs" / "page.md"
         document.write_text("".join(f"[{it}](../crates/one/{path}#L{line}) " for it in words.split(" + ")), encoding="utf-8")
         return [found for _, _, found in self.tool.places_in(document)]

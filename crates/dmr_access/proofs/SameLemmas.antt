@@ -1,9 +1,9 @@
--- Whether numbers are the same, from a place on.
+-- Equality of numbers from a place on.
 use Rattle.std.proofs.Common.{◌≡◌, ℕ, zero, suc, ◌+◌, List, [], ◌∷◌, subst, sym, add-one, drop}
 use Rattle.std.specs.Prelude.{◌&&◌, nat_eq, Some, slice_get}
 use Rattle.std.specs.Cmp.Lexicographic.{pointwise}
 
--- the numbers there, and then the others
+-- the number at the place, and then the others
 same_from_next : (xs ys : List ℕ) (i a b : ℕ) → slice_get xs i ≡ Some a → slice_get ys i ≡ Some b → pointwise nat_eq (drop i xs) (drop i ys) ≡ (nat_eq a b && pointwise nat_eq (drop (suc i) xs) (drop (suc i) ys))
 same_from_next [] ys i a b h k = cc
 same_from_next (x ∷ xs) [] i a b h k = cc

@@ -1,14 +1,14 @@
--- The numbers of this crate's definitions, as this project's profile states them.
+-- The numbers of this crate's definitions that this project's profile states.
 use Rattle.std.specs.Prelude.{ℕ}
 
--- between how many Polls of the control carrier, the last ones, Noises are counted
+-- the number of noise numbers: a Noise counts until as many Polls of the control carrier came after it
 abbrev pub polls_of_window : ℕ
 polls_of_window = 32
 
--- how many Noises count between two Polls
+-- the most Noises that are counted between two Polls
 abbrev pub most_noises : ℕ
 most_noises = 15
 
--- one Fill of so many is a late entry, if a talkgroup call stands
+-- one of this number of Fills is a late entry, if a talkgroup call is active
 abbrev pub late_entry_interval : ℕ
 late_entry_interval = 4

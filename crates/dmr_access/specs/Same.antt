@@ -1,5 +1,4 @@
--- Whether two access controls have the same plan, noise numbers and count of Fills, as a test. Their equality alone names it:
--- nothing above rests on it.
+-- The test whether two values have the same plan, noise numbers and count of Fills. Only their equality uses it.
 use Rattle.std.specs.Prelude.{◌≡◌, ◌&&◌, Bool, nat_eq}
 use Rattle.std.specs.Bool.{Decides}
 use Rattle.std.specs.Cmp.{decided, IsEquivalence}
@@ -9,15 +8,15 @@ use Rattle.std.proofs.lemmas.Bool.Decides.{Decides-and, Decides-eqb}
 use Rattle.dmr_plan.specs.Same.{are_same as are_same_plans, are_same-Decides as are_same_plans-Decides}
 use Rattle.dmr_access.specs.Fill.{Window}
 
--- whether the plans say the same and the numbers are the same
+-- the plans, the noise numbers and the counts of Fills are the same
 abbrev pub are_same : Window → Window → Bool
 are_same a b = are_same_plans a.plan b.plan && pointwise nat_eq a.noise b.noise && nat_eq a.fills b.fills
 
--- a window, field by field
+-- two values are the same if their fields are
 same_parts : (a b : Window) → a.plan ≡ b.plan → a.noise ≡ b.noise → a.fills ≡ b.fills → a ≡ b
 same_parts a b plan noise fills = λ i. record { plan = plan i; noise = noise i; fills = fills i }
 
--- the test decides whether they are the same
+-- the test decides equality
 pub are_same-Decides : (a b : Window) → Decides (are_same a b) (a ≡ b)
 are_same-Decides a b =
     let d = Decides-and _ _ (Decides-and _ _ (are_same_plans-Decides a.plan b.plan) (bytes_decides a.noise b.noise)) (Decides-eqb a.fills b.fills) in (
@@ -25,6 +24,6 @@ are_same-Decides a b =
       λ e. d.1 ((ap (λ (w : Window). w.plan) e, ap (λ (w : Window). w.noise) e), ap (λ (w : Window). w.fills) e),
     )
 
--- so it is an equivalence
+-- the test is an equivalence
 pub are_same-equivalence : IsEquivalence are_same
 are_same-equivalence = decided are_same are_same-Decides

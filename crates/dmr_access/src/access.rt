@@ -11,19 +11,20 @@ use dmr_plan::Plan;
 use std::alloc::Global;
 use std::marker::Model;
 
-/// How many noise numbers there are. A Noise counts until as many Polls came after it.
+/// The number of noise numbers. A Noise counts until as many Polls came after it.
 const POLLS: usize = 32;
 
-/// One Fill in so many has a late entry, where a call stands.
+/// One of `TURN` Fills has a late entry, if a talkgroup call is active.
 const TURN: u8 = 4;
 
 /// Radios must register, here and on the channel to which they are moved.
 const MUST_REGISTER: bool = true;
 
-/// How often nothing could be read on the control slot of a plan's site of late, and how often it was filled. Contracts see
-/// it as the plan; the noise numbers: the Noises since the last Poll of the control carrier, then those between that Poll and
-/// the one before, and so on, 32 numbers of 0 to 15, none while the control carrier is down; and the Fills since the control
-/// carrier last came up, modulo 4.
+/// Random access by a plan: the noise on the control slot, and the Fills.
+///
+/// Contracts see the plan, the noise numbers and the Fills. The first noise number counts the Noises since the control carrier's
+/// last Poll, the next those between that Poll and the one before, and so on. There are 32, each 0 to 15, and none while the
+/// control carrier is down. The Fills are those since the control carrier last came up, modulo 4.
 #[derive(Drop)]
 pub struct Access {
     plan: Plan,
@@ -51,7 +52,7 @@ fn total(numbers: &[u8]) -> u16
     numbers.iter().map(|n| u16::from(*n)).sum()
 }
 
-/// Whether two rings have the same number at a place that both have.
+/// Reports whether two rings have the same number at a place that both have.
 fn is_same_at(one: &HeapCircularBuffer<u8>, other: &HeapCircularBuffer<u8>, index: usize) -> bool
     requires one { index < length one.now.items }
     requires other { index < length other.now.items }
@@ -63,7 +64,7 @@ fn is_same_at(one: &HeapCircularBuffer<u8>, other: &HeapCircularBuffer<u8>, inde
     }
 }
 
-/// Whether two rings have the same numbers.
+/// Reports whether two rings have the same numbers.
 fn same_numbers(one: &HeapCircularBuffer<u8>, other: &HeapCircularBuffer<u8>) -> bool
     ensures { result ≡ pointwise nat_eq one.now.items other.now.items }
 {
@@ -80,8 +81,7 @@ fn same_numbers(one: &HeapCircularBuffer<u8>, other: &HeapCircularBuffer<u8>) ->
 }
 
 impl Access {
-    /// Access by a plan, with its control carrier down. It takes all the room that it needs; `Err` where there is no
-    /// memory for that.
+    /// Makes the random access of a plan, with the control carrier down. Returns `OutOfMemory` if its memory cannot be allocated.
     pub fn new(alloc: Global, plan: &Plan) -> Result<Access, OutOfMemory>
         ensures { IfOk result (λ access. access ≡ record { plan = plan.now; noise = []; fills = 0 }) }
     {
@@ -92,7 +92,7 @@ impl Access {
         })
     }
 
-    /// The same plan, noise numbers and count of Fills, with room of their own. `Err` where there is no memory for that.
+    /// Makes a copy with memory of its own. Returns `OutOfMemory` if the allocation fails.
     pub fn try_clone(&self, alloc: Global) -> Result<Access, OutOfMemory>
         ensures { IfOk result (λ copy. copy ≡ self.now) }
     {
@@ -107,8 +107,8 @@ impl Access {
         })
     }
 
-    /// The noise number of so many Polls ago, 0 to 15: at 0 the Noises since the last Poll. `None` from 32 on, and while the
-    /// control carrier is down.
+    /// The noise number at an index, 0 to 15. Number 0 counts the Noises since the last Poll. `None` from index 32 on, and while
+    /// the control carrier is down.
     pub fn number(&self, polls: usize) -> Option<u8>
         ensures value { result ≡ slice_get self.now.noise polls }
         ensures kept { AreNoiseNumbers self.now.noise }
@@ -116,8 +116,8 @@ impl Access {
         self.noise.get(polls).copied()
     }
 
-    /// Nothing could be read on the control slot. It counts once more since the last Poll, up to 15 times; while the
-    /// control carrier is down, not at all.
+    /// Counts a burst on the control slot that could not be read. The first number stays at 15. While the control carrier is down,
+    /// nothing changes.
     pub fn noise(&mut self)
         ensures { self.new ≡ record self.old { noise = with_noise self.old.noise } }
     {
@@ -126,8 +126,8 @@ impl Access {
         }
     }
 
-    /// The control carrier was polled: the Noises before the 32nd last Poll no longer count. Nothing happens while the
-    /// control carrier is down.
+    /// Counts a Poll of the control carrier: the Noises before the 32nd last Poll no longer count. While the control carrier is
+    /// down, nothing changes.
     pub fn polled(&mut self)
         ensures { self.new ≡ record self.old { noise = with_poll self.old.noise } }
     {
@@ -136,7 +136,7 @@ impl Access {
         }
     }
 
-    /// The control carrier came up: nothing was disturbed or filled since.
+    /// Begins again when the control carrier comes up: all noise numbers are 0, and there was no Fill.
     #[tactic(auto, unfolding(crate::specs::Noise::noise_at_up))]
     pub fn reset(&mut self)
         ensures { self.new ≡ record { plan = self.old.plan; noise = noise_at_up; fills = 0 } }
@@ -145,7 +145,7 @@ impl Access {
         self.noise.extend_from_slice(&[0; POLLS]);
     }
 
-    /// The control carrier is down.
+    /// Stops when the control carrier is down: there are no noise numbers, and there was no Fill.
     pub fn stop(&mut self)
         ensures { self.new ≡ record { plan = self.old.plan; noise = []; fills = 0 } }
     {
@@ -153,7 +153,7 @@ impl Access {
         self.fills = 0;
     }
 
-    /// How many Noises count.
+    /// The number of Noises that count.
     fn total(&self) -> u32
         ensures value { result ≡ sum self.now.noise }
         ensures few { result < 2 ^ 17 }
@@ -162,8 +162,7 @@ impl Access {
         u32::from(total(newer)) + u32::from(total(older))
     }
 
-    /// The backoff to send: the plan's lowest and one for each Noise that counts, but at most the plan's highest:
-    /// 1 to 15.
+    /// The backoff to send, 1 to 15: the plan's lowest plus the number of Noises that count, but at most the plan's highest.
     pub fn backoff(&self) -> u8
         ensures value { result ≡ backoff_of self.now.plan self.now.noise }
         ensures range { (1 ≤ result) × (result ≤ 15) }
@@ -173,16 +172,18 @@ impl Access {
         raised.min(u32::from(self.plan.backoff_high())) as u8
     }
 
-    /// Whether the next Fill has a late entry, where a call stands: each fourth since the control carrier came up.
+    /// Reports whether a late entry is due in the next Fill: in the fourth since the control carrier came up, the eighth, and so
+    /// on.
     pub fn late_due(&self) -> bool
         ensures { result ≡ is_late_due self.now.fills }
     {
         self.fills == TURN - 1
     }
 
-    /// What fills the control slot next: C_MOVE to the channel on which radios are to seek the control channel; else, where
-    /// a late entry is due and there is one, that; else C_ALOHA (TS 102 361-4, clause 7.1.1; the layouts of C_MOVE and
-    /// C_ALOHA are this project's profile).
+    /// The next Fill of the control slot, the first that applies: C_MOVE if `moving` has a channel, `late` if one is due and given,
+    /// C_ALOHA.
+    ///
+    /// See TS 102 361-4, clause 7.1.1. The layouts of C_MOVE and C_ALOHA are this project's profile.
     pub fn next_fill(&self, moving: Option<Lpcn>, late: Option<Pdu>) -> Pdu
         ensures { result ≡ fill_of self.now.plan moving self.now.noise self.now.fills late }
     {
@@ -193,14 +194,14 @@ impl Access {
         }
     }
 
-    /// The control slot was filled: one Fill more since the control carrier came up.
+    /// Counts a Fill of the control slot.
     pub fn filled(&mut self)
         ensures { self.new ≡ record self.old { fills = next_fill_count self.old.fills } }
     {
         self.fills = (self.fills + 1) % TURN;
     }
 
-    /// Fills the control slot: gives what fills it next, and counts the Fill.
+    /// Fills the control slot: returns the next Fill, and counts it.
     pub fn fill(&mut self, moving: Option<Lpcn>, late: Option<Pdu>) -> Pdu
         ensures pdu { result ≡ fill_of self.old.plan moving self.old.noise self.old.fills late }
         ensures counted { self.new ≡ record self.old { fills = next_fill_count self.old.fills } }
@@ -210,8 +211,8 @@ impl Access {
         pdu
     }
 
-    /// C_ALOHA with the plan's fields and the backoff. All radios are invited (mask and address 0), for all services
-    /// (function 0), and must register.
+    /// C_ALOHA with the plan's fields and the backoff. It invites all radios (mask and address 0), for all services (function 0),
+    /// and they must register.
     fn aloha(&self) -> Pdu
         ensures { result ≡ aloha_pdu self.now.plan self.now.noise }
     {
@@ -242,7 +243,7 @@ impl Access {
     }
 }
 
-/// Equal where the plans say the same, and the noise numbers and the counts of Fills are the same.
+/// Two values are equal if their plans, noise numbers and counts of Fills are the same.
 impl PartialEq for Access {
     ghost use Rattle.std.specs.Cmp.{partial_equiv_from_equiv};
     ghost use Rattle.dmr_access.specs.Same.{are_same, are_same-equivalence};

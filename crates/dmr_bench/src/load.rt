@@ -1,4 +1,4 @@
-//! Loads of a whole site, in one thread: what its carriers hear, frame by frame, and how long the engine takes for it.
+//! Loads of a whole site, in one thread: the frames of its carriers, and counts of what the engine does with them.
 
 ghost use Rattle.std.specs.Prelude.{◌<◌};
 
@@ -9,7 +9,7 @@ use dmr_pdu::{CarrierNo, OutOfMemory, Pdu};
 use dmr_plan::Plan;
 use std::alloc::Global;
 
-/// The address that radios register at.
+/// The address at which radios register.
 const REGI: u32 = 0xFF_FEC6;
 
 /// The service options and kind of a registration request: of a radio that joins, and of one that leaves.
@@ -17,25 +17,26 @@ const JOINING: u16 = 0x020E;
 
 const LEAVING: u16 = 0x000E;
 
-/// The step from one radio to the next. A prime, so that a load comes to each radio.
+/// The step from one radio to the next. It is a prime, so that a load reaches each radio.
 const STRIDE: u32 = 7_919;
 
-/// How many talkgroups there are.
+/// The number of talkgroups.
 const GROUPS: u32 = 16;
 
 /// A POLL.
 const POLL: &[u8] = &[0x03, 0x00];
 
-/// That the voice channel of slot 0, or of slot 1, is in use.
+/// ACTIVE of slot 0 and of slot 1: the voice channel is in use.
 const ACTIVE: [&[u8]; 2] = [&[0x04, 0x01, 0x00], &[0x04, 0x01, 0x01]];
 
-/// How many frames' bursts are made beforehand; then they begin anew.
+/// The number of frames whose bursts are made in advance. After them, the bursts begin again.
 pub const BURSTS: u32 = 4_096;
 
-/// After how many frames what was put out is dropped.
+/// The number of frames after which the outputs are dropped.
 const KEPT: u32 = 256;
 
-/// What all sites have, carrier 0 being the control carrier. A call ends after 100 ticks of 60 ms, so slots fall free all the time.
+/// The common part of all site files. Carrier 0 is the control carrier. Calls end after 100 ticks of 60 ms at the
+/// latest, so slots become free all the time.
 const SITE: &str = "\
 system = 0x0A51
 regi = 0xFFFEC6
@@ -66,25 +67,27 @@ pub const LOADS: [Load; 5] = [
     Load::BusyHour,
 ];
 
-/// What comes to a site.
+/// A load: the input of a site.
 #[derive(Clone, Copy)]
 pub enum Load {
     /// Each carrier polls in each frame, and nothing else happens.
     Polls,
-    /// A radio that is registered registers in each frame, and the control carrier polls.
+    /// In each frame, a registered radio registers again and the control carrier polls.
     Registrations,
-    /// In each frame a registered radio leaves, or the radio that left registers again, in turn; and the control carrier polls.
+    /// In each frame, a registered radio leaves or the radio that left registers again, in turn, and the control
+    /// carrier polls.
     Joins,
-    /// In each frame the control slot receives a burst, and the control carrier polls twice: a talkgroup request, the same again, the
-    /// radio's leaving, which ends its call, and its registration, in turn.
+    /// In each frame, the control slot receives a burst and the control carrier polls twice. The bursts are, in turn: a
+    /// talkgroup request, the same again, the radio's leaving, which ends its call, and its registration.
     Calls,
-    /// In each frame a tick passes, and each carrier hears a burst on each of its slots and polls: voice on all slots but the control
-    /// slot, and there, in turn, a registration, a talkgroup request, an individual request, and the called radio's answer.
+    /// In each frame, there is a tick, and each carrier receives a burst on each of its slots and polls. There is voice
+    /// on all slots but the control slot. The control slot receives, in turn, a registration, a talkgroup request, an
+    /// individual request, and the called radio's answer.
     BusyHour,
 }
 
 impl Load {
-    /// The name of the load, on the command line and in tables.
+    /// Returns the name of the load, on the command line and in tables.
     pub fn name(self) -> &'static str {
         match self {
             Load::Polls => "polls",
@@ -95,16 +98,16 @@ impl Load {
         }
     }
 
-    /// The load of a name.
+    /// Returns the load with this name.
     pub fn named(name: &str) -> Option<Load> {
         LOADS.into_iter().find(|load| load.name() == name)
     }
 }
 
-/// What a carrier sends that heard a burst on slot 0.
+/// RX of a burst on slot 0.
 type Heard = [u8; 28];
 
-/// The octets of a PDU: its first octet, no feature set, 16 bits, and two numbers of 24 bits.
+/// Returns the octets of a PDU: its first octet, feature set 0, 16 bits, and two numbers of 24 bits.
 fn octets_of(first: u8, half: u16, upper: u32, lower: u32) -> Octets10 {
     let [high, low] = half.to_be_bytes();
     let [_, a, b, c] = upper.to_be_bytes();
@@ -112,7 +115,7 @@ fn octets_of(first: u8, half: u16, upper: u32, lower: u32) -> Octets10 {
     [first, 0, high, low, a, b, c, d, e, f]
 }
 
-/// What is sent for the burst of a PDU.
+/// Returns the RX of a PDU's burst.
 fn heard(octets: &Octets10) -> Heard {
     let word = write(&Pdu::from_octets(octets));
     let mut frame: Heard = [0; 28];
@@ -122,22 +125,22 @@ fn heard(octets: &Octets10) -> Heard {
     frame
 }
 
-/// A radio's registration.
+/// Returns the RX of a radio's registration.
 fn registration(radio: u32) -> Heard {
     heard(&octets_of(0x9F, JOINING, REGI, radio))
 }
 
-/// A radio's request for a call of a talkgroup.
+/// Returns the RX of a radio's request for a talkgroup call.
 fn group_request(group: u32, radio: u32) -> Heard {
     heard(&octets_of(0x9F, 1, 1 + group % GROUPS, radio))
 }
 
-/// The radio whose turn it is, 1 to `radios`.
+/// Returns the radio whose turn it is, 1 to `radios`.
 fn radio_in_turn(turn: u32, radios: u32) -> u32 {
     1 + turn.wrapping_mul(STRIDE) % radios.max(1)
 }
 
-/// The burst that the control slot hears in a frame, of so many radios.
+/// Returns the RX on the control slot in a frame, with `radios` registered radios.
 fn burst_of(load: Load, frame: u32, radios: u32) -> Heard {
     let turn = frame / 4;
     let radio = radio_in_turn(turn, radios);
@@ -155,7 +158,7 @@ fn burst_of(load: Load, frame: u32, radios: u32) -> Heard {
     }
 }
 
-/// The bursts that the control slot hears, frame by frame.
+/// Returns the RX on the control slot, frame by frame.
 pub fn bursts_of(alloc: Global, load: Load, radios: u32) -> Result<Vec<Heard>, OutOfMemory> {
     let mut bursts = Vec::new(alloc);
     for frame in 0..BURSTS {
@@ -164,7 +167,7 @@ pub fn bursts_of(alloc: Global, load: Load, radios: u32) -> Result<Vec<Heard>, O
     Ok(bursts)
 }
 
-/// The plan of so many carriers, 16 at most.
+/// Returns the plan of a site with this number of carriers, 16 at most.
 fn plan_of(alloc: Global, carriers: u32) -> Result<Option<Plan>, OutOfMemory> {
     let mut text = String::from_str(alloc, SITE)?;
     for number in 0..carriers.min(16) {
@@ -178,7 +181,7 @@ fn plan_of(alloc: Global, carriers: u32) -> Result<Option<Plan>, OutOfMemory> {
     Ok(Plan::read(alloc, text.as_str()).ok())
 }
 
-/// The sum of octets.
+/// Returns the sum of octets.
 fn sum_of(octets: &[u8]) -> u64 {
     let mut sum: u64 = 0;
     for octet in octets {
@@ -187,23 +190,24 @@ fn sum_of(octets: &[u8]) -> u64 {
     sum
 }
 
-/// A site at work, and counts of what came to it and what was put out.
+/// A site in operation, with counts of its input and output.
 #[derive(Drop)]
 pub struct Scene {
     alloc: Global,
     engine: Engine,
     outputs: Outputs,
     carriers: u32,
-    /// How many events came: each poll, burst, use of a voice channel and tick is one.
+    /// The number of events: each poll, burst, use of a voice channel and tick is one.
     pub events: u64,
-    /// How many octets were put out for carriers.
+    /// The number of octets that were written for carriers.
     pub octets: u64,
     /// The sum of these octets.
     pub sum: u64,
 }
 
 impl Scene {
-    /// A site of so many carriers, all of them up, with so many radios registered. `None` where there can be no such site.
+    /// Returns a site with these numbers of carriers, all up, and of registered radios. Returns `None` if no such site
+    /// is possible.
     pub fn new(alloc: Global, carriers: u32, radios: u32) -> Result<Option<Scene>, OutOfMemory> {
         let Some(plan) = plan_of(alloc, carriers)? else {
             return Ok(None);
@@ -233,7 +237,7 @@ impl Scene {
         Ok(Some(scene))
     }
 
-    /// Counts and sums up what was put out, and drops it.
+    /// Counts and sums the octets of the outputs, and drops them.
     fn begin(&mut self) -> Result<(), OutOfMemory> {
         for number in 0..16u32 {
             let put_out = self.outputs.carrier(CarrierNo::new(number));
@@ -244,13 +248,13 @@ impl Scene {
         Ok(())
     }
 
-    /// A carrier connects.
+    /// Opens a carrier's connection.
     fn open(&mut self, number: u32) -> Result<(), OutOfMemory> {
         let carrier = CarrierNo::new(number % 16);
         self.engine.step(Input::Open(carrier), &mut self.outputs)
     }
 
-    /// A carrier sends these octets; where there are none, a tick passes.
+    /// Hands octets of a carrier to the engine, or a tick if there are none.
     fn take(&mut self, number: u32, octets: &[u8]) -> Result<(), OutOfMemory> {
         self.events = self.events.wrapping_add(1);
         let carrier = CarrierNo::new(number % 16);
@@ -262,7 +266,7 @@ impl Scene {
         self.engine.step(input, &mut self.outputs)
     }
 
-    /// A frame of the busy hour at a carrier.
+    /// Runs a frame of the busy hour for a carrier.
     fn hear_all(&mut self, number: u32, burst: &Heard) -> Result<(), OutOfMemory> {
         let [first, second] = ACTIVE;
         if number == 0 {
@@ -274,7 +278,7 @@ impl Scene {
         self.take(number, POLL)
     }
 
-    /// What comes in a frame.
+    /// Runs one frame of a load.
     fn frame(&mut self, load: Load, burst: &Heard) -> Result<(), OutOfMemory> {
         match load {
             Load::Polls => {
@@ -302,7 +306,7 @@ impl Scene {
         }
     }
 
-    /// Takes so many frames of a load, whose bursts are given.
+    /// Runs `frames` frames of a load with these bursts.
     pub fn play(&mut self, load: Load, bursts: &[Heard], frames: u32) -> Result<(), OutOfMemory> {
         for frame in 0..frames {
             if let Some(burst) = bursts.get((frame % BURSTS) as usize) {

@@ -1,15 +1,17 @@
-//! How quick the code and the site are.
+//! Measures how fast the code and the site are.
 //!
-//! With no argument it decodes a few words of each kind, and reads the registration burst with each three of its 196 places turned
-//! over, which shows that it decodes what it should. With words it prints figures:
+//! Without arguments, the program decodes a few words of each kind. It also reads the registration burst with each
+//! three of its 196 places flipped, which shows that it decodes correctly. With arguments it prints measurements:
 //!
-//! | words | what is printed |
+//! | arguments | output |
 //! |---|---|
-//! | `--flips` | how many of all three flips of that burst are read as the registration, and in what time |
-//! | `--time` | lines "what rate count sum" of many words of each kind: words a second, how many were decoded, encoded or checked, and a sum of what came out |
-//! | `--words KIND COUNT` | such a line of COUNT words that are `clean`, with three `flips`, or `random`; with `encode`, those of encoding and of the check |
-//! | `--site` | how long an event takes of each load of a site, on sites of 1, 4 and 16 carriers with 1, 256 and 4,096 radios |
-//! | `--load LOAD CARRIERS RADIOS FRAMES` | a line "rate octets sum events" of one load, played once: `polls`, `registrations`, `joins`, `calls` or `busy` |
+//! | `--flips` | the number of all three flips of that burst that are read as the registration, and the time for them |
+//! | `--time` | lines "name rate count sum" of many words of each kind: words a second, the number of results, and a sum of the results |
+//! | `--words KIND COUNT` | such a line of COUNT words: `clean`, with three `flips`, or `random`; `encode` prints encoding and check |
+//! | `--site` | the time of an event of each load, on sites of 1, 4 and 16 carriers with 1, 256 and 4,096 radios |
+//! | `--load LOAD CARRIERS RADIOS FRAMES` | a line "rate octets sum events" of one run of a load |
+//!
+//! LOAD is `polls`, `registrations`, `joins`, `calls` or `busy`.
 #![tactic(auto)]
 
 mod load;
@@ -25,7 +27,7 @@ use std::process::ExitCode;
 use std::rt::Clock;
 use std::{env, io};
 
-/// What the program is to do.
+/// The task of the program.
 #[derive(Clone, Copy)]
 enum Job {
     Show,
@@ -37,12 +39,12 @@ enum Job {
     Play(Load, Size),
 }
 
-/// The number among the words at a place.
+/// Returns the number at a place among the words.
 fn number_at(words: &[String], place: usize) -> Option<u32> {
     words.get(place)?.parse::<u32>().ok()
 }
 
-/// The job of `--words KIND COUNT`.
+/// Returns the job of `--words KIND COUNT`.
 fn words_job(words: &[String]) -> Option<Job> {
     let count = number_at(words, 2)?;
     match words.get(1)?.as_str() {
@@ -54,7 +56,7 @@ fn words_job(words: &[String]) -> Option<Job> {
     }
 }
 
-/// The job of `--load LOAD CARRIERS RADIOS FRAMES`.
+/// Returns the job of `--load LOAD CARRIERS RADIOS FRAMES`.
 fn load_job(words: &[String]) -> Option<Job> {
     let load = Load::named(words.get(1)?.as_str())?;
     let size = Size {
@@ -65,7 +67,7 @@ fn load_job(words: &[String]) -> Option<Job> {
     Some(Job::Play(load, size))
 }
 
-/// The job that the words after the program's own name say.
+/// Returns the job of the words after the program's name.
 fn job_of(words: &[String]) -> Option<Job> {
     let Some(first) = words.get(0) else {
         return Some(Job::Show);

@@ -1,26 +1,26 @@
-//! How long the engine takes for the loads of a site.
+//! Measures how long the engine takes for the loads of a site.
 
 use crate::load::{LOADS, Load, Scene, bursts_of};
 use std::io;
 use std::rt::Clock;
 use std::time::Instant;
 
-/// How many carriers a site has.
+/// The numbers of carriers of the sites.
 const CARRIERS: [u32; 3] = [1, 4, 16];
 
-/// How many radios are registered.
+/// The numbers of registered radios.
 const RADIOS: [u32; 3] = [1, 256, 4_096];
 
-/// How often each is played. The quickest counts: other work on the machine can only make it slower.
+/// The number of runs of each load. The fastest counts, since other work on the machine can only make a run slower.
 const TIMES: u32 = 3;
 
-/// About how many events are taken each time.
+/// The approximate number of events of each run.
 const EVENTS: u32 = 60_000;
 
-/// How many nanoseconds a frame lasts on the air.
+/// The length of a frame on the air, in nanoseconds.
 const AIR_FRAME: u128 = 60_000_000;
 
-/// How much of a load is played.
+/// The size of a run.
 #[derive(Clone, Copy)]
 pub struct Size {
     /// The site's carriers, 1 to 16.
@@ -31,7 +31,7 @@ pub struct Size {
     pub frames: u32,
 }
 
-/// What a load took.
+/// The result of a run.
 #[derive(Clone, Copy)]
 struct Took {
     events: u128,
@@ -41,13 +41,13 @@ struct Took {
 }
 
 impl Took {
-    /// Events a second.
+    /// Returns the events a second.
     fn rate(&self) -> u128 {
         self.events.saturating_mul(1_000_000_000) / self.nanos.max(1)
     }
 }
 
-/// Plays a load once on a new site. `None` if there is no site of this size.
+/// Runs a load once on a new site. Returns `None` if there is no site of this size.
 fn play<R: AllocGlobal + Clock>(rt: &R, load: Load, size: Size) -> io::Result<Option<Took>> {
     let bursts = bursts_of(rt.alloc(), load, size.radios)?;
     let made = Scene::new(rt.alloc(), size.carriers, size.radios)?;
@@ -66,7 +66,7 @@ fn play<R: AllocGlobal + Clock>(rt: &R, load: Load, size: Size) -> io::Result<Op
     }))
 }
 
-/// About how many events a frame of a load has.
+/// Returns the approximate number of events in a frame of a load.
 fn events_a_frame(load: Load, carriers: u32) -> u32 {
     match load {
         Load::Polls => carriers.max(1),
@@ -76,8 +76,8 @@ fn events_a_frame(load: Load, carriers: u32) -> u32 {
     }
 }
 
-/// Prints a line: the load, carriers, registered radios, events a second, nanoseconds an event, the share of a processor that it takes at
-/// the air's rate, and how many octets were put out.
+/// Prints a line with the load, the carriers, the registered radios, and the events a second. The nanoseconds an event,
+/// the share of a processor at the air's rate, and the number of octets that the site wrote follow.
 fn print<R: Print>(rt: &R, load: Load, size: Size, took: &Took) -> io::Result<()> {
     let (name, carriers, radios) = (load.name(), size.carriers, size.radios);
     let rate = took.rate();
@@ -92,7 +92,7 @@ fn print<R: Print>(rt: &R, load: Load, size: Size, took: &Took) -> io::Result<()
     )
 }
 
-/// Plays a load so often, and prints what the quickest took.
+/// Runs a load several times, and prints the fastest run.
 fn time<R: Print + AllocGlobal + Clock>(rt: &R, load: Load, size: Size) -> io::Result<()> {
     let mut best: Option<Took> = None;
     for _ in 0..TIMES {
@@ -108,8 +108,8 @@ fn time<R: Print + AllocGlobal + Clock>(rt: &R, load: Load, size: Size) -> io::R
     }
 }
 
-/// Plays a load once, and prints "rate octets sum events": events a second, how many octets were put out, their sum, and how many events
-/// came.
+/// Runs a load once, and prints "rate octets sum events": events a second, the number of octets that the site wrote,
+/// their sum, and the number of events.
 pub fn time_load<R: Print + AllocGlobal + Clock>(rt: &R, load: Load, size: Size) -> io::Result<()> {
     match play(rt, load, size)? {
         Some(took) => {
@@ -120,7 +120,7 @@ pub fn time_load<R: Print + AllocGlobal + Clock>(rt: &R, load: Load, size: Size)
     }
 }
 
-/// Plays each load on sites of some sizes, and prints what it takes.
+/// Runs each load on sites of several sizes, and prints the results.
 pub fn time_loads<R: Print + AllocGlobal + Clock>(rt: &R) -> io::Result<()> {
     println!(rt;
         "load            carriers  radios events a second     ns each  at air rate     put out"

@@ -1,4 +1,4 @@
-//! Words: many of each kind, made, decoded, encoded and checked.
+//! Words of each kind: the code that makes, decodes, encodes and checks many of them.
 
 ghost use Rattle.std.specs.Prelude.{◌<◌};
 
@@ -14,10 +14,10 @@ use std::io;
 use std::rt::Clock;
 use std::time::Instant;
 
-/// How many words of each kind are decoded where no time is taken.
+/// The number of words of each kind that are decoded without a measurement.
 const FEW: u32 = 1_000;
 
-/// How many words of each kind are taken where time is: each once, so that no answer can be used again.
+/// The number of words of each kind in a measurement. Each is used once, so that no answer can be used again.
 pub const MANY: u32 = 200_000;
 
 /// The octets of a registration request of radio 1001, from the format's test vectors.
@@ -33,7 +33,7 @@ pub enum Kind {
     Clean,
     /// Codewords of random information with three random places flipped.
     Flipped,
-    /// Words of random bits. That one is within reach of a codeword has a chance of about 1 in 2^76.
+    /// Words of random bits. The chance that such a word is within reach of a codeword is about 1 in 2^76.
     Random,
 }
 
@@ -46,7 +46,7 @@ impl Kind {
         }
     }
 
-    /// The name of what is timed.
+    /// Returns the name of the measurement.
     fn decoding(self) -> &'static str {
         match self {
             Kind::Clean => "decode_clean",
@@ -56,7 +56,7 @@ impl Kind {
     }
 }
 
-/// A random number below a bound.
+/// Draws a number below a bound.
 fn below(random: &mut Pcg32, bound: u32) -> usize
     requires { 0 < bound }
     ensures { result < bound }
@@ -72,7 +72,7 @@ fn random_information(random: &mut Pcg32) -> Octets12 {
     octets
 }
 
-/// A word of a kind.
+/// Draws a word of a kind.
 fn word_of(kind: Kind, random: &mut Pcg32) -> Word196 {
     let mut word = encode(&random_information(random));
     match kind {
@@ -91,12 +91,12 @@ fn word_of(kind: Kind, random: &mut Pcg32) -> Word196 {
     word
 }
 
-/// The generator of all words: each kind begins it anew.
+/// Returns the generator of all words. Each kind starts with a new one.
 fn generator() -> Pcg32 {
     Pcg32::new(42, 54)
 }
 
-/// Random words of a kind.
+/// Returns random words of a kind.
 fn words_of(alloc: Global, kind: Kind, count: u32) -> Result<Vec<Word196>, AllocError> {
     let mut random = generator();
     let mut words = Vec::new(alloc);
@@ -106,7 +106,7 @@ fn words_of(alloc: Global, kind: Kind, count: u32) -> Result<Vec<Word196>, Alloc
     Ok(words)
 }
 
-/// Random information.
+/// Returns random information.
 fn information_of(alloc: Global, count: u32) -> Result<Vec<Octets12>, AllocError> {
     let mut random = generator();
     let mut all = Vec::new(alloc);
@@ -116,7 +116,7 @@ fn information_of(alloc: Global, count: u32) -> Result<Vec<Octets12>, AllocError
     Ok(all)
 }
 
-/// The first ten octets of each.
+/// Returns the first ten octets of each.
 fn blocks_of(alloc: Global, all: &[Octets12]) -> Result<Vec<Octets10>, AllocError> {
     let mut blocks = Vec::new(alloc);
     for octets in all {
@@ -127,7 +127,7 @@ fn blocks_of(alloc: Global, all: &[Octets12]) -> Result<Vec<Octets10>, AllocErro
     Ok(blocks)
 }
 
-/// Decodes a word. Not inlined, so that a profile counts it by itself; the next two likewise.
+/// Decodes a word. This function and the next two are not inlined, so that a profile counts each by itself.
 #[inline(never)]
 fn decode_word(word: &Word196) -> Option<Octets12> {
     decode(word)
@@ -139,18 +139,18 @@ fn encode_word(octets: &Octets12) -> Word196 {
     encode(octets)
 }
 
-/// The check of a block.
+/// Returns the check of a block.
 #[inline(never)]
 fn check_block(block: &Octets10) -> u16 {
     check_of(block)
 }
 
-/// How many words decode.
+/// Returns the number of words that decode.
 fn decoded(words: &[Word196]) -> usize {
     words.iter().filter(|word| decode(word).is_some()).count()
 }
 
-/// How many words decode, and the sum of all their octets.
+/// Returns the number of words that decode, and the sum of all their octets.
 fn decoded_sum(words: &[Word196]) -> (u64, u64) {
     let mut count: u64 = 0;
     let mut sum: u64 = 0;
@@ -165,7 +165,7 @@ fn decoded_sum(words: &[Word196]) -> (u64, u64) {
     (count, sum)
 }
 
-/// A sum of some bits of the codewords.
+/// Returns a sum of some bits of the codewords.
 fn encoded_sum(all: &[Octets12]) -> u64 {
     let mut sum: u64 = 0;
     for (k, octets) in all.iter().enumerate() {
@@ -178,7 +178,7 @@ fn encoded_sum(all: &[Octets12]) -> u64 {
     sum
 }
 
-/// The sum of the checks.
+/// Returns the sum of the checks.
 fn check_sum(blocks: &[Octets10]) -> u64 {
     let mut sum: u64 = 0;
     for block in blocks {
@@ -187,8 +187,8 @@ fn check_sum(blocks: &[Octets10]) -> u64 {
     sum
 }
 
-/// How many words are read as the registration, of those that are its burst with three of its places turned over, and how many there
-/// are.
+/// Reads the registration's burst with each three of its places flipped. Returns the number of words that are read as
+/// the registration, and the number of words.
 fn registrations() -> (u64, u64) {
     let mut as_sent: u64 = 0;
     let mut all: u64 = 0;
@@ -213,7 +213,7 @@ fn registrations() -> (u64, u64) {
     (as_sent, all)
 }
 
-/// Prints how many words of a kind decode.
+/// Prints the number of words of a kind that decode.
 pub fn show<R: Print + AllocGlobal>(rt: &R, kind: Kind) -> io::Result<()> {
     let words = words_of(rt.alloc(), kind, FEW)?;
     let count = decoded(words.as_slice());
@@ -221,12 +221,12 @@ pub fn show<R: Print + AllocGlobal>(rt: &R, kind: Kind) -> io::Result<()> {
     println!(rt; "{name}: {count} of {FEW} decoded")
 }
 
-/// Words a second, if `many` words took `nanos` nanoseconds.
+/// Returns the words a second, if `many` words took `nanos` nanoseconds.
 fn rate(many: u32, nanos: u128) -> u128 {
     u128::from(many) * 1_000_000_000 / nanos.max(1)
 }
 
-/// Decodes `many` words of a kind, and prints how many it decodes in a second.
+/// Decodes `many` words of a kind, and prints the number of words a second.
 pub fn time_decoding<R: Print + AllocGlobal + Clock>(
     rt: &R,
     kind: Kind,
@@ -240,7 +240,7 @@ pub fn time_decoding<R: Print + AllocGlobal + Clock>(
     println!(rt; "{name} {decode_rate} {count} {sum}")
 }
 
-/// Encodes `many` words and computes as many checks, and prints how many of each it does in a second.
+/// Encodes `many` words and computes as many checks, and prints the number of each a second.
 pub fn time_encoding<R: Print + AllocGlobal + Clock>(rt: &R, many: u32) -> io::Result<()> {
     let all = information_of(rt.alloc(), many)?;
     let start = Instant::now(rt)?;
@@ -254,13 +254,14 @@ pub fn time_encoding<R: Print + AllocGlobal + Clock>(rt: &R, many: u32) -> io::R
     println!(rt; "check {check_rate} {many} {sum}")
 }
 
-/// Prints how many of the registration's bursts with three places turned over are read as it.
+/// Prints how many of the registration's bursts with three flipped places are read as the registration.
 pub fn show_all_flips<R: Print>(rt: &R) -> io::Result<()> {
     let (as_sent, all) = registrations();
     println!(rt; "all patterns of three flips: {as_sent} of {all} are read as the registration")
 }
 
-/// Prints how many of the registration's bursts with three places turned over are read as it, and in what time.
+/// Prints how many of the registration's bursts with three flipped places are read as the registration, and the time
+/// for it.
 pub fn show_flips<R: Print + Clock>(rt: &R) -> io::Result<()> {
     let start = Instant::now(rt)?;
     let (as_sent, all) = registrations();

@@ -1,4 +1,4 @@
--- A field that is written among bits, by whole octets.
+-- Writing a field among bits, by whole octets.
 use Rattle.std.proofs.Common.{◌≡◌, ◌==◌, ℕ, ◌+◌, ◌-◌, ◌*◌, ◌/◌, ◌%◌, ◌^◌, ◌<◌, ◌≤◌, Bool, true, false, cond, List, get_or, bit_and, refl, sym, ap, ◌∙◌, arith, ltb, ⊎_elim}
 use Rattle.std.proofs.Math.Nat.{mod-eq_of_lt}
 use Rattle.std.proofs.lemmas.Bool.{lt-ltb, le-ltb, cases_lt}
@@ -6,7 +6,7 @@ use Rattle.std.proofs.lemmas.Nat.{and_mask, one_shl, shr_high, mod_low, shl_whol
 use Rattle.dmr_bits.specs.Bits.{octet_bit, bits_value}
 use Rattle.dmr_bits.proofs.BitLemmas.{bits_value-of_number, bits_value-lt, bits_value-add, bits_value-same, bits_value-bit, bits_value-field}
 
--- bits, those of a number standing in a field of them
+-- bits, with those of a number in a field of them
 unfoldable pub field_bit : (ℕ → Bool) → ℕ → ℕ → ℕ → ℕ → Bool
 field_bit bit first width value q = cond (ltb q first) (bit q) (cond (ltb q (first + width)) (value / 2 ^ (width - 1 - (q - first)) % 2 == 1) (bit q))
 
@@ -29,7 +29,7 @@ field_bit-in bit first width value k lt =
     let at : first + k - first ≡ k = omega arith in
     rw (not_before, within, at) refl
 
--- the number that octets spell, a field of it written anew: `a` bits before the field, `s` behind it
+-- the value of octets after a field in them was written: `a` bits before the field, `s` after it
 module _ (bit : ℕ → Bool) (begin a w s value old : ℕ) (is : old ≡ bits_value bit begin (a + (w + s))) (fits : value < 2 ^ w) where
   new : ℕ → Bool
   new = field_bit bit (begin + a) w value
@@ -70,13 +70,13 @@ module _ (bit : ℕ → Bool) (begin a w s value old : ℕ) (is : old ≡ bits_v
       ap (λ n. bit_and old (n - 1)) (one_shl s 64 (omega arith)) ∙ and_mask old s ∙ old_low in
       omega (arith, high, middle, low, new_spelled)
 
--- octets that spell bits, from one of them to another, have them
+-- octets whose value is that of bits, from one of them to another, have these bits
 pub octets_from_spelled : (octets : List ℕ) (bit : ℕ → Bool) (k : ℕ) → get_or octets (k / 8) 0 ≡ bits_value bit (8 * (k / 8)) 8 → octet_bit octets k ≡ bit k
 octets_from_spelled octets bit k is =
     let at : 8 * (k / 8) + k % 8 ≡ k = omega arith in
     ap (λ n. n / 2 ^ (7 - k % 8) % 2 == 1) is ∙ bits_value-bit bit (8 * (k / 8)) 8 (k % 8) (omega arith) ∙ ap bit at
 
--- an octet of a number that octets spell
+-- one octet of the value of several
 pub octet_of_number : (bit : ℕ → Bool) (begin past k number : ℕ) → begin ≤ k → k < past → number ≡ bits_value bit (8 * begin) (8 * (past - begin))
     → bit_and (number / 2 ^ (8 * (past - 1 - k))) 255 ≡ bits_value bit (8 * k) 8
 octet_of_number bit begin past k number le lt is =
@@ -84,7 +84,7 @@ octet_of_number bit begin past k number le lt is =
     ∙ ap (λ n. n / 2 ^ (8 * (past - 1 - k)) % 2 ^ 8) is
     ∙ bits_value-field bit (8 * begin) (8 * (past - begin)) (8 * k) 8 (8 * (past - 1 - k)) (omega arith) (omega arith)
 
--- the octet behind the last one that a field touches, and the bits behind the field in that one
+-- the octet after the last one that a field touches, and the bits after the field in that last one
 abbrev pub past_of : ℕ → ℕ → ℕ
 past_of first width = (first + width + 7) / 8
 
@@ -119,7 +119,7 @@ written_bits octets new bit begin past number is written before behind bit_befor
     (cases_lt (q / 8) past))
     (cases_lt (q / 8) begin)
 
--- octets into which that number is written have the field's bits, and all others stay
+-- octets into which that number is written have the field's bits, and all others are unchanged
 pub field_written : (octets new : List ℕ) (first width value number k : ℕ)
     → number ≡ bits_value (field_bit (octet_bit octets) first width value) (8 * (first / 8)) (8 * (past_of first width - first / 8))
     → k ≡ past_of first width

@@ -16,15 +16,15 @@ use Rattle.dmr_bptc.proofs.OddSumLemmas.{odd_below, odd_below-same, odd_below-no
 
 -- ---- the entries
 
--- a number of an entry
+-- one number of an entry
 unfoldable pub code_entry : ℕ → ℕ → ℕ → ℕ
 code_entry part k value = get_or (get_or (get_or ENCODED k []) value []) part 0
 
--- what one information bit adds
+-- the number that one information bit adds
 unfoldable pub code_number : ℕ → ℕ → ℕ
 code_number part k = get_or (get_or (get_or ENCODED (k / 4) []) (2 ^ (3 - k % 4)) []) part 0
 
--- the entries of a group of four add what its bits add
+-- the entries of a group of four add the same as its bits one by one
 unfoldable entries_agree : ℕ → ℕ → ℕ → Bool
 entries_agree part k count = agree_below (λ value. code_entry part k value == added_by (code_number part) k value) (λ _. true) count
 
@@ -71,7 +71,7 @@ columns_agree-at : (k count column : ℕ) → columns_agree k count ≡ true →
 unfolding columns_agree
 columns_agree-at k count column all lt = eqb-true _ _ (agree_below_at (λ column. syndrome column_equations (λ row. code_bit k (place_of row column)) == 0) (λ _. true) count column all lt)
 
--- of the first so many codewords that of information bit j alone has a 1 in its cell
+-- among the codewords of the first `count` information bits, only that of bit j has a 1 in the cell of bit j
 unfoldable information_agrees : ℕ → ℕ → Bool
 information_agrees j count = agree_below (λ k. code_bit k (place_of ((j + 3) / 11) ((j + 3) % 11))) (λ k. j == k) count
 
@@ -83,7 +83,7 @@ information_agrees-at : (j count k : ℕ) → information_agrees j count ≡ tru
 unfolding information_agrees
 information_agrees-at j count k all lt = agree_below_at (λ k. code_bit k (place_of ((j + 3) / 11) ((j + 3) % 11))) (λ k. j == k) count k all lt
 
--- none of the first so many codewords has a 1 at a place
+-- none of the codewords of the first `count` information bits has a 1 at this place
 unfoldable none_has : ℕ → ℕ → Bool
 none_has place count = agree_below (λ k. code_bit k place) (λ _. false) count
 
@@ -105,7 +105,7 @@ behind_right = refl
 
 -- ---- the sum of codewords
 
--- bit `place` of the sum of the codewords of the information bits that are set
+-- bit `place` of the sum of the codewords of the set information bits
 abbrev pub sum_bit : List ℕ → ℕ → Bool
 sum_bit octets place = odd_below (λ k. octet_bit octets k && code_bit k place) 96
 
@@ -119,7 +119,7 @@ four_words f (suc (suc zero)) lt = refl
 four_words f (suc (suc (suc zero))) lt = refl
 four_words f (suc (suc (suc (suc n)))) lt = absurd (omega arith)
 
--- the words that the table's entries add up to
+-- the four numbers that the table's entries add up to
 abbrev pub code_words : List ℕ → List ℕ
 code_words octets = added (octet_bit octets) (code_number 0) 96 ∷ added (octet_bit octets) (code_number 1) 96 ∷ added (octet_bit octets) (code_number 2) 96 ∷ added (octet_bit octets) (code_number 3) 96 ∷ []
 
@@ -139,7 +139,7 @@ code_words-behind octets q le =
     (λ (past : 256 ≤ q). let gone : get_or (code_words octets) (q / 64) 0 ≡ 0 = get_or_past (code_words octets) (q / 64) 0 (omega arith) in rw (gone, zero-div (2 ^ (63 - q % 64))) refl)
     (cases_lt q 256)
 
--- a word with the bits of those words is the encoding
+-- a word with the bits of those numbers is the encoding
 pub encoding-is : (octets : List ℕ) (word : List Bool) → length word ≡ 196 → ((q : ℕ) → word_bit word q ≡ packed_bit (code_words octets) q) → IsEncoding octets word
 encoding-is octets word len bits =
     let is : (row column : ℕ) → cell word row column ≡ sum_bit octets (place_of row column) = λ row column. bits (place_of row column) ∙ packed_bit-code_words octets (place_of row column) (omega arith) in

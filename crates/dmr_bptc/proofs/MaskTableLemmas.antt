@@ -1,4 +1,4 @@
--- The masks are those of the equations and the interleaving: the bits that are set under an equation's mask add up to its failure.
+-- The masks are those of the equations and the interleaving: the bits set under an equation's mask add up to its failure.
 use Rattle.std.proofs.Common.{◌≡◌, ◌==◌, ℕ, zero, suc, ◌+◌, ◌*◌, ◌/◌, ◌%◌, ◌<◌, Bool, true, false, cond, ◌&&◌, List, [], ◌∷◌, get_or, refl, sym, ap, ◌∙◌, arith, zero-add}
 use Rattle.std.proofs.lemmas.Bool.{agree_below, agree_below_at}
 use Rattle.dmr_bits.specs.Bits.{count_from}
@@ -16,7 +16,7 @@ use Rattle.dmr_bptc.proofs.SumTableLemmas.{coefficient, line_place-lt}
 
 -- ---- the tables
 
--- below a count of places, a mask has the coefficients of an equation of a line
+-- at the places below `count`, the mask has the coefficients of the line's equation
 unfoldable row_agrees : ℕ → ℕ → ℕ → Bool
 row_agrees row e count = agree_below (packed_bit (get_or (get_or ROW_MASKS row []) e [])) (coefficient (Row row) (equation_at row_equations e)) count
 
@@ -64,7 +64,7 @@ odd_more true n = by_rest (n % 2) refl
     by_rest (suc zero) e = let next : (n + 1) % 2 ≡ 0 = omega arith in rw (next, sym e) refl
     by_rest (suc (suc m)) e = absurd (omega arith)
 
--- a count is odd where an odd number of places pass
+-- a count is odd exactly if an odd number of places pass
 count_odd : (passes : ℕ → Bool) (n : ℕ) → (count_from passes 0 n % 2 == 1) ≡ odd_below passes n
 unfolding count_from odd_below
 count_odd passes zero = refl
@@ -78,7 +78,7 @@ even-from n is = by_rest (n % 2) refl
     by_rest (suc zero) e = let odd : (n % 2 == 1) ≡ true = rw (sym e) refl in cc
     by_rest (suc (suc m)) e = absurd (omega arith)
 
--- an odd number of bits is set under a mask with an equation's coefficients where the line fails the equation
+-- the number of bits set under a mask with an equation's coefficients is odd exactly if the line fails the equation
 under_mask : (word : List Bool) (mask : List ℕ) (line : Line) (e : ℕ × List ℕ) → ((place : ℕ) → place < 196 → packed_bit mask place ≡ coefficient line e place)
     → (set_under word mask % 2 == 1) ≡ parity (line_bit word line) (e.0 ∷ e.1)
 under_mask word mask line e is =
@@ -86,7 +86,7 @@ under_mask word mask line e is =
     ∙ odd_below-same (λ place. word_bit word place && packed_bit mask place) (λ place. word_bit word place && coefficient line e place) 196 (λ q lt. ap (λ b. word_bit word q && b) (is q lt))
     ∙ odd_below-parity (word_bit word) (line_place line) 196 (line_place-lt line) (e.0 ∷ e.1)
 
--- even counts under masks with the coefficients of a line's equations, and the equations
+-- the counts under the masks of a line's equations are even exactly if the line satisfies the equations
 module _ (word : List Bool) (line : Line) (masks : List (List ℕ))
     (are : (e place : ℕ) → e < 4 → place < 196 → packed_bit (get_or masks e []) place ≡ coefficient line (equation_at (equations_of line) e) place) where
   is_under : (e : ℕ) → e < 4 → (set_under word (get_or masks e []) % 2 == 1) ≡ add_bits (line_bit word line (equation_at (equations_of line) e).0) (parity (line_bit word line) (equation_at (equations_of line) e).1)

@@ -42,7 +42,7 @@ and_add : (a b c : Bool) → (a && add_bits b c) ≡ add_bits (a && b) (a && c)
 and_add true b c = refl
 and_add false b c = refl
 
--- of the places that are one place, that one alone counts
+-- among the places equal to this one, only this one counts
 pub odd_below-one : (f : ℕ → Bool) (place n : ℕ) → place < n → odd_below (λ q. f q && (place == q)) n ≡ f place
 unfolding odd_below
 odd_below-one f place zero lt = absurd (omega arith)
@@ -58,7 +58,7 @@ odd_below-one f place (suc n) lt =
     (λ i. add_bits ((ap (λ b. f n && b) miss ∙ and_false (f n)) i) (odd_below-one f place n (omega arith) i)))
     (cases_eq place n)
 
--- the sum over the places that belong to bits is the sum over the bits that stand there
+-- the sum over the places of bits is the sum over the bits at these places
 pub odd_below-parity : (f : ℕ → Bool) (place : ℕ → ℕ) (n : ℕ) → ((k : ℕ) → place k < n) → (ks : List ℕ)
     → odd_below (λ q. f q && parity (λ k. place k == q) ks) n ≡ parity (λ k. f (place k)) ks
 odd_below-parity f place n inside [] = odd_below-none (λ q. f q && false) n (λ q lt. and_false (f q))
@@ -68,7 +68,7 @@ odd_below-parity f place n inside (k ∷ ks) =
     ∙ odd_below-add (λ q. f q && (place k == q)) (λ q. f q && parity (λ k. place k == q) ks) n
     ∙ (λ i. add_bits (odd_below-one f (place k) n (inside k) i) (odd_below-parity f place n inside ks i))
 
--- a sum of sums of lines, taken the other way round
+-- the order of a sum of sums of lines may be exchanged
 odd_below-swap : (bit : ℕ → Bool) (f : ℕ → ℕ → Bool) (n : ℕ) (js : List ℕ) → odd_below (λ k. bit k && parity (f k) js) n ≡ parity (λ j. odd_below (λ k. bit k && f k j) n) js
 odd_below-swap bit f n [] = odd_below-none (λ k. bit k && false) n (λ k lt. and_false (bit k))
 odd_below-swap bit f n (j ∷ js) =
@@ -86,7 +86,7 @@ satisfies-odd_below (e ∷ es) bit f n each = (
 
 -- ---- exclusive ors of numbers
 
--- the exclusive or of the numbers of those of the first n bits that are set
+-- the exclusive or of the numbers of the set bits among the first n
 unfoldable pub added : (ℕ → Bool) → (ℕ → ℕ) → ℕ → ℕ
 added bit number zero = 0
 added bit number (suc n) = bit_xor (added bit number n) (cond (bit n) (number n) 0)
@@ -136,7 +136,7 @@ unfolding added
 added-same p r number zero same = refl
 added-same p r number (suc n) same = (λ i. bit_xor (added-same p r number n (λ k lt. same k (omega arith)) i) (cond (same n (omega arith) i) (number n) 0))
 
--- what four bits add, by their value
+-- the number that four bits add, by their value
 unfoldable pub added_by : (ℕ → ℕ) → ℕ → ℕ → ℕ
 added_by number k value = added (λ j. value / 2 ^ (3 - j) % 2 == 1) (λ j. number (4 * k + j)) 4
 

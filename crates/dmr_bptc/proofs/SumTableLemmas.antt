@@ -1,4 +1,4 @@
--- The table of sums is that of the equations, the interleaving and the information's cells.
+-- The table of sums is that of the equations, the interleaving and the cells of the information.
 use Rattle.std.proofs.Common.{◌≡◌, ◌==◌, ℕ, zero, suc, ◌+◌, ◌-◌, ◌*◌, ◌/◌, ◌%◌, ◌^◌, ◌<◌, Bool, true, cond, ◌&&◌, List, [], ◌∷◌, get_or, refl, ap, ◌∙◌, arith, ltb}
 use Rattle.std.specs.Int.{bit_at}
 use Rattle.std.proofs.lemmas.Bool.{agree_below, agree_below_at, eqb-true, ltb-true}
@@ -16,15 +16,15 @@ use Rattle.dmr_bptc.proofs.OddSumLemmas.{odd_below-same, odd_below-one, odd_belo
 
 -- ---- the entries
 
--- a number of an entry
+-- one number of an entry
 unfoldable pub sum_entry : ℕ → ℕ → ℕ → ℕ
 sum_entry part k value = get_or (get_or (get_or SUMS k []) value []) part 0
 
--- what one place adds
+-- the number that one place adds
 unfoldable pub sum_number : ℕ → ℕ → ℕ
 sum_number part place = get_or (get_or (get_or SUMS (place / 4) []) (2 ^ (3 - place % 4)) []) part 0
 
--- the entries of a group of four add what its places add
+-- the entries of a group of four add the same as its places one by one
 unfoldable entries_agree : ℕ → ℕ → ℕ → Bool
 entries_agree part k count = agree_below (λ value. sum_entry part k value == added_by (sum_number part) k value) (λ _. true) count
 
@@ -45,11 +45,11 @@ sum_entry-is part k value part_lt k_lt lt =
 
 -- ---- syndromes
 
--- the coefficient of a place in an equation of a line: how often, modulo 2, the place is that of a bit of the equation
+-- the coefficient of a place in an equation of a line: how often, modulo 2, a bit of the equation has this place
 abbrev pub coefficient : Line → ℕ × List ℕ → ℕ → Bool
 coefficient line e place = parity (λ k. line_place line k == place) (e.0 ∷ e.1)
 
--- a bit of what the places below a count add to the columns has an equation's coefficients
+-- at the places below `count`, one bit of the number that a place adds has the coefficients of the column's equation
 unfoldable column_agrees : ℕ → ℕ → ℕ → Bool
 column_agrees column e count = agree_below (λ place. bit_at (sum_number 0 place) (4 * column + (3 - e)) == 1) (coefficient (Column column) (equation_at column_equations e)) count
 
@@ -103,7 +103,7 @@ unfolding row_equations column_equations
 syndrome-four (Row row) bit = omega arith
 syndrome-four (Column column) bit = omega arith
 
--- a bit of a sum whose numbers have an equation's coefficients says whether the line fails the equation
+-- if the numbers have an equation's coefficients in a bit, that bit of their sum is 1 exactly if the line fails the equation
 failure_bit : (word : List Bool) (line : Line) (e : ℕ × List ℕ) (number : ℕ → ℕ) (j : ℕ)
     → ((place : ℕ) → place < 196 → (bit_at (number place) j == 1) ≡ coefficient line e place)
     → bit_at (added (word_bit word) number 196) j ≡ fails (line_bit word line) e
@@ -157,7 +157,7 @@ rows-lt bit = added-lt bit (sum_number 1) 52 196 (λ k lt. ltb-true (sum_number 
 
 -- ---- information
 
--- a bit of what the places below a count add to the information is 1 at the information bit's place alone
+-- at the places below `count`, one bit of the number that a place adds is 1 only at the place of the information bit
 unfoldable information_agrees : ℕ → ℕ → Bool
 information_agrees k count = agree_below (λ place. bit_at (sum_number (2 + k / 64) place) (63 - k % 64) == 1) (λ place. place_of ((k + 3) / 11) ((k + 3) % 11) == place) count
 

@@ -1,4 +1,4 @@
--- What the sums of a word say of it: they are 0 exactly where it is a codeword.
+-- The sums of a word are 0 exactly if it is a codeword.
 use Rattle.std.proofs.Common.{◌≡◌, ℕ, zero, suc, ◌+◌, ◌*◌, ◌/◌, ◌%◌, ◌^◌, ◌<◌, List, Bool, length, sym, ap, ◌∙◌, arith, pow-suc}
 use Rattle.std.proofs.Math.Nat.{zero-div}
 use Rattle.std.proofs.lemmas.Nat.{shr-shr}
@@ -13,7 +13,7 @@ pow-four m =
     let e : 4 + m ≡ suc (suc (suc (suc m))) = omega arith in
     ap (λ n. 2 ^ n) e ∙ omega (arith, pow-suc 2 m, pow-suc 2 (suc m), pow-suc 2 (suc (suc m)), pow-suc 2 (suc (suc (suc m))))
 
--- a number whose digits to the base 16 are all 0 is 0
+-- a number whose digits in base 16 are all 0 is 0
 digits_zero : (count n : ℕ) → n < 2 ^ (4 * count) → ((k : ℕ) → k < count → n / 2 ^ (4 * k) % 16 ≡ 0) → n ≡ 0
 digits_zero zero n lt digits = omega arith
 digits_zero (suc count) n lt digits =
@@ -43,7 +43,7 @@ module _ (word : List Bool) (columns rows : ℕ) (len : length word ≡ 196)
     digits_zero 13 rows rows_lt (λ k lt. rows_are k lt ∙ syndrome-zero row_equations (λ column. cell word k column) (is.rows k lt)),
   )
 
--- a word with the cells of a codeword is one
+-- a word of 196 bits with the cells of a codeword is a codeword
 pub codeword-same : (x y : List Bool) → length x ≡ 196 → HasSameCells x y → IsCodeword y → IsCodeword x
 codeword-same x y len same is = record {
   len = len;

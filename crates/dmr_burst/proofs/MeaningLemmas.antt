@@ -1,4 +1,4 @@
--- `meaning_of` gives what `MeansPdu` says, by the laws of the layers below.
+-- `meaning_of` computes the relation `MeansPdu`, by the laws of the layers below.
 use Rattle.std.proofs.Common.{◌≡◌, ℕ, Bool, List, Option, Some, None, ◌≤◌, refl, sym, ap, ◌∙◌, subst}
 use Rattle.std.specs.Prelude.{◌↔◌, IfSome, option_map, option_and_then}
 use Rattle.dmr_bits.specs.Bits.{IsOctets}
@@ -11,7 +11,7 @@ use Rattle.dmr_pdu.specs.Functions.{pdu_of}
 use Rattle.dmr_burst.specs.Burst.{MeansPdu, IsBurst}
 use Rattle.dmr_burst.specs.Functions.{meaning_of}
 
--- what is meant is the meaning
+-- if a word means a PDU, `meaning_of` returns it
 pub meaning_of-meant : ((word : List Bool) (octets : List ℕ) → IsOctets 12 octets → Means 3 word octets → decoding_of word ≡ Some octets)
     → ((octets : List ℕ) → IsOctets 10 octets → IsOctets 12 (with_check octets))
     → ((octets : List ℕ) → IsOctets 10 octets → without_check (with_check octets) ≡ Some octets)
@@ -30,7 +30,7 @@ from_opened agrees word sealed None means told = tt
 from_opened agrees word sealed (Some octets) means told =
     (octets, record { are_octets = told.0; means = subst (Means 3 word) told.1 means; agrees = (agrees octets (pdu_of octets)).1 refl })
 
--- the meaning is meant
+-- if `meaning_of` returns a PDU, the word means it
 pub meaning_of-found : ((word : List Bool) → IfSome (decoding_of word) (λ octets. IsOctets 12 octets × Means 3 word octets))
     → ((sealed : List ℕ) → IsOctets 12 sealed → IfSome (without_check sealed) (λ octets. IsOctets 10 octets × (sealed ≡ with_check octets)))
     → ((octets : List ℕ) (pdu : Pdu) → Agrees pdu octets ↔ pdu ≡ pdu_of octets)
@@ -42,12 +42,12 @@ meaning_of-found decoded opened agrees word = from_decoded (decoding_of word) (d
     from_decoded None told = tt
     from_decoded (Some sealed) told = from_opened agrees word sealed (without_check sealed) told.1 (opened sealed told.0)
 
--- a word means what it decodes to, opened and read
+-- the meaning of a word is its decoding, opened and read
 pub meaning_of-decoded : (word : List Bool) (decoding : Option (List ℕ)) → decoding ≡ decoding_of word → option_map pdu_of (option_and_then without_check decoding) ≡ meaning_of word
 unfolding meaning_of
 meaning_of-decoded word decoding is = ap (λ (o : Option (List ℕ)). option_map pdu_of (option_and_then without_check o)) is
 
--- what was sent is meant, with up to three bits flipped on the way
+-- the burst of a readable PDU, with at most three flipped bits, means that PDU
 pub sent_means : ((pdu : Pdu) (octets : List ℕ) → IsReadable pdu → SpellsPdu pdu octets → Agrees pdu octets)
     → (pdu : Pdu) (sent word : List Bool) → IsBurst pdu sent → IsReadable pdu → distance word sent ≤ 3 → MeansPdu word pdu
 sent_means back pdu sent word burst readable near = (

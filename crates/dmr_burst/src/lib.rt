@@ -1,8 +1,9 @@
-//! The burst layer: the one way from the 196 bits of a control burst to its PDU, and back.
+//! The burst layer: the 196 bits of a control burst to its PDU, and back. The site has no other way to do either.
 //!
-//! A burst carries the ten octets of a PDU and their check as the 96 information bits of a codeword (TS 102 361-1, clauses
-//! 7.2 and B.1.1). Reading mends up to three flipped bits, wants the check to fit and gives the one PDU that agrees with the
-//! ten octets; place 0, which is outside the code, and the reserved cells may hold anything. Nothing here takes memory.
+//! A burst has the ten octets of a PDU and their check as the 96 information bits of a codeword (TS 102 361-1, clauses
+//! 7.2 and B.1.1). [`read`] mends up to three flipped bits, requires the right check, and returns the one PDU that
+//! agrees with the ten octets. Place 0, which is outside the code, and the reserved cells may hold anything. Nothing in
+//! this crate allocates memory.
 #![tactic(auto)]
 
 ghost use Rattle.std.specs.Prelude.{◌≡◌, ◌≤◌, ℕ, List, Bool, Some, IfSome};
@@ -17,10 +18,10 @@ use dmr_bptc::{decode, encode, nearest_codeword};
 use dmr_csbk::{open_sealed, seal, seals_open};
 use dmr_pdu::{Pdu, octets_mean_one_pdu};
 
-/// The word that a PDU is sent as: the codeword, with place 0 and the reserved cells 0, of its octets and their check.
+/// Returns the word of a PDU: the codeword of its octets and their check, with place 0 and the reserved cells 0.
 pub fn write(pdu: &Pdu) -> Word196
     ensures is { IsBurst pdu.now result }
-    // There is no other.
+    // No other word is the burst of the PDU.
     ensures alone { (word : List Bool) → IsBurst pdu.now word → word ≡ result }
     ensures burst { result ≡ burst_of pdu.now }
 {
@@ -29,14 +30,16 @@ pub fn write(pdu: &Pdu) -> Word196
     encode(&sealed)
 }
 
-/// The PDU that a word means; None where it means none: no codeword differs from it in at most three of the places 1 to
-/// 195, or the check of the one that does is wrong.
+/// Returns the PDU that a word means, or `None` if it means none.
+///
+/// A word means none if no codeword differs from it in at most three of the places 1 to 195, or if the check in that
+/// codeword is wrong.
 pub fn read(word: &Word196) -> Option<Pdu>
-    // What is answered is meant.
+    // A PDU that is returned is one that the word means.
     ensures found { IfSome result (MeansPdu word.now) }
-    // What is meant is answered.
+    // A PDU that the word means is returned.
     ensures only { (pdu : APdu) → MeansPdu word.now pdu → result ≡ Some pdu }
-    // What was sent is answered, with up to three bits flipped on the way.
+    // If the word is the burst of a readable PDU with at most three flipped bits, that PDU is returned.
     ensures back { (pdu : APdu) (sent : List Bool) → IsBurst pdu sent → IsReadable pdu → distance word.now sent ≤ 3 → result ≡ Some pdu }
     ensures meaning { result ≡ meaning_of word.now }
 {
@@ -44,7 +47,7 @@ pub fn read(word: &Word196) -> Option<Pdu>
     opened(word)
 }
 
-/// The PDU whose octets and check a codeword near the word carries, if there is one.
+/// Returns the PDU whose octets and check are in a codeword near the word, if there is one.
 fn opened(word: &Word196) -> Option<Pdu>
     ensures { result ≡ meaning_of word.now }
 {
@@ -53,15 +56,14 @@ fn opened(word: &Word196) -> Option<Pdu>
     Some(Pdu::from_octets(&octets))
 }
 
-/// The laws of meaning: a word means one PDU at most, the one that `meaning_of` gives, and a burst with at most three flipped
-/// bits means what the clean burst meant. It does nothing; its contract is the law, which follows from the laws of the layers
-/// below.
+/// Does nothing. A proof learns from it the laws of meaning. A word means at most one PDU, the result of `meaning_of`.
+/// A burst with at most three flipped bits means the same as the clean burst.
 pub fn meanings_are_single()
     ensures found { (word : List Bool) → IfSome (meaning_of word) (MeansPdu word) }
     ensures only { (word : List Bool) (pdu : APdu) → MeansPdu word pdu → meaning_of word ≡ Some pdu }
-    // A word means what the codeword means that differs from it in at most three places, be it a PDU or nothing.
+    // A word means the same as the codeword that differs from it in at most three places, be it a PDU or nothing.
     ensures clean { (word codeword : List Bool) → IsCodeword codeword → distance word codeword ≤ 3 → meaning_of word ≡ meaning_of codeword }
-    // What was sent is meant.
+    // The burst of a readable PDU, with at most three flipped bits, means that PDU.
     ensures flipped { (pdu : APdu) (sent word : List Bool) → IsBurst pdu sent → IsReadable pdu → distance word sent ≤ 3 → meaning_of word ≡ Some pdu }
 {
     nearest_codeword();

@@ -1,4 +1,4 @@
--- Going round the slots: what is found is the next talkgroup call.
+-- Going round the slots: the call that is found is the next talkgroup call.
 use Rattle.std.proofs.Common.{arith, ◌≡◌, ℕ, zero, suc, ◌+◌, ◌-◌, ◌<◌, ◌≤◌, ◌⊎◌, inl, inr, List, [], ◌∷◌, Bool, true, false, refl, sym, ◌∙◌, subst, ap}
 use Rattle.std.specs.Prelude.{◌/◌, ◌%◌, Option, Some, None, MatchOption, IfSome, cond, find, option_map}
 use Rattle.std.specs.List.{range_with_len}
@@ -12,7 +12,7 @@ use Rattle.dmr_calls.specs.Calls.{call_on, is_slot}
 use Rattle.dmr_pdu.specs.Slots.{IsSlot, place, slot_at}
 use Rattle.dmr_calls.specs.After.{is_group_on, is_group_at, place_after, group_place, group_after, IsBelow, IsAbove, HasNoGroupCall, IsNextGroupCall, IsFirst, IsNext, IsTurn, NonePass}
 
--- where one place doesn't pass either, none passes from there on
+-- if one more place does not pass, none passes from there on
 none_more : (passes : ℕ → Bool) (from to : ℕ) → passes from ≡ false → NonePass passes (from + 1) to → NonePass passes from to
 none_more passes from to here after k reached below = either (cases_lt from k)
   where
@@ -20,7 +20,7 @@ none_more passes from to here after k reached below = either (cases_lt from k)
     either (inl behind) = after k (omega arith) below
     either (inr there) = let same : from ≡ k = omega arith in subst (λ n. passes n ≡ false) same here
 
--- the same of what is found
+-- the same about the place that is found
 one_more : (passes : ℕ → Bool) (from to : ℕ) (found : Option ℕ) → passes from ≡ false → MatchOption found (NonePass passes (from + 1) to) (IsFirst passes (from + 1) to) → MatchOption found (NonePass passes from to) (IsFirst passes from to)
 one_more passes from to None here after = none_more passes from to here after
 one_more passes from to (Some at) here after = record {
@@ -30,7 +30,7 @@ one_more passes from to (Some at) here after = record {
   before = none_more passes from at here after.before;
 }
 
--- what is found among so many places is the first that passes, if any does
+-- the place found among `n` places is the first that passes, if any does
 pub found_first : (passes : ℕ → Bool) (from n to : ℕ) → from + n ≡ to → MatchOption (find passes (range_with_len from n)) (NonePass passes from to) (IsFirst passes from to)
 found_first passes from zero to all = λ k reached below. absurd (omega arith)
 found_first passes from (suc n) to all = either (passes from) refl (found_first passes (from + 1) n to (omega arith))
@@ -50,7 +50,7 @@ slot_at-place slot small =
 pub place-slot_at : (k : ℕ) → place (slot_at k) ≡ k
 place-slot_at k = omega arith
 
--- a slot of the site is below another where its place is lower
+-- a slot of the site is below another if its place is lower
 pub below-place : (a b : Slot) → a.slot < 2 → b.slot < 2 → IsBelow a b → place a < place b
 below-place a b small also (inl less) = omega (arith, small, also, less)
 below-place a b small also (inr same) = omega (arith, small, also, same.0, same.1)
@@ -78,7 +78,7 @@ on_its_slot (s ∷ calls) slot call h = first (is_slot s.call.slot slot) refl h 
     first true e k more = let same : s.call ≡ call = cc in subst (λ (c : Call). c.slot ≡ slot) same (same_slot s.call.slot slot e)
     first false e k more = more k
 
--- a talkgroup call that stands on a slot
+-- an active talkgroup call on a slot
 pub record IsGroupOn (calls : List Standing) (slot : Slot) (call : Call) : Type 0 where
   pub stands : call_on calls slot ≡ Some call
   pub group : call.group ≡ true
@@ -91,7 +91,7 @@ group_on calls slot h = either (call_on calls slot) refl h
     either None e k = cc
     either (Some call) e k = (call, record { stands = e; group = k; there = on_its_slot calls slot call e })
 
--- above the last slot is at or behind the place that follows it
+-- a slot above the last one has a place at or after the one that follows the last
 pub behind_last : (last : Option Slot) (slot : Slot) → IfSome last IsSlot → slot.slot < 2 → IsAbove last slot → place_after last ≤ place slot
 behind_last None slot is small above = omega arith
 behind_last (Some l) slot is small above = omega (arith, below-place l slot is.1 small above)
@@ -112,7 +112,7 @@ none_before : (calls : List Standing) (from to : ℕ) (other : Slot) → NonePas
 none_before calls from to other none small group reached below =
     none_there (is_group_at calls (place other)) (at_place calls other true small group) (none (place other) reached below)
 
--- the first behind the last
+-- the first after the last
 next_above : (calls : List Standing) (last : Option Slot) (k : ℕ) (call : Call) → IfSome last IsSlot → IsFirst (is_group_at calls) (place_after last) 32 k → IsGroupOn calls (slot_at k) call → IsNextGroupCall calls last call
 next_above calls last k call is first on =
     let at : place call.slot ≡ k = ap place on.there ∙ place-slot_at k in
@@ -130,7 +130,7 @@ next_above calls last k call is first on =
       around = λ no other site group below. no above;
     }
 
--- the first of all, where none is behind the last
+-- the first of all, if there is none after the last
 next_around : (calls : List Standing) (last : Option Slot) (k : ℕ) (call : Call) → IfSome last IsSlot → NonePass (is_group_at calls) (place_after last) 32 → IsFirst (is_group_at calls) 0 32 k → IsGroupOn calls (slot_at k) call → IsNextGroupCall calls last call
 next_around calls last k call is none first on =
     let at : place call.slot ≡ k = ap place on.there ∙ place-slot_at k in
@@ -147,7 +147,7 @@ no_group : (calls : List Standing) → NonePass (is_group_at calls) 0 32 → Has
 no_group calls none slot is =
     subst (λ (s : Slot). is_group_on calls s ≡ false) (slot_at-place slot is.1) (none (place slot) (omega arith) (omega (arith, is.0, is.1)))
 
--- what is found among the places from one on, which may be none
+-- the place found among the places from one on, of which there may be none
 pub found_from : (passes : ℕ → Bool) (from : ℕ) → MatchOption (find passes (range_with_len from (32 - from))) (NonePass passes from 32) (IsFirst passes from 32)
 found_from passes from = either (cases_lt 32 from)
   where
@@ -176,7 +176,7 @@ found_after calls last =
     found_turn calls (place_after last) (group_place calls (place_after last)) (group_place calls 0)
     (found_from (is_group_at calls) (place_after last)) (found_from (is_group_at calls) 0)
 
--- so it is the turn of what is found
+-- it is the turn of the call that is found
 turn_is : (calls : List Standing) (from : ℕ) (o : Option Call) → MatchOption o (NonePass (is_group_at calls) 0 32) (IsFoundTurn calls from) → MatchOption o (HasNoGroupCall calls) (IsTurn calls from)
 turn_is calls from None none = no_group calls none
 turn_is calls from (Some call) found =
@@ -190,7 +190,7 @@ turn_is calls from (Some call) found =
 pub turn_of : (calls : List Standing) (last : Option Slot) → MatchOption (group_after calls last) (HasNoGroupCall calls) (IsTurn calls (place_after last))
 turn_of calls last = turn_is calls (place_after last) (group_after calls last) (found_after calls last)
 
--- what is found is next
+-- the call that is found is the next
 next_is : (calls : List Standing) (last : Option Slot) (o : Option Call) → IfSome last IsSlot → MatchOption o (NonePass (is_group_at calls) 0 32) (IsFoundTurn calls (place_after last)) → MatchOption o (HasNoGroupCall calls) (IsNextGroupCall calls last)
 next_is calls last None is none = no_group calls none
 next_is calls last (Some call) is found =

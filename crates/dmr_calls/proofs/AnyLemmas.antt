@@ -4,7 +4,7 @@ use Rattle.std.specs.Prelude.{◌&&◌, ◌||◌}
 use mathlib.Core.Bool.{true≢false}
 use Rattle.std.specs.List.{list_any}
 
--- where none passes one test, none passes it and another
+-- if none passes one test, none passes that test and another
 pub none_passes_both : {X : Type 0} (p q : X → Bool) (xs : List X) → list_any p xs ≡ false → list_any (λ x. p x && q x) xs ≡ false
 none_passes_both p q [] none = refl
 none_passes_both p q (x ∷ xs) none = by_first (p x) (none_passes_both p q xs) none

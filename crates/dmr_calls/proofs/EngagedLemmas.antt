@@ -1,4 +1,4 @@
--- A radio is engaged by something exactly where it is a party to something.
+-- A radio is engaged exactly if it is a party to a call, an ask or a line.
 use Rattle.std.proofs.Common.{◌≡◌, ℕ, List, [], ◌∷◌, Bool, true, false, refl, ◌∙◌}
 use Rattle.std.specs.Prelude.{◌||◌, Option, Some, None, find, is_some, option_map, if◌then◌else◌}
 use Rattle.std.specs.List.{list_any}
@@ -9,7 +9,7 @@ use Rattle.dmr_calls.specs.declared.answer.Engagement.TheVariants.{CallOf, AskOf
 use Rattle.dmr_calls.specs.Standings.{Standings}
 use Rattle.dmr_calls.specs.Engaged.{is_party_to_call, is_party_to_ask, is_party_to_line, call_of, ask_with, line_with, engagement_of, is_engaged}
 
--- something passes a test where something that passes it is found
+-- an element passes a test exactly if one that passes is found
 some_found : {X : Type 0} (test : X → Bool) (xs : List X) → is_some (find test xs) ≡ list_any test xs
 some_found test [] = refl
 some_found test (x ∷ xs) = by_first (test x) (some_found test xs)
@@ -18,7 +18,7 @@ some_found test (x ∷ xs) = by_first (test x) (some_found test xs)
     by_first true same = refl
     by_first false same = same
 
--- as much is found in another form
+-- an element is found exactly if it is found in another form
 some_mapped : {X Y : Type 0} (f : X → Y) (o : Option X) → is_some (option_map f o) ≡ is_some o
 some_mapped f None = refl
 some_mapped f (Some x) = refl
@@ -29,7 +29,7 @@ some_of_three (Some x) b c = refl
 some_of_three None (Some y) c = refl
 some_of_three None None c = refl
 
--- something engages a radio where it is a party to something
+-- something engages a radio exactly if it is a party to something
 pub some_engaged : (now : Standings) (radio : ℕ) → is_some (engagement_of now radio) ≡ is_engaged now radio
 some_engaged now radio =
     let calls = find (is_party_to_call radio) now.calls in

@@ -1,4 +1,4 @@
--- The fact about this crate's definitions that other crates' proofs may cite.
+-- The fact about this crate's definitions that proofs of other crates may cite.
 use Rattle.std.proofs.Common.{◌≡◌, List, true}
 use Rattle.std.specs.Prelude.{Option, Some, None, MatchOption, IfSome}
 use Rattle.dmr_pdu.specs.declared.slots.Slot.{Slot}
@@ -8,7 +8,7 @@ use Rattle.dmr_calls.specs.Calls.{call_on}
 use Rattle.dmr_calls.specs.After.{group_after, place_after, HasNoGroupCall, IsTurn}
 use Rattle.dmr_calls.proofs.AfterLemmas.{turn_of}
 
--- the next talkgroup call is a talkgroup's, and stands on its slot
+-- the next talkgroup call is an active talkgroup call
 pub next_stands : (calls : List Standing) (last : Option Slot) → IfSome (group_after calls last) (λ call. (call_on calls call.slot ≡ Some call) × (call.group ≡ true))
 next_stands calls last = either (group_after calls last) (turn_of calls last)
   where

@@ -1,4 +1,4 @@
--- No radio comes to have two asks.
+-- No radio has two asks, after each change.
 use Rattle.std.proofs.Common.{arith, ◌≡◌, ◌≢◌, ℕ, zero, suc, ◌<◌, ◌+◌, List, [], ◌∷◌, ◌++◌, Bool, true, false, refl, length, map, get_or, ◌∙◌, sym, ap}
 use Rattle.std.specs.Prelude.{◌==◌, ◌&&◌, ◌||◌, not, find, Some, if◌then◌else◌}
 use Rattle.std.specs.List.{list_any}
@@ -11,11 +11,11 @@ use Rattle.dmr_calls.specs.declared.ask.Asking.{Asking}
 use Rattle.dmr_calls.proofs.AnyLemmas.{none_passes_both}
 use Rattle.dmr_calls.specs.Asks.{HaveOwnSources, new_asking, waited_more, others_than, has_own_ask}
 
--- a number that is not another's
+-- a number that differs from another
 other_source : (a b : ℕ) → not (a == b) ≡ true → a ≢ b
 other_source a b h same = grind (arith, nat_tests)
 
--- an ask behind those of other sources
+-- an ask after those of other sources
 pub own_with : (ask : Ask) (asks : List Asking) → HaveOwnSources (others_than ask.source asks) → HaveOwnSources (others_than ask.source asks ++ new_asking ask ∷ [])
 own_with ask asks own =
     all_pairs_push (λ (a b : Asking). a.ask.source ≢ b.ask.source) (others_than ask.source asks) (new_asking ask) own
@@ -27,7 +27,7 @@ same_source [] k d = refl
 same_source (a ∷ asks) zero d = refl
 same_source (a ∷ asks) (suc k) d = same_source asks k d
 
--- as many asks after a tick
+-- a tick changes no count of asks
 same_length : (asks : List Asking) → length (map waited_more asks) ≡ length asks
 same_length [] = refl
 same_length (a ∷ asks) = ap (λ n. suc n) (same_length asks)
@@ -37,11 +37,11 @@ pub own_after : (asks : List Asking) → HaveOwnSources asks → HaveOwnSources 
 own_after asks own i j d before within same =
     own i j d before (omega (arith, same_length asks)) (sym (same_source asks i d) ∙ same ∙ same_source asks j d)
 
--- the asks behind the first are of own sources too
+-- the asks after the first have distinct sources too
 own_tail : (a : Asking) (asks : List Asking) → HaveOwnSources (a ∷ asks) → HaveOwnSources asks
 own_tail a asks own i j d before within = own (suc i) (suc j) d (omega (arith, before)) (omega (arith, within))
 
--- where the first is of a source, the others are not
+-- if the first ask is of a source, the others are not
 rest_is_other : (a : Asking) (asks : List Asking) (source : ℕ) → HaveOwnSources (a ∷ asks) → (a.ask.source == source) ≡ true → list_any (λ (b : Asking). b.ask.source == source) asks ≡ false
 rest_is_other a asks source own same = none_same asks (λ k d within. let other : a.ask.source ≢ (get_or asks k d).ask.source = own 0 (suc k) d (omega arith) (omega (arith, within)) in grind (arith, nat_tests))
   where
@@ -63,7 +63,7 @@ or_false : (a b : Bool) → b ≡ false → (a || b) ≡ a
 or_false true b none = refl
 or_false false b none = none
 
--- whether the source asks the target is read of its one ask
+-- the target of a source's one ask decides whether the source asks the target
 pub own_ask_read : (asks : List Asking) (source target : ℕ) → HaveOwnSources asks → has_own_ask asks source target ≡ option_map_or (λ (c : Asking). c.ask.target == target) (find (λ c. c.ask.source == source) asks) false
 own_ask_read [] source target own = refl
 own_ask_read (a ∷ asks) source target own = by_first (a.ask.source == source) (rest_is_other a asks source own) (own_ask_read asks source target (own_tail a asks own))

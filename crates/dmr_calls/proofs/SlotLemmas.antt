@@ -10,11 +10,11 @@ use Rattle.dmr_pdu.specs.Slots.{place}
 use Rattle.dmr_calls.specs.Slots.{AreOnSlots}
 use Rattle.dmr_calls.specs.Calls.{is_slot, one_tick_older, with_activity, on_other_slots, on_other_carriers}
 
--- slots are the same where their numbers are
+-- slots are the same exactly if their numbers are
 pub same_number : (a b : Slot) → a.slot < 2 → b.slot < 2 → (place a == place b) ≡ is_slot a b
 same_number a b a_two b_two = grind (arith, nat_tests)
 
--- a slot is another carrier's where its number is neither of two
+-- a slot is another carrier's exactly if its number is neither of the carrier's two
 of_carrier : (a : Slot) (carrier : ℕ) → a.slot < 2 → (not (place a == 2 * carrier) && not (place a == 2 * carrier + 1)) ≡ not (a.carrier == carrier)
 of_carrier a carrier two = grind (arith, nat_tests)
 
@@ -23,12 +23,12 @@ find_agree : {X : Type 0} (p q : X → Bool) (xs : List X) → All (λ x. p x �
 find_agree p q [] same = refl
 find_agree p q (x ∷ xs) same = ap (λ b. if b then Some x else find p xs) (same 0 x (omega arith)) ∙ ap (λ o. if q x then Some x else o) (find_agree p q xs (λ k d within. same (suc k) d (omega (arith, within))))
 
--- and keep the same
+-- tests that agree on all elements keep the same
 filter_agree : {X : Type 0} (p q : X → Bool) (xs : List X) → All (λ x. p x ≡ q x) xs → filter p xs ≡ filter q xs
 filter_agree p q [] same = refl
 filter_agree p q (x ∷ xs) same = ap (λ b. if b then x ∷ filter p xs else filter p xs) (same 0 x (omega arith)) ∙ ap (λ ys. if q x then x ∷ ys else ys) (filter_agree p q xs (λ k d within. same (suc k) d (omega (arith, within))))
 
--- what passes one test and then another passes both
+-- an element that passes one test and then another passes both
 filter_twice : {X : Type 0} (p q : X → Bool) (xs : List X) → filter q (filter p xs) ≡ filter (λ x. p x && q x) xs
 filter_twice p q [] = refl
 filter_twice p q (x ∷ xs) = by_first (p x) (filter_twice p q xs)
@@ -55,7 +55,7 @@ left_on_carriers calls carrier on =
 pub on_slots_after : (calls : List Standing) → AreOnSlots calls → AreOnSlots (map one_tick_older calls)
 on_slots_after calls on = All-map (λ (s : Standing). s.call.slot.slot < 2) one_tick_older calls on
 
--- nor does activity
+-- activity moves no call
 pub on_slots_marked : (slot : Slot) (calls : List Standing) → AreOnSlots calls → AreOnSlots (map (with_activity slot) calls)
 on_slots_marked slot calls on =
     All-map (λ (s : Standing). s.call.slot.slot < 2) (with_activity slot) calls (λ k d within. stays (get_or calls k d) (is_slot (get_or calls k d).call.slot slot) (on k d within))

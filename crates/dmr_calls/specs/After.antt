@@ -1,4 +1,4 @@
--- Talkgroup calls in turn: going round the slots by carrier, then by number.
+-- The turns of talkgroup calls: round the slots by carrier, then by number.
 use Rattle.std.specs.Prelude.{◌≡◌, ◌<◌, ◌≤◌, ℕ, ◌+◌, ◌-◌, ◌⊎◌, List, Bool, true, false, Option, Some, None, find}
 use Rattle.std.specs.List.{range_with_len}
 use Rattle.std.specs.Option.{option_and_then, option_map_or, option_or}
@@ -17,7 +17,7 @@ is_group_on calls slot = option_map_or (λ (call : Call). call.group) (call_on c
 abbrev pub is_group_at : List Standing → ℕ → Bool
 is_group_at calls place = is_group_on calls (slot_at place)
 
--- the first place behind a slot; the first of all where there is none
+-- the place after a slot; the first place of all if no slot is given
 abbrev pub place_after : Option Slot → ℕ
 place_after last = option_map_or (λ slot. place slot + 1) last 0
 
@@ -25,7 +25,7 @@ place_after last = option_map_or (λ slot. place slot + 1) last 0
 abbrev pub group_place : List Standing → ℕ → Option ℕ
 group_place calls from = find (is_group_at calls) (range_with_len from (slots_of_site - from))
 
--- the talkgroup call on the least slot above the last, or else on the least of all
+-- the talkgroup call on the least slot above the last; if there is none above, or no last slot, the one on the least slot of all
 unfoldable pub group_after : List Standing → Option Slot → Option Call
 group_after calls last =
     option_and_then (λ place. call_on calls (slot_at place)) (option_or (group_place calls (place_after last)) (group_place calls 0))
@@ -34,7 +34,7 @@ group_after calls last =
 abbrev pub IsBelow : Slot → Slot → Type 0
 IsBelow a b = (a.carrier < b.carrier) ⊎ ((a.carrier ≡ b.carrier) × (a.slot < b.slot))
 
--- a slot is above the last one, as each is where there is none
+-- a slot is above the last one; if there is no last one, each slot is
 abbrev pub IsAbove : Option Slot → Slot → Type 0
 IsAbove None slot = Unit {0}
 IsAbove (Some last) slot = IsBelow last slot
@@ -43,7 +43,7 @@ IsAbove (Some last) slot = IsBelow last slot
 abbrev pub HasNoGroupCall : List Standing → Type 0
 HasNoGroupCall calls = (slot : Slot) → IsSlot slot → is_group_on calls slot ≡ false
 
--- a talkgroup call stands on its slot; where one stands above the last slot it is above, and the lowest of those; else it is the lowest of all
+-- the next talkgroup call: the one on the lowest slot above the last slot, if there is any; else the one on the lowest slot of all
 pub record IsNextGroupCall (calls : List Standing) (last : Option Slot) (call : Call) : Type 0 where
   pub within : IsSlot call.slot
   pub stands : call_on calls call.slot ≡ Some call
@@ -51,22 +51,22 @@ pub record IsNextGroupCall (calls : List Standing) (last : Option Slot) (call : 
   pub above : (other : Slot) → IsSlot other → is_group_on calls other ≡ true → IsAbove last other → IsAbove last call.slot × (IsBelow other call.slot → ⊥)
   pub around : (IsAbove last call.slot → ⊥) → (other : Slot) → IsSlot other → is_group_on calls other ≡ true → IsBelow other call.slot → ⊥
 
--- no place passes from one on and before another
+-- no place passes, from one on and before another
 abbrev pub NonePass : (ℕ → Bool) → ℕ → ℕ → Type 0
 NonePass passes from to = (k : ℕ) → from ≤ k → k < to → passes k ≡ false
 
--- a place passes, and none before it does, from one on and before another
+-- a place passes, from one on and before another, and none before it does
 pub record IsFirst (passes : ℕ → Bool) (from to at : ℕ) : Type 0 where
   pub reached : from ≤ at
   pub within : at < to
   pub passing : passes at ≡ true
   pub before : NonePass passes from at
 
--- a place is the next that passes: the first from one on, or where none passes there the first of all
+-- a place is the next that passes: the first from one on; if none passes there, the first of all
 abbrev pub IsNext : (ℕ → Bool) → ℕ → ℕ → Type 0
 IsNext passes from at = IsFirst passes from slots_of_site at ⊎ (NonePass passes from slots_of_site × IsFirst passes 0 slots_of_site at)
 
--- it is a call's turn: a talkgroup call stands on its slot, whose place is the next that has one
+-- it is the turn of a call: it is an active talkgroup call, and its place is the next that has one
 pub record IsTurn (calls : List Standing) (from : ℕ) (call : Call) : Type 0 where
   pub stands : call_on calls call.slot ≡ Some call
   pub group : call.group ≡ true

@@ -1,4 +1,4 @@
--- Asks: a list, the one with the oldest C_AHOY in front.
+-- Asks: a list in the order of their last C_AHOY, oldest first.
 use Rattle.std.specs.Prelude.{ℕ, List, [], ◌∷◌, ◌++◌, Bool, not, ◌==◌, ◌≢◌, ◌&&◌, nat_le, length, filter, find, Option, option_map, if◌then◌else◌}
 use Rattle.std.specs.List.{list_any, AllPairs}
 use Rattle.std.specs.Option.{option_map_or}
@@ -15,7 +15,7 @@ HaveOwnSources asks = AllPairs (λ a b. a.ask.source ≢ b.ask.source) asks
 abbrev pub new_asking : Ask → Asking
 new_asking ask = record { ask = ask; waited = 0 }
 
--- an ask after one tick more
+-- an ask after one more tick
 abbrev pub waited_more : Asking → Asking
 waited_more a = record { ask = a.ask; waited = one_more a.waited }
 
@@ -23,15 +23,15 @@ waited_more a = record { ask = a.ask; waited = one_more a.waited }
 abbrev pub others_than : ℕ → List Asking → List Asking
 others_than source asks = filter (λ a. not (a.ask.source == source)) asks
 
--- whether there is no place for an ask of this source: 32 of other sources stand
+-- there is no place for an ask of this source: 32 of other sources are active
 abbrev pub has_no_place : List Asking → ℕ → Bool
 has_no_place asks source = nat_le most_asks (length (others_than source asks))
 
--- the asks with one more, where it has a place: it goes to the end, and takes the place of the one of its source
+-- the asks with one more, if there is a place: it is added at the end, and replaces the one of its source
 abbrev pub with_ask : List Asking → Ask → List Asking
 with_ask asks ask = if has_no_place asks ask.source then asks else others_than ask.source asks ++ new_asking ask ∷ []
 
--- the ask of a radio, of which there is one at most
+-- the ask of a radio, which has at most one
 abbrev pub ask_of : List Asking → ℕ → Option Ask
 ask_of asks source = option_map (λ (a : Asking). a.ask) (find (λ a. a.ask.source == source) asks)
 
@@ -39,10 +39,10 @@ ask_of asks source = option_map (λ (a : Asking). a.ask) (find (λ a. a.ask.sour
 abbrev pub ask_to : List Asking → ℕ → Option Ask
 ask_to asks target = option_map (λ (a : Asking). a.ask) (find (λ a. a.ask.target == target) asks)
 
--- whether the source asks the target
+-- the source has an ask to the target
 abbrev pub has_own_ask : List Asking → ℕ → ℕ → Bool
 has_own_ask asks source target = list_any (λ a. (a.ask.source == source) && (a.ask.target == target)) asks
 
--- the asks after an answer of the target: the first one to it is over
+-- the asks after an answer of the target: the first ask to it is removed, with all of the same source
 abbrev pub without_ask_to : List Asking → ℕ → List Asking
 without_ask_to asks target = option_map_or (λ ask. others_than ask.source asks) (ask_to asks target) asks

@@ -1,4 +1,4 @@
--- Calls: a list in the order of beginning.
+-- Calls: a list in the order in which they began.
 use Rattle.std.specs.Prelude.{ℕ, List, [], ◌∷◌, ◌++◌, Bool, not, ◌==◌, ◌&&◌, nat_le, length, filter, find, Option, option_map, if◌then◌else◌}
 use Rattle.dmr_pdu.specs.declared.slots.Slot.{Slot}
 use Rattle.dmr_calls.specs.declared.call.Call.{Call}
@@ -6,23 +6,23 @@ use Rattle.dmr_calls.specs.declared.call.Standing.{Standing}
 use Rattle.dmr_calls.specs.Limits.{most_calls}
 use Rattle.dmr_calls.specs.Ticks.{one_more}
 
--- whether two slots are the same
+-- two slots are the same
 abbrev pub is_slot : Slot → Slot → Bool
 is_slot a b = (a.carrier == b.carrier) && (a.slot == b.slot)
 
--- a call that begins
+-- a call that begins, with 0 ticks
 abbrev pub just_begun : Call → Standing
 just_begun call = record { call = call; age = 0; quiet = 0 }
 
--- a call after one tick more
+-- a call after one more tick
 abbrev pub one_tick_older : Standing → Standing
 one_tick_older s = record { call = s.call; age = one_more s.age; quiet = one_more s.quiet }
 
--- a call after the slot was marked as active
+-- a call after activity on a slot
 abbrev pub with_activity : Slot → Standing → Standing
 with_activity slot s = if is_slot s.call.slot slot then record { call = s.call; age = s.age; quiet = 0 } else s
 
--- the calls with one more at the end, where fewer than 31 stand
+-- the calls with one more at the end, if fewer than 31 are active
 abbrev pub with_call : List Standing → Call → List Standing
 with_call calls call = if nat_le most_calls (length calls) then calls else calls ++ just_begun call ∷ []
 

@@ -1,4 +1,4 @@
--- What a tick does, and what is due after it.
+-- Counting a tick, and the call, ask and line that are due.
 use Rattle.std.specs.Prelude.{ℕ, List, [], ◌∷◌, Bool, ◌||◌, nat_le, map, find, Option, Some, None, option_map, if◌then◌else◌}
 use Rattle.dmr_pdu.specs.declared.slots.Slot.{Slot}
 use Rattle.dmr_calls.specs.declared.ask.Ask.{Ask}
@@ -10,19 +10,19 @@ use Rattle.dmr_calls.specs.Asks.{waited_more}
 use Rattle.dmr_calls.specs.Lines.{first_line}
 use Rattle.dmr_calls.specs.Calls.{one_tick_older}
 
--- what stands after one tick more
+-- asks, lines and calls after one more tick
 abbrev pub after_tick : Standings → Standings
 after_tick now = record { asks = map waited_more now.asks; lines = now.lines; calls = map one_tick_older now.calls }
 
--- whether a call was quiet for the hang time, or has lasted as long as one may
+-- a call is over: it was quiet for the hang time, or is as old as a call may be
 abbrev pub is_over : ℕ → ℕ → Standing → Bool
 is_over hang maximum s = nat_le hang s.quiet || nat_le maximum s.age
 
--- the slot of the first such call
+-- the slot of the first call that is over
 abbrev pub due_call : ℕ → ℕ → List Standing → Option Slot
 due_call hang maximum calls = option_map (λ (s : Standing). s.call.slot) (find (is_over hang maximum) calls)
 
--- the ask with the oldest C_AHOY, if that has waited long enough for its answer
+-- the first ask, if it has waited `ahoy_wait` ticks or more
 abbrev pub due_ask : ℕ → List Asking → Option Ask
 due_ask ahoy_wait [] = None
 due_ask ahoy_wait (a ∷ asks) = if nat_le ahoy_wait a.waited then Some a.ask else None

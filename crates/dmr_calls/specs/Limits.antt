@@ -1,22 +1,22 @@
--- The numbers of this crate's definitions, as this project's profile states them.
+-- The numbers of this crate's definitions that this project's profile states.
 use Rattle.std.specs.Prelude.{ℕ}
 
--- how many asks stand at a time
+-- the most asks that are active at a time
 abbrev pub most_asks : ℕ
 most_asks = 32
 
--- how many lines stand at a time
+-- the most lines that are active at a time
 abbrev pub most_lines : ℕ
 most_lines = 32
 
--- how many calls stand at a time: one on each slot of the site but the control slot
+-- the most calls that are active at a time: one on each slot of the site except the control slot
 abbrev pub most_calls : ℕ
 most_calls = 31
 
--- how many lines are listed at a time
+-- the most lines that a reply lists
 abbrev pub most_listed : ℕ
 most_listed = 16
 
--- up to how many ticks ages, quiet times and waiting times are counted
+-- the greatest count of ticks in ages, quiet times and waiting times
 abbrev pub most_ticks : ℕ
 most_ticks = 65535

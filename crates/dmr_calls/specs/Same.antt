@@ -1,4 +1,4 @@
--- Whether the same stands, as a test.
+-- The test whether asks, lines and calls are the same.
 use Rattle.std.specs.Prelude.{◌≡◌, ◌==◌, ◌&&◌, Bool}
 use Rattle.std.specs.Bool.{Decides, beq}
 use Rattle.std.specs.Cmp.{decided, IsEquivalence}
@@ -13,47 +13,47 @@ use Rattle.dmr_calls.specs.declared.call.Standing.{Standing}
 use Rattle.dmr_calls.specs.Standings.{Standings}
 use Rattle.dmr_calls.specs.Calls.{is_slot}
 
--- whether two asks are the same
+-- two asks are the same
 abbrev pub is_same_ask : Ask → Ask → Bool
 is_same_ask a b = (a.source == b.source) && (a.target == b.target) && (a.options == b.options) && (a.attempt == b.attempt)
 
--- whether they are the same, and as many ticks passed since their C_AHOYs
+-- two asks are the same, with the same waiting time
 abbrev pub is_same_asking : Asking → Asking → Bool
 is_same_asking a b = is_same_ask a.ask b.ask && (a.waited == b.waited)
 
--- whether two lines are the same
+-- two lines are the same
 abbrev pub is_same_line : Line → Line → Bool
 is_same_line a b = (a.source == b.source) && (a.target == b.target) && beq a.group b.group
 
--- whether two calls are the same
+-- two calls are the same
 abbrev pub is_same_call : Call → Call → Bool
 is_same_call a b = is_slot a.slot b.slot && (a.source == b.source) && (a.target == b.target) && beq a.group b.group
 
--- whether they are the same, and as many ticks were counted for them
+-- two calls are the same, with the same age and quiet time
 abbrev pub is_same_standing : Standing → Standing → Bool
 is_same_standing a b = is_same_call a.call b.call && (a.age == b.age) && (a.quiet == b.quiet)
 
--- whether the same stands in the same order
+-- the same asks, lines and calls, in the same order
 abbrev pub are_same : Standings → Standings → Bool
 are_same a b = pointwise is_same_asking a.asks b.asks && pointwise is_same_line a.lines b.lines && pointwise is_same_standing a.calls b.calls
 
--- the test decides it
+-- the test decides equality
 is_same_asking-Decides : (a b : Asking) → Decides (is_same_asking a b) (a ≡ b)
 is_same_asking-Decides a b = search rules
 
--- the test decides it
+-- the test decides equality
 is_same_line-Decides : (a b : Line) → Decides (is_same_line a b) (a ≡ b)
 is_same_line-Decides a b = search rules
 
--- the test decides it
+-- the test decides equality
 is_same_standing-Decides : (a b : Standing) → Decides (is_same_standing a b) (a ≡ b)
 is_same_standing-Decides a b = search rules
 
--- the standings, list by list
+-- two values are the same if their three lists are
 same_parts : (a b : Standings) → a.asks ≡ b.asks → a.lines ≡ b.lines → a.calls ≡ b.calls → a ≡ b
 same_parts a b asks lines calls = λ i. record { asks = asks i; lines = lines i; calls = calls i }
 
--- the test decides whether they are the same
+-- the test decides equality
 pub are_same-Decides : (a b : Standings) → Decides (are_same a b) (a ≡ b)
 are_same-Decides a b =
     let asks = pointwise_decides is_same_asking-Decides a.asks b.asks in
@@ -64,6 +64,6 @@ are_same-Decides a b =
       λ e. d.1 ((ap (λ (s : Standings). s.asks) e, ap (λ (s : Standings). s.lines) e), ap (λ (s : Standings). s.calls) e),
     )
 
--- so it is an equivalence
+-- the test is an equivalence
 pub are_same-equivalence : IsEquivalence are_same
 are_same-equivalence = decided are_same are_same-Decides

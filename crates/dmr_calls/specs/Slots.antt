@@ -1,4 +1,4 @@
--- That calls are on slots, as the table keeps them. Nothing above rests on this definition.
+-- Calls are on slots: an invariant of the table. No other definition uses it.
 use Rattle.std.specs.Prelude.{◌<◌, List}
 use Rattle.std.specs.List.{All}
 use Rattle.dmr_calls.specs.declared.call.Standing.{Standing}

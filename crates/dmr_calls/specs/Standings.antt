@@ -1,21 +1,21 @@
--- What stands on a site besides registrations.
+-- The asks, lines and calls of a site.
 use Rattle.std.specs.Prelude.{◌≤◌, List, [], length}
 use Rattle.dmr_calls.specs.declared.ask.Asking.{Asking}
 use Rattle.dmr_calls.specs.declared.line.Line.{Line}
 use Rattle.dmr_calls.specs.declared.call.Standing.{Standing}
 use Rattle.dmr_calls.specs.Limits.{most_asks, most_calls, most_lines}
 
--- the asks, lines and calls
+-- the asks, lines and calls of a site
 pub record Standings : Type 0 where
-  pub asks : List Asking  -- the one with the oldest C_AHOY in front
-  pub lines : List Line  -- in the order of lining
-  pub calls : List Standing  -- in the order of beginning
+  pub asks : List Asking  -- in the order of their last C_AHOY, oldest first
+  pub lines : List Line  -- in the order in which they were added
+  pub calls : List Standing  -- in the order in which they began
 
--- nothing stands
+-- no asks, no lines, no calls
 abbrev pub no_standings : Standings
 no_standings = record { asks = []; lines = []; calls = [] }
 
--- at most 32 asks, 32 lines and 31 calls stand
+-- at most 32 asks, 32 lines and 31 calls are active
 pub record AreWithinLimits (now : Standings) : Type 0 where
   pub asks : length now.asks ≤ most_asks
   pub lines : length now.lines ≤ most_lines

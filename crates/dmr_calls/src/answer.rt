@@ -1,15 +1,15 @@
-//! What is told of the asks, lines and calls.
+//! The answers of [`Calls`](crate::Calls).
 
 use crate::ask::Ask;
 use crate::call::Call;
 use crate::line::Line;
 use dmr_pdu::Slot;
 
-/// There is no place for another: 32 asks, 32 lines or 31 calls stand.
+/// No place is left: `MOST_ASKS` asks, `MOST_LINES` lines or `MOST_CALLS` calls are active.
 #[derive(Clone, Copy, Debug, PartialEq, Eq)]
 pub struct Full;
 
-/// What a radio is engaged by.
+/// The call, ask or line that engages a radio.
 #[derive(Clone, Copy, Debug, PartialEq, Eq)]
 pub enum Engagement {
     /// A call of the radio, or an individual call to it.
@@ -20,18 +20,18 @@ pub enum Engagement {
     LineOf(Line),
 }
 
-/// What is due.
+/// The call, ask and line that are due.
 #[derive(Clone, Copy, Debug, PartialEq, Eq)]
 pub struct Due {
     /// The slot of the call to end.
     pub call: Option<Slot>,
     /// The ask whose C_AHOY was not answered in time.
     pub ask: Option<Ask>,
-    /// The line to serve next.
+    /// The line to serve first.
     pub line: Option<Line>,
 }
 
-/// How many stand.
+/// The numbers of active asks, lines and calls.
 #[derive(Clone, Copy, Debug, PartialEq, Eq)]
 pub struct Counts {
     /// The asks: 0 to 32.

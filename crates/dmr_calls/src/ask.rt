@@ -1,9 +1,9 @@
-//! Asks.
+//! Asks: open questions to called radios.
 
 use dmr_pdu::{Address, Options};
 use dmr_table::Keyed;
 
-/// An ask: a C_AHOY was sent to the target of an individual call, and its C_ACKU is awaited.
+/// An ask: the target of an individual call was sent C_AHOY, and its C_ACKU is awaited (TS 102 361-4, clause 7.1.1).
 #[derive(Clone, Copy, Debug, PartialEq, Eq)]
 pub struct Ask {
     /// The radio that calls.
@@ -12,20 +12,20 @@ pub struct Ask {
     pub target: Address,
     /// The service options of the call.
     pub options: Options,
-    /// Which C_AHOY to the target this is: 1 for the first.
+    /// The number of this C_AHOY to the target, from 1.
     pub attempt: u8,
 }
 
-/// An ask that stands.
+/// An active ask with its ticks.
 #[derive(Clone, Copy, Debug, PartialEq, Eq)]
 pub struct Asking {
     /// The ask.
     pub ask: Ask,
-    /// The ticks since its C_AHOY, kept to 65,535.
+    /// The ticks since its C_AHOY; the count stays at 65,535.
     pub waited: u16,
 }
 
-/// An ask is found by its source.
+/// The key of an ask is its source.
 impl Keyed for Asking {
     ghost key_of = { λ a. a.ask.source };
 

@@ -3,7 +3,7 @@
 use dmr_pdu::{Address, Blank, Slot};
 use dmr_table::Keyed;
 
-/// A call.
+/// A call: its slot and its parties.
 #[derive(Clone, Copy, Debug, PartialEq, Eq)]
 pub struct Call {
     /// The slot that carries it.
@@ -31,18 +31,18 @@ impl Blank for Call {
     }
 }
 
-/// A call that stands.
+/// An active call with its ticks.
 #[derive(Clone, Copy, Debug, PartialEq, Eq)]
 pub struct Standing {
     /// The call.
     pub call: Call,
-    /// The ticks since it began, kept to 65,535.
+    /// The ticks since it began; the count stays at 65,535.
     pub age: u16,
-    /// The ticks since it began or was last marked as active, whichever came later, kept to 65,535.
+    /// The ticks since the later of its beginning and the last activity on its slot; the count stays at 65,535.
     pub quiet: u16,
 }
 
-/// A call is found by its slot.
+/// The key of a call is its slot.
 impl Keyed for Standing {
     ghost use Rattle.dmr_pdu.specs.Slots.{place};
 

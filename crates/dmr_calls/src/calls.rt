@@ -1,4 +1,4 @@
-//! What stands: asks, lines and calls.
+//! The asks, lines and calls of a site: their limits, ticks and counts. Each kind has its own module below.
 
 ghost use Rattle.std.specs.Prelude.{◌≡◌, ◌↔◌, [], length, IsTrue, IfOk, is_some};
 ghost use Rattle.dmr_calls.specs.Standings.{no_standings, AreWithinLimits};
@@ -22,18 +22,19 @@ use dmr_table::KeyedTable;
 use std::alloc::Global;
 use std::marker::Model;
 
-/// The most asks that stand at a time: 32, by this project's profile.
+/// The most asks that are active at a time: 32, by this project's profile.
 pub const MOST_ASKS: usize = 32;
 
-/// The most lines that stand at a time: 32, by this project's profile.
+/// The most lines that are active at a time: 32, by this project's profile.
 pub const MOST_LINES: usize = 32;
 
-/// The most calls that stand at a time: 31, one for each slot of 16 carriers but the control slot.
+/// The most calls that are active at a time: 31, one for each slot of 16 carriers except the control slot.
 pub const MOST_CALLS: usize = 31;
 
-/// The asks, lines and calls of a site. Contracts see it as the three lists: the asks with the oldest C_AHOY in front, the
-/// lines in the order of lining, and the calls in the order of beginning, asks and calls with the ticks that are counted
-/// for them.
+/// The asks, lines and calls of a site.
+///
+/// Contracts see three lists. The asks are in the order of their last C_AHOY, oldest first. The lines are in the order in which
+/// they were added, and the calls in the order in which they began. Asks and calls have their ticks.
 #[derive(Drop)]
 pub struct Calls {
     asks: KeyedTable<Asking, MOST_ASKS>,
@@ -54,7 +55,7 @@ impl Model for Calls {
 }
 
 impl Calls {
-    /// Nothing stands. It takes the room for 32 asks, 32 lines and 31 calls; `Err` where there is no memory for that.
+    /// Makes an empty value, and allocates the memory for all asks, lines and calls. Returns `OutOfMemory` if the allocation fails.
     pub fn new(alloc: Global) -> Result<Calls, OutOfMemory>
         ensures { IfOk result (λ calls. calls ≡ no_standings) }
     {
@@ -64,7 +65,7 @@ impl Calls {
         Ok(Calls { asks, lines, calls })
     }
 
-    /// The same, with room of its own. `Err` where there is no memory for that.
+    /// Makes a copy with memory of its own. Returns `OutOfMemory` if the allocation fails.
     pub fn try_clone(&self, alloc: Global) -> Result<Calls, OutOfMemory>
         ensures { IfOk result (λ copy. copy ≡ self.now) }
     {
@@ -74,7 +75,7 @@ impl Calls {
         Ok(Calls { asks, lines, calls })
     }
 
-    /// Does nothing. A proof learns from it how many can stand, and that no radio has two asks.
+    /// Does nothing. A proof calls it to use the limits, and that no radio has two asks.
     pub fn keeps(&self)
         ensures few { AreWithinLimits self.now }
         ensures own { HaveOwnSources self.now.asks }
@@ -82,9 +83,10 @@ impl Calls {
         let _ = (self.asks.len(), self.lines.len(), self.calls.len());
     }
 
-    /// What a radio is engaged by: the first call, or else the first ask, or else the first line that it is a party to. It
-    /// is one to what it asks for itself, and to what is individual and for it. `None` exactly where it is a party to
-    /// nothing.
+    /// The first call, or else the first ask, or else the first line to which a radio is a party.
+    ///
+    /// A radio is a party to its own requests, and to individual ones whose target it is. Returns `None` exactly if it is a party
+    /// to nothing.
     pub fn engaged(&self, radio: Address) -> Option<Engagement>
         ensures value { result ≡ engagement_of self.now radio }
         ensures some { is_some result ≡ is_engaged self.now radio }
@@ -101,7 +103,8 @@ impl Calls {
         None
     }
 
-    /// A tick: it counts for each ask and call, and then tells what is due. That is taken out by later calls.
+    /// Counts a tick for each ask and call, and returns the call, ask and line that are due. Nothing is removed: the caller does
+    /// that.
     pub fn tick(&mut self, hang: u16, maximum: u16, ahoy_wait: u16) -> Due
         ensures due { result ≡ due_of (after_tick self.old) hang maximum ahoy_wait }
         ensures counted { self.new ≡ after_tick self.old }
@@ -110,7 +113,7 @@ impl Calls {
         self.due(hang, maximum, ahoy_wait)
     }
 
-    /// One tick more since the C_AHOY of each ask, and since each call began and was last marked as active.
+    /// Adds one tick to the waiting time of each ask, and to the age and the quiet time of each call.
     pub fn count(&mut self)
         ensures { self.new ≡ after_tick self.old }
     {
@@ -118,8 +121,10 @@ impl Calls {
         count_calls(&mut self.calls);
     }
 
-    /// What is due: the slot of the first call that was quiet for `hang` ticks or is `maximum` ticks old, the first ask
-    /// where its C_AHOY is `ahoy_wait` ticks old, and the first line.
+    /// The call, ask and line that are due.
+    ///
+    /// The call is the first that was quiet for `hang` ticks or is `maximum` ticks old; its slot is returned. The ask is the first
+    /// one, if its C_AHOY is `ahoy_wait` ticks old. The line is the first one.
     pub fn due(&self, hang: u16, maximum: u16, ahoy_wait: u16) -> Due
         ensures { result ≡ due_of self.now hang maximum ahoy_wait }
     {
@@ -130,7 +135,7 @@ impl Calls {
         }
     }
 
-    /// Takes out all asks and lines.
+    /// Removes all asks and lines.
     pub fn clear_waiting(&mut self)
         ensures { self.new ≡ record self.old { asks = []; lines = [] } }
     {
@@ -138,7 +143,7 @@ impl Calls {
         self.lines.clear();
     }
 
-    /// How many asks, lines and calls stand.
+    /// The numbers of asks, lines and calls.
     pub fn counts(&self) -> Counts
         ensures { result ≡ record { asks = length self.now.asks; lines = length self.now.lines; calls = length self.now.calls } }
     {
@@ -149,7 +154,7 @@ impl Calls {
         }
     }
 
-    /// Whether the same stands.
+    /// Reports whether two values have the same asks, lines and calls.
     fn is_same(&self, other: &Calls) -> bool
         ensures { result ≡ are_same self.now other.now }
     {
@@ -159,7 +164,7 @@ impl Calls {
     }
 }
 
-/// Equal where the same asks, lines and calls stand in the same order, with the same ticks.
+/// Two values are equal if they have the same asks, lines and calls in the same order, with the same ticks.
 impl PartialEq for Calls {
     ghost use Rattle.std.specs.Cmp.{partial_equiv_from_equiv};
     ghost use Rattle.dmr_calls.specs.Same.{are_same, are_same-equivalence};

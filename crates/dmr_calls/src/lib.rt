@@ -1,9 +1,8 @@
-//! The asks, lines and calls of a site.
+//! The asks, lines and calls of a site (TS 102 361-4).
 //!
-//! Besides registrations three things stand on a trunked site: asks, where a C_AHOY was sent to the target of an
-//! individual call and its C_ACKU is awaited; lines, the requests that wait for a free slot; and calls (TS 102 361-4).
-//! [`Calls`] keeps them in their order and counts the ticks since each began. All the room that it ever needs is taken
-//! when it is made, so that nothing else here takes memory.
+//! An ask is an individual call whose target was sent C_AHOY and has yet to answer. A line is a request that waits for a free slot.
+//! A call is active on a slot. [`Calls`] keeps them in order and counts their ticks. It allocates its memory when it is made, and
+//! none later. The registered radios are in `dmr_registry`, and the PDUs that wait for slots in `dmr_pool`.
 #![tactic(auto)]
 
 mod answer;

@@ -1,4 +1,4 @@
-//! Lines.
+//! Lines: requests that wait for a slot.
 
 ghost use Rattle.std.specs.Prelude.{◌≡◌};
 
@@ -18,7 +18,7 @@ pub struct Line {
 }
 
 impl Line {
-    /// The call that the line becomes when a slot is free for it.
+    /// The call of this line on a slot.
     pub fn on(&self, slot: Slot) -> Call
         ensures { result ≡ record { slot = slot; source = self.now.source; target = self.now.target; group = self.now.group } }
     {
@@ -31,7 +31,7 @@ impl Line {
     }
 }
 
-/// A line is found by its source.
+/// The key of a line is its source.
 impl Keyed for Line {
     ghost key_of = { λ l. l.source };
 

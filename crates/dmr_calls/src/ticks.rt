@@ -1,4 +1,4 @@
-//! How asks and calls are counted and marked.
+//! Counting ticks of asks and calls, and marking calls as active.
 
 ghost use Rattle.std.specs.Prelude.{◌≡◌, map};
 ghost use Rattle.dmr_calls.specs.Asks.{waited_more as waited_more_of};
@@ -10,7 +10,7 @@ use crate::calls::{MOST_ASKS, MOST_CALLS};
 use dmr_pdu::Slot;
 use dmr_table::KeyedTable;
 
-/// An ask after one tick more.
+/// An ask after one more tick.
 fn waited_more(asking: Asking) -> Asking
     ensures { result ≡ waited_more_of asking }
 {
@@ -20,7 +20,7 @@ fn waited_more(asking: Asking) -> Asking
     }
 }
 
-/// A call after one tick more.
+/// A call after one more tick.
 fn counted(standing: Standing) -> Standing
     ensures { result ≡ counted_of standing }
 {
@@ -31,7 +31,7 @@ fn counted(standing: Standing) -> Standing
     }
 }
 
-/// A call after the slot was marked as active.
+/// A call after activity on a slot.
 fn marked(standing: Standing, slot: &Slot) -> Standing
     ensures { result ≡ marked_of slot.now standing }
 {
@@ -45,7 +45,7 @@ fn marked(standing: Standing, slot: &Slot) -> Standing
     }
 }
 
-/// One tick more for each ask.
+/// Adds one tick to each ask.
 pub fn count_asks(asks: &mut KeyedTable<Asking, MOST_ASKS>)
     ensures { asks.new ≡ map waited_more_of asks.old }
 {
@@ -55,7 +55,7 @@ pub fn count_asks(asks: &mut KeyedTable<Asking, MOST_ASKS>)
     }
 }
 
-/// One tick more for each call.
+/// Adds one tick to each call.
 pub fn count_calls(calls: &mut KeyedTable<Standing, MOST_CALLS>)
     ensures { calls.new ≡ map counted_of calls.old }
 {

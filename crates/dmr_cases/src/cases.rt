@@ -1,11 +1,11 @@
-//! The cases of a text, one after another, and what is printed for each.
+//! Replays the cases of a text, one after another, and prints the result of each.
 //!
-//! A section `site NAME` is a site file, over which the cases after it are replayed; after `no-site NAME` the site file cannot be
-//! read. A section `case NAME` is the script of a case; the script of `no-script NAME` cannot be read; that of `cuttings NAME` is
-//! replayed in each cutting.
+//! A section `site NAME` is a site file for the cases after it. After `no-site NAME`, the site file cannot be read. A
+//! section `case NAME` is the script of a case. The script of `no-script NAME` cannot be read. The script of
+//! `cuttings NAME` is replayed in each cutting.
 //!
-//! For each case `== NAME` is printed, and what its replay prints to standard output. If the replay ends with a status other than
-//! 0, what it prints to standard error follows, and `status N`.
+//! For each case, the program prints `== NAME` and the standard output of its replay. If the replay ends with a status
+//! other than 0, its standard error and `status N` follow.
 
 use crate::cutting::Cutting;
 use crate::sections::{CaseFault, octets_of, section_of};
@@ -13,7 +13,7 @@ use dmr_replay::{OK, replay};
 use std::alloc::Global;
 use std::io::Write;
 
-/// What a replay prints, its fault and status included.
+/// Returns the output of a replay, with its fault and status.
 fn answer_of(
     alloc: Global,
     site: &Option<Vec<u8>>,
@@ -37,7 +37,7 @@ fn answer_of(
     Ok(printed)
 }
 
-/// The octets of a file that can be read.
+/// Returns the octets of a file, if it can be read.
 fn slice_of(file: &Option<Vec<u8>>) -> Option<&[u8]> {
     match file {
         Some(octets) => Some(octets.as_slice()),
@@ -52,7 +52,7 @@ fn print<W: Write>(name: &str, answer: &[u8], out: &mut W) -> Result<(), CaseFau
     Ok(())
 }
 
-/// Prints the answer to the lines of a script that were cut, if it is not this one.
+/// Prints the answer to the lines of a script that were cut, if it differs from `answer`.
 fn print_other<W: Write>(
     alloc: Global,
     site: &Option<Vec<u8>>,
@@ -68,7 +68,7 @@ fn print_other<W: Write>(
     Ok(())
 }
 
-/// Prints the answer to a script, and each other answer that a cutting of it gets.
+/// Prints the answer to a script, and each different answer to a cutting of it.
 fn print_cuttings<W: Write>(
     alloc: Global,
     name: &str,
@@ -85,7 +85,7 @@ fn print_cuttings<W: Write>(
     for first in 1..lines.len() {
         let cut = Cutting::At(first).script(alloc, lines)?;
         if cut.as_str().strip_suffix("\n") == Some(lines) {
-            // No line has more octets.
+            // No line has more octets than the first piece.
             return Ok(());
         }
         print_other(alloc, site, cut.as_str(), answer, out)?;
@@ -93,7 +93,7 @@ fn print_cuttings<W: Write>(
     Ok(())
 }
 
-/// Prints what the cases of a text print.
+/// Prints the results of all cases of a text.
 pub fn print_cases<W: Write>(alloc: Global, text: &str, out: &mut W) -> Result<(), CaseFault> {
     let pieces = text
         .strip_suffix("\n")

@@ -1,8 +1,9 @@
-//! The octets of a connection in pieces: the lines of a script, with the octets of each `bytes` line handed in piece by piece.
+//! Cuts the octets of a connection into pieces: a script's lines, with the octets of each `bytes` line handed in piece
+//! by piece.
 
 use std::alloc::{AllocError, Global};
 
-/// How the octets of each line are handed in.
+/// How the octets of each line are cut.
 #[derive(Clone, Copy)]
 pub enum Cutting {
     /// Octet by octet.
@@ -11,7 +12,8 @@ pub enum Cutting {
     At(usize),
 }
 
-/// The parts of a line: the words before the octets of a connection, and the octets in hexadecimal digits, if there are any.
+/// Returns the parts of a line: the words before the octets of a connection, and the octets in hexadecimal digits, if
+/// any.
 fn parts_of(line: &str) -> (&str, &str) {
     if line.starts_with("bytes ") {
         line.split_at_checked(8).unwrap_or((line, ""))
@@ -41,7 +43,7 @@ fn add_octets(script: &mut String, words: &str, digits: &str) -> Result<(), Allo
 }
 
 impl Cutting {
-    /// Adds a line to a script, its octets as they are cut.
+    /// Adds a line to a script, with its octets cut.
     fn add(self, script: &mut String, line: &str) -> Result<(), AllocError> {
         let (words, digits) = parts_of(line);
         let first = match self {
@@ -58,7 +60,7 @@ impl Cutting {
         }
     }
 
-    /// The lines of a script with the octets cut so, each with an LF.
+    /// Returns the lines of a script with their octets cut, each with an LF.
     pub fn script(self, alloc: Global, lines: &str) -> Result<String, AllocError> {
         let mut script = String::new(alloc);
         for line in lines.split('\n') {

@@ -1,16 +1,16 @@
-//! The text that the program reads: its sections, and the octets that they spell.
+//! The text that the program reads: its sections, and their octets.
 //!
-//! A section begins with a line `%% WORD NAME` and has the lines up to the next such line. Each line spells its octets and an LF,
-//! but for these:
+//! A section begins with a line `%% WORD NAME` and has the lines up to the next such line. Each line means its octets
+//! and an LF, except these:
 //!
-//! - `% TEXT` spells the octets of TEXT and no LF; there `\HH` is an octet in two hexadecimal digits.
-//! - `%repeat N` .. `%end` spell what the lines between them spell, N times.
+//! - `% TEXT` means the octets of TEXT without an LF; there, `\HH` is an octet in two hexadecimal digits.
+//! - `%repeat N` .. `%end` mean the octets of the lines between them, N times.
 
 use std::alloc::{AllocError, Global};
 use std::io;
 use thiserror::Error;
 
-/// Why a text was not replayed to its end.
+/// The fault of a text that was not replayed to its end.
 #[derive(Debug, Drop, Error)]
 pub enum CaseFault {
     /// The text is not a list of cases.
@@ -35,7 +35,7 @@ pub struct Section<'a> {
     pub lines: Option<&'a str>,
 }
 
-/// The section of a piece of a text, which begins after the `%% ` of its first line.
+/// Returns the section of a piece of a text, which begins after the `%% ` of its first line.
 pub fn section_of<'a>(piece: &'a str) -> Result<Section<'a>, CaseFault> {
     let (heading, lines) = match piece.split_once('\n') {
         Some((heading, lines)) => (heading, Some(lines)),
@@ -63,7 +63,7 @@ fn add_escaped(alloc: Global, octets: &mut Vec<u8>, text: &str) -> Result<(), Ca
     Ok(())
 }
 
-/// Repeats the octets from a place on, so that they are there `times` times, at least once.
+/// Repeats the octets from a place on, so that they occur `times` times, at least once.
 fn repeat(alloc: Global, octets: &mut Vec<u8>, from: usize, times: u32) -> Result<(), CaseFault> {
     let (_, piece) = octets
         .as_slice()
@@ -77,7 +77,7 @@ fn repeat(alloc: Global, octets: &mut Vec<u8>, from: usize, times: u32) -> Resul
     Ok(())
 }
 
-/// The octets that the lines of a section spell.
+/// Returns the octets of the lines of a section.
 pub fn octets_of(alloc: Global, lines: Option<&str>) -> Result<Vec<u8>, CaseFault> {
     let mut octets = Vec::new(alloc);
     let Some(lines) = lines else {

@@ -35,7 +35,7 @@ no_site : faults_in (codes "dmr_trunk" ∷ codes "--script" ∷ codes "b.txt" �
 unfolding clap_on_literals faults_in
 no_site = refl
 
--- where a script is given and nothing is served, the flag says so, and there are 0 terms
+-- if a script is given without `--serve`, the flag is false, and there are 0 terms
 flag_of_both : one_in both (codes "serve") ≡ Some (codes "false")
 unfolding clap_on_literals one_in
 flag_of_both = refl
@@ -83,12 +83,12 @@ another_word : faults_in (codes "dmr_trunk" ∷ codes "now" ∷ []) ≡ UnknownA
 unfolding clap_on_literals faults_in
 another_word = refl
 
--- that help is asked for is a refusal
+-- a request for help is a refusal
 help : faults_in (codes "dmr_trunk" ∷ codes "--help" ∷ []) ≡ DisplayHelp ∷ []
 unfolding clap_on_literals faults_in
 help = refl
 
--- the version is asked for
+-- a request for the version is a refusal
 versioned : faults_in (codes "dmr_trunk" ∷ codes "--version" ∷ []) ≡ DisplayVersion ∷ []
 unfolding clap_on_literals faults_in
 versioned = refl

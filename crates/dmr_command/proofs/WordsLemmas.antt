@@ -1,4 +1,4 @@
--- A parse of the program's command finds a value for its site file, and what is read of it is what the words give.
+-- A parse of the program's command finds a value for its site file, and its values are those of the words.
 use Rattle.std.proofs.Common.{◌≡◌, ◌⊎◌, ℕ, zero, suc, List, [], ◌∷◌, codes, is_some, true, false, refl, sym, ap, ◌∙◌, subst, inl, inr, arith}
 use Rattle.std.specs.Prelude.{All, Result, Ok, Err, IfOk, IfErr}
 use Rattle.std.specs.Str.{bytes_eq}
@@ -95,7 +95,7 @@ module _ (app : App) (app_is : app ≡ command) (words : List Text) where
   pub is_free : is_simple_and_free app ≡ true
   is_free = ap is_simple_and_free app_is ∙ is_free_command
 
-  -- a fault that a parse tells, but for want of memory, is one of those that it finds in the words
+  -- a parse's fault is out of memory, or one of those that the parse finds in the words
   pub refused_by : (e : Error) → HasKind (fault_of app words) e → (kind_of e ≡ OutOfMemory) ⊎ (faults_in words ≡ [] → ⊥)
   unfolding faults_in
   refused_by e (inl memory) = inl memory
@@ -117,7 +117,7 @@ module _ (app : App) (app_is : app ≡ command) (words : List Text) where
       one_text-rows (found_of m) option ∙ ap (one_of option) (matches (ap is_simple app_is ∙ is_simple_command)).0
       ∙ ap (λ (a : App). one_of option (matches_of a words)) app_is
 
-  -- what is read by a command that wants a site file
+  -- the values read by a command that requires a site file
   pub read_by : (m : ArgMatches) → fault_of app words ≡ [] → HasMatchesOf app words m → is_some (first_value (found_of m) (codes "site")) ≡ true → HasRead words m
   read_by m none matches site = record { taken = taken_by none; values = values_by m matches; ones = ones_by m matches; site = site }
 

@@ -1,4 +1,4 @@
--- The address that a served site listens at.
+-- The address at which a served site listens.
 use Rattle.std.specs.Prelude.{◌≡◌, ℕ, List}
 use Rattle.std.specs.Net.Addr.{ipv4_octets}
 use Rattle.std.specs.Net.Socket.{v4_ip, v4_port}

@@ -1,4 +1,4 @@
--- What the words of the command line ask for.
+-- The job that the words of the command line ask for.
 use Rattle.std.specs.Prelude.{◌≡◌, ◌≢◌, ◌⊎◌, ℕ, List, [], ◌∷◌, Option, Some, None, true, is_some, codes, pos, ◌^◌, ◌<◌}
 use Rattle.std.specs.Str.Parse.{IsNumeral, digits_value, without_leading_plus}
 pub use Rattle.clap.specs.Words.{Text}
@@ -17,7 +17,7 @@ file_option name = record (new_rule name) {
   value_names = 1;
 }
 
--- `--site FILE`, which has to be given
+-- `--site FILE`, which is required
 abbrev pub site_option : Rule
 site_option = record (file_option (codes "site")) { required = true }
 
@@ -32,7 +32,7 @@ serve_flag = record (new_rule (codes "serve")) {
   action = Some SetTrue;
 }
 
--- `--terms N`, N from 0 to 1,000,000, and 0 where it is not given
+-- `--terms N`, N from 0 to 1,000,000, and 0 if it is not given
 abbrev pub terms_option : Rule
 terms_option = record (new_rule (codes "terms")) {
   long = Some (codes "terms");
@@ -42,7 +42,7 @@ terms_option = record (new_rule (codes "terms")) {
   parser = Some (Signed (pos 0) (pos 1000000));
 }
 
--- a command line of this name, which has a version and no option yet
+-- a command line of this name, with a version and no option yet
 abbrev pub titled : App
 titled = let app = new_app (codes "dmr_trunk") in record app { top = record app.top { has_version = true } }
 
@@ -50,11 +50,11 @@ titled = let app = new_app (codes "dmr_trunk") in record app { top = record app.
 abbrev pub command : App
 command = with_rule (with_rule (with_rule (with_rule titled site_option) script_option) serve_flag) terms_option
 
--- the kinds of fault that a parse of the words finds; none where the words are taken. That help or the version is asked for is one.
+-- the kinds of fault that a parse of the words finds; none if the words are accepted. A request for help or for the version is one
 unfoldable pub faults_in : List Text → Kinds
 faults_in words = fault_of command words
 
--- what a parse of the words gives an option
+-- the value of an option in a parse of the words
 unfoldable pub value_in : List Text → Text → Option Text
 value_in words option = first_of option (matches_of command words)
 
@@ -62,7 +62,7 @@ value_in words option = first_of option (matches_of command words)
 unfoldable pub one_in : List Text → Text → Option Text
 one_in words option = one_of option (matches_of command words)
 
--- a flag is set; it is not
+-- a flag is set; a flag is not set
 abbrev pub IsSet : Option Text → Type 0
 IsSet text = (text ≢ None) × (text ≢ Some (codes "false"))
 
@@ -73,12 +73,12 @@ IsUnset text = text ≢ Some (codes "true")
 abbrev pub SpellsNumber : Text → ℕ → Type 0
 SpellsNumber text number = IsNumeral 10 (without_leading_plus text) × (digits_value 10 (without_leading_plus text) ≡ number) × (number < 2 ^ 32)
 
--- the number that a text spells; 0 where there is no text, or it spells none
+-- the number that a text spells; 0 if there is no text, or it does not spell a number
 abbrev pub AreTerms : Option Text → ℕ → Type 0
 AreTerms None terms = terms ≡ 0
 AreTerms (Some text) terms = SpellsNumber text terms ⊎ ((terms ≡ 0) × ((number : ℕ) → SpellsNumber text number → ⊥))
 
--- options of these values ask for this
+-- options of these values ask for this job
 abbrev pub IsAsked : (Text → Option Text) → (Text → Option Text) → Job → Type 0
 IsAsked value one (Script site script) =
     (value (codes "site") ≡ Some site.now) × (value (codes "script") ≡ Some script.now) × IsUnset (one (codes "serve"))
@@ -90,17 +90,17 @@ abbrev pub IsNotOne : (Text → Option Text) → (Text → Option Text) → Type
 IsNotOne value one =
     ((value (codes "script") ≡ None) × IsUnset (one (codes "serve"))) ⊎ ((is_some (value (codes "script")) ≡ true) × IsSet (one (codes "serve")))
 
--- what was found is what a parse of the words gives; there is a site file
+-- the values found are those of a parse of the words; there is a site file
 pub record HasRead (words : List Text) (found : ArgMatches) : Type 0 where
   pub taken : faults_in words ≡ []
   pub values : (option : Text) → first_value (found_of found) option ≡ value_in words option
   pub ones : (option : Text) → one_text (found_of found) option ≡ one_in words option
   pub site : is_some (first_value (found_of found) (codes "site")) ≡ true
 
--- the words are taken, and ask for this
+-- the words are accepted, and ask for this job
 abbrev pub AskFor : List Text → Job → Type 0
 AskFor words job = (faults_in words ≡ []) × IsAsked (value_in words) (one_in words) job
 
--- the words are refused: by the word reader, or since they don't ask for just one thing
+-- the words are refused: by the word reader, or because they do not ask for exactly one job
 abbrev pub AreRefused : List Text → Type 0
 AreRefused words = (faults_in words ≢ []) ⊎ IsNotOne (value_in words) (one_in words)

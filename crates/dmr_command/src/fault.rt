@@ -11,11 +11,11 @@ use std::fmt;
 /// Why serving ended, or did not begin.
 #[derive(Clone, Copy, Debug, PartialEq, Eq)]
 pub enum ServeFault {
-    /// This port could not be listened on. Nothing was served.
+    /// The program cannot listen at this port. Nothing was served.
     CannotListen(u16),
     /// There was no poll for a port. Nothing was served.
     NoPoll,
-    /// A term was not begun, lacked a thread, or its audit found a difference.
+    /// A term did not begin, a thread could not be started, or the term's audit found a fault.
     Term(TermFault),
     /// Memory ran out. Nothing was served.
     OutOfMemory,
@@ -49,7 +49,7 @@ impl fmt::Display for ServeFault {
     }
 }
 
-/// The text of what went wrong with a term.
+/// Writes the text of a term's fault.
 fn write_term_fault<W: fmt::Write>(fault: TermFault, f: &mut fmt::Formatter<W>) -> fmt::Result {
     match fault {
         TermFault::Audit(CloseFault::Differs(actor)) => {
@@ -61,7 +61,7 @@ fn write_term_fault<W: fmt::Write>(fault: TermFault, f: &mut fmt::Formatter<W>) 
         TermFault::Early(actor) => write!(f, "early end at actor {actor}"),
         TermFault::NoThread => write!(f, "no thread"),
         TermFault::Open(OpenFault::OutOfMemory) => write!(f, "out of memory"),
-        // A plan has stations and a limit that a term can be begun with.
+        // A plan has stations and a limit with which a term can begin.
         other => write!(f, "{other}"),
     }
 }

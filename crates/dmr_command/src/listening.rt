@@ -1,4 +1,4 @@
-//! The address that a served site listens at.
+//! The address at which a served site listens.
 
 ghost use Rattle.dmr_command.specs.Listening.{IsListenAddress};
 

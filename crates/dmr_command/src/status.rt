@@ -1,5 +1,5 @@
-//! The exit statuses that a replay does not have, and the texts that go with statuses to standard error. That a text cannot
-//! be written is passed over.
+//! The exit statuses that a replay does not have, and the texts that go with statuses to standard error. An error of standard error is
+//! ignored.
 
 ghost use Rattle.std.specs.Prelude.{◌≡◌};
 
@@ -12,7 +12,7 @@ pub const WORDS: u8 = 2;
 /// The audit of a term found a difference.
 pub const AUDIT: u8 = 3;
 
-/// Tells that memory ran out, and answers the status.
+/// Writes that memory ran out, and returns the status.
 pub fn out_of_memory<E: Write>(err: &mut E) -> u8
     ensures { result ≡ MEMORY }
 {
@@ -20,7 +20,7 @@ pub fn out_of_memory<E: Write>(err: &mut E) -> u8
     MEMORY
 }
 
-/// Tells why the words are refused, and answers the status.
+/// Writes why the words are refused, and returns the status.
 pub fn words_refused<E: Write>(err: &mut E, text: &str) -> u8
     ensures { result ≡ WORDS }
 {

@@ -17,23 +17,23 @@ use dmr_replay::MEMORY;
 use std::alloc::Global;
 use std::io::Write;
 
-/// What the program is to do.
+/// The job that the words ask for.
 #[derive(Clone, Copy, Debug, PartialEq, Eq)]
 pub enum Job<'a> {
     /// Replay a script over the site of a site file. Both are paths.
     Script { site: &'a str, script: &'a str },
-    /// Serve the site of a site file, whose path it is, over TCP: so many terms, or without end where they are 0.
+    /// Serve the site of the site file at this path over TCP for `terms` terms; 0 means forever.
     Serve { site: &'a str, terms: u32 },
 }
 
-/// Reads the program's words, of which the first is its own name.
+/// Reads the program's words. The first is the program's own name.
 ///
-/// If the words are refused, the word reader's text is written to `err`, or that either a script or `--serve` must be given. `--help`
+/// If the words are refused, `choose` writes the word reader's text to `err`, or that either a script or `--serve` must be given. `--help`
 /// and `--version` are refusals, too. A fault of `err` is ignored. The error is the exit status: 2, or 4 if memory ran out.
 pub fn choose<'a, E: Write>(alloc: Global, words: &'a [&'a str], err: &mut E) -> Result<Job<'a>, u8>
-    // The words are taken, and these are the values that they give the options.
+    // The words are accepted, and these are the values of their options.
     ensures job { IfOk result (AskFor (map (λ word. word.now) words.entry.now)) }
-    // Words that are taken are refused only for want of memory.
+    // Accepted words are refused only if memory ran out.
     ensures status { IfErr result (λ status. (status ≡ MEMORY)
         ⊎ ((status ≡ WORDS) × AreRefused (map (λ word. word.now) words.entry.now))) }
 {
@@ -47,7 +47,7 @@ pub fn choose<'a, E: Write>(alloc: Global, words: &'a [&'a str], err: &mut E) ->
     }
 }
 
-/// Tells why the word reader refuses the words, and answers the status.
+/// Writes why the word reader refuses the words, and returns the status.
 fn tell_refusal<E: Write>(error: &Error, err: &mut E) -> u8
     ensures memory { kind_of error.now ≡ ErrorKind.OutOfMemory → result ≡ MEMORY }
     ensures words { kind_of error.now ≢ ErrorKind.OutOfMemory → result ≡ WORDS }
@@ -69,7 +69,7 @@ fn read_words<'a>(alloc: Global, words: &'a [&'a str]) -> Result<ArgMatches<'a>,
     command(alloc)?.try_get_matches_from(words)
 }
 
-/// What was found in the words asks for; `None` where there is neither a script nor `--serve`, or there are both.
+/// The job for the options found in the words; `None` if there is neither a script nor `--serve`, or there are both.
 fn job_in<'a>(found: &ArgMatches<'a>) -> Option<Job<'a>>
     requires { is_some (first_value (found_of found.now) (codes "site")) ≡ true }
     ensures job { IfSome result (IsAsked (first_value (found_of found.now)) (one_text (found_of found.now))) }
@@ -86,14 +86,14 @@ fn job_in<'a>(found: &ArgMatches<'a>) -> Option<Job<'a>>
     }
 }
 
-/// How many terms may be asked for.
+/// The most terms that the words may ask for.
 const MOST_TERMS: i64 = 1_000_000;
 
-/// What `--help` says of the program.
+/// The description of the program in `--help`.
 const ABOUT: &str =
     "The site controller of a DMR Tier III trunked radio site: serves carriers and operators over TCP, or replays a script.";
 
-/// What `--help` says behind the words.
+/// The text of `--help` after the options.
 const EXAMPLES: &str = "\
 Examples:
   dmr_trunk --site site.toml --serve
@@ -106,7 +106,7 @@ Examples:
 Status: 0 done; 1 a file, a port or the output; 2 the words; 3 an audit; 4 memory or a thread.
 dmr_trunk(8) has more.";
 
-/// The command line as the word reader wants it. A parse of it has a value of the site file.
+/// The command line for the word reader. A successful parse has a value for the site file.
 fn command<'a>(alloc: Global) -> Result<Command<'a>, OutOfMemory>
     ensures app { IfOk result (λ c. app_of c ≡ command) }
     ensures site { IfOk result (λ c. (m : ArgMatches) → IsParsedFrom c m → is_some (first_value (found_of m) (codes "site")) ≡ true) }
@@ -118,7 +118,7 @@ fn command<'a>(alloc: Global) -> Result<Command<'a>, OutOfMemory>
         .arg(terms_option(alloc))
 }
 
-/// A command line of this program's name and version, with what `--help` says of it, and no option yet.
+/// A command line with this program's name and version, its `--help` texts, and no option yet.
 fn titled<'a>(alloc: Global) -> Command<'a>
     ensures app { app_of result ≡ titled }
     ensures empty { (args_of result ≡ []) × (groups_of result ≡ []) }
@@ -130,7 +130,7 @@ fn titled<'a>(alloc: Global) -> Command<'a>
         .after_help(EXAMPLES)
 }
 
-/// The option `--site FILE`, which has to be given.
+/// The option `--site FILE`, which is required.
 fn site_option<'a>(alloc: Global) -> Arg<'a>
     ensures rule { rule_of result ≡ site_option }
     ensures id { result.id.now ≡ codes "site" }
@@ -145,7 +145,7 @@ fn site_option<'a>(alloc: Global) -> Arg<'a>
         .help("The site file: carriers, ports, radios, groups and times")
 }
 
-/// What N of `--terms N` has to be.
+/// The range of N in `--terms N`.
 fn terms_parser<'a>() -> ValueParser<'a>
     ensures { result ≡ ValueParser.Signed (pos 0) (pos 1000000) }
 {

@@ -1,4 +1,4 @@
--- Worked values of lines that are commands, and of lines that are none.
+-- Worked values of lines that are commands, and of lines that are not.
 use Rattle.std.proofs.Common.{◌≡◌, [], ◌∷◌, Some, None, codes, refl}
 use Rattle.dmr_core.specs.declared.command.Command.TheVariants.{Status, Radios, Calls, Lines, Slots, Drop, End, Move, Stay}
 use Rattle.dmr_console.specs.Words.{words_of_line}

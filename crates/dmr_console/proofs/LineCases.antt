@@ -44,6 +44,6 @@ eighty_one_octets = refl
 eighty_one_with_cr : lines_in (replicate 80 97 ++ 13 ∷ 10 ∷ []) ≡ TooLong ∷ []
 eighty_one_with_cr = refl
 
--- it is answered once, and the next line is one again
+-- one answer for the whole line, and the next line is read as usual
 once : lines_in (replicate 200 97 ++ 10 ∷ codes "stay\n") ≡ TooLong ∷ line (codes "stay") ∷ []
 once = refl

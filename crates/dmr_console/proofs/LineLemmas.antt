@@ -1,4 +1,4 @@
--- What a cutter keeps of an open line, the lines of streams, and streams in pieces.
+-- The octets that a cutter keeps of an open line, the lines of streams, and streams in pieces.
 use Rattle.std.proofs.Common.{◌≡◌, ◌≢◌, ℕ, ◌-◌, ◌<◌, Bool, true, false, cond, List, [], ◌∷◌, ◌++◌, length, eqb, ltb, take, slice_index_or, refl, sym, ap, ◌∙◌, arith, map, append_assoc, length-append, length-take-le, All, Result, Ok, Err, ◌↔◌}
 use Rattle.std.specs.Result.{IsOk, OnOk, OnErr}
 use Rattle.std.specs.List.{flat_map, fold, scan}
@@ -15,15 +15,15 @@ use Rattle.dmr_console.specs.declared.line_cutter.LineStep.TheVariants.{Line, To
 use Rattle.dmr_console.specs.Lines.{parts_of, all_but_last, last_of, without_cr, line_step_of, lines_in, open_in, first_octets_of_line}
 use Rattle.dmr_console.specs.Steps.{line_step_at, open_line_after_octet, line_brought, line_steps_from, open_line_after}
 
--- with 81 octets, none more is kept
+-- with 81 octets, no more are kept
 pub kept_full : (begun : List ℕ) (x : ℕ) → length begun ≡ 81 → first_octets_of_line (begun ++ x ∷ []) ≡ begun
 kept_full begun x h = take_at begun (x ∷ []) 81 h
 
--- with fewer, the next is
+-- with fewer, the next octet is kept
 pub kept_room : (begun : List ℕ) (x : ℕ) → length begun < 81 → first_octets_of_line (begun ++ x ∷ []) ≡ begun ++ x ∷ []
 kept_room begun x h = take_all 81 (begun ++ x ∷ []) (omega (arith, h, length-append begun (x ∷ [])))
 
--- what an octet other than LF leaves, where it is pushed if there is room
+-- the open line after an octet other than LF, which is pushed if there is room
 pub left_other : {E : Type 0} (old : List ℕ) (begun new : ArrayVec ℕ) (x : ℕ) (r : Result (Unit {0}) E) → begun.items ≡ old → (x ≡ 10 → ⊥) →
     (IsOk r ↔ (length begun.items < 81)) → OnOk r (new.items ≡ begun.items ++ x ∷ []) → OnErr r (new ≡ begun) → OnErr r (length begun.items ≡ 81) → new.items ≡ open_line_after_octet old x
 left_other old begun new x (Ok u) is other room pushed same full =
@@ -33,9 +33,9 @@ left_other old begun new x (Err e) is other room pushed same full =
     let left : open_line_after_octet old x ≡ first_octets_of_line (old ++ x ∷ []) = rw (ne_eqb x 10 other) refl in
     ap (λ (v : ArrayVec ℕ). v.items) same ∙ sym (kept_full begun.items x full) ∙ ap (λ (xs : List ℕ). first_octets_of_line (xs ++ x ∷ [])) is ∙ sym left
 
--- ---- streams, octet by octet: the lines that are ended, and the one that is open
+-- ---- streams, octet by octet: the lines that have ended, and the open one
 
--- what an octet leaves of an open line, and the line that it ends
+-- the open line after an octet, and the line that the octet ends
 abbrev next : List ℕ → ℕ → List ℕ
 next begun x = cond (eqb x 10) [] (begun ++ x ∷ [])
 
@@ -61,7 +61,7 @@ all_inside : (begun xs : List ℕ) → Inside begun → Inside (fold next begun 
 all_inside begun [] h = h
 all_inside begun (x ∷ xs) h = all_inside (next begun x) xs (next_inside begun x (eqb x 10) refl h)
 
--- the parts of octets, behind a line that is open
+-- the parts of octets that follow an open line
 abbrev AreParts : List ℕ → List ℕ → Type 0
 AreParts begun xs = Inside begun → parts_of (begun ++ xs) ≡ all_ended begun xs ++ fold next begun xs ∷ []
 
@@ -73,7 +73,7 @@ parts_are : (xs begun : List ℕ) → AreParts begun xs
 parts_are [] begun h = ap parts_of (append-nil begun) ∙ slice_split_none (λ x. eqb x 10) begun h
 parts_are (x ∷ xs) begun h = one_part begun x xs (eqb x 10) refl (parts_are xs) h
 
--- so these are the lines of the stream, and what is open in it
+-- so these are the lines of the stream, and its open line
 stream_is : (begun xs : List ℕ) → Inside begun → (lines_in (begun ++ xs) ≡ map line_step_of (all_ended begun xs)) × (open_in (begun ++ xs) ≡ fold next begun xs)
 stream_is begun xs h =
     let front : List (List ℕ) = all_ended begun xs in
@@ -84,7 +84,7 @@ stream_is begun xs h =
       ap last_of (parts_are xs begun h) ∙ get_or_push front last [] (length (front ++ last ∷ []) - 1) (sym before),
     )
 
--- ---- what is kept says what the line is
+-- ---- the octets that are kept decide what the line is
 
 line_kept_by : (begun : List ℕ) (b : Bool) → ltb 80 (length begun) ≡ b → line_step_of (first_octets_of_line begun) ≡ line_step_of begun
 line_kept_by begun true e =
@@ -115,7 +115,7 @@ brought_by a false line = refl
 brought_line : (octets : List ℕ) → line_brought (line_step_of octets) ≡ line_step_of octets ∷ []
 brought_line octets = brought_by TooLong (ltb 80 (length octets)) (without_cr octets)
 
--- ---- the cutter: as the stream, with what it keeps of an open line
+-- ---- the cutter agrees with the stream, with what it keeps of an open line
 
 left_kept : (begun : List ℕ) (x : ℕ) (b : Bool) → eqb x 10 ≡ b → open_line_after_octet (first_octets_of_line begun) x ≡ first_octets_of_line (next begun x)
 left_kept begun x true e = rw e refl
@@ -137,14 +137,14 @@ rest_is begun xs =
     let Keeps : List ℕ → List ℕ → Type 0 = λ a b. a ≡ first_octets_of_line b in
     fold_along open_line_after_octet next Keeps (λ a b x e. ap (λ (c : List ℕ). open_line_after_octet c x) e ∙ left_kept b x (eqb x 10) refl) (first_octets_of_line begun) begun xs refl
 
--- the octets one by one bring the lines of the stream, and leave what is open
+-- the octets one by one produce the lines of the stream, and leave its open line
 pub lines_whole : (octets : List ℕ) → line_steps_from [] octets ≡ lines_in octets
 lines_whole octets = from_is [] octets ∙ sym (stream_is [] octets nothing_inside).0
 
 pub rest_whole : (octets : List ℕ) → open_line_after [] octets ≡ first_octets_of_line (open_in octets)
 rest_whole octets = rest_is [] octets ∙ ap first_octets_of_line (sym (stream_is [] octets nothing_inside).1)
 
--- one octet more
+-- one more octet
 pub one_more : (octets begun new : List ℕ) (x : ℕ) (r : LineStep) → begun ≡ first_octets_of_line (open_in octets) → r ≡ line_step_at begun x → new ≡ open_line_after_octet begun x →
     (lines_in (octets ++ x ∷ []) ≡ lines_in octets ++ line_brought r) × (new ≡ first_octets_of_line (open_in (octets ++ x ∷ [])))
 one_more octets begun new x r is step left =

@@ -9,7 +9,7 @@ use Rattle.dmr_console.specs.Words.{is_word, words_of_line}
 abbrev space : ℕ → Bool
 space octet = eqb octet 32
 
--- where the first octet stands that is no space, and where the first space stands
+-- the place of the first octet that is not a space, and of the first space
 abbrev begin_of : List ℕ → ℕ
 begin_of [] = zero
 begin_of (x ∷ xs) = cond (eqb x 32) (suc (begin_of xs)) zero
@@ -35,7 +35,7 @@ begin_is xs = is_position_or_len begin_of (λ o. not (eqb o 32)) refl (λ y ys. 
 end_is : (xs : List ℕ) → end_of xs ≡ position_or_len (λ o. eqb o 32) xs
 end_is xs = is_position_or_len end_of (λ o. eqb o 32) refl (λ y ys. end_at y (end_of ys) (eqb y 32)) xs
 
--- the parts behind the first
+-- the parts after the first
 abbrev after : List ℕ → List (List ℕ)
 after [] = []
 after (x ∷ xs) = slice_split space xs
@@ -68,7 +68,7 @@ words_after (x ∷ xs) = after_cons x xs (eqb x 32) refl (words_after xs)
 first_and_more : (x : ℕ) (xs : List ℕ) (parts : List (List ℕ)) → filter is_word ((x ∷ xs) ∷ parts) ≡ (x ∷ xs) ∷ filter is_word parts
 first_and_more x xs parts = refl
 
--- the words of a line, by the first word of it
+-- the words of a line, by its first word
 abbrev Parted : List ℕ → List ℕ → Type 0
 Parted line rest = words_of_line line ≡ take (end_of rest) rest ∷ words_of_line (drop (end_of rest) rest)
 
@@ -120,7 +120,7 @@ end_within : (xs : List ℕ) → end_of xs ≤ length xs
 end_within [] = omega arith
 end_within (x ∷ xs) = end_within_cons x xs (eqb x 32) refl (end_within xs)
 
--- the answer of `position`
+-- the result of `position`
 abbrev pub found : (ℕ → Bool) → List ℕ → Option ℕ
 found test xs = cond (ltb (position_or_len test xs) (length xs)) (Some (position_or_len test xs)) None
 
@@ -142,7 +142,7 @@ no_word line r f e =
     none_at (position_or_len (λ o. not (eqb o 32)) line) (length line) (ltb (position_or_len (λ o. not (eqb o 32)) line) (length line)) refl (sym e ∙ f) in
     none line (omega (arith, past, begin_is line))
 
--- the first word is what stands from the first other octet to the next space
+-- the first word reaches from the first octet that is not a space to the next space
 pub word_and_rest : (line rest front back : List ℕ) (b e : ℕ) (r q : Option ℕ) → r ≡ found (λ o. not (eqb o 32)) line → r ≡ Some b →
     rest ≡ take (length line - b) (drop b line) → q ≡ found (λ o. eqb o 32) rest → e ≡ unwrap_or q (length rest) →
     front ≡ take e rest → back ≡ drop e rest → words_of_line line ≡ front ∷ words_of_line back

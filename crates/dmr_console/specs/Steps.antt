@@ -1,27 +1,27 @@
--- What each octet brings, from the open line that it meets.
+-- The result of each octet, for the open line before it.
 use Rattle.std.specs.Prelude.{ℕ, ◌==◌, List, [], ◌∷◌, ◌++◌, if◌then◌else◌}
 use Rattle.std.specs.List.{flat_map, fold, scan}
 use Rattle.dmr_console.specs.declared.line_cutter.LineStep.{LineStep}
 use Rattle.dmr_console.specs.declared.line_cutter.LineStep.TheVariants.{Need}
 use Rattle.dmr_console.specs.Lines.{line_step_of, first_octets_of_line}
 
--- what an octet brings
+-- the result of an octet
 abbrev pub line_step_at : List ℕ → ℕ → LineStep
 line_step_at begun octet = if octet == 10 then line_step_of begun else Need
 
--- what an octet leaves
+-- the open line after an octet
 abbrev pub open_line_after_octet : List ℕ → ℕ → List ℕ
 open_line_after_octet begun octet = if octet == 10 then [] else first_octets_of_line (begun ++ octet ∷ [])
 
--- the line of a step, if it has one
+-- the line of a result, if it has one
 abbrev pub line_brought : LineStep → List LineStep
 line_brought Need = []
 line_brought line = line ∷ []
 
--- the lines that octets bring
+-- the lines that octets produce
 abbrev pub line_steps_from : List ℕ → List ℕ → List LineStep
 line_steps_from begun octets = flat_map line_brought (scan open_line_after_octet line_step_at begun octets)
 
--- what octets leave
+-- the open line after octets
 abbrev pub open_line_after : List ℕ → List ℕ → List ℕ
 open_line_after begun octets = fold open_line_after_octet begun octets

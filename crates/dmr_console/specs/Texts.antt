@@ -12,15 +12,16 @@ use Rattle.dmr_core.specs.declared.reply.Reply.TheVariants.{Status, Radios, Call
 
 -- ---- rows, each with its LF
 
--- what fills the control slot
+-- the kind of Fill that the control slot has
 abbrev pub fill_text : Option ℕ → List ℕ
 fill_text None = codes "aloha"
 fill_text (Some channel) = codes "move " ++ decimal channel
 
+-- the row of a radio
 abbrev pub radio_row : ℕ → List ℕ
 radio_row radio = codes "radio " ++ decimal radio ++ codes "\n"
 
--- C S
+-- a carrier's number and a slot, as `C S`
 abbrev pub slot_text : Slot → List ℕ
 slot_text slot = decimal slot.carrier ++ codes " " ++ decimal slot.slot
 
@@ -33,13 +34,15 @@ target_text false target = codes "radio " ++ decimal target
 abbrev pub parties_text : Bool → ℕ → ℕ → List ℕ
 parties_text group target source = target_text group target ++ codes " from " ++ decimal source
 
+-- the row of a call
 abbrev pub call_row : Call → List ℕ
 call_row call = codes "call " ++ slot_text call.slot ++ codes " " ++ parties_text call.group call.target call.source ++ codes "\n"
 
--- a line and its place
+-- the row of a line, with its place
 abbrev pub line_row : ℕ × Line → List ℕ
 line_row row = codes "line " ++ decimal row.0 ++ codes " " ++ parties_text row.1.group row.1.target row.1.source ++ codes "\n"
 
+-- the name of a slot's state
 abbrev pub state_text : State → List ℕ
 state_text state.Control = codes "control"
 state_text state.Down = codes "down"
@@ -47,6 +50,7 @@ state_text state.Call = codes "call"
 state_text state.Free = codes "free"
 state_text state.Waiting = codes "waiting"
 
+-- the row of a slot and its state
 abbrev pub slot_row : SlotState → List ℕ
 slot_row row = codes "slot " ++ slot_text row.slot ++ codes " " ++ state_text row.state ++ codes "\n"
 

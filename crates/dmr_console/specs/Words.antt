@@ -1,4 +1,4 @@
--- The words of a line, and the numbers that they are.
+-- The words of a line, and their numbers.
 use Rattle.std.specs.Prelude.{ℕ, ◌==◌, ◌&&◌, Bool, true, false, List, [], ◌∷◌, length, filter, nat_lt, nat_le, Option, Some, None, if◌then◌else◌}
 use Rattle.std.specs.List.{slice_split}
 use Rattle.std.specs.Str.{all_ascii_digits}
@@ -9,7 +9,7 @@ abbrev pub is_word : List ℕ → Bool
 is_word [] = false
 is_word (octet ∷ octets) = true
 
--- a line's words are what stands between its spaces, the empty ones left out
+-- a line's words: its parts between spaces, without the empty ones
 abbrev pub words_of_line : List ℕ → List (List ℕ)
 words_of_line line = filter is_word (slice_split (λ octet. octet == 32) line)
 
@@ -17,7 +17,7 @@ words_of_line line = filter is_word (slice_split (λ octet. octet == 32) line)
 abbrev pub is_short_number : List ℕ → Bool
 is_short_number word = nat_lt 0 (length word) && nat_le (length word) 8 && all_ascii_digits word
 
--- the number that a word is, from `least` to `most`
+-- the number of a word, if it is from `least` to `most`
 abbrev pub short_number_within : ℕ → ℕ → List ℕ → Option ℕ
 short_number_within least most word =
     if is_short_number word && nat_le least (digits_value 10 word) && nat_le (digits_value 10 word) most

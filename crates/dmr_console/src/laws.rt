@@ -12,7 +12,7 @@ pub fn limits_are_stated()
     ensures { LONGEST_LINE ≡ longest_line }
 {}
 
-/// A line is what stands before an LF and holds none itself, and what no LF follows is still open.
+/// The octets before an LF are a line if none of them is an LF. The octets after the last LF are still open.
 pub fn lines_stand_before_their_ends()
     ensures line { (octets more : List ℕ) → All (λ octet. octet ≢ 10) octets →
         (lines_in (octets ++ 10 ∷ more) ≡ line_step_of octets ∷ lines_in more) × (open_in (octets ++ 10 ∷ more) ≡ open_in more) }
@@ -20,8 +20,8 @@ pub fn lines_stand_before_their_ends()
         (lines_in octets ≡ []) × (open_in octets ≡ octets) }
 {}
 
-/// The octets of a stream, one by one, bring just its lines, in whatever pieces they come: those of two pieces are the
-/// lines of the first, and those of the second behind what the first leaves open.
+/// The octets of a stream, taken one by one, produce exactly its lines, in whatever pieces they come. The lines of two pieces are those of
+/// the first, then those of the second after the octets that the first leaves open.
 pub fn lines_in_any_cutting()
     ensures whole { (octets : List ℕ) → (line_steps_from [] octets ≡ lines_in octets) × (open_line_after [] octets ≡ first_octets_of_line (open_in octets)) }
     ensures cut { (begun a b : List ℕ) →

@@ -10,30 +10,29 @@ use std::marker::Model;
 /// The octet that ends a line.
 const LF: u8 = b'\n';
 
-/// The octet of which one may stand before an LF.
+/// The octet that a line may have directly before its LF, once.
 const CR: u8 = b'\r';
 
-/// The most octets of a line before its LF, a CR among them (this project's profile).
+/// The most octets of a line before its LF, including a CR (this project's profile).
 pub const LONGEST_LINE: usize = 80;
 
-/// How many octets of an open line are kept: with one more than a line can have it is too long, whatever follows.
+/// The most octets of an open line that are kept: one more than a line can have. With that many it is too long, whatever follows.
 const MOST_KEPT: usize = LONGEST_LINE + 1;
 
-/// What an octet brings (this project's profile).
+/// The result of an octet (this project's profile).
 #[derive(Debug, Drop, PartialEq, Eq)]
 pub enum LineStep {
     /// No line yet: its LF must still come.
     Need,
-    /// The octet is the LF of this line: the octets before it, without the CR that stands before the LF, if one does.
+    /// The octet is the LF of this line. The line has the octets before the LF, without a CR directly before it.
     Line(ArrayVec<u8, LONGEST_LINE>),
-    /// The octet is the LF of a line of more than 80 octets, a CR counted among them. The line's octets are gone, and
-    /// the next octet begins a new line.
+    /// The octet is the LF of a line of more than 80 octets, including a CR. The line's octets are dropped, and the next octet begins a new
+    /// line.
     TooLong,
 }
 
-/// Cuts the octets of one connection into lines (this project's profile). It holds what stands behind the last LF, of
-/// which the first 81 octets are kept: with 81 the line is too long, whatever follows. Contracts see it as those
-/// octets.
+/// Cuts the octets of one connection into lines (this project's profile). It keeps the first 81 octets after the last LF: with 81 the line
+/// is too long, whatever follows. Contracts see these octets.
 #[derive(Debug, Drop)]
 pub struct LineCutter {
     begun: ArrayVec<u8, MOST_KEPT>,
@@ -51,7 +50,7 @@ impl Model for LineCutter {
 }
 
 impl LineCutter {
-    /// The cutter of a connection that has begun: no octets yet.
+    /// Makes the cutter of a new connection: no octets yet.
     pub fn new() -> Self
         ensures { result ≡ [] }
     {
@@ -60,11 +59,11 @@ impl LineCutter {
         }
     }
 
-    /// Takes the next octet, and says what it brings: a line, or that a line was too long, at each LF, and else
-    /// nothing yet. After an LF nothing is left of the line.
+    /// Takes the next octet. At an LF it returns the line, or that the line was too long, and keeps nothing of the line. At any other octet
+    /// it returns `Need`.
     pub fn feed_byte(&mut self, octet: u8) -> LineStep
-        // Where the cutter holds what the octets so far leave open, it does so with this octet too, which adds to
-        // their lines the one that it brings, if it brings one.
+        // If the cutter keeps the open line of the octets so far, it also keeps that of these octets with this one. Their lines are those
+        // so far, and the line of this result, if it has one.
         ensures stream { (octets : List ℕ) → self.old ≡ first_octets_of_line (open_in octets) →
             (lines_in (octets ++ octet ∷ []) ≡ lines_in octets ++ line_brought result)
             × (self.new ≡ first_octets_of_line (open_in (octets ++ octet ∷ []))) }
@@ -74,7 +73,7 @@ impl LineCutter {
         self.take(octet)
     }
 
-    /// Does nothing. A proof learns from it what every cutter holds: no LF, and at most 81 octets.
+    /// Does nothing. By its contract a cutter keeps no LF, and at most 81 octets.
     pub fn keeps(&self)
         ensures { IsOpenLine self.now }
     {
@@ -91,14 +90,14 @@ impl LineCutter {
             self.begun.clear();
             line
         } else {
-            // A line of 81 octets is too long already: there is no need for more of it.
+            // A line of 81 octets is already too long, so the cutter drops further octets.
             let _ = self.begun.try_push(octet);
             LineStep::Need
         }
     }
 }
 
-/// The cutter of a connection that has begun.
+/// The cutter of a new connection.
 impl Default for LineCutter {
     ghost use Rattle.std.specs.Prelude.{◌≡◌, []};
 
@@ -109,7 +108,7 @@ impl Default for LineCutter {
     }
 }
 
-/// What the LF behind these octets brings.
+/// The result of an LF after these octets.
 fn line_of(octets: &[u8]) -> LineStep
     ensures { result ≡ line_of_octets octets.now }
 {
@@ -123,7 +122,7 @@ fn line_of(octets: &[u8]) -> LineStep
     LineStep::Line(line)
 }
 
-/// The octets without the CR at their end, if one stands there.
+/// The octets without a CR at their end.
 fn without_cr(octets: &[u8]) -> &[u8]
     ensures { result.now ≡ without_cr_of octets.now }
 {

@@ -12,10 +12,9 @@ use dmr_pdu::{Address, CarrierNo, Lpcn, SlotNo};
 /// The greatest number of a radio.
 const LAST_RADIO: u32 = 16_777_215;
 
-/// The command that a line is (this project's profile), given the line's octets without its end; None where it is no
-/// command: another first word, a word too few or too many, no number or one out of its range, or no word at all.
-/// Words are separated by one or more spaces, and spaces at the ends are ignored; case counts. A number has 1 to 8
-/// decimal digits.
+/// Reads the command of a line (this project's profile), from the line's octets without its end. `None` if the line is not a command:
+/// another first word, too few or too many words, a word that is not a number in its range, or no word. One or more spaces separate words,
+/// and spaces at the ends are ignored; case counts. A number has 1 to 8 decimal digits.
 pub fn parse(line: &[u8]) -> Option<Command>
     ensures { result ≡ command_of line.now }
 {
@@ -23,7 +22,7 @@ pub fn parse(line: &[u8]) -> Option<Command>
     command_by(name, arguments)
 }
 
-/// The command of a first word, and of the words of what stands behind it.
+/// The command of a first word, and of the octets after it.
 fn command_by(name: &[u8], arguments: &[u8]) -> Option<Command>
     ensures { result ≡ command_by name.now (words_of_line arguments.now) }
 {
@@ -55,7 +54,7 @@ fn command_by(name: &[u8], arguments: &[u8]) -> Option<Command>
     }
 }
 
-/// A command that no word follows.
+/// A command that is a word alone. `None` if other words follow.
 fn alone(command: Command, arguments: &[u8]) -> Option<Command>
     ensures { result ≡ command_without_words command (words_of_line arguments.now) }
 {
@@ -78,7 +77,7 @@ fn one_number(least: u32, most: u32, arguments: &[u8]) -> Option<u32>
     number_in(least, most, word)
 }
 
-/// The command `end` of the two numbers that follow it.
+/// The command `end`, with the two numbers that follow it.
 fn ending(arguments: &[u8]) -> Option<Command>
     ensures { result ≡ end_command (words_of_line arguments.now) }
 {

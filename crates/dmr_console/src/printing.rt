@@ -10,25 +10,25 @@ use arrayvec::ArrayString;
 use dmr_core::Reply;
 use dmr_pdu::Lpcn;
 
-/// The most octets of a reply's text, and more than those of what is wrong with a line (this project's profile).
+/// The most octets of a reply's text (this project's profile). The texts for bad lines are shorter.
 pub const LONGEST_TEXT: usize = 1024;
 
-/// The text of a line that is no command (this project's profile).
+/// The text for a line that is not a command (this project's profile).
 pub fn unknown_command() -> &'static str
     ensures { result.now ≡ codes "error unknown command\n" }
 {
     "error unknown command\n"
 }
 
-/// The text of a line of more than 80 octets (this project's profile).
+/// The text for a line of more than 80 octets (this project's profile).
 pub fn line_too_long() -> &'static str
     ensures { result.now ≡ codes "error line too long\n" }
 {
     "error line too long\n"
 }
 
-/// The text of a reply: one or more lines, each with its LF (this project's profile). Rows are followed by the line
-/// `end`. Every text fits, with all its rows.
+/// The text of a reply: one or more lines, each with its LF (this project's profile). The line `end` follows rows. Every text fits, with
+/// all its rows.
 pub fn print(reply: &Reply) -> ArrayString<LONGEST_TEXT>
     ensures { result.bytes ≡ text_of_reply reply.now }
 {
@@ -81,7 +81,7 @@ pub fn print(reply: &Reply) -> ArrayString<LONGEST_TEXT>
     text
 }
 
-/// Appends what fills the control slot.
+/// Appends the kind of Fill that the control slot has.
 fn push_fill(text: &mut ArrayString<LONGEST_TEXT>, moving: Option<Lpcn>)
     requires { array_string_len text.old + 25 ≤ LONGEST_TEXT }
     ensures bytes { text.new.bytes ≡ text.old.bytes ++ fill_text moving }

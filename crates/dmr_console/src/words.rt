@@ -1,12 +1,12 @@
-//! The words of a line, and the numbers that they are.
+//! The words of a line, and their numbers.
 
 ghost use Rattle.std.specs.Prelude.{◌≡◌, ◌≤◌, ◌∷◌, [], MatchOption, IfSome};
 ghost use Rattle.dmr_console.specs.Words.{short_number_within as number_of_word, words_of_line};
 
-/// The most digits that a number has.
+/// The most digits of a number.
 const MOST_DIGITS: usize = 8;
 
-/// The first word of a line, and what stands behind it; None where the line has no word.
+/// The first word of a line, and the octets after it. `None` if the line has no word.
 pub fn first_word(line: &[u8]) -> Option<(&[u8], &[u8])>
     ensures { MatchOption result (words_of_line line.now ≡ []) (λ parts. words_of_line line.now ≡ parts.0.now ∷ words_of_line parts.1.now) }
 {
@@ -16,8 +16,7 @@ pub fn first_word(line: &[u8]) -> Option<(&[u8], &[u8])>
     Some(rest.split_at(end.unwrap_or(rest.len())))
 }
 
-/// The number that a word is: 1 to 8 decimal digits, from `least` to `most`. None where it is no such number; zeros may
-/// stand in front.
+/// The number of a word: 1 to 8 decimal digits, from `least` to `most`; leading zeros are allowed. `None` if the word is not such a number.
 pub fn number_in(least: u32, most: u32, word: &[u8]) -> Option<u32>
     ensures value { result ≡ number_of_word least most word.now }
     ensures least { IfSome result (λ number. least ≤ number) }

@@ -49,7 +49,7 @@ sound_after plan facts (entry ∷ earlier) p h legal =
     (subst (λ (acts : Acts). IsSound plan (fold facts_after_act (facts_after_event plan now entry.event) acts.list)) (sym legal.0)
     (sound-acts plan (facts_after_event plan now entry.event) (acts_of plan now entry.event) p (sound-noted plan now entry.event p before) (acts_may plan now entry.event p before)))
 
--- what holds of each act that may be done, at sound facts, holds throughout a legal journal
+-- a statement about each act that may be done, at sound facts, holds throughout a legal journal
 each_act : (plan : Settings) (P : Facts → Act → Type 0) → ((now : Facts) (act : Act) → IsSound plan now → MayDo plan now act → P now act) → KnowsPlan plan → (now : Facts) (acts : List Act) → IsSound plan now → AllMayDo plan now acts → EachAct P now acts
 each_act plan P each p now [] h may = tt
 each_act plan P each p now (act ∷ acts) h may = (each now act h may.0, each_act plan P each p (facts_after_act now act) acts (sound-done plan now act p h may.0) may.1)
@@ -69,7 +69,7 @@ pub begins_on_free : (plan : Settings) (now : Facts) (act : Act) → IsSound pla
 begins_on_free plan now (Began call) h may = let free : IsFree plan now call.slot = free_is plan now call.slot may.free in (free.none, free.up)
 begins_on_free plan now act h may = tt
 
--- a grant's call stands, so its parties are engaged
+-- a grant's call is active, so its parties are engaged
 standing_counts : (cs : List Standing) (slot : Slot) (call : Call) (r : ℕ) → call_on cs slot ≡ Some call → party r call.group call.source call.target ≤ total (engagements_in_call r) cs
 standing_counts cs slot call r h =
     let s = found_call (λ x. is_slot x.call.slot slot) (find (λ x. is_slot x.call.slot slot) cs) call h in
@@ -123,7 +123,7 @@ grants_known plan now (Queue slot pdu) h may = named_known plan now slot pdu (is
 grants_known plan now (Fill slot pdu) h may = named_known plan now slot pdu (is_grant pdu) refl h may.names
 grants_known plan now act h may = tt
 
--- a grant that goes out is its call's
+-- a grant that is sent is that of its call
 first_own : (p : Pdu → Bool) (xs : List Pdu) (x : Pdu) → slice_get xs 0 ≡ Some x → list_all p xs ≡ true → p x ≡ true
 first_own p [] x h k = cc
 first_own p (y ∷ ys) x h k = let same : y ≡ x = cc in rw (← same) (and_true (p y) (list_all p ys) k).0
@@ -158,7 +158,7 @@ sends_own plan p now (Send there pdu) h may = λ slot call k. sent_own plan now 
 sends_own plan p now (Fill there pdu) h may = (λ slot call k. named_own plan now slot there call pdu (is_grant pdu) p h k refl may.names, filled_own plan now there pdu (is_grant pdu) refl may.names)
 sends_own plan p now act h may = tt
 
--- while no call stands on a carrier
+-- while no call is active on a carrier
 call_begins : (calls : List Standing) (call : Call) (c : ℕ) → has_call calls c ≡ false → (call.slot.carrier == c) ≡ false → has_call (calls ++ just_begun call ∷ []) c ≡ false
 call_begins calls call c h k = rw (any-push (λ s. s.call.slot.carrier == c) calls (just_begun call), h, k) refl
 

@@ -49,7 +49,7 @@ pub sound-acts : (plan : Settings) (now : Facts) (acts : List Act) → KnowsPlan
 sound-acts plan now [] p h may = h
 sound-acts plan now (act ∷ acts) p h may = sound-acts plan (facts_after_act now act) acts p (sound-done plan now act p h may.0) may.1
 
--- one rule's acts and then another's
+-- the acts of one rule and then those of another
 pub may-append : (plan : Settings) (xs ys : List Act) (now : Facts) → AllMayDo plan now xs → AllMayDo plan (fold facts_after_act now xs) ys → AllMayDo plan now (xs ++ ys)
 may-append plan [] ys now h k = k
 may-append plan (act ∷ xs) ys now h k = (h.0, may-append plan xs ys (facts_after_act now act) h.1 k)

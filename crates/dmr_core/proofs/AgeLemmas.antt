@@ -35,12 +35,12 @@ use Rattle.dmr_core.proofs.ActsAreSafe.{throughout}
 use Rattle.dmr_core.proofs.LastOpenerLemmas.{everywhere, find_gone, find_kept, find_new, find_same}
 use Rattle.dmr_core.proofs.FactsFollowEntries.{facts_after-step}
 
--- what is seen is this number, if anything is
+-- the value, if there is one, is this number
 abbrev Says : Option ℕ → ℕ → Type 0
 Says None n = Unit {0}
 Says (Some m) n = m ≡ n
 
--- what is seen of the first that passes
+-- the value of the first element that passes
 abbrev seen : {X : Type 0} → (X → ℕ) → (X → Bool) → List X → Option ℕ
 seen v p xs = option_map v (find p xs)
 
@@ -48,12 +48,12 @@ says : (o : Option ℕ) (m n : ℕ) → m ≡ n → Says o m → Says o n
 says None m n e h = tt
 says (Some k) m n e h = h ∙ e
 
--- after some were taken out
+-- after some elements were removed
 says_without : {X : Type 0} (v : X → ℕ) (p g : X → Bool) (b : Bool) → ((x : X) → p x ≡ true → g x ≡ b) → (xs : List X) (n : ℕ) → Says (seen v p xs) n → Says (seen v p (filter (λ x. not (g x)) xs)) n
 says_without v p g true k xs n h = subst (λ (o : Option _). Says (option_map v o) n) (sym (find_gone p g k xs)) tt
 says_without v p g false k xs n h = subst (λ (o : Option _). Says (option_map v o) n) (sym (find_kept p g k xs)) h
 
--- after one was put behind
+-- after one was added at the end
 says_push : {X : Type 0} (v : X → ℕ) (p : X → Bool) (xs : List X) (x : X) (n : ℕ) (b : Bool) → p x ≡ b → (b ≡ true → find p xs ≡ None) → v x ≡ 0 → Says (seen v p xs) n → Says (seen v p (xs ++ x ∷ [])) (if b then 0 else n)
 says_push v p xs x n true e none zero h = subst (λ (o : Option _). Says (option_map v o) 0) (sym (find_new p xs x (none refl) e)) zero
 says_push v p xs x n false e none zero h = subst (λ (o : Option _). Says (option_map v o) n) (sym (find_same p xs x e)) h
@@ -67,12 +67,12 @@ says_map v p f g same kept (x ∷ xs) n h = rw (same x) (either (p x) refl h (sa
     either true e h more = kept x e ∙ ap g h
     either false e h more = more h
 
--- none is found where none passes
+-- none is found if none passes
 none_passes : {X : Type 0} (p : X → Bool) (xs : List X) → list_any p xs ≡ false → find p xs ≡ None
 none_passes p [] h = refl
 none_passes p (x ∷ xs) h = let both = or_false (p x) (list_any p xs) h in rw both.0 (none_passes p xs both.1)
 
--- after an act that opens it is 0, and after any other what it was
+-- the value after an act: 0 if the act opens, else unchanged
 abbrev Counts : (Facts → Option ℕ) → (Act → Bool) → Facts → Act → Type 0
 Counts at opens now act = (n : ℕ) → Says (at now) n → Says (at (facts_after_act now act)) (if opens act then 0 else n)
 
@@ -87,7 +87,7 @@ acts_count at opens now (act ∷ acts) n each h =
     says (at (fold facts_after_act (facts_after_act now act) acts)) _ _ (two_turns (opens act) (list_any opens acts) n)
     (acts_count at opens (facts_after_act now act) acts (if opens act then 0 else n) each.1 (each.0 n h))
 
--- an event that opens makes it 0, and a Tick one more
+-- the value after an event: 0 if the event opens, one more after a Tick, else unchanged
 abbrev Notes : Settings → (Facts → Option ℕ) → (Event → Bool) → Type 0
 Notes plan at opens = (now : Facts) (event : Event) (t : ℕ) → Says (at now) (min 65535 t) → Says (at (facts_after_event plan now event)) (min 65535 (if opens event then 0 else ticks_in event + t))
 
@@ -97,7 +97,7 @@ both_turns true false m = refl
 both_turns false true m = refl
 both_turns false false m = refl
 
--- so it counts the ticks
+-- the value counts the ticks
 counts : (plan : Settings) (facts : Facts) (at : Facts → Option ℕ) (by_event : Event → Bool) (by_act : Act → Bool) (before : ℕ) → Notes plan at by_event → Says (at facts) (min 65535 before) → (journal : List Entry) → Throughout plan facts (Counts at by_act) journal → Says (at (facts_after plan facts journal)) (min 65535 (ticks_since (λ (entry : Entry). by_event entry.event || list_any by_act entry.acts.list) before journal))
 counts plan facts at by_event by_act before notes h [] each = h
 counts plan facts at by_event by_act before notes h (entry ∷ earlier) each =
@@ -110,7 +110,7 @@ counts plan facts at by_event by_act before notes h (entry ∷ earlier) each =
     (says (at (fold facts_after_act after entry.acts.list)) _ _ (both_turns (by_event entry.event) (list_any by_act entry.acts.list) (ticks_in entry.event + t))
     (acts_count at by_act after entry.acts.list (min 65535 m) each.0 (notes now entry.event t earlier_on)))
 
--- what stood before, and what stands after
+-- the value before a journal, and after it
 stood : {X : Type 0} (v : X → ℕ) (o : Option X) → option_map_or v o 0 ≤ 65535 → Says (option_map v o) (min 65535 (option_map_or v o 0))
 stood v None h = tt
 stood v (Some x) h = omega arith
@@ -119,7 +119,7 @@ stands_then : {X Y : Type 0} (v : X → ℕ) (f : X → Y) (o : Option X) (y : Y
 stands_then v f None y n k h = cc
 stands_then v f (Some x) y n k h = h
 
--- what is found is within the limit where all are
+-- the value that is found is within the limit if all are
 found_within : {X : Type 0} (v : X → ℕ) (p : X → Bool) (most : ℕ) (xs : List X) → All (λ x. v x ≤ most) xs → option_map_or v (find p xs) 0 ≤ most
 found_within v p most [] all = omega arith
 found_within v p most (x ∷ xs) all = either (p x) (all 0 x (omega arith)) (found_within v p most xs (All-tail (λ x. v x ≤ most) x xs all))
@@ -137,7 +137,7 @@ quiet_before plan facts slot sound = found_within (λ (s : Standing). s.quiet) (
 pub waited_before : (plan : Settings) (facts : Facts) (r : ℕ) → IsSound plan facts → waited_of facts.asks r ≤ 65535
 waited_before plan facts r sound = found_within (λ (a : Asking). a.waited) (λ (a : Asking). a.ask.source == r) 65535 facts.asks sound.waits
 
--- neither a Tick nor an opener
+-- an event that is neither a Tick nor an opener
 no_tick : (o : Option ℕ) (t : ℕ) → Says o (min 65535 t) → Says o (min 65535 (0 + t))
 no_tick o t h = says o _ _ (omega arith) h
 

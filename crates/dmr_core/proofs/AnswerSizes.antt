@@ -228,7 +228,7 @@ polls_few plan now c =
     let b : Slot = record { carrier = c; slot = 1 } in
     few-append plan (acts_for_outbox plan now a (outbox now a)) (acts_for_outbox plan now b (outbox now b)) 1 0 0 1 0 0 (sent_few plan now a (outbox now a)) (sent_few plan now b (outbox now b))
 
--- so it is with each command
+-- the limits of the answer to each command
 commanded_few : (plan : Settings) (now : Facts) (command : Command) → KnowsPlan plan → IsSound plan now → AreFewActs plan (answer_to_command plan now command).list 13 5 4
 unfolding answer_to_command
 commanded_few plan now (Drop r) p h =
@@ -242,7 +242,7 @@ commanded_few plan now (End c s) p h =
     (λ call k. few-within plan (clear plan call) 5 0 4 13 5 4 (clear_few plan now call p h (found_stands (λ s. is_slot s.call.slot slot) now.calls call h.apart k)) (omega arith) (omega arith) (omega arith))
 commanded_few plan now _ p h = none_few plan 13 5 4
 
--- so it is with each event
+-- the limits of the answer to each event
 pub acts_few : (plan : Settings) (now : Facts) (event : Event) → KnowsPlan plan → IsSound plan now → AreFewActs plan (acts_of plan now event) 13 5 4
 acts_few plan now (Heard slot pdu) p h = if_few plan (is_up now slot.carrier && (is_slot slot (control_slot plan) && has_room plan now)) (acts_for_pdu plan now pdu) 13 5 4 (few-within plan (acts_for_pdu plan now pdu) 7 5 4 13 5 4 (heard_few plan now pdu p h) (omega arith) (omega arith) (omega arith))
 acts_few plan now (Poll c) p h = if_few plan (is_up now c) _ 13 5 4 (few-within plan _ 2 0 0 13 5 4 (polls_few plan now c) (omega arith) (omega arith) (omega arith))

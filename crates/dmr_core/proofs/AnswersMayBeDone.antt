@@ -147,7 +147,7 @@ answered_may plan now reason called p h up room =
     λ a k. taken_may plan now called a (reason == 0x44) p h up room k in
     grind (arith, taken)
 
--- a request is called off
+-- a request is cancelled
 cancel_may : (plan : Settings) (now : Facts) (q : Request) → KnowsPlan plan → IsSound plan now → is_up now plan.control ≡ true → length (outbox now (control_slot plan)) ≤ 56 → AllMayDo plan now (acts_for_cancel plan now q)
 unfolding acts_for_cancel
 cancel_may plan now q p h up room =
@@ -188,7 +188,7 @@ heard_at plan now slot pdu p h k =
     let b = and_true (is_slot slot (control_slot plan)) (has_room plan now) a.1 in
     heard_may plan now pdu p h (subst (λ (x : Slot). is_up now x.carrier ≡ true) (same_slot slot (control_slot plan) b.0) a.0) (room_is plan now b.1)
 
--- a tick: what clearing the due call leaves as it was for the first line
+-- a tick: the facts that clearing the due call leaves unchanged for the first line
 pub record IsReady (plan : Settings) (now later : Facts) (more : ℕ) : Type 0 where
   pub up : later.up ≡ now.up
   pub lines : later.lines ≡ now.lines
@@ -307,7 +307,7 @@ pub record Repeats (plan : Settings) (later : Facts) (acts : List Act) : Type 0 
   pub may : AllMayDo plan later acts
   pub ready : IsReady plan later (fold facts_after_act later acts) 1
 
--- what one PDU that is no grant leaves as it was, with the asks changed
+-- the facts that one PDU, not a grant, leaves unchanged, with the asks changed
 put_ready : (plan : Settings) (now : Facts) (asks : List Asking) (pdu : Pdu) → is_grant pdu ≡ false → IsReady plan now (facts_after_act (record now { asks = asks }) (Queue (control_slot plan) pdu)) 1
 put_ready plan now asks pdu plain = record {
   up = refl;
@@ -452,7 +452,7 @@ sent_elsewhere plan now later slot other (pdu ∷ pdus) small also apart =
 control_up : (plan : Settings) (now : Facts) (slot : Slot) → slot ≡ control_slot plan → is_up now slot.carrier ≡ true → is_up now plan.control ≡ true
 control_up plan now slot there up = subst (λ (s : Slot). is_up now s.carrier ≡ true) there up
 
--- slot 1 is no control slot
+-- slot 1 is not a control slot
 not_first : (plan : Settings) (c : ℕ) → is_slot (record { carrier = c; slot = 1 }) (control_slot plan) ≡ true → ⊥
 not_first plan c k = let no : (1 == 0) ≡ true = (and_true (c == plan.control) (1 == 0) k).1 in cc
 

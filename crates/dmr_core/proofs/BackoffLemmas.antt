@@ -1,4 +1,4 @@
--- The noise numbers count what the backoff is said to count.
+-- The noise numbers count the Noises of the definition.
 use Rattle.std.proofs.Common.{◌≡◌, ◌≤◌, ◌+◌, ◌-◌, ℕ, zero, suc, List, [], ◌∷◌, Bool, true, false, refl, sym, ◌∙◌, ap, arith, length, take, min, sum}
 use Rattle.std.specs.Prelude.{fold, replicate, if◌then◌else◌, ◌==◌, slice_set, slice_index_or}
 use Rattle.std.proofs.lemmas.Bool.Decides.{nat_tests}

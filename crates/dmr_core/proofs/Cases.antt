@@ -52,12 +52,12 @@ site = record {
 abbrev pub slot : ℕ → ℕ → Slot
 slot c s = record { carrier = c; slot = s }
 
--- opens the rules
+-- unfolds the rules
 unfoldable pub all_rules : Unit {0}
 unfolding noise_at_up is_leaving close acts_for_leaving acts_for_registration grant clear acts_for_new_call acts_for_talkgroup_request acts_for_individual_request acts_for_called_radio acts_for_cancel lowest_free_by acts_for_request acts_for_pdu acts_for_due_call acts_for_due_ask acts_for_first_line acts_for_tick acts_for_slot
 all_rules = tt
 
--- the journal of these events, the first of them first
+-- the journal of these events, oldest first
 abbrev pub after : List Event → List Entry
 after events = journal_of site no_facts (reverse events)
 
@@ -66,7 +66,7 @@ abbrev pub last_acts : List Entry → List Act
 last_acts [] = []
 last_acts (entry ∷ earlier) = entry.acts.list
 
--- what answers the last of these events
+-- the answer to the last of these events
 abbrev pub last : List Event → List Act
 last events = last_acts (after events)
 
@@ -86,7 +86,7 @@ acked reason r target = Ackd 0 reason false r target
 abbrev pub idle : ℕ → Pdu
 idle backoff = Aloha false 0 false false 0 0 0 true backoff 0x1234 0
 
--- 1001 registers, is told so, and is told so again
+-- 1001 registers and is acknowledged, twice
 pub registers_first : last (Up 0 ∷ registers 1001 ∷ []) ≡ Joined 1001 ∷ Queue (slot 0 0) (acked 0x62 1001 0xFFFEC6) ∷ []
 unfolding all_rules
 registers_first = refl
@@ -109,7 +109,7 @@ pub refused : last (Up 0 ∷ registers 1001 ∷ Heard (slot 0 0) (Random 0 2 1 9
 unfolding all_rules
 refused = refl
 
--- leaving forgets the radio, and is answered as well where it wasn't registered
+-- a radio that leaves is no longer registered; one that was not registered gets the same acknowledgement
 pub leaves_first : last (Up 0 ∷ registers 1002 ∷ leaves 1002 ∷ []) ≡ Left 1002 ∷ Queue (slot 0 0) (acked 0x60 1002 0xFFFEC6) ∷ []
 unfolding all_rules
 leaves_first = refl
@@ -118,7 +118,7 @@ pub leaves_again : last (Up 0 ∷ registers 1002 ∷ leaves 1002 ∷ leaves 1002
 unfolding all_rules
 leaves_again = refl
 
--- the idle control slot: backoff 1, and 2 after one Noise; nothing for the other carrier
+-- the Fill without other PDUs: backoff 1, and 2 after one Noise; nothing for the other carrier
 pub idle_first : last (Up 0 ∷ Poll 0 ∷ []) ≡ Fill (slot 0 0) (idle 1) ∷ []
 unfolding all_rules
 idle_first = refl
@@ -131,7 +131,7 @@ pub idle_payload : last (Up 0 ∷ Up 1 ∷ Poll 1 ∷ []) ≡ []
 unfolding all_rules
 idle_payload = refl
 
--- what waited is gone when the carrier is lost; the registration stays
+-- PDUs that waited are removed when the carrier is lost; the registration remains
 pub lost : facts_after site no_facts (after (Up 0 ∷ registers 1001 ∷ Lost 0 ∷ [])) ≡ record no_facts { registered = 1001 ∷ [] }
 unfolding all_rules
 lost = refl
@@ -149,12 +149,12 @@ pub begins : last (Up 0 ∷ registers 1001 ∷ talks 91 1001 ∷ []) ≡ Began (
 unfolding all_rules
 begins = refl
 
--- another radio that asks for the group is told of the call, late, with its source
+-- another radio that requests the group gets a late grant of the call, with the call's source
 pub joins_late : last (Up 0 ∷ registers 1001 ∷ registers 1002 ∷ talks 91 1001 ∷ talks 91 1002 ∷ []) ≡ Queue (slot 0 0) (TvGrant 1 1 true 91 1001) ∷ []
 unfolding all_rules
 joins_late = refl
 
--- a radio that isn't registered is told so
+-- a radio that is not registered gets MS_Not_Registered
 pub unregistered : last (Up 0 ∷ talks 91 1003 ∷ []) ≡ Queue (slot 0 0) (acked 0x2D 1003 91) ∷ []
 unfolding all_rules
 unregistered = refl

@@ -1,4 +1,4 @@
--- Closing what a radio leaves behind.
+-- The acts that end a radio's call, ask or line may be done.
 use Rattle.std.proofs.Common.{◌≡◌, ◌<◌, ◌≤◌, ◌+◌, ℕ, zero, suc, List, [], ◌∷◌, ◌++◌, Bool, true, false, refl, sym, ◌∙◌, ap, subst, arith, filter, length}
 use Rattle.std.specs.Prelude.{fold, Option, Some, None, cond, ◌&&◌, not, replicate, find, ◌==◌, ◌||◌, option_map}
 use Rattle.std.specs.List.{list_any}
@@ -35,7 +35,7 @@ use Rattle.dmr_core.proofs.GrantsAreOwn.{found_stands, call_stands}
 use Rattle.dmr_core.proofs.ActsKeepSound.{sound-done}
 use Rattle.dmr_core.proofs.PartsMayBeDone.{ack_may, clear_may, not_engaged, read_put}
 
--- what copies of a PDU leave as it was
+-- the facts that copies of a PDU leave unchanged
 abbrev put : Facts → ℕ → Slot → Pdu → Facts
 put now n slot pdu = fold facts_after_act now (replicate n (Queue slot pdu))
 
@@ -64,7 +64,7 @@ copies_elsewhere zero now slot other pdu small also apart = refl
 copies_elsewhere (suc n) now slot other pdu small also apart =
     copies_elsewhere n (facts_after_act now (Queue slot pdu)) slot other pdu small also apart ∙ get_or-set_other now.outboxes (place slot) (place other) (box now.outboxes slot ++ pdu ∷ []) [] (other_place other slot also small apart)
 
--- what clearing a call leaves
+-- the facts after clearing a call
 pub record IsCleared (plan : Settings) (now later : Facts) (call : Call) : Type 0 where
   pub up : later.up ≡ now.up
   pub registered : later.registered ≡ now.registered
@@ -87,7 +87,7 @@ cleared_is plan now call small =
       others = λ slot also apart. copies_elsewhere plan.clear_copies ended call.slot slot pdu small also apart;
     }
 
--- who is found is found by the test
+-- a radio that is found passes the test
 pub found_call : (p : Standing → Bool) (o : Option Standing) (call : Call) → option_map (λ (x : Standing). x.call) o ≡ Some call → (s : Standing) × (o ≡ Some s) × (s.call ≡ call)
 found_call p None call h = cc
 found_call p (Some s) call h = (s, refl, cc)
@@ -175,7 +175,7 @@ line_closes plan now r l h found =
     let one : 1 ≤ engagements_in_line r l = line_counts r l (find_passes (λ x. x.source == r) now.lines l found) in
     record { may = (tt, tt); closed = record { up = refl; registered = refl; gone = omega (arith, h.once r); room = omega arith } }
 
--- where an ask or a line stands, the control carrier is up
+-- if there is an ask or a line, the control carrier is up
 found_up : {X : Type 0} (plan : Settings) (now : Facts) (test : X → Bool) (xs : List X) (x : X) → (is_up now plan.control ≡ false → xs ≡ []) → find test xs ≡ Some x → is_up now plan.control ≡ true
 found_up {X = X} plan now test xs x h found = either (is_up now plan.control) refl
   where

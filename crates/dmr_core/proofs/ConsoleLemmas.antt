@@ -1,4 +1,4 @@
--- What the replies show.
+-- The lists in replies.
 use Rattle.std.proofs.Common.{◌≡◌, ℕ, ◌+◌, List, [], ◌∷◌, ◌++◌, Bool, true, false, refl, ap, ◌∙◌, arith, map}
 use Rattle.std.specs.Prelude.{Some, cond, flat_map, find, is_some, option_map, ◌||◌}
 use Rattle.std.specs.List.{range_with_len}
@@ -15,7 +15,7 @@ use Rattle.dmr_core.specs.Facts.{Facts}
 use Rattle.dmr_core.specs.Words.{stands_on}
 use Rattle.dmr_core.specs.Displays.{all_slot_states, slot_states}
 
--- a call is found on a slot exactly where one stands there
+-- a call is found on a slot exactly if one is active there
 pub called : (calls : List Standing) (slot : Slot) → is_some (call_on calls slot) ≡ stands_on calls slot
 called [] slot = refl
 called (s ∷ calls) slot = either (is_slot s.call.slot slot) (called calls slot)

@@ -1,4 +1,4 @@
--- An event of a carrier that isn't up changes nothing.
+-- An event of a carrier that is not up changes nothing.
 use Rattle.std.proofs.Common.{◌≡◌, ◌<◌, ◌+◌, ◌*◌, ℕ, zero, suc, List, [], ◌∷◌, Bool, true, false, refl, sym, ◌∙◌, ap, subst, arith, map, filter}
 use Rattle.std.specs.Prelude.{Option, None, if◌then◌else◌, not, ◌||◌, ◌==◌, slice_set, slice_index_or}
 use Rattle.dmr_pdu.specs.declared.slots.Slot.{Slot}
@@ -29,7 +29,7 @@ same_up [] c h = refl
 same_up (b ∷ up) zero h = ap (λ (x : Bool). x ∷ up) (sym h)
 same_up (b ∷ up) (suc c) h = ap (λ (xs : List Bool). b ∷ xs) (same_up up c h)
 
--- an outbox that is empty is emptied
+-- emptying an empty outbox changes nothing
 same_box : (boxes : List (List Pdu)) (i : ℕ) → slice_index_or boxes i [] ≡ [] → slice_set boxes i [] ≡ boxes
 same_box [] i h = refl
 same_box (b ∷ boxes) zero h = ap (λ (x : List Pdu). x ∷ boxes) (sym h)
@@ -62,7 +62,7 @@ same_marked (s ∷ cs) slot h =
     let both = or_false (is_slot s.call.slot slot) (stands_on cs slot) h in
     rw both.0 (ap (λ (xs : List Standing). s ∷ xs) (same_marked cs slot both.1))
 
--- no call stands on a carrier that isn't up
+-- no call is active on a carrier that is not up
 not_there : (plan : Settings) (now : Facts) (c : ℕ) (slot : Slot) → IsSound plan now → is_up now c ≡ false → stands_on now.calls slot ≡ true → (slot.carrier == c) ≡ false
 not_there plan now c slot h down k = either (slot.carrier == c) refl
   where
@@ -80,7 +80,7 @@ none_there plan now slot h down = either (stands_on now.calls slot) refl
     either true e = true_false _ (h.payload slot e).is_up down
     either false e = refl
 
--- a carrier that the plan does not have isn't up
+-- a carrier that the plan does not have is not up
 unknown_down : (plan : Settings) (now : Facts) (c : ℕ) → IsSound plan now → has_carrier plan c ≡ false → is_up now c ≡ false
 unknown_down plan now c h none = either (is_up now c) refl
   where
@@ -113,7 +113,7 @@ poll_or : (b : Bool) (ns : List ℕ) → (b ≡ true → ns ≡ []) → (if b th
 poll_or true ns h = rw (h refl) refl
 poll_or false ns h = refl
 
--- the control carrier is down where a carrier is that is the control carrier
+-- if a carrier is down and is the control carrier, the control carrier is down
 down_too : (plan : Settings) (now : Facts) (c : ℕ) → is_up now c ≡ false → (c == plan.control) ≡ true → is_up now plan.control ≡ false
 down_too plan now c h e = let same : c ≡ plan.control = equal_numbers c plan.control e in rw same at h
 

@@ -32,7 +32,7 @@ use Rattle.dmr_core.proofs.SlotsStaySound.{true_false}
 use Rattle.dmr_core.proofs.GrantsAreOwn.{call_after}
 use Rattle.dmr_core.proofs.LimitsAreKept.{IsCounted, IsWaitCounted}
 
--- only calls changed, each of which is the call it was
+-- only calls changed, and each is still the same call
 call_or : (x y : Standing) (b : Bool) (o p : Option Standing) → x.call ≡ y.call → option_map (λ (z : Standing). z.call) o ≡ option_map (λ (z : Standing). z.call) p → option_map (λ (z : Standing). z.call) (cond b (Some x) o) ≡ option_map (λ (z : Standing). z.call) (cond b (Some y) p)
 call_or x y true o p h k = ap (λ (c : Call). Some c) h
 call_or x y false o p h k = k
@@ -268,7 +268,7 @@ none_or : {X : Type 0} (b : Bool) (ls : List X) → (b ≡ false → ls ≡ []) 
 none_or true ls h = refl
 none_or false ls h = h refl
 
--- Fills and the last late entry are forgotten, or as they were
+-- Fills and the last late entry are reset or unchanged
 few_or : (b : Bool) (n : ℕ) → n < 4 → (if b then 0 else n) < 4
 few_or true n h = omega arith
 few_or false n h = h
@@ -281,7 +281,7 @@ unnamed_or : (b : Bool) (late : Option NamedSlot) → (b ≡ false → late ≡ 
 unnamed_or true late h = refl
 unnamed_or false late h = h refl
 
--- a carrier came up or went
+-- a carrier came up or was lost
 abbrev reset : Settings → Facts → ℕ → List Bool → List ℕ → Facts
 reset plan now c up noise = record {
   up = up;
@@ -366,7 +366,7 @@ length-noise_at_up : length noise_at_up ≡ 32
 unfolding noise_at_up
 length-noise_at_up = refl
 
--- the noise numbers begin anew with the control carrier
+-- the noise numbers begin again with the control carrier
 begun_none : (plan : Settings) (now : Facts) (c : ℕ) (b : Bool) → (c == plan.control) ≡ b → plan.control < 16 → IsSound plan now → slice_index_or (slice_set now.up c true) plan.control false ≡ false → (if b then noise_at_up else now.noise) ≡ []
 begun_none plan now c true e small h k =
     let same : c ≡ plan.control = equal_numbers c plan.control e in

@@ -1,4 +1,4 @@
--- The questions, asked of one entry more, are the facts after its event and each of its acts.
+-- The facts after one more entry are the facts after its event and each of its acts.
 use Rattle.std.proofs.Common.{◌≡◌, List, [], ◌∷◌, refl}
 use Rattle.std.specs.Prelude.{fold}
 use Rattle.dmr_plan.specs.declared.settings.Settings.{Settings}

@@ -1,4 +1,4 @@
--- Fills and late entries: what each needs, and what it leaves.
+-- Fills and late entries: their conditions and effects.
 use Rattle.std.proofs.Common.{◌≡◌, ◌<◌, ℕ, Bool, true, false, List, subst, arith, refl, sym}
 use Rattle.std.specs.Prelude.{Option, Some, None, IfSome, ◌&&◌, not, is_some, option_map, unwrap_or, if◌then◌else◌}
 use Rattle.dmr_pdu.specs.declared.slots.Slot.{Slot}
@@ -42,7 +42,7 @@ late_grant plan call = either call.group refl
     either true e = rw e refl
     either false e = rw e refl
 
--- the late entry, if the next Fill has one, is of a talkgroup call that stands
+-- the late entry, if the next Fill has one, is of an active talkgroup call
 entry_stands : (plan : Settings) (calls : List Standing) (b : Bool) (o : Option Call) → IfSome o (λ call. (call_on calls call.slot ≡ Some call) × (call.group ≡ true)) → IfSome (if b then option_map (λ (call : Call). grant_pdu plan call true) o else None) (IsLateOf plan calls)
 entry_stands plan calls true None none = tt
 entry_stands plan calls true (Some call) next = record { call = call; stands = next.0; group = next.1; is = refl }
@@ -53,7 +53,7 @@ unfolding late_entry
 late_stands plan now =
     entry_stands plan now.calls (is_late_due now.fills && not (is_some now.moving)) (next_call plan now) (next_stands now.calls (last_slot plan now))
 
--- a fill that is a grant is of a call that stands
+-- a Fill that is a grant is of an active call
 late_names : (plan : Settings) (calls : List Standing) (slot : Slot) (pdu : Pdu) → slot ≡ control_slot plan → IsLateOf plan calls pdu → MayName plan calls slot pdu (is_grant pdu)
 late_names plan calls slot pdu there late =
     subst (λ (p : Pdu). MayName plan calls slot p (is_grant p)) (sym late.is)
@@ -68,7 +68,7 @@ fill_names plan calls slot None noise fills entry there late = either (is_late_d
     either true (Some pdu) late = late_names plan calls slot pdu there late
     either false o late = tt
 
--- a fill is the late entry, if there is one, and else no grant
+-- a Fill is the late entry if there is one, and else not a grant
 fill_entry : (plan : Settings) (moving : Option ℕ) (noise : List ℕ) (fills : ℕ) (o : Option Call) → late_entry_of_fill (fill_of plan moving noise fills (if is_late_due fills && not (is_some moving) then option_map (λ (call : Call). grant_pdu plan call true) o else None)) ≡ (if is_late_due fills && not (is_some moving) then option_map (λ (call : Call). grant_pdu plan call true) o else None)
 fill_entry plan (Some lpcn) noise fills o = either (is_late_due fills)
   where

@@ -36,7 +36,7 @@ granted_known plan outboxes slot known = either (row_with plan.carriers slot.car
     either (Some row) none = refl
     either None none = let no : has_number_in plan.carriers slot.carrier ≡ false = none refl in absurd (cc (known, no))
 
--- the first that passes is the same where the tests are
+-- the first that passes is the same if the tests are
 same_find : (p q : Slot → Bool) (from n : ℕ) → from + n ≤ 32 → ((s : Slot) → IsSlot s → p s ≡ q s) → find p (map slot_at (range_with_len from n)) ≡ find q (map slot_at (range_with_len from n))
 same_find p q from zero within same = refl
 same_find p q from (suc n) within same =

@@ -1,4 +1,4 @@
--- A free slot leaves room for its call: calls stand on 31 payload slots at most.
+-- A free slot leaves room for its call: calls are on 31 payload slots at most.
 use Rattle.std.proofs.Common.{◌≡◌, ◌<◌, ℕ, List, [], ◌∷◌, Bool, true, false, refl, ap, suc, ◌⊎◌, inl, inr, arith, length}
 use Rattle.std.specs.Prelude.{◌||◌, nat_eq}
 use Rattle.std.specs.List.{list_any, IsDistinct, AllByRecursion}

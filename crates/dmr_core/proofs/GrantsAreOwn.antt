@@ -1,4 +1,4 @@
--- A waiting grant is that of the call that stands on its slot, after each act.
+-- A waiting grant is that of the call on its slot, after each act.
 use Rattle.std.proofs.Common.{◌≡◌, ◌<◌, List, [], ◌∷◌, ◌++◌, Bool, true, false, refl, sym, ◌∙◌, ap, subst, arith, filter, ◌⊎◌, inl, inr}
 use Rattle.std.specs.Prelude.{Some, None, if◌then◌else◌, cond, ◌&&◌, not, find, ◌==◌, ◌||◌, option_map}
 use Rattle.std.specs.List.{list_any, list_all}
@@ -22,7 +22,7 @@ use Rattle.dmr_core.proofs.NumberLemmas.{equal_itself, equal_numbers}
 use Rattle.dmr_core.proofs.ChoiceLemmas.{or_false, and_true}
 use Rattle.dmr_core.proofs.SlotsStaySound.{same_slot, itself, after_put, within_boxes, free_is, all-drop, all_more, true_false}
 
--- the call that is found stands there
+-- the call that is found is active there
 pub call_stands : (cs : List Standing) (slot : Slot) (call : Call) → call_on cs slot ≡ Some call → (stands_on cs slot ≡ true) × (call.slot ≡ slot)
 call_stands [] slot call h = cc
 call_stands (s ∷ cs) slot call h = first (is_slot s.call.slot slot) refl h (call_stands cs slot call)
@@ -44,7 +44,7 @@ found_stands p (s ∷ cs) call apart h = first (p s) h (found_stands p cs call a
     first true h more = let same : s.call ≡ call = cc in rw (← same, itself s.call.slot) refl
     first false h more = other (is_slot s.call.slot call.slot) refl (more h)
 
--- what is taken out by slots
+-- a filter by slots
 pub call_on-filter : (q : Slot → Bool) (cs : List Standing) (slot : Slot) → call_on (filter (λ s. q s.call.slot) cs) slot ≡ cond (q slot) (call_on cs slot) None
 call_on-filter q [] slot = none (q slot)
   where
@@ -66,7 +66,7 @@ call_after q cs slot call h = kept (q slot) (sym (call_on-filter q cs slot) ∙ 
     kept true h = h
     kept false h = cc
 
--- what is put behind
+-- a call added at the end
 call_new : (cs : List Standing) (new : Standing) (slot : Slot) (call : Call) → call_on (cs ++ new ∷ []) slot ≡ Some call → (call_on cs slot ≡ Some call) ⊎ (new.call ≡ call)
 call_new [] new slot call h = last (is_slot new.call.slot slot) h
   where
@@ -116,7 +116,7 @@ own_itself plan call late = either call.group refl
     either true e = rw (e, parties) (anyway _)
     either false e = rw (e, parties) (anyway _)
 
--- a grant is that of the call that stands on the slot it names, since no two carriers have one channel
+-- a grant is that of the call on the slot that it names, since no two carriers have the same channel
 pub own_of : (plan : Settings) (now : Facts) (slot : Slot) (call other : Call) (late : Bool) → KnowsPlan plan → IsSound plan now → call_on now.calls slot ≡ Some call → call_on now.calls other.slot ≡ Some other → is_own plan call (grant_pdu plan other late) ≡ true
 own_of plan now slot call other late p h here there = either ((lpcn_of plan other.slot.carrier == lpcn_of plan call.slot.carrier) && (other.slot.slot == call.slot.slot)) refl
   where

@@ -1,4 +1,4 @@
--- Worked cases of talkgroup calls, requests that wait, and lost carriers, computed from what stands.
+-- Worked cases of talkgroup calls, lines and lost carriers, computed from given facts.
 use Rattle.std.specs.Prelude.{◌≡◌, ℕ, ◌+◌, List, [], ◌∷◌, true, false, refl, map, fold, replicate, None}
 use Rattle.std.specs.List.{range_with_len}
 use Rattle.dmr_pdu.specs.declared.pdu.Pdu.{Pdu}
@@ -20,39 +20,39 @@ use Rattle.dmr_core.specs.Journal.{answer_after_entries, entry_by_nobody}
 use Rattle.dmr_core.specs.Rules.{acts_of}
 use Rattle.dmr_core.proofs.Cases.{site, slot, all_rules, registers, leaves, acked, idle, talks, call}
 
--- what stands after the event and its answer
+-- the facts after the event and its answer
 abbrev pub next : Facts → Event → Facts
 next now event = facts_after site now (entry_by_nobody event (answer_after_entries site now [] event) ∷ [])
 
--- the same after these events, the first of them first
+-- the facts after these events, oldest first
 abbrev pub next_all : Facts → List Event → Facts
 next_all now events = fold next now events
 
--- how the site answers the event
+-- the acts that answer the event
 abbrev pub answers : Facts → Event → List Act
 answers now event = acts_of site now event
 
--- a call as old as it was quiet
+-- a call whose age is its quiet time
 abbrev pub aged : ℕ → Call → Standing
 aged ticks call = record { call = call; age = ticks; quiet = ticks }
 
--- three calls so old, on all slots but the control slot
+-- three calls of this age, on all slots but the control slot
 abbrev pub three_calls : ℕ → List Standing
 three_calls ticks = aged ticks (call (slot 0 1) 1001 91) ∷ aged ticks (call (slot 1 0) 1002 92) ∷ aged ticks (call (slot 1 1) 1003 93) ∷ []
 
--- a request of a radio for a talkgroup waits
+-- a line of a radio to a talkgroup
 abbrev pub line : ℕ → ℕ → Line
 line source group = record { source = source; target = group; group = true }
 
--- the request of 1004 for 94 waits
+-- the line of 1004 to 94
 abbrev pub one_line : List Line
 one_line = line 1004 94 ∷ []
 
--- no more requests can wait: those of 1100 to 1131 for talkgroups 200 to 231
+-- as many lines as may be: those of 1100 to 1131 to talkgroups 200 to 231
 abbrev pub many_lines : List Line
 many_lines = map (λ k. line (1100 + k) (200 + k)) (range_with_len 0 32)
 
--- both carriers up, 1001 to 1006 registered, nothing to be sent
+-- both carriers up, 1001 to 1006 registered, no PDU waiting
 abbrev pub standing : List Standing → List Line → List Asking → Facts
 standing calls lines asks = record {
   up = true ∷ true ∷ replicate 14 false;
@@ -71,7 +71,7 @@ standing calls lines asks = record {
 abbrev pub cleared : ℕ → Pdu
 cleared group = Clear 1 true group 0xFFFECA
 
--- the events that lead to three calls: each radio is registered and talks, and is sent what it is told
+-- the events that lead to three calls: each radio registers and requests its call, and the answers are sent
 abbrev pub three_callers : List Event
 three_callers =
     Up 0 ∷ Up 1 ∷ registers 1001 ∷ Poll 0 ∷ registers 1002 ∷ Poll 0 ∷ registers 1003 ∷ Poll 0 ∷ registers 1004 ∷ Poll 0 ∷ registers 1005 ∷ Poll 0
@@ -86,7 +86,7 @@ pub fourth_waits : answers (standing (three_calls 0) [] []) (talks 94 1004) ≡ 
 unfolding all_rules
 fourth_waits = refl
 
--- asked again it waits no second time, and a second radio that asks for the group waits with it
+-- if its source asks again it is not added again, and a second radio that requests the group waits with it
 pub fourth_asks_again : answers (standing (three_calls 0) one_line []) (talks 94 1004) ≡ Queue (slot 0 0) (acked 0xA0 1004 94) ∷ []
 unfolding all_rules
 fourth_asks_again = refl
@@ -100,7 +100,7 @@ pub source_of_a_line_is_engaged : answers (standing (three_calls 0) one_line [])
 unfolding all_rules
 source_of_a_line_is_engaged = refl
 
--- the source of a call asks again, and for another group; a group that isn't listed; a service that there isn't
+-- the source of a call asks again, and for another group; a group that is not listed; a kind that is not supported
 pub source_asks_again : answers (standing (three_calls 0) [] []) (talks 92 1002) ≡ Queue (slot 0 0) (TvGrant 2 0 false 92 1002) ∷ []
 unfolding all_rules
 source_asks_again = refl
@@ -131,12 +131,12 @@ pub quiet_call_ends : answers (standing (three_calls 99) one_line []) Tick ≡ E
 unfolding all_rules
 quiet_call_ends = refl
 
--- the same from the very beginning, 100 ticks long
+-- the same, counted from age 0 over 100 ticks
 pub hundredth_tick_ends : answers (next_all (standing (three_calls 0) one_line []) (replicate 99 Tick)) Tick ≡ Ended (slot 0 1) ∷ Queue (slot 0 1) (cleared 91) ∷ []
 unfolding all_rules
 hundredth_tick_ends = refl
 
--- then the poll clears the slot, and the next tick ends the next call and serves the line
+-- the poll sends the P_CLEAR, and the next tick ends the next call and serves the line
 pub clearing_is_sent : answers (next_all (standing (three_calls 99) one_line []) (Tick ∷ [])) (Poll 0) ≡ Fill (slot 0 0) (idle 1) ∷ Send (slot 0 1) (cleared 91) ∷ []
 unfolding all_rules
 clearing_is_sent = refl
@@ -145,7 +145,7 @@ pub line_is_served : answers (next_all (standing (three_calls 99) one_line []) (
 unfolding all_rules
 line_is_served = refl
 
--- without the poll the slot isn't free
+-- without the poll the slot is not free
 pub line_waits_for_the_clearing : answers (next_all (standing (three_calls 99) one_line []) (Tick ∷ [])) Tick ≡ Ended (slot 1 0) ∷ Queue (slot 1 0) (cleared 92) ∷ []
 unfolding all_rules
 line_waits_for_the_clearing = refl
@@ -155,7 +155,7 @@ pub free_slot_is_kept_for_the_line : answers (next_all (standing (three_calls 99
 unfolding all_rules
 free_slot_is_kept_for_the_line = refl
 
--- activity on a slot: its call isn't over, and the next one is
+-- activity on a slot: its call is not over, and the next one is
 pub activity_goes_on : answers (next (standing (three_calls 99) [] []) (Active (slot 0 1))) Tick ≡ Ended (slot 1 0) ∷ Queue (slot 1 0) (cleared 92) ∷ []
 unfolding all_rules
 activity_goes_on = refl
@@ -172,7 +172,7 @@ pub maximum_ends : answers (standing (long_call 2999) [] []) Tick ≡ Ended (slo
 unfolding all_rules
 maximum_ends = refl
 
--- a line is called off, and again
+-- a line is cancelled, twice
 abbrev pub calls_off : ℕ → ℕ → Event
 calls_off target r = Heard (slot 0 0) (Random 0 0 15 target r)
 
@@ -193,7 +193,7 @@ pub source_of_a_call_leaves : answers (standing (three_calls 0) [] []) (leaves 1
 unfolding all_rules
 source_of_a_call_leaves = refl
 
--- carrier 1 is lost with its calls; back again its slots are free
+-- carrier 1 is lost with its calls; after its Up, its slots are free
 pub lost_carrier : next (standing (three_calls 5) one_line []) (Lost 1) ≡ record (standing (aged 5 (call (slot 0 1) 1001 91) ∷ []) one_line []) { up = true ∷ false ∷ replicate 14 false }
 unfolding all_rules
 lost_carrier = refl
@@ -206,7 +206,7 @@ pub carrier_down_serves_nothing : answers (next (standing (three_calls 5) one_li
 unfolding all_rules
 carrier_down_serves_nothing = refl
 
--- the control carrier is lost with its call and all lines; the calls of carrier 1 stay, and end in their time
+-- the control carrier is lost with its call and all lines; the calls of carrier 1 remain, and end in their time
 pub lost_control_carrier : next (standing (three_calls 5) one_line []) (Lost 0) ≡ record (standing (aged 5 (call (slot 1 0) 1002 92) ∷ aged 5 (call (slot 1 1) 1003 93) ∷ []) [] []) { up = false ∷ true ∷ replicate 14 false; noise = [] }
 unfolding all_rules
 lost_control_carrier = refl
@@ -219,12 +219,12 @@ pub cleared_without_control_carrier : answers (next_all (standing (three_calls 9
 unfolding all_rules
 cleared_without_control_carrier = refl
 
--- a slot whose grant still waits isn't free
+-- a slot whose grant still waits is not free
 pub granted_slot_is_not_free : answers (record (standing [] [] []) { outboxes = outboxes_with_pdu (replicate 32 []) (slot 0 0) (TvGrant 1 1 false 91 1001) }) (talks 92 1002) ≡ Began (call (slot 1 0) 1002 92) ∷ Queue (slot 0 0) (TvGrant 2 0 false 92 1002) ∷ []
 unfolding all_rules
 granted_slot_is_not_free = refl
 
--- so many PDUs wait for the control slot
+-- `count` PDUs wait for the control slot
 abbrev pub waiting : ℕ → Facts
 waiting count = record (standing [] one_line []) { outboxes = replicate count (acked 0x62 1003 0xFFFEC6) ∷ replicate 31 [] }
 
@@ -252,7 +252,7 @@ row_of c = record { number = c; lpcn = c + 1; port = 7101 + c }
 abbrev pub large_site : Settings
 large_site = record site { carriers = map row_of (range_with_len 0 16); groups = range_with_len 91 32 }
 
--- so many calls on it, on the slots from the lowest on
+-- `count` calls on it, on the slots from the lowest on
 abbrev pub many_calls : ℕ → Facts
 many_calls count = record {
   up = replicate 16 true;

@@ -111,7 +111,7 @@ kept_beside c s (t ∷ calls) apart = either (t.call.slot.carrier == c) refl (ke
     either true e more = more ∙ ap (λ b. (b && (t.call.slot.slot == s.slot)) || stands_on calls s) (sym (differs t.call.slot.carrier s.carrier c e apart))
     either false e more = ap (λ b. is_slot t.call.slot s || b) more
 
--- a slot of the carrier is released, and each other stays
+-- a slot of the carrier is released, and every other is unchanged
 released_there : (held : List Bool) (s : Slot) → length held ≡ 32 → IsSlot s → is_slot_held (held_without_carrier held s.carrier) s ≡ false
 released_there held s size is = either (s.slot == 0) refl
   where

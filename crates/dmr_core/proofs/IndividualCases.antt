@@ -1,4 +1,4 @@
--- Worked cases of individual calls, computed from what stands.
+-- Worked cases of individual calls, computed from given facts.
 use Rattle.std.specs.Prelude.{◌≡◌, ℕ, ◌+◌, List, [], ◌∷◌, false, refl, map}
 use Rattle.std.specs.List.{range_with_len}
 use Rattle.dmr_pdu.specs.declared.slots.Slot.{Slot}
@@ -25,11 +25,11 @@ rings target r = Heard (slot 0 0) (Random 0 0 0 target r)
 abbrev pub replies : ℕ → ℕ → ℕ → Event
 replies reason source r = Heard (slot 0 0) (Acku 0 reason false source r)
 
--- the target is asked whether it takes the call of the source, so often by now
+-- the ask of source to target, at this attempt
 abbrev pub ask : ℕ → ℕ → ℕ → Ask
 ask attempt source target = record { source = source; target = target; options = 0; attempt = attempt }
 
--- 1001 asks 1002, so often by now and so many ticks ago
+-- the ask of 1001 to 1002, at this attempt, this many ticks after its C_AHOY
 abbrev pub one_ask : ℕ → ℕ → List Asking
 one_ask attempt ticks = record { ask = ask attempt 1001 1002; waited = ticks } ∷ []
 
@@ -41,7 +41,7 @@ many_asks = map (λ k. record { ask = ask 1 (1100 + k) (1200 + k); waited = 0 })
 abbrev pub individual_call : Slot → ℕ → ℕ → Call
 individual_call at source target = record { slot = at; source = source; target = target; group = false }
 
--- 1001 and 1002 are in a call on slot 1 of carrier 0, so many ticks old
+-- the call of 1001 to 1002 on slot 1 of carrier 0, this many ticks old
 abbrev pub one_call : ℕ → List Standing
 one_call ticks = aged ticks (individual_call (slot 0 1) 1001 1002) ∷ []
 
@@ -53,27 +53,27 @@ individual_line = record { source = 1004; target = 1005; group = false }
 abbrev pub ahoy_to : ℕ → ℕ → Pdu
 ahoy_to target source = Ahoy 0 false 0 target source
 
--- a radio is asked, and the caller is to wait
+-- the radio is asked, and the caller gets Wait
 pub radio_is_asked : answers (standing [] [] []) (rings 1002 1001) ≡ Asked (ask 1 1001 1002) ∷ Queue (slot 0 0) (acked 0xE0 1001 1002) ∷ Queue (slot 0 0) (ahoy_to 1002 1001) ∷ []
 unfolding all_rules
 radio_is_asked = refl
 
--- it takes the call
+-- the radio takes the call
 pub call_is_taken : answers (standing [] [] (one_ask 1 0)) (replies 0x44 1001 1002) ≡ AskOver 1001 ∷ Began (individual_call (slot 0 1) 1001 1002) ∷ Queue (slot 0 0) (PvGrant 1 1 1002 1001) ∷ []
 unfolding all_rules
 call_is_taken = refl
 
--- it refuses the call
+-- the radio refuses the call
 pub call_is_refused : answers (standing [] [] (one_ask 1 0)) (replies 0x2E 1001 1002) ≡ AskOver 1001 ∷ Queue (slot 0 0) (acked 0x2E 1001 1002) ∷ []
 unfolding all_rules
 call_is_refused = refl
 
--- a radio that wasn't asked answers
+-- a radio that was not asked answers
 pub nobody_asked : answers (standing [] [] (one_ask 1 0)) (replies 0x44 1001 1003) ≡ []
 unfolding all_rules
 nobody_asked = refl
 
--- it doesn't answer: asked again after 8 ticks, not after 7, and given up after the third time
+-- the radio does not answer: it is asked again after 8 ticks, not after 7, and no more after the third time
 pub not_asked_again_yet : answers (standing [] [] (one_ask 1 6)) Tick ≡ []
 unfolding all_rules
 not_asked_again_yet = refl
@@ -90,12 +90,12 @@ pub given_up : answers (standing [] [] (one_ask 3 7)) Tick ≡ AskOver 1001 ∷ 
 unfolding all_rules
 given_up = refl
 
--- an ask that was repeated waits anew
+-- an ask that was repeated waits again from 0
 pub waits_anew : (next (standing [] [] (one_ask 1 7)) Tick).asks ≡ one_ask 2 0
 unfolding all_rules
 waits_anew = refl
 
--- it leaves, and the caller is told so first
+-- the radio leaves, and the caller gets NoReg_MS_Away first
 pub asked_radio_leaves : answers (standing [] [] (one_ask 1 0)) (leaves 1002) ≡ AskOver 1001 ∷ Queue (slot 0 0) (acked 0x24 1001 1002) ∷ Left 1002 ∷ Queue (slot 0 0) (acked 0x60 1002 0xFFFEC6) ∷ []
 unfolding all_rules
 asked_radio_leaves = refl
@@ -105,7 +105,7 @@ pub asking_radio_leaves : answers (standing [] [] (one_ask 1 0)) (leaves 1001) �
 unfolding all_rules
 asking_radio_leaves = refl
 
--- the caller calls off, and again; the called radio can't
+-- the caller cancels, twice; the called radio cannot
 pub ask_is_called_off : answers (standing [] [] (one_ask 1 0)) (calls_off 1002 1001) ≡ AskOver 1001 ∷ Queue (slot 0 0) (acked 0x60 1001 1002) ∷ []
 unfolding all_rules
 ask_is_called_off = refl
@@ -118,7 +118,7 @@ pub asked_radio_calls_nothing_off : answers (standing [] [] (one_ask 1 0)) (call
 unfolding all_rules
 asked_radio_calls_nothing_off = refl
 
--- a radio calls itself, one that isn't listed, one that isn't registered, one that is asked, one that talks
+-- a radio calls itself, one that is not listed, one that is not registered, one that is asked, one that is in a call
 pub calls_itself : answers (standing [] [] []) (rings 1001 1001) ≡ Queue (slot 0 0) (acked 0x21 1001 1001) ∷ []
 unfolding all_rules
 calls_itself = refl
@@ -139,7 +139,7 @@ pub target_talks : answers (standing (three_calls 0) [] []) (rings 1002 1004) �
 unfolding all_rules
 target_talks = refl
 
--- the caller asks again: wait, the grant, or queued
+-- the caller asks again: Wait, the grant, or Queued_For_Resource
 pub told_to_wait_again : answers (standing [] [] (one_ask 1 3)) (rings 1002 1001) ≡ Queue (slot 0 0) (acked 0xE0 1001 1002) ∷ []
 unfolding all_rules
 told_to_wait_again = refl
@@ -152,7 +152,7 @@ pub queued_again : answers (standing (three_calls 0) (individual_line ∷ []) []
 unfolding all_rules
 queued_again = refl
 
--- a party asks for something else
+-- a party requests something else
 pub asked_radio_is_engaged : answers (standing [] [] (one_ask 1 0)) (rings 1001 1002) ≡ Queue (slot 0 0) (acked 0x23 1002 1001) ∷ []
 unfolding all_rules
 asked_radio_is_engaged = refl
@@ -166,7 +166,7 @@ pub no_place_to_ask : answers (standing [] [] many_asks) (rings 1002 1001) ≡ Q
 unfolding all_rules
 no_place_to_ask = refl
 
--- the call is taken while no slot is free, and while a line stands: it waits
+-- the call is taken while no slot is free, and while there is a line: it waits
 pub taken_call_waits : answers (standing (three_calls 0) [] (record { ask = ask 1 1004 1005; waited = 0 } ∷ [])) (replies 0x44 1004 1005) ≡ AskOver 1004 ∷ Lined individual_line ∷ Queue (slot 0 0) (acked 0xA0 1004 1005) ∷ []
 unfolding all_rules
 taken_call_waits = refl
@@ -179,7 +179,7 @@ pub taken_call_finds_no_place : answers (standing [] many_lines (one_ask 1 0)) (
 unfolding all_rules
 taken_call_finds_no_place = refl
 
--- the waiting call is served, or over with one who leaves
+-- the waiting call is served, or ends when a party leaves
 pub waiting_call_is_served : answers (standing [] (individual_line ∷ []) []) Tick ≡ Unlined 1004 ∷ Began (individual_call (slot 0 1) 1004 1005) ∷ Queue (slot 0 0) (PvGrant 1 1 1005 1004) ∷ []
 unfolding all_rules
 waiting_call_is_served = refl
@@ -188,7 +188,7 @@ pub target_of_a_line_leaves : answers (standing (three_calls 0) (individual_line
 unfolding all_rules
 target_of_a_line_leaves = refl
 
--- a call ends after its hang time, or with one who leaves; its P_CLEAR isn't a talkgroup's
+-- a call ends after its hang time, or when a party leaves; its P_CLEAR is not a talkgroup's
 pub quiet_individual_call_ends : answers (standing (one_call 99) [] []) Tick ≡ Ended (slot 0 1) ∷ Queue (slot 0 1) (Clear 1 false 1002 0xFFFECA) ∷ []
 unfolding all_rules
 quiet_individual_call_ends = refl
@@ -197,7 +197,7 @@ pub called_radio_leaves : answers (standing (one_call 3) [] []) (leaves 1002) �
 unfolding all_rules
 called_radio_leaves = refl
 
--- asks are gone with the control carrier, and stay when another is lost
+-- asks end with the control carrier, and remain when another is lost
 pub asks_gone : (next (standing [] [] (one_ask 1 3)) (Lost 0)).asks ≡ []
 unfolding all_rules
 asks_gone = refl

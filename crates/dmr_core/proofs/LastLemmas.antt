@@ -1,4 +1,4 @@
--- Registrations and carriers stand exactly where the last opener or closer is an opener.
+-- A radio is registered, and a carrier up, exactly if the last opener or closer is an opener.
 use Rattle.std.proofs.Common.{◌≡◌, ◌<◌, ℕ, List, [], ◌∷◌, ◌++◌, Bool, true, false, refl, sym, ◌∙◌, ap, subst, arith, filter, length, length-set}
 use Rattle.std.specs.Prelude.{fold, Option, Some, None, unwrap_or, if◌then◌else◌, cond, ◌||◌, ◌&&◌, not, ◌==◌, slice_set, slice_index_or}
 use Rattle.std.specs.List.{list_any}

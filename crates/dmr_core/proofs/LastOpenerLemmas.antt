@@ -1,4 +1,4 @@
--- Asks, lines and calls are what the last opener or closer left.
+-- Asks, lines and calls are those that the last opener or closer left.
 use Rattle.std.proofs.Common.{◌≡◌, ◌<◌, ◌≤◌, ℕ, List, [], ◌∷◌, ◌++◌, Bool, true, false, refl, sym, ◌∙◌, ap, subst, arith, map, filter}
 use Rattle.std.specs.Prelude.{fold, Option, Some, None, unwrap_or, option_map, if◌then◌else◌, cond, not, ◌==◌, find}
 use Rattle.std.proofs.lemmas.Bool.Decides.{nat_tests}
@@ -36,7 +36,7 @@ use Rattle.dmr_core.proofs.ActsAreSafe.{source_counts, throughout}
 use Rattle.dmr_core.proofs.LastLemmas.{later_first}
 use Rattle.dmr_core.proofs.FactsFollowEntries.{facts_after-step}
 
--- each act leaves what it says, or what stood before it
+-- each act leaves its own value, or the one before it
 abbrev Leaves : {X : Type 0} → (Facts → X) → (Act → Option X) → Facts → Act → Type 0
 Leaves at by_act now act = at (facts_after_act now act) ≡ unwrap_or (by_act act) (at now)
 
@@ -47,7 +47,7 @@ acts_leave at by_act now (act ∷ acts) each =
     ∙ ap (λ x. unwrap_or (last_word by_act acts) x) each.0
     ∙ sym (later_first (last_word by_act acts) (by_act act) (at now))
 
--- so the last of all decides
+-- the last of all decides
 decided : {X : Type 0} (plan : Settings) (facts : Facts) (at : Facts → X) (by_event : Event → Option X) (by_act : Act → Option X) → ((now : Facts) (event : Event) → at (facts_after_event plan now event) ≡ unwrap_or (by_event event) (at now)) → (journal : List Entry) → Throughout plan facts (Leaves at by_act) journal → at (facts_after plan facts journal) ≡ stands by_event by_act (at facts) journal
 decided plan facts at by_event by_act notes [] each = refl
 decided plan facts at by_event by_act notes (entry ∷ earlier) each =
@@ -57,7 +57,7 @@ decided plan facts at by_event by_act notes (entry ∷ earlier) each =
     ∙ ap (λ x. unwrap_or (last_word by_act entry.acts.list) x) (notes now entry.event ∙ ap (λ x. unwrap_or (by_event entry.event) x) (decided plan facts at by_event by_act notes earlier each.1))
     ∙ sym (later_first (last_word by_act entry.acts.list) (by_event entry.event) (stands by_event by_act (at facts) earlier))
 
--- what every act leaves, it leaves in every journal
+-- a statement about every act holds in every journal
 each_of : (P : Facts → Act → Type 0) → ((now : Facts) (act : Act) → P now act) → (now : Facts) (acts : List Act) → EachAct P now acts
 each_of P always now [] = tt
 each_of P always now (act ∷ acts) = (always now act, each_of P always (facts_after_act now act) acts)
@@ -96,7 +96,7 @@ late_by_last plan facts journal =
     decided plan facts (λ (f : Facts). f.late) (closed_with plan.control) of_late (λ now event. late_noted plan now.late event) journal
     (everywhere plan facts (Leaves (λ (f : Facts). f.late) of_late) late_left journal)
 
--- what is found, after some were taken out
+-- the element that is found, after some were removed
 pub find_gone : {X : Type 0} (p g : X → Bool) → ((x : X) → p x ≡ true → g x ≡ true) → (xs : List X) → find p (filter (λ x. not (g x)) xs) ≡ None
 find_gone p g h [] = refl
 find_gone p g h (x ∷ xs) = either (g x) (p x) refl refl (find_gone p g h xs)
@@ -116,7 +116,7 @@ find_kept p g h (x ∷ xs) = either (g x) (p x) refl refl (find_kept p g h xs)
     either true false e d more = rw (e, d) more
     either true true e d more = let no : g x ≡ false = h x d in cc
 
--- after one was put behind
+-- after one was added at the end
 pub find_new : {X : Type 0} (p : X → Bool) (xs : List X) (x : X) → find p xs ≡ None → p x ≡ true → find p (xs ++ x ∷ []) ≡ Some x
 find_new p [] x h k = rw k refl
 find_new p (y ∷ ys) x h k = either (p y) refl h (find_new p ys x)
@@ -129,7 +129,7 @@ pub find_same : {X : Type 0} (p : X → Bool) (xs : List X) (x : X) → p x ≡ 
 find_same p [] x k = rw k refl
 find_same p (y ∷ ys) x k = ap (λ (rest : Option _). cond (p y) (Some y) rest) (find_same p ys x k)
 
--- after each was changed, but not in what is looked at
+-- after each was changed, but not in its tested part
 found_map : {X Y : Type 0} (p : X → Bool) (seen : X → Y) (f : X → X) → ((x : X) → p (f x) ≡ p x) → ((x : X) → seen (f x) ≡ seen x) → (xs : List X) → option_map seen (find p (map f xs)) ≡ option_map seen (find p xs)
 found_map p seen f same kept [] = refl
 found_map p seen f same kept (x ∷ xs) = rw (same x) (either (p x) (found_map p seen f same kept xs))
@@ -234,7 +234,7 @@ begun : (calls : List Standing) (call : Call) (slot : Slot) (b : Bool) → is_sl
 begun calls call slot true e none = subst (λ (x : Slot). call_on (calls ++ just_begun call ∷ []) x ≡ Some call) (same_slot call.slot slot e) (call_begun calls (just_begun call) none)
 begun calls call slot false e none = ap (λ (x : Option Standing). option_map (λ (s : Standing). s.call) x) (find_same (λ (s : Standing). is_slot s.call.slot slot) calls (just_begun call) e)
 
--- whether a slot is another, asked either way
+-- whether a slot is another, tested either way
 turned_slots : (a b : Slot) → is_slot a b ≡ is_slot b a
 turned_slots a b = grind (arith, nat_tests)
 

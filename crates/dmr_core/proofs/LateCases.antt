@@ -8,12 +8,12 @@ use Rattle.dmr_core.specs.declared.act.Act.TheVariants.{Fill}
 use Rattle.dmr_core.specs.Rules.{late_entry}
 use Rattle.dmr_core.proofs.Cases.{all_rules, idle, last, registers, slot, talks}
 
--- two talkgroup calls stand, and were granted; then the control carrier polls so often
+-- two talkgroup calls are active and were granted; then the control carrier polls `times` times
 abbrev pub polled : ℕ → List Event
 polled times =
     Up 0 ∷ Up 1 ∷ registers 1001 ∷ Poll 0 ∷ registers 1002 ∷ Poll 0 ∷ talks 91 1001 ∷ Poll 0 ∷ talks 92 1002 ∷ Poll 0 ∷ replicate times (Poll 0)
 
--- the third fill is no late entry; the fourth, eighth and twelfth name the calls in turn
+-- the third Fill is not a late entry; the fourth, eighth and twelfth name the calls in turn
 pub third_fill : last (polled 3) ≡ Fill (slot 0 0) (idle 1) ∷ []
 unfolding all_rules late_entry group_after
 third_fill = refl

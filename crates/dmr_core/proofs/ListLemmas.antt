@@ -1,4 +1,4 @@
--- Lists, after what is put behind, taken out and changed in place.
+-- Lists after elements were added at the end, removed, and changed in place.
 use Rattle.std.proofs.Common.{◌≡◌, ◌≤◌, ◌+◌, ℕ, suc, List, [], ◌∷◌, ◌++◌, Bool, true, false, refl, arith, map, filter, length, ◌⊎◌, inl, inr}
 use Rattle.std.specs.Prelude.{cond, find, Option, Some, ◌||◌}
 use Rattle.std.specs.List.{list_any}
@@ -24,7 +24,7 @@ pub total-map : {X : Type 0} (f : X → ℕ) (g : X → X) (same : (x : X) → f
 total-map f g same [] = refl
 total-map f g same (x ∷ xs) = rw (same x, total-map f g same xs) refl
 
--- what is found and taken out counts no more
+-- an element that was found and removed no longer counts
 taken : {X : Type 0} (f : X → ℕ) (x y : X) (b : Bool) (rest all : List X) (o : Option X) (c : Bool) → (b ≡ false) ⊎ (b ≡ true) → total f rest ≤ total f all → (o ≡ Some y → total f rest + f y ≤ total f all) → (x ≡ y → b ≡ false) → cond c (Some x) o ≡ Some y → total f (cond b (x ∷ rest) rest) + f y ≤ f x + total f all
 taken f x y b rest all o c either less more gone h = grind arith
 
@@ -33,7 +33,7 @@ total_found f p q [] y h k = cc
 total_found f p q (x ∷ xs) y h k =
     taken f x y (q x) (filter q xs) xs (find p xs) (p x) (either_bool (q x)) (total-filter f q xs) (λ found. total_found f p q xs y found k) (λ same. rw same k) h
 
--- what passes counts
+-- an element that passes counts
 some_first : {X : Type 0} (f : X → ℕ) (x y : X) (o : Option X) (c : Bool) (n : ℕ) → (o ≡ Some y → f y ≤ n) → cond c (Some x) o ≡ Some y → f y ≤ f x + n
 some_first f x y o true n more h = let same : x ≡ y = cc in rw (← same) (omega arith)
 some_first f x y o false n more h = omega (arith, more h)

@@ -1,4 +1,4 @@
--- What stands is in the order in which it was opened.
+-- Registrations, asks, lines and calls are in the order in which they were opened.
 use Rattle.std.proofs.Common.{◌≡◌, ◌<◌, ◌≤◌, ◌+◌, ℕ, suc, List, [], ◌∷◌, ◌++◌, Bool, true, false, refl, sym, ◌∙◌, ap, subst, arith, map, filter, length, append_assoc, get_or, ◌≢◌}
 use Rattle.std.specs.Prelude.{fold, find, Some, None, if◌then◌else◌, cond, not, ◌==◌, ◌||◌, ◌&&◌, flat_map}
 use Rattle.std.specs.List.{list_any}
@@ -36,7 +36,7 @@ use Rattle.dmr_core.proofs.ActsAreSafe.{source_counts, throughout}
 use Rattle.dmr_core.proofs.LastOpenerLemmas.{everywhere, no_line}
 use Rattle.dmr_core.proofs.FactsFollowEntries.{facts_after-step}
 
--- the test is of equality
+-- the test decides equality
 record Equals {X : Type 0} (same : X → X → Bool) : Type 0 where
   itself : (x : X) → same x x ≡ true
   equal : (x y : X) → same x y ≡ true → x ≡ y
@@ -84,7 +84,7 @@ any_mapped : {X Y : Type 0} (f : X → Y) (p : Y → Bool) (xs : List X) → lis
 any_mapped f p [] = refl
 any_mapped f p (x ∷ xs) = rw (any_mapped f p xs) refl
 
--- what stands among what was kept
+-- the elements among those that were kept
 any_kept : {X : Type 0} (same : X → X → Bool) → Equals same → (q : X → Bool) (x : X) (xs : List X) → list_any (same x) (filter q xs) ≡ (q x && list_any (same x) xs)
 any_kept same eq q x [] = none (q x)
   where
@@ -117,14 +117,14 @@ last_push same (x ∷ xs) k = either (list_any (same x) xs) (same x k) refl refl
     either false true e d more = rw (any-push (same x) xs k, e, d) more
     either false false e d more = rw (any-push (same x) xs k, e, d) (ap (λ ys. x ∷ ys) more)
 
--- some were taken out
+-- some were removed
 order_filter : {X : Type 0} (same : X → X → Bool) → Equals same → (all ks : List X) (q : X → Bool) → IsInOrder same all ks → IsInOrder same all (filter q ks)
 order_filter same eq all ks q h =
     ap (λ ys. filter q ys) h
     ∙ filter_twice (λ x. list_any (same x) ks) q (last_of_each same all)
     ∙ sym (filter_same (λ x. list_any (same x) (filter q ks)) (λ x. q x && list_any (same x) ks) (λ x. any_kept same eq q x ks) (last_of_each same all))
 
--- one was opened, and stands behind the others
+-- one was opened, and is at the end
 other_tests : (a b : Bool) → (((not a && b) || a) && not a) ≡ (not a && b)
 other_tests true b = refl
 other_tests false true = refl
@@ -153,7 +153,7 @@ order_push {X} same eq all ks k h =
     stands : list_any (same k) (filter (λ y. not (same y k)) ks ++ k ∷ []) ≡ true
     stands = rw (any-push (same k) (filter (λ y. not (same y k)) ks) k, eq.itself k) (or_true (list_any (same k) (filter (λ y. not (same y k)) ks)))
 
--- none stood
+-- there was none before
 order_new : {X : Type 0} (same : X → X → Bool) → Equals same → (all ks : List X) (k : X) → list_any (λ x. same x k) ks ≡ false → IsInOrder same all ks → IsInOrder same (all ++ k ∷ []) (ks ++ k ∷ [])
 order_new same eq all ks k none h = subst (λ (ys : List _). IsInOrder same (all ++ k ∷ []) (ys ++ k ∷ [])) (filter_none (λ x. same x k) ks none) (order_push same eq all ks k h)
 
@@ -169,7 +169,7 @@ none_left (x ∷ xs) = none_left xs
 order_none : {X : Type 0} (same : X → X → Bool) (all : List X) → IsInOrder same all []
 order_none same all = none_left (last_of_each same all)
 
--- each stands once
+-- each occurs once
 abbrev Single : {X : Type 0} → (X → X → Bool) → List X → Type 0
 Single same [] = Unit {0}
 Single same (x ∷ xs) = (list_any (same x) xs ≡ false) × Single same xs
@@ -181,7 +181,7 @@ last_single same (x ∷ xs) h = rw (h.0, last_single same xs h.1) refl
 order_single : {X : Type 0} (same : X → X → Bool) → Equals same → (xs : List X) → Single same xs → IsInOrder same xs xs
 order_single same eq xs h = sym (ap (λ ys. filter (λ x. list_any (same x) xs) ys) (last_single same xs h) ∙ filter_all (λ x. list_any (same x) xs) same eq.itself xs (λ x e. e))
 
--- an act puts what it opens behind the others, in place of what is the same
+-- an act adds the one that it opens at the end, in place of an equal one
 abbrev Orders : {X : Type 0} → (X → X → Bool) → (Facts → List X) → (Act → List X) → Facts → Act → Type 0
 Orders same keys by_act now act = (all : List _) → IsInOrder same all (keys now) → IsInOrder same (all ++ by_act act) (keys (facts_after_act now act))
 

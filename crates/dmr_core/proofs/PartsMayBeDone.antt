@@ -1,4 +1,4 @@
--- What the parts of rules need of the facts.
+-- The conditions of parts of rules.
 use Rattle.std.proofs.Common.{◌≡◌, ◌<◌, ◌≤◌, ◌+◌, ℕ, zero, suc, List, [], ◌∷◌, ◌++◌, Bool, true, false, refl, ap, subst, arith, map, filter, length, ◌⊎◌, inl, inr, set, get_or}
 use Rattle.std.specs.Prelude.{Some, cond, ◌&&◌, not, replicate, find, ◌==◌, ◌||◌}
 use Rattle.std.specs.List.{list_any}
@@ -32,7 +32,7 @@ use Rattle.dmr_core.proofs.GrantsAreOwn.{call_begun, call_stands}
 use Rattle.dmr_core.proofs.ActsKeepSound.{sound-done}
 use Rattle.dmr_core.proofs.FreeSlotHasRoom.{few_calls, AreOnSlots}
 
--- what is read where something was put is no longer than that
+-- a list that is read at a place that was written is no longer than the one written
 pub read_put : {X : Type 0} (xs : List (List X)) (i : ℕ) (v : List X) → length (get_or (set xs i v) i []) ≤ length v
 read_put [] i v = omega arith
 read_put (x ∷ xs) zero v = omega arith
@@ -46,7 +46,7 @@ copies_may (suc n) plan now slot pdu up small none names room = (
       (omega (arith, read_put now.outboxes (place slot) (box now.outboxes slot ++ pdu ∷ []), length-append (box now.outboxes slot) (pdu ∷ []))),
 )
 
--- no call stands on the control slot
+-- no call is active on the control slot
 pub none_on_control : (plan : Settings) (now : Facts) → IsSound plan now → stands_on now.calls (control_slot plan) ≡ false
 none_on_control plan now h = either (stands_on now.calls (control_slot plan)) refl
   where
@@ -87,7 +87,7 @@ pub begin_may : (plan : Settings) (now : Facts) (call : Call) → KnowsPlan plan
 begin_may plan now call p h up may room =
     (may, grant_may plan (facts_after_act now (Began call)) call false (sound-done plan now (Began call) p h may) up (call_begun now.calls (just_begun call) (free_is plan now call.slot may.free).none) room)
 
--- who isn't engaged
+-- a radio that is not engaged
 no_party : (r : ℕ) (group : Bool) (source target : ℕ) → is_party r group source target ≡ false → party r group source target ≡ 0
 no_party r group source target h = let both = or_false (source == r) (not group && (target == r)) h in rw (both.0, both.1) refl
 
@@ -160,7 +160,7 @@ individual_engage plan now asks source target h fewer apart registered also free
   listed = λ g. cc;
 }
 
--- one PDU that is no grant
+-- one PDU that is not a grant
 pub queue_may : (plan : Settings) (now : Facts) (pdu : Pdu) → is_grant pdu ≡ false → IsSound plan now → is_up now plan.control ≡ true → length (outbox now (control_slot plan)) < 64 → AllMayDo plan now (Queue (control_slot plan) pdu ∷ [])
 queue_may plan now pdu plain h up room = (record { up = up; small = omega arith; none = none_on_control plan now h; room = room; names = rw plain tt }, tt)
 

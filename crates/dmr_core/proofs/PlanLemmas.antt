@@ -1,4 +1,4 @@
--- What the proofs use of an accepted plan.
+-- The facts of an accepted plan that the proofs use.
 use Rattle.std.proofs.Common.{◌≡◌, ◌<◌, ◌≤◌, ℕ, true}
 use Rattle.dmr_plan.specs.declared.settings.Settings.{Settings}
 use Rattle.dmr_core.specs.Facts.{has_carrier}

@@ -14,7 +14,7 @@ use Rattle.dmr_core.proofs.ChoiceLemmas.{find_passes, or_false}
 use Rattle.dmr_core.proofs.SlotsStaySound.{true_false}
 use Rattle.dmr_core.proofs.ActsAreSafe.{find_any}
 
--- no two rows have one channel
+-- no two rows have the same channel
 abbrev pub HasOwnChannels : List CarrierRow → Type 0
 HasOwnChannels [] = Unit {0}
 HasOwnChannels (r ∷ rows) = (list_any (λ w. w.lpcn == r.lpcn) rows ≡ false) × HasOwnChannels rows
@@ -29,7 +29,7 @@ own_channels (r ∷ rows) h =
     let both = or_false (list_any (λ x. x == r.lpcn) (map (λ (w : CarrierRow). w.lpcn) rows)) (has_repeat (map (λ (w : CarrierRow). w.lpcn) rows)) h in
     (sym (any_lpcn rows r.lpcn) ∙ both.0, own_channels rows both.1)
 
--- the rows of two carriers of one channel are one row
+-- if two carriers have the same channel, their rows are the same
 pub found_row : (rows : List CarrierRow) (a : ℕ) → list_any (λ row. row.number == a) rows ≡ true → (row : CarrierRow) × (find (λ x. x.number == a) rows ≡ Some row)
 found_row [] a h = cc
 found_row (r ∷ rows) a h = first (r.number == a) h (found_row rows a)

@@ -14,7 +14,7 @@ one_or_none : (b : Bool) (act : Act) → length (cond b (act ∷ []) []) ≤ 1
 one_or_none true act = omega arith
 one_or_none false act = omega arith
 
--- one thing is sent in a slot at most
+-- at most one PDU is sent on a slot
 sent_once : (plan : Settings) (facts : Facts) (slot : Slot) (pdus : List Pdu) → length (acts_for_outbox plan facts slot pdus) ≤ 1
 sent_once plan facts slot [] = search (arith, one_or_none)
 sent_once plan facts slot (pdu ∷ pdus) = omega arith

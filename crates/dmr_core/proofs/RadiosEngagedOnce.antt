@@ -20,7 +20,7 @@ use Rattle.dmr_core.specs.Sound.{IsSound, engagements, engagements_in_ask, engag
 use Rattle.dmr_core.specs.May.{MayDo}
 use Rattle.dmr_core.proofs.ListLemmas.{total-append, total-filter, any-push}
 
--- what a new call or line adds
+-- the engagements that a new call or line adds
 pub with_call : (calls : List Standing) (asks : List Asking) (lines : List Line) (call : Call) (r : ℕ) → engagements (calls ++ just_begun call ∷ []) asks lines r ≡ engagements calls asks lines r + party r call.group call.source call.target
 with_call calls asks lines call r = omega (arith, total-append (engagements_in_call r) calls (just_begun call))
 
@@ -33,7 +33,7 @@ fewer_calls q calls asks lines r = omega (arith, total-filter (engagements_in_ca
 pub fewer_lines : (q : Line → Bool) (calls : List Standing) (asks : List Asking) (lines : List Line) (r : ℕ) → engagements calls asks (filter q lines) r ≤ engagements calls asks lines r
 fewer_lines q calls asks lines r = omega (arith, total-filter (engagements_in_line r) q lines)
 
--- an ask of the same source goes first
+-- the ask of the same source is removed first
 pub with_ask : (calls : List Standing) (asks : List Asking) (lines : List Line) (a : Ask) (r : ℕ) → engagements calls (asks ++ new_asking a ∷ []) lines r ≡ engagements calls asks lines r + party r false a.source a.target
 with_ask calls asks lines a r = omega (arith, total-append (engagements_in_ask r) asks (new_asking a))
 
@@ -49,7 +49,7 @@ once-done plan now (Ended slot) h may r = omega (arith, fewer_calls (λ s. not (
 once-done plan now (Unlined q) h may r = omega (arith, fewer_lines (λ l. not (l.source == q)) now.calls now.asks now.lines r, h.once r)
 once-done plan now act h may r = h.once r
 
--- who is registered stays so but for those who leave
+-- a registered radio remains so unless it leaves
 joined_too : (rs : List ℕ) (q r : ℕ) → list_any (λ k. k == r) rs ≡ true → list_any (λ k. k == r) (rs ++ q ∷ []) ≡ true
 joined_too rs q r h = rw (any-push (λ k. k == r) rs q, h) refl
 

@@ -1,4 +1,4 @@
--- Going round places, how many are passed before one's turn.
+-- Going round the places: how many are passed before the turn of a place.
 use Rattle.std.proofs.Common.{◌≡◌, ◌≢◌, ◌<◌, ◌≤◌, ◌+◌, ◌-◌, ◌⊎◌, inl, inr, ℕ, zero, suc, List, [], ◌∷◌, Bool, true, false, refl, sym, ◌∙◌, ap, arith, length, filter}
 use Rattle.std.specs.Prelude.{◌/◌, ◌%◌, cond, ◌&&◌, Some, find, option_map}
 use Rattle.std.specs.Option.{option_map_or}
@@ -23,16 +23,16 @@ slot_at-place slot small =
 place-slot_at : (k : ℕ) → place (slot_at k) ≡ k
 place-slot_at k = omega arith
 
--- one where the test passes
+-- 1 if the test passes, else 0
 abbrev pub one : Bool → ℕ
 one b = cond b 1 0
 
--- how many of so many places pass, from one on
+-- the number of places that pass, of `n` places from one on
 pub counted : (ℕ → Bool) → ℕ → ℕ → ℕ
 counted g from zero = 0
 counted g from (suc n) = one (g from) + counted g (from + 1) n
 
--- how many pass from one on and before another
+-- the number of places that pass, from one on and before another
 abbrev pub between : (ℕ → Bool) → ℕ → ℕ → ℕ
 between g from to = counted g from (to - from)
 
@@ -65,7 +65,7 @@ one_there g at h =
 pub reached : (g : ℕ → Bool) (from at : ℕ) → from ≤ at → g at ≡ true → 1 ≤ between g from (at + 1)
 reached g from at low h = omega (arith, parts g from at (at + 1) low (omega arith), one_there g at h)
 
--- within so many of those that pass, oneself included, it is the turn of a place
+-- the turn of a place comes within `d` places that pass, the place itself included
 abbrev pub IsWithin : (ℕ → Bool) → ℕ → ℕ → ℕ → Type 0
 IsWithin g from t d =
     ((from ≤ t) × (between g from (t + 1) ≤ d)) ⊎ ((t < from) × (between g from 32 + between g 0 (t + 1) ≤ d))
@@ -109,7 +109,7 @@ less a b low other = either (cases_lt a b)
     either (inl below) = below
     either (inr above) = absurd (other (omega (arith, low, above)))
 
--- when it is another's turn, one is nearer
+-- when it is another's turn, the place is nearer to its own
 pub nearer : (g : ℕ → Bool) (from t d at : ℕ) → t < 32 → g t ≡ true → at ≢ t → IsNext g from at → IsWithin g from t d → IsWithin g (at + 1) t (d - 1)
 nearer g from t d at small h other (inl first) (inl low) =
     let near : at ≤ t = not_before g from t at h low.0 first.before in
@@ -123,7 +123,7 @@ nearer g from t d at small h other (inr around) (inr high) =
     let before : at < t = less at t near other in
     inl (omega (arith, before), omega (arith, high.1, parts g 0 (at + 1) (t + 1) (omega arith) (omega (arith, before)), reached g 0 at (omega arith) around.1.passing))
 
--- no more places have a talkgroup call than such calls stand
+-- at most as many places have a talkgroup call as talkgroup calls are active
 none_passes : (g : ℕ → Bool) (from n : ℕ) → ((k : ℕ) → from ≤ k → g k ≡ false) → counted g from n ≡ 0
 unfolding counted
 none_passes g from zero none = refl

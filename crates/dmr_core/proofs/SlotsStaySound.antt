@@ -1,4 +1,4 @@
--- Slots and what waits on them, after each act.
+-- Slots and their outboxes, after each act.
 use Rattle.std.proofs.Common.{◌≡◌, ◌<◌, ◌≤◌, List, [], ◌∷◌, ◌++◌, Bool, true, false, refl, sym, ◌∙◌, subst, arith, length, ◌⊎◌, inl, inr, ◌≢◌, drop, length-set}
 use Rattle.std.specs.Prelude.{not, ◌==◌, ◌||◌, slice_set}
 use Rattle.std.specs.List.{list_any, list_all}
@@ -39,7 +39,7 @@ itself a = grind (arith, nat_tests)
 pub other_place : (a b : Slot) → a.slot < 2 → b.slot < 2 → is_slot a b ≡ false → place a ≢ place b
 other_place a b h k apart = λ same. absurd (grind (arith, nat_tests))
 
--- what holds of the outbox that was changed, and of the others, holds of each
+-- a statement about the outbox that was changed, and about the others, holds of each
 pub after_put : (P : Slot → List Pdu → Type 0) (boxes : List (List Pdu)) (slot : Slot) (v : List Pdu) (s : Slot) → slot.slot < 2 → s.slot < 2 → place slot < length boxes → P slot v → (is_slot s slot ≡ false → P s (box boxes s)) → P s (box (slice_set boxes (place slot) v) s)
 after_put P boxes slot v s h k within here there = either (is_slot s slot) refl
   where
@@ -61,7 +61,7 @@ stands_there calls call slot h = either (stands_on calls slot) (is_slot call.slo
     either false true e d h = inr (sym (same_slot call.slot slot d))
     either false false e d h = cc
 
--- what a free slot is
+-- the meaning of a free slot
 pub record IsFree (plan : Settings) (now : Facts) (slot : Slot) : Type 0 where
   pub known : has_carrier plan slot.carrier ≡ true
   pub up : is_up now slot.carrier ≡ true

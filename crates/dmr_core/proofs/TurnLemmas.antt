@@ -47,16 +47,16 @@ use Rattle.dmr_core.proofs.PlansAreKnown.{plan_known}
 use Rattle.dmr_core.proofs.ChannelLemmas.{channel_known}
 use Rattle.dmr_core.proofs.RoundLemmas.{IsWithin, at_first, between, few_places, nearer, slot_at-place, some_left}
 
--- what dmr_calls says of the next talkgroup call
+-- the law of dmr_calls about the next talkgroup call
 abbrev TakeTurns : Type 0
 TakeTurns = (calls : List Standing) (last : Option Slot) → MatchOption (group_after calls last) (HasNoGroupCall calls) (IsTurn calls (place_after last))
 
--- a fill is the late entry that is due
+-- a Fill is the late entry that is due
 pub fills_turn : (plan : Settings) (now : Facts) (act : Act) → IsSound plan now → MayDo plan now act → FillsInTurn plan now act
 fills_turn plan now (Fill slot pdu) h may = may.late
 fills_turn plan now act h may = tt
 
--- so it names a talkgroup call that stands
+-- a Fill that is a grant names an active talkgroup call
 pub names_standing : (plan : Settings) (now : Facts) (act : Act) → IsSound plan now → MayDo plan now act → NamesStanding plan now act
 names_standing plan now (Fill slot pdu) h may = λ k.
     let here : late_entry_of_fill pdu ≡ Some pdu = rw k refl in
@@ -89,7 +89,7 @@ fills_count plan facts (entry ∷ earlier) small =
     acts_count entry.acts.list (fills_by_event plan (facts_after plan facts earlier).fills entry.event) (if is_turn plan entry.event then 0 else fills_since plan facts.fills earlier)
     (event_counts plan (facts_after plan facts earlier).fills (fills_since plan facts.fills earlier) entry.event (fills_count plan facts earlier small))
 
--- while a call has not been named yet: how near its turn is, and how many Fills there were
+-- while a call has not been named: how near its turn is, and how many Fills there were
 record IsGoing (plan : Settings) (calls : List Standing) (t most n : ℕ) (now : Facts) : Type 0 where
   pub still : now.moving ≡ None
   pub same : (slot : Slot) → call_on now.calls slot ≡ call_on calls slot
@@ -97,11 +97,11 @@ record IsGoing (plan : Settings) (calls : List Standing) (t most n : ℕ) (now :
   pub near : IsWithin (is_group_at calls) (place_after (last_slot plan now)) t d
   pub few : 4 * d + n ≤ 4 * most + now.fills
 
--- calls that stand on the same slots pass the same tests
+-- calls on the same slots pass the same tests
 same_test : (calls other : List Standing) → ((slot : Slot) → call_on calls slot ≡ call_on other slot) → is_group_at calls ≡ is_group_at other
 same_test calls other same = λ i k. option_map_or (λ (call : Call). call.group) (same (slot_at k) i) false
 
--- a steady event leaves it as it is
+-- a steady event leaves that unchanged
 going_event : (plan : Settings) (calls : List Standing) (t most n : ℕ) (now : Facts) (event : Event) → is_steady_event event ≡ true → IsGoing plan calls t most n now → IsGoing plan calls t most n (facts_after_event plan now event)
 going_event plan calls t most n now (Up c) steady h = cc
 going_event plan calls t most n now (Lost c) steady h = cc
@@ -111,7 +111,7 @@ going_event plan calls t most n now (Active there) steady h = record { still = h
 going_event plan calls t most n now Tick steady h = record { still = h.still; same = λ slot. call_noted now.calls Tick slot ∙ h.same slot; d = h.d; near = h.near; few = h.few }
 going_event plan calls t most n now event steady h = record { still = h.still; same = h.same; d = h.d; near = h.near; few = h.few }
 
--- what a fill that is no grant leaves, and one that is
+-- the facts after a Fill that is not a grant, and after one that is
 no_entry : (late : Option NamedSlot) (slot : Slot) (pdu : Pdu) → late_entry_of_fill pdu ≡ None → late_by_act late (Fill slot pdu) ≡ late
 no_entry late slot (TvGrant channel number bit target source) h = cc
 no_entry late slot pdu h = refl
@@ -149,7 +149,7 @@ counted_on k few other = either (cases_lt k 3)
     either (inl low) = omega (arith, low)
     either (inr high) = absurd (other (omega (arith, high, few)))
 
--- a fill where no late entry is due
+-- a Fill when no late entry is due
 not_due : (plan : Settings) (calls : List Standing) (t most n : ℕ) (now : Facts) (slot : Slot) (pdu : Pdu) → is_late_due now.fills ≡ false → now.fills < 4 → late_entry_of_fill pdu ≡ late_entry plan now → IsGoing plan calls t most n now → IsGoing plan calls t most (n + 1) (facts_after_act now (Fill slot pdu))
 unfolding late_entry
 not_due plan calls t most n now slot pdu due few entry h =
@@ -205,7 +205,7 @@ due_turn plan calls most n call other now slot pdu p sound target due is turn h 
       few = omega (arith, h.few, three, some_left (is_group_at calls) (place_after (last_slot plan now)) (place call.slot) h.d (target_there calls call target) h.near);
     })
 
--- a fill where a late entry is due
+-- a Fill when a late entry is due
 due_step : TakeTurns → (plan : Settings) (calls : List Standing) (most n : ℕ) (call : Call) (now : Facts) (slot : Slot) (pdu : Pdu) → IsPlan plan → IsSound plan now → IsTarget calls call → is_late_due now.fills ≡ true → late_entry_of_fill pdu ≡ late_entry plan now → IsGoing plan calls (place call.slot) most n now → (pdu ≡ grant_pdu plan call true) ⊎ IsGoing plan calls (place call.slot) most (n + 1) (facts_after_act now (Fill slot pdu))
 unfolding late_entry
 due_step turns plan calls most n call now slot pdu p sound target due entry h = either (next_call plan now) refl (turns now.calls (last_slot plan now))
@@ -226,7 +226,7 @@ fill_step turns plan calls most n call now slot pdu p sound target entry h = eit
     either true e = due_step turns plan calls most n call now slot pdu p sound target e entry h
     either false e = inr (not_due plan calls (place call.slot) most n now slot pdu e sound.counted entry h)
 
--- so many Fills, said otherwise
+-- the same with an equal number of Fills
 again : (plan : Settings) (calls : List Standing) (t most n m : ℕ) (now : Facts) → n ≡ m → IsGoing plan calls t most n now → IsGoing plan calls t most m now
 again plan calls t most n m now same h = subst (λ (k : ℕ). IsGoing plan calls t most k now) same h
 
@@ -270,7 +270,7 @@ goes turns plan facts call (entry ∷ earlier) p sound legal target steady still
       ]
     ]
 
--- a talkgroup call stands on a slot of the site
+-- a talkgroup call is on a slot of the site
 target_is : (plan : Settings) (facts : Facts) (call : Call) → KnowsPlan plan → IsSound plan facts → call_on facts.calls call.slot ≡ Some call → call.group ≡ true → IsTarget facts.calls call
 target_is plan facts call p sound stands group =
     let payload : IsPayload plan facts.up call.slot = sound.payload call.slot (call_stands facts.calls call.slot call stands).0 in

@@ -1,4 +1,4 @@
--- What was queued on a slot is what was sent there, and then what waits.
+-- The PDUs queued on a slot are those sent there, followed by those that wait.
 use Rattle.std.proofs.Common.{◌≡◌, ◌<◌, ◌+◌, ◌*◌, ◌≢◌, ℕ, List, [], ◌∷◌, ◌++◌, Bool, true, false, refl, sym, ◌∙◌, ap, subst, append_assoc, arith, drop}
 use Rattle.std.specs.Prelude.{fold, flat_map, if◌then◌else◌, ◌==◌, Some, slice_get, slice_set}
 use Rattle.std.proofs.lemmas.List.{append-nil, get_or-set_same, get_or-set_other}
@@ -53,7 +53,7 @@ send_passes plan there now slot pdu true e near p h up small first =
     (append-nil (box now.outboxes slot) ∙ first_and_rest (box now.outboxes slot) pdu first ∙ ap (λ (xs : List Pdu). pdu ∷ xs) (sym left))
 send_passes plan there now slot pdu false e near p h up small first = other_box there now.outboxes slot (drop 1 (box now.outboxes slot)) near small e
 
--- what waits, and what an act queues, is what it sends, and then what waits after it
+-- the PDUs that wait, and the one that an act queues, are the one that it sends, followed by those that wait after it
 act_passes : (plan : Settings) (there : Slot) (now : Facts) (act : Act) → there.slot < 2 → KnowsPlan plan → IsSound plan now → MayDo plan now act → outbox now there ++ queued_by there act ≡ sent_by there act ++ outbox (facts_after_act now act) there
 act_passes plan there now (Queue slot pdu) near p h may = queue_passes plan there now slot pdu (is_slot slot there) refl near p h may
 act_passes plan there now (Send slot pdu) near p h may = send_passes plan there now slot pdu (is_slot slot there) refl near p h may.0 may.1 may.2
@@ -75,7 +75,7 @@ acts_pass plan there now (act ∷ acts) near p h may =
     ∙ ap (λ (xs : List Pdu). s ++ xs) (acts_pass plan there (facts_after_act now act) acts near p (sound-done plan now act p h may.0) may.1)
     ∙ sym (append_assoc s ss last)
 
--- what waits after an event
+-- the PDUs that wait after an event
 lower : (c d s : ℕ) → s < 2 → (c == d) ≡ false → 2 * d + s ≢ 2 * c
 lower c d s h e = λ same. other_number d c (flipped c d e) (omega arith)
 

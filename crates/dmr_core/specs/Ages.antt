@@ -1,4 +1,4 @@
--- How old what stands is, said of the ticks.
+-- Ages, quiet times and waiting times, defined by the ticks of a journal.
 use Rattle.std.specs.Prelude.{ℕ, ◌+◌, List, [], ◌∷◌, Bool, false, ◌==◌, ◌||◌, if◌then◌else◌, find}
 use Rattle.std.specs.List.{list_any}
 use Rattle.std.specs.Option.{option_map_or}
@@ -12,17 +12,17 @@ use Rattle.dmr_core.specs.declared.act.Act.{Act}
 use Rattle.dmr_core.specs.declared.act.Act.TheVariants.{Asked, Began}
 use Rattle.dmr_core.specs.declared.entry.Entry.{Entry}
 
--- a Tick is one
+-- 1 for a Tick, else 0
 abbrev pub ticks_in : Event → ℕ
 ticks_in Tick = 1
 ticks_in _ = 0
 
--- the ticks behind the last entry that opens; where none opens, all ticks and what was counted before
+-- the ticks after the last entry that `opens` accepts; if it accepts none, all ticks and the count before the journal
 abbrev pub ticks_since : (Entry → Bool) → ℕ → List Entry → ℕ
 ticks_since opens before [] = before
 ticks_since opens before (entry ∷ earlier) = if opens entry then 0 else ticks_in entry.event + ticks_since opens before earlier
 
--- the act is the beginning of a call on the slot
+-- the act begins a call on the slot
 abbrev pub is_begin : Slot → Act → Bool
 is_begin slot (Began call) = is_slot call.slot slot
 is_begin slot _ = false
@@ -37,26 +37,26 @@ abbrev pub is_active : Slot → Event → Bool
 is_active slot (Active there) = is_slot there slot
 is_active slot _ = false
 
--- in this entry a call began on the slot
+-- a call began on the slot in this entry
 abbrev pub begins_on : Slot → Entry → Bool
 begins_on slot entry = list_any (is_begin slot) entry.acts.list
 
--- in this entry there was activity on the slot, or a call began on it
+-- there was activity on the slot in this entry, or a call began on it
 abbrev pub stirs_on : Slot → Entry → Bool
 stirs_on slot entry = is_active slot entry.event || begins_on slot entry
 
--- in this entry the radio asked
+-- the radio's request was asked in this entry
 abbrev pub asked_in : ℕ → Entry → Bool
 asked_in radio entry = list_any (is_asked radio) entry.acts.list
 
--- the age of the call on a slot, 0 where none stands
+-- the age of the call on a slot; 0 if there is none
 abbrev pub age_on : List Standing → Slot → ℕ
 age_on calls slot = option_map_or (λ (s : Standing). s.age) (find (λ s. is_slot s.call.slot slot) calls) 0
 
--- how long the call on a slot has been quiet, 0 where none stands
+-- the quiet time of the call on a slot; 0 if there is none
 abbrev pub quiet_on : List Standing → Slot → ℕ
 quiet_on calls slot = option_map_or (λ (s : Standing). s.quiet) (find (λ s. is_slot s.call.slot slot) calls) 0
 
--- how long the ask of a radio has waited, 0 where it has none
+-- the waiting time of a radio's ask; 0 if it has none
 abbrev pub waited_of : List Asking → ℕ → ℕ
 waited_of asks radio = option_map_or (λ (a : Asking). a.waited) (find (λ a. a.ask.source == radio) asks) 0

@@ -1,4 +1,4 @@
--- What replies show of what stands.
+-- The lists in replies to an operator.
 use Rattle.std.specs.Prelude.{ℕ, List, [], ◌∷◌, ◌++◌, not, if◌then◌else◌, Option, Some, None, flat_map}
 use Rattle.dmr_pdu.specs.declared.slots.Slot.{Slot}
 use Rattle.dmr_plan.specs.declared.settings.Settings.{Settings}
@@ -21,7 +21,7 @@ at_most_one (Some call) = call ∷ []
 abbrev pub calls_on_carrier : List Standing → ℕ → List Call
 calls_on_carrier calls c = at_most_one (call_on calls (record { carrier = c; slot = 0 })) ++ at_most_one (call_on calls (record { carrier = c; slot = 1 }))
 
--- how a slot stands: the first that applies
+-- the state of a slot: the first that applies
 abbrev pub state_of : Settings → Facts → Slot → State
 state_of plan now slot =
     if is_control plan slot then state.Control else
@@ -29,10 +29,10 @@ state_of plan now slot =
     if stands_on now.calls slot then state.Call else
     if is_free plan now slot then state.Free else state.Waiting
 
--- a slot, and how it stands, if the plan has its carrier
+-- a slot with its state, if the plan has its carrier
 abbrev pub slot_states : Settings → Facts → Slot → List SlotState
 slot_states plan now slot = if has_carrier plan slot.carrier then record { slot = slot; state = state_of plan now slot } ∷ [] else []
 
--- so each slot, by carrier number, then slot
+-- each slot of the plan with its state, by carrier number, then slot
 unfoldable pub all_slot_states : Settings → Facts → List SlotState
 all_slot_states plan now = flat_map (slot_states plan now) all_slots

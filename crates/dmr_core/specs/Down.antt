@@ -1,4 +1,4 @@
--- Events of carriers that aren't up.
+-- Events of carriers that are not up.
 use Rattle.std.specs.Prelude.{◌≡◌, false}
 use Rattle.dmr_plan.specs.declared.settings.Settings.{Settings}
 use Rattle.dmr_core.specs.declared.event.Event.{Event}
@@ -6,7 +6,7 @@ use Rattle.dmr_core.specs.declared.event.Event.TheVariants.{Up, Lost, Heard, Noi
 use Rattle.dmr_core.specs.Facts.{Facts, has_carrier}
 use Rattle.dmr_core.specs.Words.{is_up}
 
--- the event is of a carrier that isn't up, or comes up though the plan doesn't have it
+-- the event is of a carrier that is not up, or it is the Up of a carrier that the plan does not have
 abbrev pub IsOfNoCarrier : Settings → Facts → Event → Type 0
 IsOfNoCarrier plan now (Up c) = has_carrier plan c ≡ false
 IsOfNoCarrier plan now (Lost c) = is_up now c ≡ false

@@ -1,4 +1,4 @@
--- What stands after a journal. Each question goes through the entries, the newest first, down to what stood before them.
+-- The facts after a journal. Each is a fold over the entries, the newest first, with the fact before them at its end.
 use Rattle.std.specs.Prelude.{ℕ, List, [], ◌∷◌, ◌++◌, Bool, true, false, if◌then◌else◌, ◌==◌, fold, map, slice_set, replicate, Option, Some, None}
 use Rattle.dmr_pdu.specs.declared.pdu.Pdu.{Pdu}
 use Rattle.dmr_pdu.specs.declared.pdu.Pdu.TheVariants.{TvGrant}
@@ -24,25 +24,25 @@ use Rattle.dmr_core.specs.declared.act.Act.TheVariants.{Queue, Send, Fill, Joine
 use Rattle.dmr_core.specs.declared.entry.Entry.{Entry}
 use Rattle.dmr_core.specs.declared.named.NamedSlot.{NamedSlot}
 
--- what stands on a site
+-- the facts of a site, field by field
 pub record Facts : Type 0 where
   pub up : List Bool  -- for each carrier number, 0 to 15, whether the carrier is up
-  pub registered : List ℕ  -- the registered radios in the order of joining
-  pub asks : List Asking  -- the asks, the one with the oldest C_AHOY in front
-  pub lines : List Line  -- the lines in the order of lining
-  pub calls : List Standing  -- the calls in the order of beginning
-  pub outboxes : List (List Pdu)  -- for each slot, at its place, what waits for it, the oldest first
+  pub registered : List ℕ  -- the registered radios, in the order of Joined
+  pub asks : List Asking  -- the asks, in the order of their last C_AHOY, oldest first
+  pub lines : List Line  -- the lines, in the order of Lined
+  pub calls : List Standing  -- the calls, in the order of Began
+  pub outboxes : List (List Pdu)  -- for each slot, at its place, the PDUs that wait for it, oldest first
   pub noise : List ℕ  -- the Noises on the control slot since the last Poll, between that and the one before, and so on
-  pub moving : Option ℕ  -- the channel on which radios are to seek the control channel, if it is to be moved
+  pub moving : Option ℕ  -- the channel to which the control channel is to be moved, if it is
   pub fills : ℕ  -- the Fills since the control carrier last came up, modulo 4
-  pub late : Option NamedSlot  -- the slot that the last late entry named since then, if there was one
+  pub late : Option NamedSlot  -- the slot that the last late entry since then named, if there was one
 
--- what is found after the entries: what was found before, as each event and each act opened or closed it
+-- a fact after the entries: the fact before them, as changed by each event and each act
 abbrev pub since : {X : Type 0} → (X → Event → X) → (X → Act → X) → X → List Entry → X
 since by_event by_act x [] = x
 since by_event by_act x (entry ∷ earlier) = fold by_act (by_event (since by_event by_act x earlier) entry.event) entry.acts.list
 
--- no event, or no act, changes it
+-- no event, or no act, changes the fact
 abbrev pub same_as_before : {X Y : Type 0} → X → Y → X
 same_as_before x y = x
 
@@ -50,44 +50,45 @@ same_as_before x y = x
 abbrev pub has_carrier : Settings → ℕ → Bool
 has_carrier plan c = has_number_in plan.carriers c
 
--- carriers up: opened by Up of a carrier of the plan, closed by Lost
+-- carriers up: Up opens if the plan has the carrier, Lost closes
 abbrev pub up_by_event : Settings → List Bool → Event → List Bool
 up_by_event plan up (Up c) = if has_carrier plan c then slice_set up c true else up
 up_by_event plan up (Lost c) = slice_set up c false
 up_by_event plan up _ = up
 
--- registrations: opened by Joined, closed by Left
+-- registrations: Joined opens, Left closes
 abbrev pub registered_by_act : List ℕ → Act → List ℕ
 registered_by_act radios (Joined r) = radios ++ r ∷ []
 registered_by_act radios (Left r) = without radios r
 registered_by_act radios _ = radios
 
--- asks: closed by Up and Lost of the control carrier; a Tick is counted
+-- asks by event: the control carrier's Up and Lost close all; a Tick adds one to each waiting time, up to 65,535
 abbrev pub asks_by_event : Settings → List Asking → Event → List Asking
 asks_by_event plan asks (Up c) = if c == plan.control then [] else asks
 asks_by_event plan asks (Lost c) = if c == plan.control then [] else asks
 asks_by_event plan asks Tick = map waited_more asks
 asks_by_event plan asks _ = asks
 
--- the same: opened by Asked, in place of the one of its source, closed by AskOver
+-- asks by act: Asked opens, in place of the ask that its source had; AskOver closes
 abbrev pub asks_by_act : List Asking → Act → List Asking
 asks_by_act asks (Asked ask) = others_than ask.source asks ++ new_asking ask ∷ []
 asks_by_act asks (AskOver r) = others_than r asks
 asks_by_act asks _ = asks
 
--- lines: closed by Up and Lost of the control carrier
+-- lines by event: the control carrier's Up and Lost close all
 abbrev pub lines_by_event : Settings → List Line → Event → List Line
 lines_by_event plan lines (Up c) = if c == plan.control then [] else lines
 lines_by_event plan lines (Lost c) = if c == plan.control then [] else lines
 lines_by_event plan lines _ = lines
 
--- the same: opened by Lined, closed by Unlined
+-- lines by act: Lined opens, Unlined closes
 abbrev pub lines_by_act : List Line → Act → List Line
 lines_by_act lines (Lined line) = lines ++ line ∷ []
 lines_by_act lines (Unlined r) = without_line r lines
 lines_by_act lines _ = lines
 
--- calls: closed by Up and Lost of their carrier; an Active marks the call on its slot, and a Tick is counted
+-- calls by event: their carrier's Up and Lost close; Active marks the call on its slot; a Tick adds one to ages and quiet times, up
+-- to 65,535
 abbrev pub calls_by_event : List Standing → Event → List Standing
 calls_by_event calls (Up c) = on_other_carriers c calls
 calls_by_event calls (Lost c) = on_other_carriers c calls
@@ -95,25 +96,25 @@ calls_by_event calls (Active slot) = map (with_activity slot) calls
 calls_by_event calls Tick = map one_tick_older calls
 calls_by_event calls _ = calls
 
--- the same: opened by Began, closed by Ended
+-- calls by act: Began opens, Ended closes
 abbrev pub calls_by_act : List Standing → Act → List Standing
 calls_by_act calls (Began call) = calls ++ just_begun call ∷ []
 calls_by_act calls (Ended slot) = on_other_slots slot calls
 calls_by_act calls _ = calls
 
--- outboxes: those of a carrier are emptied by its Up and its Lost
+-- outboxes by event: Up and Lost of a carrier empty its two outboxes
 abbrev pub outboxes_by_event : List (List Pdu) → Event → List (List Pdu)
 outboxes_by_event boxes (Up c) = outboxes_without_carrier boxes c
 outboxes_by_event boxes (Lost c) = outboxes_without_carrier boxes c
 outboxes_by_event boxes _ = boxes
 
--- the same: Queue puts behind the last, Send takes the first
+-- outboxes by act: Queue adds a PDU after the last, Send removes the first
 abbrev pub outboxes_by_act : List (List Pdu) → Act → List (List Pdu)
 outboxes_by_act boxes (Queue slot pdu) = outboxes_with_pdu boxes slot pdu
 outboxes_by_act boxes (Send slot pdu) = outboxes_after_send boxes slot
 outboxes_by_act boxes _ = boxes
 
--- noise numbers: 32 from Up of the control carrier on, none from its Lost on; its Polls part them
+-- noise numbers: 32 after the control carrier's Up, none after its Lost; each of its Polls begins a new number
 abbrev pub noise_by_event : Settings → List ℕ → Event → List ℕ
 noise_by_event plan noise (Up c) = if c == plan.control then noise_at_up else noise
 noise_by_event plan noise (Lost c) = if c == plan.control then [] else noise
@@ -121,30 +122,30 @@ noise_by_event plan noise (Noise slot) = if is_control plan slot then with_noise
 noise_by_event plan noise (Poll c) = if c == plan.control then with_poll noise else noise
 noise_by_event plan noise _ = noise
 
--- the move of the control channel: opened by an operator's `move`, closed by `stay`
+-- the move of the control channel: an operator's `move` opens it, `stay` closes it
 abbrev pub moving_by_event : Option ℕ → Event → Option ℕ
 moving_by_event moving (Say (Move lpcn)) = Some lpcn
 moving_by_event moving (Say Stay) = None
 moving_by_event moving _ = moving
 
--- Fills: none at Up and Lost of the control carrier
+-- Fills by event: 0 at Up and Lost of the control carrier
 abbrev pub fills_by_event : Settings → ℕ → Event → ℕ
 fills_by_event plan fills (Up c) = if c == plan.control then 0 else fills
 fills_by_event plan fills (Lost c) = if c == plan.control then 0 else fills
 fills_by_event plan fills _ = fills
 
--- the same: each Fill is counted, modulo 4
+-- Fills by act: each Fill adds one, modulo 4
 abbrev pub fills_by_act : ℕ → Act → ℕ
 fills_by_act fills (Fill slot pdu) = next_fill_count fills
 fills_by_act fills _ = fills
 
--- the slot of the last late entry: closed by Up and Lost of the control carrier
+-- the slot of the last late entry, by event: Up and Lost of the control carrier close it
 abbrev pub late_by_event : Settings → Option NamedSlot → Event → Option NamedSlot
 late_by_event plan late (Up c) = if c == plan.control then None else late
 late_by_event plan late (Lost c) = if c == plan.control then None else late
 late_by_event plan late _ = late
 
--- the same: opened by a Fill that is a grant to a talkgroup
+-- the slot of the last late entry, by act: a Fill that is a grant to a talkgroup opens it
 abbrev pub late_by_act : Option NamedSlot → Act → Option NamedSlot
 late_by_act late (Fill slot (TvGrant channel number bit target source)) = Some (record { channel = channel; slot = number })
 late_by_act late _ = late
@@ -194,6 +195,6 @@ facts_after_act facts act = record {
   late = late_by_act facts.late act;
 }
 
--- what stands at first: nothing
+-- the facts of a site on which nothing has happened
 abbrev pub no_facts : Facts
 no_facts = record { up = replicate carriers_of_site false; registered = []; asks = []; lines = []; calls = []; outboxes = replicate slots_of_site []; noise = []; moving = None; fills = 0; late = None }

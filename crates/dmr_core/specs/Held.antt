@@ -1,10 +1,10 @@
--- That the slots which are held are those of the calls, as the machine keeps them. Nothing above rests on this definition.
+-- The slots that are held are those of the calls: an invariant of the machine. No other definition uses it.
 use Rattle.std.specs.Prelude.{◌≡◌, List, Bool}
 use Rattle.dmr_pdu.specs.declared.slots.Slot.{Slot}
 use Rattle.dmr_calls.specs.declared.call.Standing.{Standing}
 use Rattle.dmr_pool.specs.Slots.{IsSlot, is_slot_held}
 use Rattle.dmr_core.specs.Words.{stands_on}
 
--- a slot is held exactly where a call stands on it
+-- a slot is held exactly if a call is active on it
 abbrev pub HoldsCalls : List Bool → List Standing → Type 0
 HoldsCalls held calls = (slot : Slot) → IsSlot slot → is_slot_held held slot ≡ stands_on calls slot

@@ -8,23 +8,23 @@ use Rattle.dmr_core.specs.Facts.{Facts, facts_after}
 use Rattle.dmr_core.specs.Rules.{acts_of}
 use Rattle.dmr_core.specs.Replies.{reply_to}
 
--- the answer to an event after the facts and the entries
+-- the answer to an event after the entries
 abbrev pub answer_after_entries : Settings → Facts → List Entry → Event → Acts
 answer_after_entries plan facts journal event = record {
   list = acts_of plan (facts_after plan facts journal) event;
   said = reply_to plan (facts_after plan facts journal) event;
 }
 
--- the entry of an event and its answer, where it doesn't matter who brought the event
+-- an entry of an event and its answer, for statements in which the sender does not matter
 abbrev pub entry_by_nobody : Event → Acts → Entry
 entry_by_nobody event acts = record { actor = 0; event = event; acts = acts }
 
--- each entry's acts are the answer of the entries before it
+-- each entry's acts and reply are the answer to its event after the entries before it
 abbrev pub IsLegal : Settings → Facts → List Entry → Type 0
 IsLegal plan facts [] = Unit {0}
 IsLegal plan facts (entry ∷ earlier) = (entry.acts ≡ answer_after_entries plan facts earlier entry.event) × IsLegal plan facts earlier
 
--- the one legal journal that has these events, the newest first
+-- the legal journal of these events, the newest first
 abbrev pub journal_of : Settings → Facts → List Event → List Entry
 journal_of plan facts [] = []
 journal_of plan facts (event ∷ earlier) =

@@ -1,4 +1,4 @@
--- What stands, by the last event or act that opened or closed it.
+-- A fact by the last event or act that opened or closed it.
 use Rattle.std.specs.Prelude.{ℕ, List, [], ◌∷◌, Bool, true, false, Option, Some, None, unwrap_or, if◌then◌else◌, ◌==◌, ◌&&◌}
 use Rattle.dmr_pdu.specs.declared.slots.Slot.{Slot}
 use Rattle.dmr_pdu.specs.declared.pdu.Pdu.TheVariants.{TvGrant}
@@ -16,17 +16,17 @@ use Rattle.dmr_core.specs.declared.entry.Entry.{Entry}
 use Rattle.dmr_core.specs.declared.named.NamedSlot.{NamedSlot}
 use Rattle.dmr_core.specs.Facts.{has_carrier}
 
--- the later word, if there is one
+-- the later value, if there is one, else the earlier
 abbrev pub or_earlier : {X : Type 0} → Option X → Option X → Option X
 or_earlier (Some x) earlier = Some x
 or_earlier None earlier = earlier
 
--- what the last act says that says anything
+-- the value that the last act gave, of those that gave one
 abbrev pub last_word : {X : Type 0} → (Act → Option X) → List Act → Option X
 last_word says [] = None
 last_word says (act ∷ acts) = or_earlier (last_word says acts) (says act)
 
--- what stands: the last opener or closer decides, and where there is none it is what stood before
+-- the value that the last opener or closer gave; if there is none, the value before the journal
 abbrev pub stands : {X : Type 0} → (Event → Option X) → (Act → Option X) → X → List Entry → X
 stands by_event by_act before [] = before
 stands by_event by_act before (entry ∷ earlier) =
@@ -40,48 +40,48 @@ no_event event = None
 abbrev pub no_act : {X : Type 0} → Act → Option X
 no_act act = None
 
--- a registration is opened by Joined and closed by Left
+-- Joined opens a registration, Left closes it
 abbrev pub of_registration : ℕ → Act → Option Bool
 of_registration r (Joined q) = if q == r then Some true else None
 of_registration r (Left q) = if q == r then Some false else None
 of_registration r _ = None
 
--- that a carrier is up is opened by Up, where the plan has the carrier, and closed by Lost
+-- Up makes a carrier of the plan up, Lost ends that
 abbrev pub of_carrier : Settings → ℕ → Event → Option Bool
 of_carrier plan c (Up d) = if (d == c) && has_carrier plan d then Some true else None
 of_carrier plan c (Lost d) = if d == c then Some false else None
 of_carrier plan c _ = None
 
--- the move of the control channel is opened by an operator's `move` and closed by `stay`
+-- an operator's `move` opens the move of the control channel, `stay` closes it
 abbrev pub of_move : Event → Option (Option ℕ)
 of_move (Say (Move lpcn)) = Some (Some lpcn)
 of_move (Say Stay) = Some None
 of_move _ = None
 
--- the slot of the last late entry is opened by a Fill that is a grant to a talkgroup
+-- a Fill that is a grant to a talkgroup opens the slot of the last late entry
 abbrev pub of_late : Act → Option (Option NamedSlot)
 of_late (Fill slot (TvGrant channel number bit target source)) = Some (Some (record { channel = channel; slot = number }))
 of_late _ = None
 
--- a carrier's Up and Lost close what stands by it
+-- a carrier's Up and Lost close the fact
 abbrev pub closed_with : {X : Type 0} → ℕ → Event → Option (Option X)
 closed_with c (Up d) = if d == c then Some None else None
 closed_with c (Lost d) = if d == c then Some None else None
 closed_with c _ = None
 
--- the ask of a radio is opened by Asked and closed by AskOver
+-- Asked opens the ask of a radio, AskOver closes it
 abbrev pub of_ask : ℕ → Act → Option (Option Ask)
 of_ask r (Asked ask) = if ask.source == r then Some (Some ask) else None
 of_ask r (AskOver q) = if q == r then Some None else None
 of_ask r _ = None
 
--- the line of a radio is opened by Lined and closed by Unlined
+-- Lined opens the line of a radio, Unlined closes it
 abbrev pub of_line : ℕ → Act → Option (Option Line)
 of_line r (Lined line) = if line.source == r then Some (Some line) else None
 of_line r (Unlined q) = if q == r then Some None else None
 of_line r _ = None
 
--- the call on a slot is opened by Began and closed by Ended
+-- Began opens the call on a slot, Ended closes it
 abbrev pub of_call : Slot → Act → Option (Option Call)
 of_call slot (Began call) = if is_slot call.slot slot then Some (Some call) else None
 of_call slot (Ended other) = if is_slot other slot then Some None else None

@@ -13,7 +13,7 @@ use Rattle.dmr_core.specs.Facts.{Facts}
 abbrev pub carrier_on : Settings → ℕ → Option ℕ
 carrier_on plan channel = option_map (λ (row : CarrierRow). row.number) (find (λ (row : CarrierRow). row.lpcn == channel) plan.carriers)
 
--- the slot that a grant names, where the plan has its carrier
+-- the slot that a grant names, if the plan has its carrier
 abbrev pub slot_named : Settings → NamedSlot → Option Slot
 slot_named plan named = option_map (λ (c : ℕ). record { carrier = c; slot = named.slot }) (carrier_on plan named.channel)
 
@@ -21,6 +21,7 @@ slot_named plan named = option_map (λ (c : ℕ). record { carrier = c; slot = n
 abbrev pub last_slot : Settings → Facts → Option Slot
 last_slot plan now = option_and_then (slot_named plan) now.late
 
--- the talkgroup call on the least slot above that one; where none stands above, or there is no such slot, on the least of all
+-- the talkgroup call on the least slot above that of the last late entry; if there is none above, or there was no late entry, on
+-- the least of all
 abbrev pub next_call : Settings → Facts → Option Call
 next_call plan now = group_after now.calls (last_slot plan now)

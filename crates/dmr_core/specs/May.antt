@@ -1,4 +1,4 @@
--- What an act needs of the facts before it.
+-- The conditions of each act: statements about the facts before it.
 use Rattle.std.specs.Prelude.{◌≡◌, ◌≤◌, ◌<◌, ℕ, ◌+◌, length, List, [], ◌∷◌, Bool, true, false, Option, Some, None, slice_get, if◌then◌else◌}
 use Rattle.dmr_pdu.specs.declared.slots.Slot.{Slot}
 use Rattle.dmr_pdu.specs.declared.pdu.Pdu.{Pdu}
@@ -20,29 +20,30 @@ use Rattle.dmr_core.specs.Words.{is_free, is_registered, is_up, outbox, stands_o
 use Rattle.dmr_core.specs.Rules.{grant_pdu, late_entry}
 use Rattle.dmr_core.specs.Sound.{engagements, is_grant, party}
 
--- the grant of a call that stands
+-- the PDU is the grant of an active call
 pub record IsGrantOf (plan : Settings) (calls : List Standing) (pdu : Pdu) : Type 0 where
   pub call : Call
   pub late : Bool
   pub stands : call_on calls call.slot ≡ Some call
   pub is : pdu ≡ grant_pdu plan call late
 
--- where it is a grant, on the control slot, of a call that stands
+-- the PDU, if it is a grant, is on the control slot and is that of an active call
 abbrev pub MayName : Settings → List Standing → Slot → Pdu → Bool → Type 0
 MayName plan calls slot pdu true = (slot ≡ control_slot plan) × IsGrantOf plan calls pdu
 MayName plan calls slot pdu false = Unit {0}
 
--- the late entry that a fill is, if it is one
+-- the late entry that a Fill is, if it is one
 abbrev pub late_entry_of_fill : Pdu → Option Pdu
 late_entry_of_fill pdu = if is_grant pdu then Some pdu else None
 
--- a PDU may fill the control slot: its carrier is up, a grant is that of a call that stands, and it is the late entry if there is one
+-- a PDU may be sent as a Fill: the control carrier is up, and the PDU is the late entry if there is one and else not a grant. A
+-- grant is on the control slot, and that of an active call.
 pub record MayFill (plan : Settings) (now : Facts) (slot : Slot) (pdu : Pdu) : Type 0 where
   pub up : is_up now plan.control ≡ true
   pub names : MayName plan now.calls slot pdu (is_grant pdu)
   pub late : late_entry_of_fill pdu ≡ late_entry plan now
 
--- a PDU may be queued: its carrier is up, no call stands on the slot, the outbox has a place, and a grant is that of a call that stands
+-- a PDU may be queued: its carrier is up, the slot has no call, the outbox has a place, and a grant is that of an active call
 pub record MayQueue (plan : Settings) (now : Facts) (slot : Slot) (pdu : Pdu) : Type 0 where
   pub up : is_up now slot.carrier ≡ true
   pub small : slot.slot < 2
@@ -50,20 +51,20 @@ pub record MayQueue (plan : Settings) (now : Facts) (slot : Slot) (pdu : Pdu) : 
   pub room : length (outbox now slot) < most_pdus_of_a_slot
   pub names : MayName plan now.calls slot pdu (is_grant pdu)
 
--- a new call or line: its parties are registered and not engaged, its group is listed
+-- a new call, line or ask may engage its parties: they are registered and not engaged, and its group is listed
 pub record MayEngage (plan : Settings) (now : Facts) (asks : List Asking) (group : Bool) (source target : ℕ) : Type 0 where
   pub parties : (r : ℕ) → 0 < party r group source target → is_registered now r ≡ true
   pub once : (r : ℕ) → engagements now.calls asks now.lines r + party r group source target ≤ 1
   pub listed : group ≡ true → lists_group plan target ≡ true
 
--- a call may begin: its slot is free, fewer than 31 stand, and its parties may be engaged
+-- a call may begin: its slot is free, fewer than 31 calls are active, and its parties may be engaged
 pub record MayBegin (plan : Settings) (now : Facts) (call : Call) : Type 0 where
   pub free : is_free plan now call.slot ≡ true
   pub small : call.slot.slot < 2
   pub few : length now.calls < most_calls
   pub engage : MayEngage plan now now.asks call.group call.source call.target
 
--- what each act needs
+-- the condition of each act
 abbrev pub MayDo : Settings → Facts → Act → Type 0
 MayDo plan now (Queue slot pdu) = MayQueue plan now slot pdu
 MayDo plan now (Send slot pdu) = (is_up now slot.carrier ≡ true) × (slot.slot < 2) × (slice_get (outbox now slot) 0 ≡ Some pdu)

@@ -1,4 +1,4 @@
--- What answers an event.
+-- The answer to each event.
 use Rattle.std.specs.Prelude.{ℕ, ◌+◌, ◌-◌, ◌/◌, ◌%◌, ◌^◌, List, [], ◌∷◌, ◌++◌, Bool, true, false, not, if◌then◌else◌, ◌==◌, ◌&&◌, ◌||◌, nat_lt, nat_le, length, filter, replicate, Option, Some, None, is_some, option_map}
 use Rattle.std.specs.Option.{option_map_or}
 use Rattle.dmr_pdu.specs.declared.slots.Slot.{Slot}
@@ -37,7 +37,7 @@ use Rattle.dmr_core.specs.Late.{next_call}
 use Rattle.dmr_core.specs.Displays.{all_slot_states, calls_on_carrier}
 use Rattle.dmr_core.specs.Words.{is_up, outbox, lpcn_of, lowest_free, slot_for_new, has_room, is_registered, is_engaged}
 
--- C_ACKD to the source, for the reason, with the target besides
+-- C_ACKD to the source, with this reason, that names the target
 abbrev pub ack : Settings → ℕ → ℕ → ℕ → List Act
 ack plan source target reason = Queue (control_slot plan) (Ackd 0 reason false source target) ∷ []
 
@@ -48,32 +48,32 @@ grant_pdu plan call late =
     then TvGrant (lpcn_of plan call.slot.carrier) call.slot.slot late call.target call.source
     else PvGrant (lpcn_of plan call.slot.carrier) call.slot.slot call.target call.source
 
--- as many copies of it as the plan says
+-- the grant in as many copies as the plan's `grant_copies`
 unfoldable pub grant : Settings → Call → Bool → List Act
 grant plan call late = replicate plan.grant_copies (Queue (control_slot plan) (grant_pdu plan call late))
 
--- a call ends, and its slot is told so by P_CLEAR, as often as the plan says
+-- a call ends, and P_CLEAR is queued on its slot in as many copies as the plan's `clear_copies`
 unfoldable pub clear : Settings → Call → List Act
 clear plan call =
     Ended call.slot ∷ replicate plan.clear_copies (Queue call.slot (Clear (lpcn_of plan plan.control) call.group call.target plan.tsi))
 
--- the call that a line becomes on a slot
+-- the call of a line on a slot
 abbrev pub call_of_line : Line → Slot → Call
 call_of_line line slot = record { slot = slot; source = line.source; target = line.target; group = line.group }
 
--- a call begins, and is granted
+-- a call begins, and its grant is queued
 abbrev pub begin : Settings → Call → List Act
 begin plan call = Began call ∷ grant plan call false
 
--- the option bit k of seven, 0 the last
+-- option bit k of seven, bit 0 the last
 abbrev pub option_bit : ℕ → ℕ → Bool
 option_bit options k = nat_lt k 7 && (((options / 2 ^ k) % 2) == 1)
 
--- a registration request leaves where the plan names an option bit and it is 0
+-- a registration request leaves if the plan names an option bit and that bit is 0
 unfoldable pub is_leaving : Settings → ℕ → Bool
 is_leaving plan options = option_map_or (λ k. not (option_bit options k)) plan.leave_bit false
 
--- what a radio is engaged by is over: as a source, or as the target of what is individual
+-- the call, ask or line that engages a radio ends: as its source, or as the target of an individual one
 unfoldable pub close : Settings → Facts → ℕ → List Act
 close plan now r =
     option_map_or (λ (call : Call). clear plan call) (call_of now.calls r)
@@ -83,11 +83,11 @@ close plan now r =
     (option_map_or (λ (line : Line). Unlined line.source ∷ ack plan line.source line.target noreg_ms_away) (line_to now.lines r)
     []))))
 
--- a radio that leaves is registered no more, if it was, and is told so
+-- the acts for a radio that leaves: its registration ends, if there is one, and it gets an acknowledgement
 unfoldable pub acts_for_leaving : Settings → Facts → Request → List Act
 acts_for_leaving plan now q = close plan now q.source ++ (if is_registered now q.source then Left q.source ∷ [] else []) ++ ack plan q.source q.target message_accepted
 
--- a radio leaves, or is registered if it is listed and there is a place
+-- the acts for a registration request: the radio leaves, or is registered if it is listed and there is a place
 unfoldable pub acts_for_registration : Settings → Facts → Request → List Act
 acts_for_registration plan now q =
     if is_leaving plan q.options then acts_for_leaving plan now q else
@@ -96,13 +96,13 @@ acts_for_registration plan now q =
     if nat_le most_radios (length now.registered) then ack plan q.source q.target reg_refused else
     (Joined q.source ∷ ack plan q.source q.target reg_accepted)
 
--- a call where a slot is free and no line stands, else a line, else neither
+-- begins the call if a slot is free and there is no line; otherwise adds the line, or refuses it if there are 32
 unfoldable pub acts_for_new_call : Settings → Facts → Line → List Act
 acts_for_new_call plan now line =
     option_map_or (λ (slot : Slot). begin plan (call_of_line line slot)) (slot_for_new plan now)
     (if nat_lt (length now.lines) most_lines then Lined line ∷ ack plan line.source line.target queued_for_resource else ack plan line.source line.target sysbusy_refused)
 
--- a talkgroup request
+-- the acts for a talkgroup request, by the first row that applies
 unfoldable pub acts_for_talkgroup_request : Settings → Facts → Request → List Act
 acts_for_talkgroup_request plan now q =
     if not (lists_group plan q.target) then ack plan q.source q.target group_not_allowed else
@@ -117,7 +117,7 @@ acts_for_talkgroup_request plan now q =
 abbrev pub ahoy : Settings → Ask → List Act
 ahoy plan ask = Queue (control_slot plan) (Ahoy ask.options false individual_voice ask.target ask.source) ∷ []
 
--- an individual request
+-- the acts for an individual request, by the first row that applies
 unfoldable pub acts_for_individual_request : Settings → Facts → Request → List Act
 acts_for_individual_request plan now q =
     if (q.target == q.source) || not (lists_radio plan q.target) then ack plan q.source q.target perm_user_refused else
@@ -132,20 +132,20 @@ acts_for_individual_request plan now q =
     ++ ahoy plan (record { source = q.source; target = q.target; options = q.options; attempt = 1 })
     else ack plan q.source q.target sysbusy_refused)
 
--- the called radio's answer
+-- the acts for the acknowledgement of a called radio
 unfoldable pub acts_for_called_radio : Settings → Facts → ℕ → ℕ → List Act
 acts_for_called_radio plan now reason called =
     option_map_or (λ (ask : Ask). AskOver ask.source ∷ (if reason == ms_accepted then acts_for_new_call plan now (record { source = ask.source; target = ask.target; group = false }) else ack plan ask.source ask.target called_party_busy))
     (ask_to now.asks called) []
 
--- a request is called off
+-- the acts for a request that cancels another
 unfoldable pub acts_for_cancel : Settings → Facts → Request → List Act
 acts_for_cancel plan now q =
     option_map_or (λ (ask : Ask). AskOver ask.source ∷ ack plan q.source q.target message_accepted) (ask_of now.asks q.source)
     (option_map_or (λ (line : Line). Unlined line.source ∷ ack plan q.source q.target message_accepted) (line_of now.lines q.source)
     (ack plan q.source q.target call_cancel_refused))
 
--- a request on the control slot, with room
+-- the acts for a request on the control slot, with room
 unfoldable pub acts_for_request : Settings → Facts → Request → ℕ → ℕ → List Act
 acts_for_request plan now q flags kind =
     if not (flags == 0) then ack plan q.source q.target not_supported else
@@ -155,19 +155,19 @@ acts_for_request plan now q flags kind =
     if kind == cancel_kind then acts_for_cancel plan now q else
     if kind == talkgroup_voice then acts_for_talkgroup_request plan now q else acts_for_individual_request plan now q
 
--- a PDU on the control slot, with room: only requests and answers are answered
+-- the acts for a PDU on the control slot, with room: only requests and acknowledgements have any
 unfoldable pub acts_for_pdu : Settings → Facts → Pdu → List Act
 acts_for_pdu plan now (Random options flags kind target source) = acts_for_request plan now (record { options = options; source = source; target = target }) flags kind
 acts_for_pdu plan now (Acku info reason spare target additional) = acts_for_called_radio plan now reason additional
 acts_for_pdu plan now _ = []
 
--- a slot for the first line
+-- the first line becomes a call, if a slot is free
 unfoldable pub acts_for_first_line : Settings → Facts → List Act
 acts_for_first_line plan now =
     option_map_or (λ (line : Line). option_map_or (λ (slot : Slot). Unlined line.source ∷ begin plan (call_of_line line slot)) (lowest_free plan now) [])
     (first_line now.lines) []
 
--- the ask with the oldest C_AHOY, once more or given up
+-- the ask whose last C_AHOY is oldest, if it is due: repeated, or removed after the plan's last try
 unfoldable pub acts_for_due_ask : Settings → Facts → List Act
 acts_for_due_ask plan now =
     option_map_or (λ (ask : Ask).
@@ -176,50 +176,52 @@ acts_for_due_ask plan now =
     else AskOver ask.source ∷ ack plan ask.source ask.target noreg_ms_away)
     (due_ask plan.ahoy_wait now.asks) []
 
--- the call on the slot of the first call that is over is cleared
+-- the first call that is over is cleared
 unfoldable pub acts_for_due_call : Settings → List Standing → List Act
 acts_for_due_call plan calls = option_map_or (λ (slot : Slot). option_map_or (λ (call : Call). clear plan call) (call_on calls slot) []) (due_call plan.hang plan.maximum calls) []
 
--- a tick, which was counted
+-- the acts for a Tick, which has been counted
 unfoldable pub acts_for_tick : Settings → Facts → List Act
 acts_for_tick plan now = acts_for_due_call plan now.calls ++ (if has_room plan now then acts_for_due_ask plan now ++ acts_for_first_line plan now else [])
 
--- the late entry of the next Fill, if it has one: where it is due and nothing is moved, the grant of the next talkgroup call
+-- the late entry of the next Fill: the grant of the next talkgroup call. There is one if it is due, the control channel is not to
+-- be moved, and a talkgroup call is active.
 unfoldable pub late_entry : Settings → Facts → Option Pdu
 late_entry plan now =
     if is_late_due now.fills && not (is_some now.moving) then option_map (λ (call : Call). grant_pdu plan call true) (next_call plan now) else None
 
--- the first PDU that waits for a slot, or what fills the control slot
+-- the first PDU that waits for a slot is sent; if none waits and the slot is the control slot, it is filled
 abbrev pub acts_for_outbox : Settings → Facts → Slot → List Pdu → List Act
 acts_for_outbox plan now slot [] = if is_control plan slot then Fill slot (fill_of plan now.moving now.noise now.fills (late_entry plan now)) ∷ [] else []
 acts_for_outbox plan now slot (pdu ∷ pdus) = Send slot pdu ∷ []
 
--- what a slot of a carrier is sent
+-- the acts for a slot of a carrier that polls
 unfoldable pub acts_for_slot : Settings → Facts → Slot → List Act
 acts_for_slot plan now slot = acts_for_outbox plan now slot (outbox now slot)
 
--- a command that changes nothing has this reply alone
+-- the answer to a command that has no acts
 abbrev pub reply_alone : Reply → Acts
 reply_alone reply = record { list = []; said = Some reply }
 
--- a command is done by these acts, and the reply says so
+-- the answer to a command that is done by these acts
 abbrev pub acts_and_done : List Act → Acts
 acts_and_done acts = record { list = acts; said = Some reply.Done }
 
--- a radio is dropped: where it is registered, and there is room for what that brings about, what it is engaged by is over and it is registered no more
+-- the answer to `drop`: if the radio is registered and there is room, the call, ask or line that engages it ends, then its
+-- registration
 abbrev pub drop_radio : Settings → Facts → ℕ → Acts
 drop_radio plan now r =
     if not (is_registered now r) then reply_alone reply.NotRegistered else
     if not (has_room plan now) then reply_alone reply.Busy else
     acts_and_done (close plan now r ++ Left r ∷ [])
 
--- the call on a slot is ended
+-- the answer to `end`: the call on a slot ends, if the plan has the carrier and a call is active there
 abbrev pub end_call : Settings → Facts → Slot → Acts
 end_call plan now slot =
     if not (has_carrier plan slot.carrier) then reply_alone reply.NoCarrier else
     option_map_or (λ (call : Call). acts_and_done (clear plan call)) (call_on now.calls slot) (reply_alone reply.NoCall)
 
--- an operator's command: its acts and its reply
+-- the answer to an operator's command: acts and reply
 unfoldable pub answer_to_command : Settings → Facts → Command → Acts
 answer_to_command plan now command.Status =
     reply_alone (reply.Status (length (filter (λ up. up) now.up)) (length now.registered) (length now.asks) (length now.lines) (length now.calls) now.moving)
@@ -232,7 +234,7 @@ answer_to_command plan now (command.End c s) = end_call plan now (record { carri
 answer_to_command plan now (command.Move lpcn) = acts_and_done []
 answer_to_command plan now command.Stay = acts_and_done []
 
--- the acts that answer the event, from what stands when it comes; a tick is counted first
+-- the acts that answer an event, from the facts before it; a Tick is counted first
 abbrev pub acts_of : Settings → Facts → Event → List Act
 acts_of plan now (Heard slot pdu) =
     if is_up now slot.carrier && (is_control plan slot && has_room plan now) then acts_for_pdu plan now pdu else []

@@ -13,26 +13,26 @@ use Rattle.dmr_core.specs.declared.named.NamedSlot.{NamedSlot}
 use Rattle.dmr_core.specs.State.{SiteState}
 use Rattle.dmr_core.specs.Words.{standings}
 
--- whether two numbers that may be missing are the same
+-- two numbers, each of which may be missing, are the same
 abbrev pub is_same_option : Option ℕ → Option ℕ → Bool
 is_same_option None None = true
 is_same_option (Some a) (Some b) = nat_eq a b
 is_same_option a b = false
 
--- whether two slots that may be missing are named alike
+-- two named slots, each of which may be missing, are the same
 abbrev pub is_same_named : Option NamedSlot → Option NamedSlot → Bool
 is_same_named None None = true
 is_same_named (Some a) (Some b) = nat_eq a.channel b.channel && nat_eq a.slot b.slot
 is_same_named a b = false
 
--- whether the plans say the same and the same stands
+-- two sites have the same plan and the same facts
 abbrev pub are_same : SiteState → SiteState → Bool
 are_same a b =
     are_same_plans a.plan b.plan && pointwise beq a.facts.up b.facts.up && pointwise nat_eq a.facts.registered b.facts.registered
     && are_same_standings (standings a.facts) (standings b.facts) && pointwise are_same_pdus a.facts.outboxes b.facts.outboxes && (pointwise nat_eq a.facts.noise b.facts.noise && nat_eq a.facts.fills b.facts.fills)
     && is_same_option a.facts.moving b.facts.moving && is_same_named a.facts.late b.facts.late
 
--- the number of one that is there
+-- the number, 0 if it is missing
 abbrev number_if_there : Option ℕ → ℕ
 number_if_there None = 0
 number_if_there (Some a) = a
@@ -51,7 +51,7 @@ is_same_named-Decides (Some a) (Some b) = search rules
 is_same_named-Decides None (Some b) = (λ h. cc, λ e. cc)
 is_same_named-Decides (Some a) None = (λ h. cc, λ e. cc)
 
--- a site, field by field
+-- two sites are the same if their parts are
 same_parts : (a b : SiteState) → a.plan ≡ b.plan → a.facts.up ≡ b.facts.up → a.facts.registered ≡ b.facts.registered → standings a.facts ≡ standings b.facts → a.facts.outboxes ≡ b.facts.outboxes → a.facts.noise ≡ b.facts.noise → a.facts.fills ≡ b.facts.fills → a.facts.moving ≡ b.facts.moving → a.facts.late ≡ b.facts.late → a ≡ b
 same_parts a b plan up registered stands outboxes noise fills moving late = λ i. record {
   plan = plan i;
@@ -75,6 +75,6 @@ are_same-Decides a b =
       λ e. d.1 (((((((ap (λ (s : SiteState). s.plan) e, ap (λ (s : SiteState). s.facts.up) e), ap (λ (s : SiteState). s.facts.registered) e), ap (λ (s : SiteState). standings s.facts) e), ap (λ (s : SiteState). s.facts.outboxes) e), (ap (λ (s : SiteState). s.facts.noise) e, ap (λ (s : SiteState). s.facts.fills) e)), ap (λ (s : SiteState). s.facts.moving) e), ap (λ (s : SiteState). s.facts.late) e),
     )
 
--- so it is an equivalence
+-- the test is an equivalence
 pub are_same-equivalence : IsEquivalence are_same
 are_same-equivalence = decided are_same are_same-Decides

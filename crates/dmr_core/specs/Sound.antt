@@ -1,4 +1,4 @@
--- What stands on a site fits together.
+-- The facts of a site fit together.
 use Rattle.std.specs.Prelude.{◌≡◌, ◌≤◌, ◌<◌, ℕ, ◌+◌, length, List, [], ◌∷◌, Bool, true, false, not, cond, ◌==◌, ◌&&◌, ◌||◌, Some, None, slice_index_or}
 use Rattle.std.specs.List.{list_any, list_all, All}
 use Rattle.dmr_pdu.specs.declared.slots.Slot.{Slot}
@@ -22,45 +22,47 @@ use Rattle.dmr_pool.specs.Free.{control_slot, is_control}
 use Rattle.dmr_core.specs.Facts.{Facts, has_carrier}
 use Rattle.dmr_core.specs.Words.{is_up, outbox, lpcn_of, is_registered, stands_on}
 
--- no two calls stand on one slot
+-- no two calls are on one slot
 abbrev pub AreOnDistinctSlots : List Standing → Type 0
 AreOnDistinctSlots [] = Unit {0}
 AreOnDistinctSlots (s ∷ calls) = (stands_on calls s.call.slot ≡ false) × AreOnDistinctSlots calls
 
--- how often a thing is counted in a list
+-- the sum of f over a list
 abbrev pub total : {X : Type 0} → (X → ℕ) → List X → ℕ
 total f [] = 0
 total f (x ∷ xs) = f x + total f xs
 
--- how often a radio is a party: as the source, and as the target of what is individual
+-- how many parties of a thing the radio is: its source, and its target if it is individual
 abbrev pub party : ℕ → Bool → ℕ → ℕ → ℕ
 party r group source target = cond (source == r) 1 0 + cond (not group && (target == r)) 1 0
 
--- the same of a call, a line, an ask
+-- how often a radio is a party of a call
 abbrev pub engagements_in_call : ℕ → Standing → ℕ
 engagements_in_call r s = party r s.call.group s.call.source s.call.target
 
+-- how often a radio is a party of a line
 abbrev pub engagements_in_line : ℕ → Line → ℕ
 engagements_in_line r l = party r l.group l.source l.target
 
+-- how often a radio is a party of an ask
 abbrev pub engagements_in_ask : ℕ → Asking → ℕ
 engagements_in_ask r a = party r false a.ask.source a.ask.target
 
--- how often a radio is engaged
+-- how often a radio is engaged by calls, asks and lines
 abbrev pub engagements : List Standing → List Asking → List Line → ℕ → ℕ
 engagements calls asks lines r = total (engagements_in_call r) calls + total (engagements_in_ask r) asks + total (engagements_in_line r) lines
 
--- a talkgroup call of the group stands
+-- a call to the talkgroup is active
 abbrev pub has_group_call : List Standing → ℕ → Bool
 has_group_call calls group = list_any (λ s. s.call.group && (s.call.target == group)) calls
 
--- PV_GRANT or TV_GRANT
+-- the PDU is a grant: PV_GRANT or TV_GRANT
 abbrev pub is_grant : Pdu → Bool
 is_grant (PvGrant l s target source) = true
 is_grant (TvGrant l s late target source) = true
 is_grant _ = false
 
--- a grant of this call, if it is a grant that names the call's slot
+-- if the PDU is a grant that names the call's slot, it is a grant of this call
 abbrev pub is_own : Settings → Call → Pdu → Bool
 is_own plan call (PvGrant l s target source) =
     not ((l == lpcn_of plan call.slot.carrier) && (s == call.slot.slot)) || (not call.group && ((source == call.source) && (target == call.target)))
@@ -68,20 +70,20 @@ is_own plan call (TvGrant l s late target source) =
     not ((l == lpcn_of plan call.slot.carrier) && (s == call.slot.slot)) || (call.group && ((source == call.source) && (target == call.target)))
 is_own plan call _ = true
 
--- a slot of a carrier that is up, but not the control slot
+-- the slot belongs to a carrier that is up, and is not the control slot
 pub record IsPayload (plan : Settings) (up : List Bool) (slot : Slot) : Type 0 where
   pub known : has_carrier plan slot.carrier ≡ true
   pub is_up : slice_index_or up slot.carrier false ≡ true
   pub small : slot.slot < 2
   pub apart : is_control plan slot ≡ false
 
--- what the facts of a site always keep
+-- the facts are sound: they fit together, as each field says
 pub record IsSound (plan : Settings) (facts : Facts) : Type 0 where
   -- there are 16 carrier numbers and 32 slots, and only carriers of the plan are up
   pub carriers : length facts.up ≡ carriers_of_site
   pub slots : length facts.outboxes ≡ slots_of_site
   pub known : (c : ℕ) → is_up facts c ≡ true → has_carrier plan c ≡ true
-  -- calls stand on distinct payload slots whose outboxes are empty; asks and lines only while the control carrier is up
+  -- calls are on distinct payload slots whose outboxes are empty; asks and lines exist only while the control carrier is up
   pub apart : AreOnDistinctSlots facts.calls
   pub payload : (slot : Slot) → stands_on facts.calls slot ≡ true → IsPayload plan facts.up slot
   pub quiet : (slot : Slot) → stands_on facts.calls slot ≡ true → outbox facts slot ≡ []
@@ -93,24 +95,24 @@ pub record IsSound (plan : Settings) (facts : Facts) : Type 0 where
   pub called : (g : ℕ) → has_group_call facts.calls g ≡ true → lists_group plan g ≡ true
   pub lined : (g : ℕ) → has_group_line facts.lines g ≡ true → lists_group plan g ≡ true
   pub once : (r : ℕ) → engagements facts.calls facts.asks facts.lines r ≤ 1
-  -- nothing waits for carriers that aren't up
+  -- no PDU waits for a carrier that is not up
   pub down : (slot : Slot) → slot.slot < 2 → is_up facts slot.carrier ≡ false → outbox facts slot ≡ []
-  -- grants wait for the control slot alone, and are those of the calls that stand on their slots, if any do
+  -- grants wait for the control slot alone; each is that of the call on its slot, if a call is active there
   pub elsewhere : (slot : Slot) → slot.slot < 2 → is_control plan slot ≡ false → list_any is_grant (outbox facts slot) ≡ false
   pub own : (slot : Slot) (call : Call) → call_on facts.calls slot ≡ Some call → list_all (is_own plan call) (outbox facts (control_slot plan)) ≡ true
-  -- limits
+  -- the limits of counts
   pub few_calls : length facts.calls ≤ most_calls
   pub few_asks : length facts.asks ≤ most_asks
   pub few_lines : length facts.lines ≤ most_lines
   pub few_radios : length facts.registered ≤ most_radios
   pub few_waiting : (slot : Slot) → slot.slot < 2 → length (outbox facts slot) ≤ most_pdus_of_a_slot
-  -- ages, quiet times and waiting times are counted up to 65,535 ticks
+  -- ages, quiet times and waiting times are at most 65,535 ticks
   pub ages : All (λ s. (s.age ≤ most_ticks) × (s.quiet ≤ most_ticks)) facts.calls
   pub waits : All (λ a. a.waited ≤ most_ticks) facts.asks
-  -- there are noise numbers exactly while the control carrier is up
+  -- there are 32 noise numbers while the control carrier is up, and none while it is not
   pub noiseless : is_up facts plan.control ≡ false → facts.noise ≡ []
   pub window : is_up facts plan.control ≡ true → length facts.noise ≡ polls_of_window
-  -- Fills are counted modulo 4, and none, nor a late entry, while the control carrier is down
+  -- Fills are counted modulo 4; while the control carrier is down, the count is 0 and there is no last late entry
   pub counted : facts.fills < late_entry_interval
   pub unfilled : is_up facts plan.control ≡ false → facts.fills ≡ 0
   pub unnamed : is_up facts plan.control ≡ false → facts.late ≡ None

@@ -17,76 +17,76 @@ use Rattle.dmr_core.specs.Rules.{grant_pdu, late_entry}
 use Rattle.dmr_core.specs.Sound.{is_grant, total}
 use Rattle.dmr_core.specs.May.{late_entry_of_fill}
 
--- a fill is the late entry that is due, where one is, and else no grant
+-- a Fill is the late entry that is due, if there is one, and else not a grant
 abbrev pub FillsInTurn : Settings → Facts → Act → Type 0
 FillsInTurn plan now (Fill slot pdu) = late_entry_of_fill pdu ≡ late_entry plan now
 FillsInTurn plan now _ = Unit {0}
 
--- the late grant of a talkgroup call that stands
+-- the PDU is the late grant of an active talkgroup call
 pub record IsLateOf (plan : Settings) (calls : List Standing) (pdu : Pdu) : Type 0 where
   pub call : Call
   pub stands : call_on calls call.slot ≡ Some call
   pub group : call.group ≡ true
   pub is : pdu ≡ grant_pdu plan call true
 
--- a fill that is a grant is one of these
+-- a Fill that is a grant is the late grant of an active talkgroup call
 abbrev pub NamesStanding : Settings → Facts → Act → Type 0
 NamesStanding plan now (Fill slot pdu) = is_grant pdu ≡ true → IsLateOf plan now.calls pdu
 NamesStanding plan now _ = Unit {0}
 
--- a Fill is one
+-- 1 for a Fill, else 0
 abbrev pub fill_in : Act → ℕ
 fill_in (Fill slot pdu) = 1
 fill_in _ = 0
 
--- how many Fills a journal has
+-- the number of Fills in a journal
 abbrev pub fills_in : List Entry → ℕ
 fills_in [] = 0
 fills_in (entry ∷ earlier) = fills_in earlier + total fill_in entry.acts.list
 
--- the control carrier comes up, or is lost
+-- the event is the Up or Lost of the control carrier
 abbrev pub is_turn : Settings → Event → Bool
 is_turn plan (Up c) = c == plan.control
 is_turn plan (Lost c) = c == plan.control
 is_turn plan _ = false
 
--- how many since the control carrier last came up or was lost; where it never did, and those that were counted before
+-- the Fills since the control carrier last came up or was lost; if it never did, all Fills and the count before the journal
 abbrev pub fills_since : Settings → ℕ → List Entry → ℕ
 fills_since plan before [] = before
 fills_since plan before (entry ∷ earlier) = (if is_turn plan entry.event then 0 else fills_since plan before earlier) + total fill_in entry.acts.list
 
--- no carrier comes up or is lost, and the control channel is not to be moved
+-- the event is neither Up nor Lost of a carrier, nor an operator's `move`
 abbrev pub is_steady_event : Event → Bool
 is_steady_event (Up c) = false
 is_steady_event (Lost c) = false
 is_steady_event (Say (Move lpcn)) = false
 is_steady_event _ = true
 
--- no call begins or ends
+-- the act neither begins nor ends a call
 abbrev pub is_steady_act : Act → Bool
 is_steady_act (Began call) = false
 is_steady_act (Ended slot) = false
 is_steady_act _ = true
 
--- so it is throughout
+-- no carrier comes up or is lost in the journal, no call begins or ends, and there is no `move`
 abbrev pub is_steady : List Entry → Bool
 is_steady journal = list_all (λ (entry : Entry). is_steady_event entry.event && list_all is_steady_act entry.acts.list) journal
 
--- how many talkgroup calls stand
+-- the number of active talkgroup calls
 abbrev pub talkgroup_calls : List Standing → ℕ
 talkgroup_calls calls = length (filter (λ (s : Standing). s.call.group) calls)
 
--- the PDU is sent as a fill
+-- the act sends the PDU as a Fill
 abbrev pub IsFillOf : Pdu → Act → Type 0
 IsFillOf pdu (Fill slot other) = other ≡ pdu
 IsFillOf pdu _ = ⊥
 
--- by one of the acts
+-- one of the acts sends the PDU as a Fill
 abbrev pub HasFillOf : Pdu → List Act → Type 0
 HasFillOf pdu [] = ⊥
 HasFillOf pdu (act ∷ acts) = IsFillOf pdu act ⊎ HasFillOf pdu acts
 
--- in one of the entries
+-- one of the entries sends the PDU as a Fill
 abbrev pub IsFilledWith : Pdu → List Entry → Type 0
 IsFilledWith pdu [] = ⊥
 IsFilledWith pdu (entry ∷ earlier) = HasFillOf pdu entry.acts.list ⊎ IsFilledWith pdu earlier

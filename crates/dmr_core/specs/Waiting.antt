@@ -1,4 +1,4 @@
--- What is queued and sent on a slot, said of the acts.
+-- The PDUs queued and sent on a slot, defined by the acts.
 use Rattle.std.specs.Prelude.{ℕ, List, [], ◌∷◌, ◌++◌, Bool, false, ◌==◌, if◌then◌else◌, flat_map}
 use Rattle.dmr_pdu.specs.declared.slots.Slot.{Slot}
 use Rattle.dmr_pdu.specs.declared.pdu.Pdu.{Pdu}
@@ -9,23 +9,23 @@ use Rattle.dmr_core.specs.declared.act.Act.{Act}
 use Rattle.dmr_core.specs.declared.act.Act.TheVariants.{Queue, Send}
 use Rattle.dmr_core.specs.declared.entry.Entry.{Entry}
 
--- the PDU that an act queues on the slot
+-- the PDU that an act queues on the slot, as a list
 abbrev pub queued_by : Slot → Act → List Pdu
 queued_by slot (Queue other pdu) = if is_slot other slot then pdu ∷ [] else []
 queued_by slot _ = []
 
--- the PDU that an act sends there of those that wait
+-- the PDU that an act sends on the slot from its outbox, as a list
 abbrev pub sent_by : Slot → Act → List Pdu
 sent_by slot (Send other pdu) = if is_slot other slot then pdu ∷ [] else []
 sent_by slot _ = []
 
--- the carrier comes up, or is lost
+-- the event is the Up or Lost of the carrier
 abbrev pub is_turn_of_carrier : ℕ → Event → Bool
 is_turn_of_carrier c (Up d) = d == c
 is_turn_of_carrier c (Lost d) = d == c
 is_turn_of_carrier c _ = false
 
--- what the acts name since the carrier last came up or was lost, the oldest first; where it never did, behind what was before
+-- the PDUs that acts named since the carrier last came up or was lost, oldest first; if it never did, `before` and then all
 abbrev pub since_turn : ℕ → (Act → List Pdu) → List Pdu → List Entry → List Pdu
 since_turn c named before [] = before
 since_turn c named before (entry ∷ earlier) =

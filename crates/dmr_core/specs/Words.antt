@@ -1,4 +1,4 @@
--- Up, waiting, room, free, registered.
+-- Names for single facts: up, waiting, room, free, registered, engaged.
 use Rattle.std.specs.Prelude.{ℕ, List, Bool, nat_le, length, if◌then◌else◌, Option, None}
 use Rattle.std.specs.List.{list_any}
 use Rattle.std.specs.Option.{option_map_or}
@@ -21,7 +21,7 @@ use Rattle.dmr_core.specs.Facts.{Facts}
 abbrev pub is_up : Facts → ℕ → Bool
 is_up now c = is_up_in now.up c
 
--- what waits for a slot
+-- the PDUs that wait for a slot, oldest first
 abbrev pub outbox : Facts → Slot → List Pdu
 outbox now slot = box now.outboxes slot
 
@@ -29,23 +29,23 @@ outbox now slot = box now.outboxes slot
 abbrev pub has_room : Settings → Facts → Bool
 has_room plan now = nat_le (length (outbox now (control_slot plan))) most_with_room
 
--- the channel of a carrier, 1 for one that the plan does not have
+-- the channel of a carrier; 1 if the plan does not have it
 abbrev pub lpcn_of : Settings → ℕ → ℕ
 lpcn_of plan c = option_map_or (λ (row : CarrierRow). row.lpcn) (row_with plan.carriers c) 1
 
--- a call stands on the slot
+-- a call is active on the slot
 abbrev pub stands_on : List Standing → Slot → Bool
 stands_on calls slot = list_any (λ s. is_slot s.call.slot slot) calls
 
--- free for a call, where calls hold the slots that they stand on
+-- the slot is free for a call; calls hold the slots on which they are active
 abbrev pub is_free : Settings → Facts → Slot → Bool
 is_free plan now slot = is_free_by plan now.up now.outboxes (stands_on now.calls) slot
 
--- the first of all slots that is free, by carrier, then by slot
+-- the lowest free slot, by carrier, then slot
 abbrev pub lowest_free : Settings → Facts → Option Slot
 lowest_free plan now = lowest_free_by plan now.up now.outboxes (stands_on now.calls)
 
--- a slot for a new call: lines come first
+-- a slot for a new call: the lowest free one, but none while a line waits
 abbrev pub slot_for_new : Settings → Facts → Option Slot
 slot_for_new plan now = if is_empty now.lines then lowest_free plan now else None
 
@@ -53,7 +53,7 @@ slot_for_new plan now = if is_empty now.lines then lowest_free plan now else Non
 abbrev pub is_registered : Facts → ℕ → Bool
 is_registered now r = is_registered_in now.registered r
 
--- what engages radios
+-- the asks, lines and calls of the facts, which engage radios
 abbrev pub standings : Facts → Standings
 standings now = record { asks = now.asks; lines = now.lines; calls = now.calls }
 

@@ -1,4 +1,4 @@
-//! What the site does.
+//! The acts of the site machine.
 
 ghost use Rattle.std.specs.Prelude.{◌≡◌, ◌↔◌, IsTrue, None};
 
@@ -6,26 +6,26 @@ use crate::reply::Reply;
 use dmr_calls::{Ask, Call, Line};
 use dmr_pdu::{Address, Blank, BoundedList, Pdu, Slot};
 
-/// One thing that the site does in answer to an event.
+/// One step of the site's answer to an event.
 #[derive(Clone, Copy, Debug, PartialEq, Eq)]
 pub enum Act {
-    /// A PDU is put behind those that wait for a slot.
+    /// A PDU is queued for a slot, after those that wait.
     Queue(Slot, Pdu),
-    /// The first PDU that waits for a slot is sent in it.
+    /// The oldest PDU that waits for a slot is sent on it.
     Send(Slot, Pdu),
-    /// A PDU is sent in a slot for which nothing waits.
+    /// A PDU is sent on a slot for which no PDU waits.
     Fill(Slot, Pdu),
     /// A radio is registered from now on.
     Joined(Address),
-    /// A radio is registered no more.
+    /// A radio is no longer registered.
     Left(Address),
-    /// A radio was asked whether it takes a call: an ask stands, in place of one that its source had.
+    /// A radio was asked whether it takes a call. The new ask replaces the one that its source had, if any.
     Asked(Ask),
     /// The ask of this source is over.
     AskOver(Address),
-    /// A request waits for a slot, behind those that wait.
+    /// A request waits for a slot, after those that wait already.
     Lined(Line),
-    /// The request of this source waits no more.
+    /// The request of this source no longer waits.
     Unlined(Address),
     /// A call begins on its slot.
     Began(Call),
@@ -43,28 +43,28 @@ impl Blank for Act {
     }
 }
 
-/// At most 16 acts, in the order in which they are done. `Copy`, and without memory of its own.
+/// At most 16 acts, in the order in which the site does them. The list is `Copy` and allocates nothing.
 pub type ActList = BoundedList<Act, 16>;
 
-/// How the site answers an event.
+/// The site's answer to an event.
 #[derive(Clone, Copy, Debug, PartialEq, Eq)]
 pub struct Acts {
-    /// What it does, in order.
+    /// The acts, in order.
     pub list: ActList,
-    /// What it replies to an operator; None for an event that is no command.
+    /// The reply to an operator; `None` if the event is not a command.
     pub said: Option<Reply>,
 }
 
 impl Acts {
-    /// These acts, and no reply.
+    /// Makes an answer of these acts, without a reply.
     pub fn without_reply(list: ActList) -> Acts
         ensures { result ≡ record { list = list; said = None } }
     {
         Acts { list, said: None }
     }
 
-    /// Whether the two are the same answer: the same acts in the same order, and the same reply. It answers as `==` does, and
-    /// says what that means.
+    /// Reports whether the two are the same answer: the same acts in the same order, and the same reply. It returns what `==`
+    /// returns, with a contract.
     pub fn is(&self, other: &Acts) -> bool
         ensures { IsTrue result ↔ (self.now ≡ other.now) }
     {

@@ -1,4 +1,4 @@
-//! What an operator asks of the site.
+//! The commands of an operator.
 
 ghost use Rattle.std.specs.Prelude.{◌≡◌, ◌≤◌};
 ghost use Rattle.dmr_calls.specs.declared.calls.TheConstants.{MOST_LINES};
@@ -6,7 +6,7 @@ ghost use Rattle.dmr_calls.specs.declared.calls.TheConstants.{MOST_LINES};
 use dmr_pdu::{Address, CarrierNo, Lpcn, SlotNo};
 use std::marker::Model;
 
-/// The place of a line, counted from 1 in the order in which lines are served: 1 to 32.
+/// The place of a line, counted from 1 in the order in which the site serves lines: 1 to 32.
 #[derive(Clone, Copy, Debug, PartialEq, Eq, PartialOrd, Ord, Hash)]
 pub struct LineNo {
     number: u8,
@@ -26,7 +26,7 @@ impl Model for LineNo {
 }
 
 impl LineNo {
-    /// The place of a number from 1 to 32.
+    /// Makes a place of a number from 1 to 32.
     pub fn new(number: u8) -> Self
         requires least { 1 ≤ number }
         requires most { number ≤ MOST_LINES }
@@ -45,25 +45,25 @@ impl LineNo {
     }
 }
 
-/// What an operator asks of the site.
+/// A command that an operator sends to the site.
 #[derive(Clone, Copy, Debug, PartialEq, Eq)]
 pub enum Command {
-    /// What stands, in numbers.
+    /// Asks for the numbers of carriers up, registered radios, asks, lines and calls, and for the move of the control channel.
     Status,
-    /// The registered radios from this number on.
+    /// Asks for the registered radios from this number on.
     Radios(Address),
-    /// The calls on a carrier.
+    /// Asks for the calls on a carrier.
     Calls(CarrierNo),
-    /// The requests that wait in line, from this place on.
+    /// Asks for the lines, the requests that wait for a slot, from this place on.
     Lines(LineNo),
-    /// How each slot stands.
+    /// Asks for the state of each slot.
     Slots,
-    /// A radio is registered no more, and what it is engaged by ends.
+    /// Ends the registration of a radio, and the call, ask or line that engages it.
     Drop(Address),
-    /// The call on this slot of this carrier ends.
+    /// Ends the call on this slot of this carrier.
     End(CarrierNo, SlotNo),
-    /// The control channel is to be sought on this channel from now on: C_MOVE fills its slot.
+    /// Moves the control channel to this channel: from now on the control slot sends C_MOVE when no PDU waits.
     Move(Lpcn),
-    /// The control channel stays where it is: C_ALOHA fills its slot again.
+    /// Ends the move: the control slot sends C_ALOHA again when no PDU waits.
     Stay,
 }

@@ -3,10 +3,10 @@
 use crate::act::Acts;
 use crate::event::Event;
 
-/// An event, who brought it to the site, and how the site answered. The facts do not depend on who it was.
+/// An event, who sent it to the site, and the site's answer. The facts do not depend on the sender.
 #[derive(Clone, Copy, Debug, PartialEq, Eq)]
 pub struct Entry {
-    /// The number of the one who brought the event.
+    /// The number of the sender.
     pub actor: u8,
     /// The event.
     pub event: Event,

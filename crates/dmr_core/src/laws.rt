@@ -1,4 +1,4 @@
-//! What is so of the definitions alone, whatever a site is told.
+//! Laws: statements about the definitions alone, for every journal of a site.
 
 ghost use Rattle.std.specs.Prelude.{◌≡◌, ◌==◌, ◌+◌, ◌*◌, ◌%◌, ◌++◌, ◌<◌, ◌≤◌, ℕ, List, [], length, min, true, Some, None};
 ghost use Rattle.dmr_plan.specs.declared.settings.Settings.{Settings};
@@ -34,21 +34,24 @@ ghost use Rattle.dmr_core.specs.Last.{stands, closed_with, no_event, no_act, of_
 use crate::machine::MOST_WITH_ROOM;
 use dmr_calls::talkgroup_calls_take_turns;
 
-/// The constant is the number that the profile states: with at most 56 PDUs in the control slot's outbox there is room for
-/// the answer to a request.
+/// `MOST_WITH_ROOM` is the number that the profile states: there is room for the answer to a request while at most 56 PDUs wait in
+/// the control slot's outbox.
 pub fn limits_are_stated()
     ensures { MOST_WITH_ROOM ≡ most_with_room }
 {}
 
-/// The journal of some events is legal, and each legal journal with these events has its answers.
+/// Events have exactly one legal sequence of answers.
+///
+/// The journal that `journal_of` makes of the events is legal, and each legal journal of these events has the same answers.
 pub fn one_legal_journal()
     ensures legal { (plan : Settings) (facts : Facts) (events : List Event) → IsLegal plan facts (journal_of plan facts events) }
     ensures one { (plan : Settings) (facts : Facts) (journal : List Entry) → IsLegal plan facts journal → answers_of journal ≡ answers_of (journal_of plan facts (events_of journal)) }
 {}
 
-/// Facts stay sound in every legal journal, from nothing on. Each event is answered by at most 13 acts, of which at most five
-/// queue a PDU on the control slot and at most four elsewhere, and each act may be done on the facts just before it. A Poll is
-/// answered by at most two acts, whatever the facts.
+/// Facts stay sound in every legal journal, and the facts of a site on which nothing has happened are sound.
+///
+/// An event is answered by at most 13 acts. At most five of them queue a PDU on the control slot, and at most four elsewhere. Each
+/// act may be done on the facts just before it. A Poll is answered by at most two acts, for any facts.
 pub fn facts_stay_sound()
     ensures sound { (plan : Settings) (facts : Facts) (journal : List Entry) → IsPlan plan → IsSound plan facts → IsLegal plan facts journal → IsSound plan (facts_after plan facts journal) }
     ensures nothing { (plan : Settings) → IsSound plan no_facts }
@@ -57,10 +60,13 @@ pub fn facts_stay_sound()
     ensures polled { (plan : Settings) (facts : Facts) (carrier : ℕ) → length (acts_of plan facts (Event.Poll carrier)) ≤ 2 }
 {}
 
-/// In every legal journal, at each act and the facts just before it: a call begins on a slot on which none stands, of a
-/// carrier that is up; a grant that is queued or sent as a fill names registered radios and listed groups; from the moment a
-/// carrier comes up or is lost until a call begins on it no call stands on it and no grant names a slot of it; and a grant
-/// that goes out is that of the call that stands on the slot it names, if one does.
+/// Each act of a legal journal is safe, given the facts just before it.
+///
+/// - A call begins only on a slot without a call, of a carrier that is up.
+/// - A grant that is queued or sent as a Fill names registered radios and listed groups.
+/// - From the Up or Lost of a carrier until a call begins on it, no call is active on it. In that time, no grant that is queued or sent
+///   as a Fill names a slot of it.
+/// - A grant that is sent is that of the call on the slot that it names, if a call is active there. For a Fill, one is.
 pub fn each_act_is_safe()
     ensures free { (plan : Settings) (facts : Facts) (journal : List Entry) → IsPlan plan → IsSound plan facts → IsLegal plan facts journal → Throughout plan facts BeginsOnFree journal }
     ensures known { (plan : Settings) (facts : Facts) (journal : List Entry) → IsPlan plan → IsSound plan facts → IsLegal plan facts journal → Throughout plan facts (GrantsKnown plan) journal }
@@ -68,14 +74,19 @@ pub fn each_act_is_safe()
     ensures own { (plan : Settings) (facts : Facts) (journal : List Entry) → IsPlan plan → IsSound plan facts → IsLegal plan facts journal → Throughout plan facts (SendsOwn plan) journal }
 {}
 
-/// What stands is what the last event or act left that opened or closed it; where there is none, what stood before: whether
-/// a radio is registered, by Joined and Left; whether a carrier is up, by its Up and Lost; the move of the control channel, by
-/// an operator's `move` and `stay`; the ask of a radio, by Asked and AskOver and the control carrier's Up and Lost; the line of
-/// a radio, by Lined and Unlined and the same; the call on a slot, by Began and Ended and its carrier's Up and Lost; the slot
-/// of the last late entry, by a Fill that is a grant to a talkgroup and the control carrier's Up and Lost. The first four and
-/// the last are so in every journal, legal or not. Whether a carrier is up is so for every carrier number if the plan is accepted
-/// and the facts are sound, as those of a site are (`up`). For other facts it is so for each number that has a place in them, and
-/// for each that the plan does not have (`up_within`).
+/// Each fact is decided by the last event or act that opened or closed it; if there is none, by the facts before the journal.
+///
+/// - A registration: Joined and Left.
+/// - A carrier that is up: its Up and Lost.
+/// - The move of the control channel: an operator's `move` and `stay`.
+/// - The ask of a radio: Asked and AskOver, and the control carrier's Up and Lost.
+/// - The line of a radio: Lined and Unlined, and the control carrier's Up and Lost.
+/// - The call on a slot: Began and Ended, and its carrier's Up and Lost.
+/// - The slot of the last late entry: a Fill that is a grant to a talkgroup, and the control carrier's Up and Lost.
+///
+/// The first four and the last hold in every journal, legal or not. The clause `up` is about every carrier number: it needs an
+/// accepted plan and sound facts, such as those of a site. For other facts, `up_within` covers each number that has a place in
+/// them, and each that the plan does not have.
 pub fn decided_by_the_last()
     ensures registered { (plan : Settings) (facts : Facts) (journal : List Entry) (radio : ℕ) → is_registered (facts_after plan facts journal) radio ≡ stands no_event (of_registration radio) (is_registered facts radio) journal }
     ensures up { (plan : Settings) (facts : Facts) (journal : List Entry) (carrier : ℕ) → IsPlan plan → IsSound plan facts → is_up (facts_after plan facts journal) carrier ≡ stands (of_carrier plan carrier) no_act (is_up facts carrier) journal }
@@ -87,10 +98,12 @@ pub fn decided_by_the_last()
     ensures late { (plan : Settings) (facts : Facts) (journal : List Entry) → (facts_after plan facts journal).late ≡ stands (closed_with plan.control) of_late facts.late journal }
 {}
 
-/// Late entries name the talkgroup calls in turn. In every legal journal a fill is the late entry that the rule gives, where
-/// it gives one, and else no grant; it names a talkgroup call that stands; and the Fills are counted, modulo 4, from the
-/// control carrier's last Up or Lost on. While no carrier comes up or is lost, no call begins or ends and the control channel
-/// is not to be moved, each talkgroup call that stands is named within four times as many Fills as talkgroup calls stand.
+/// Late entries name the talkgroup calls in turn.
+///
+/// In every legal journal, a Fill is the late entry of the rule if there is one, and else it is not a grant. It names a talkgroup
+/// call that is active. The Fills since the control carrier's last Up or Lost are counted modulo 4. Each of n active talkgroup
+/// calls is named within 4 n Fills. That holds while no carrier comes up or is lost, no call begins or ends, and the control
+/// channel is not to be moved.
 pub fn late_entries_take_turns()
     ensures due { (plan : Settings) (facts : Facts) (journal : List Entry) → IsPlan plan → IsSound plan facts → IsLegal plan facts journal → Throughout plan facts (FillsInTurn plan) journal }
     ensures stands { (plan : Settings) (facts : Facts) (journal : List Entry) → IsPlan plan → IsSound plan facts → IsLegal plan facts journal → Throughout plan facts (NamesStanding plan) journal }
@@ -100,17 +113,20 @@ pub fn late_entries_take_turns()
     talkgroup_calls_take_turns();
 }
 
-/// What was queued on a slot since its carrier last came up or was lost is what was sent there since then, in the same
-/// order, followed by what waits. Where it never did, what waited at first stands in front. So nothing is sent twice, lost,
-/// or sent before what was queued earlier.
+/// PDUs are sent on a slot in the order in which they were queued, and none twice. Only the Up and Lost of the carrier drop any.
+///
+/// The PDUs queued on a slot since its carrier last came up or was lost are those sent there since then, in the same order,
+/// followed by those that wait. If the carrier never came up or was lost, the PDUs that waited before the journal count as queued
+/// first.
 pub fn sent_in_order()
     ensures { (plan : Settings) (facts : Facts) (slot : Slot) (journal : List Entry) → slot.slot < 2 → IsPlan plan → IsSound plan facts → IsLegal plan facts journal → since_turn slot.carrier (queued_by slot) (outbox facts slot) journal ≡ since_turn slot.carrier (sent_by slot) [] journal ++ outbox (facts_after plan facts journal) slot }
 {}
 
-/// While the control carrier is up, the backoff is the plan's lowest and one for each Noise on the control slot after the
-/// later of the control carrier's last Up and the 32nd last of its Polls, but at most the plan's highest. Where the journal has
-/// no such Up and n Polls, fewer than 32, the first 32 - n of the noise numbers that stood before count too; from nothing there
-/// are none.
+/// The backoff counts recent Noises on the control slot, while the control carrier is up.
+///
+/// It is the plan's lowest backoff plus the number of these Noises, but at most the plan's highest. A Noise counts if it came after
+/// the control carrier's last Up and after the 32nd last of its Polls. If the journal has no such Up and only n Polls, fewer than
+/// 32, then the first 32 - n of the noise numbers before the journal count too. A site on which nothing has happened has none.
 pub fn backoff_counts_noises()
     ensures counts { (plan : Settings) (facts : Facts) (journal : List Entry) → IsPlan plan → IsSound plan facts → IsLegal plan facts journal → is_up (facts_after plan facts journal) plan.control ≡ true → backoff_of plan (facts_after plan facts journal).noise ≡ min plan.backoff_high (plan.backoff_low + recent_noises plan facts.noise journal) }
     ensures from_nothing { (plan : Settings) (journal : List Entry) → IsPlan plan → IsLegal plan no_facts journal → is_up (facts_after plan no_facts journal) plan.control ≡ true → backoff_of plan (facts_after plan no_facts journal).noise ≡ min plan.backoff_high (plan.backoff_low + recent_noises plan [] journal) }
@@ -118,10 +134,12 @@ pub fn backoff_counts_noises()
     facts_stay_sound();
 }
 
-/// The age of a call is the ticks since it began, its quiet time those since it began or there last was activity on its slot,
-/// whichever came later, and the waiting time of an ask those since its last C_AHOY. If that was before the journal begins, it is
-/// what was counted at its beginning, and all ticks since. Each is counted up to 65,535 ticks; sound facts, as those of a site
-/// are, never have more (`before`). The clause on waiting times holds in every journal, legal or not.
+/// Ages, quiet times and waiting times count ticks, up to 65,535.
+///
+/// The age of a call counts the ticks since it began. Its quiet time counts those since the later of its beginning and the last
+/// activity on its slot. The waiting time of an ask counts those since its last C_AHOY. If that moment is before the journal, the
+/// count is the one before the journal plus all ticks of it. Sound facts, such as those of a site, never have greater counts
+/// (`before`). The clause on waiting times holds in every journal, legal or not.
 pub fn ages_count_ticks()
     ensures age { (plan : Settings) (facts : Facts) (journal : List Entry) (slot : Slot) (call : Call) → IsPlan plan → IsSound plan facts → IsLegal plan facts journal → call_on (facts_after plan facts journal).calls slot ≡ Some call → age_on (facts_after plan facts journal).calls slot ≡ min most_ticks (ticks_since (begins_on slot) (age_on facts.calls slot) journal) }
     ensures quiet { (plan : Settings) (facts : Facts) (journal : List Entry) (slot : Slot) (call : Call) → IsPlan plan → IsSound plan facts → IsLegal plan facts journal → call_on (facts_after plan facts journal).calls slot ≡ Some call → quiet_on (facts_after plan facts journal).calls slot ≡ min most_ticks (ticks_since (stirs_on slot) (quiet_on facts.calls slot) journal) }
@@ -129,9 +147,11 @@ pub fn ages_count_ticks()
     ensures before { (plan : Settings) (facts : Facts) (slot : Slot) (radio : ℕ) → IsSound plan facts → (age_on facts.calls slot ≤ most_ticks) × (quiet_on facts.calls slot ≤ most_ticks) × (waited_of facts.asks radio ≤ most_ticks) }
 {}
 
-/// Registered radios stand in the order of joining, asks in that of their last C_AHOY, lines in that of lining, and calls in
-/// that of beginning; what stood before stands in front of these, in its own order. For asks it is so in every journal from sound
-/// facts, legal or not.
+/// Registered radios are in the order of Joined, asks in that of their last C_AHOY, lines in that of Lined, and calls in that of
+/// Began.
+///
+/// Those of the facts before the journal come first, in their own order. For asks this holds in every journal from sound facts,
+/// legal or not.
 pub fn stand_in_order()
     ensures registered { (plan : Settings) (facts : Facts) (journal : List Entry) → IsPlan plan → IsSound plan facts → IsLegal plan facts journal → IsInOrder ◌==◌ (with_openings joined_by facts.registered journal) (facts_after plan facts journal).registered }
     ensures asks { (plan : Settings) (facts : Facts) (journal : List Entry) → IsSound plan facts → IsInOrder ◌==◌ (with_openings asked_by (sources_of_asks facts.asks) journal) (sources_of_asks (facts_after plan facts journal).asks) }
@@ -139,8 +159,8 @@ pub fn stand_in_order()
     ensures calls { (plan : Settings) (facts : Facts) (journal : List Entry) → IsPlan plan → IsSound plan facts → IsLegal plan facts journal → IsInOrder is_slot (with_openings begun_by (slots_of_calls facts.calls) journal) (slots_of_calls (facts_after plan facts journal).calls) }
 {}
 
-/// An event of a carrier that isn't up, other than its Up, is answered by nothing and changes nothing; nor does the Up of a
-/// carrier that the plan doesn't have.
+/// An event of a carrier that is not up, other than its Up, has no acts and changes nothing. The same holds for the Up of a carrier
+/// that the plan does not have.
 pub fn no_carrier_no_change()
     ensures acts { (plan : Settings) (facts : Facts) (event : Event) → IsOfNoCarrier plan facts event → acts_of plan facts event ≡ [] }
     ensures facts { (plan : Settings) (facts : Facts) (event : Event) → IsPlan plan → IsSound plan facts → IsOfNoCarrier plan facts event → facts_after_event plan facts event ≡ facts }

@@ -1,8 +1,8 @@
-//! The site machine: what stands on a trunked site, and how the site answers each event.
+//! The site machine: the state of a trunked site, and the answer to each event.
 //!
-//! An [`Event`] is what a carrier, the clock or an operator tells the site; it is answered by [`Acts`], which say what the site sends
-//! and what changes. The facts of a site are found from its events and acts alone: each is what was opened and not yet
-//! closed. The rules are this project's profile over TS 102 361-4.
+//! An [`Event`] comes from a carrier, the clock or an operator. [`Site::apply`] answers it with [`Acts`]: PDUs that are queued or
+//! sent, and changes of the facts. The facts of a site follow from its events and acts alone: each fact is one that was opened and
+//! not yet closed. The crate does no input or output. Its rules are this project's profile over TS 102 361-4.
 #![tactic(auto)]
 
 mod act;

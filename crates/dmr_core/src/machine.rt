@@ -1,4 +1,4 @@
-//! The parts of a site, and what each event and act does to them.
+//! The parts of a site, and the effect of each event and act on them. The answers are in the modules below.
 
 ghost use Rattle.std.specs.Prelude.{◌≡◌, ◌≢◌, [], ◌∷◌, fold, IfOk};
 ghost use Rattle.dmr_core.specs.declared.event.Event.TheVariants.{Up, Lost, Heard, Tick};
@@ -33,7 +33,7 @@ pub use slots::MOST_WITH_ROOM;
 use std::alloc::Global;
 use std::marker::Model;
 
-/// A site in its parts: what it answers, and what changes, one step at a time.
+/// A site in its parts. It computes answers and applies changes, one step at a time.
 #[derive(Drop)]
 pub struct Machine {
     plan: Plan,
@@ -60,7 +60,7 @@ impl Model for Machine {
     ghost invariant = { λ m. (m.access.plan ≡ m.plan) × (m.pool.plan ≡ m.plan) × HoldsCalls m.pool.held m.calls.calls };
 }
 
-/// Does nothing. A proof learns from it that the numbers of a slot are in their ranges.
+/// Does nothing. A proof calls it to use that the numbers of a slot are in their ranges.
 fn numbers_of(slot: &Slot)
     ensures { IsSlot slot.now }
 {
@@ -68,7 +68,7 @@ fn numbers_of(slot: &Slot)
 }
 
 impl Machine {
-    /// A site of the plan on which nothing stands. `Err` where there is no memory for its parts.
+    /// Makes a site of the plan on which nothing has happened. Returns `OutOfMemory` if a part cannot be allocated.
     #[tactic(auto, using(crate::proofs::HeldLemmas::at_first))]
     pub fn new(alloc: Global, plan: &Plan) -> Result<Machine, OutOfMemory>
         ensures { IfOk result (λ m. m ≡ record { plan = plan.now; facts = no_facts }) }
@@ -88,7 +88,7 @@ impl Machine {
         })
     }
 
-    /// A site of its own with the same plan and facts. `Err` where there is no memory for its parts.
+    /// Makes an independent site with the same plan and facts. Returns `OutOfMemory` if a part cannot be allocated.
     pub fn try_clone(&self, alloc: Global) -> Result<Machine, OutOfMemory>
         ensures { IfOk result (λ copy. copy ≡ self.now) }
     {
@@ -114,8 +114,8 @@ impl Machine {
         &self.plan
     }
 
-    /// A carrier comes up: its calls end and what waited for its slots is gone; with the control carrier go asks and
-    /// lines, and on the control slot nothing was disturbed yet.
+    /// Applies the Up of a carrier, which is up then if the plan has it. Its calls end, and the PDUs that waited for its slots are
+    /// removed. For the control carrier, asks and lines end too, and the noise numbers and Fills begin again.
     #[tactic(auto, using(crate::proofs::HeldLemmas::lost))]
     fn came_up(&mut self, carrier: CarrierNo)
         ensures { self.new ≡ record { plan = self.old.plan; facts = facts_after_event self.old.plan self.old.facts (Up carrier) } }
@@ -134,7 +134,8 @@ impl Machine {
         }
     }
 
-    /// A carrier is lost: its calls end and what waited for its slots is gone; with the control carrier go asks and lines.
+    /// Applies the Lost of a carrier. Its calls end, and the PDUs that waited for its slots are removed. For the control carrier,
+    /// asks and lines end too, and there are no noise numbers.
     #[tactic(auto, using(crate::proofs::HeldLemmas::lost))]
     fn lost(&mut self, lost: CarrierNo)
         ensures { self.new ≡ record { plan = self.old.plan; facts = facts_after_event self.old.plan self.old.facts (Lost lost) } }
@@ -149,7 +150,7 @@ impl Machine {
         }
     }
 
-    /// An event opens and closes what stands.
+    /// Applies an event to the facts, without its acts.
     #[tactic(auto, using(crate::proofs::HeldLemmas::marked_held, crate::proofs::HeldLemmas::counted_held))]
     fn note(&mut self, event: &Event)
         ensures { self.new ≡ record { plan = self.old.plan; facts = facts_after_event self.old.plan self.old.facts event.now } }
@@ -175,7 +176,7 @@ impl Machine {
         }
     }
 
-    /// A call begins, and holds its slot.
+    /// Begins a call, which holds its slot.
     fn begin(&mut self, call: &Call)
         requires { MayBegin self.old.plan self.old.facts call.now }
         ensures { self.new ≡ record { plan = self.old.plan; facts = facts_after_act self.old.facts (Began call.now) } }
@@ -186,7 +187,7 @@ impl Machine {
         self.calls.add_call(*call);
     }
 
-    /// The call on a slot ends, and no longer holds it.
+    /// Ends the call on a slot and releases the slot.
     fn end(&mut self, slot: &Slot)
         ensures { self.new ≡ record { plan = self.old.plan; facts = facts_after_act self.old.facts (Ended slot.now) } }
     {
@@ -196,7 +197,7 @@ impl Machine {
         self.calls.end_all_on(slot);
     }
 
-    /// An act opens and closes what stands.
+    /// Applies an act to the facts.
     fn perform(&mut self, act: &Act)
         requires { MayDo self.old.plan self.old.facts act.now }
         ensures { self.new ≡ record { plan = self.old.plan; facts = facts_after_act self.old.facts act.now } }
@@ -225,7 +226,7 @@ impl Machine {
         }
     }
 
-    /// What answers a PDU in a slot: only on the control slot, with room, is one answered.
+    /// The acts that answer a PDU on a slot: none unless the slot is the control slot, its carrier is up, and there is room.
     fn heard_on(&self, slot: &Slot, pdu: &Pdu) -> ActList
         ensures { result ≡ acts_of self.now.plan self.now.facts (Heard slot.now pdu.now) }
     {
@@ -249,7 +250,7 @@ impl Machine {
         }
     }
 
-    /// Notes an event, and answers it: a tick is counted first.
+    /// Applies an event to the facts and returns its answer. A Tick is counted before it is answered.
     fn noted(&mut self, event: &Event) -> Acts
         ensures acts { result ≡ record { list = acts_of self.old.plan self.old.facts event.now; said = reply_to self.old.plan self.old.facts event.now } }
         ensures facts { self.new ≡ record { plan = self.old.plan; facts = facts_after_event self.old.plan self.old.facts event.now } }
@@ -264,7 +265,7 @@ impl Machine {
         }
     }
 
-    /// Answers an event, and stands after it as an entry of both says.
+    /// Answers an event and applies it with its acts.
     pub fn apply(&mut self, event: &Event) -> Acts
         requires { AllMayDo self.old.plan (facts_after_event self.old.plan self.old.facts event.now) (acts_of self.old.plan self.old.facts event.now) }
         ensures acts { result ≡ record { list = acts_of self.old.plan self.old.facts event.now; said = reply_to self.old.plan self.old.facts event.now } }
@@ -275,7 +276,7 @@ impl Machine {
         acts
     }
 
-    /// Whether two have the same plan and facts.
+    /// Reports whether two sites have the same plan and facts.
     pub fn is(&self, other: &Machine) -> bool
         ensures { result ≡ are_same self.now other.now }
     {

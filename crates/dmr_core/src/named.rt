@@ -2,11 +2,11 @@
 
 use dmr_pdu::{Lpcn, SlotNo};
 
-/// A slot as a grant names it: by the channel of its carrier, and its number.
+/// A slot as a grant names it: the channel of its carrier, and its number.
 #[derive(Clone, Copy, Debug, PartialEq, Eq)]
 pub struct NamedSlot {
     /// The logical physical channel number of the carrier.
     pub channel: Lpcn,
-    /// Which of the carrier's slots.
+    /// The slot of the carrier, 0 or 1.
     pub slot: SlotNo,
 }

@@ -1,30 +1,30 @@
-//! What the site replies to an operator.
+//! The site's replies to an operator.
 
 use crate::command::LineNo;
 use dmr_calls::{Call, Line};
 use dmr_pdu::{Address, Blank, BoundedList, Lpcn, Slot};
 
-/// How a slot stands. Of two that apply it is the first.
+/// The state of a slot: the first variant that applies.
 #[derive(Clone, Copy, Debug, PartialEq, Eq)]
 pub enum State {
     /// It is the control slot, whether its carrier is up or not.
     Control,
     /// Its carrier is not up.
     Down,
-    /// A call stands on it.
+    /// A call is active on it.
     Call,
     /// A call can begin on it.
     Free,
-    /// A P_CLEAR or a grant that names it has still to go out.
+    /// A P_CLEAR for it, or a grant that names it, has yet to be sent.
     Waiting,
 }
 
-/// A slot, and how it stands.
+/// A slot and its state.
 #[derive(Clone, Copy, Debug, PartialEq, Eq)]
 pub struct SlotState {
     /// The slot.
     pub slot: Slot,
-    /// How it stands.
+    /// Its state.
     pub state: State,
 }
 
@@ -41,44 +41,44 @@ impl Blank for SlotState {
     }
 }
 
-/// What the site replies to an operator.
+/// The site's reply to an operator's command.
 #[derive(Clone, Copy, Debug, PartialEq, Eq)]
 pub enum Reply {
-    /// What stands, in numbers.
+    /// The answer to `status`: numbers of carriers, radios, asks, lines and calls, and the move of the control channel.
     Status {
         /// The carriers that are up.
         carriers: usize,
         /// The registered radios.
         radios: usize,
-        /// The asks.
+        /// The asks: individual requests whose called radio has yet to answer.
         asks: usize,
-        /// The lines.
+        /// The lines: requests that wait for a free slot.
         lines: usize,
         /// The calls.
         calls: usize,
-        /// The channel on which C_MOVE bids radios to seek the control channel; None where C_ALOHA fills it.
+        /// The channel to which C_MOVE sends radios; `None` if the control slot sends C_ALOHA.
         moving: Option<Lpcn>,
     },
     /// The least registered radios from a number on, ascending.
     Radios(BoundedList<Address, 16>),
     /// The calls on a carrier, by slot.
     Calls(BoundedList<Call, 2>),
-    /// Lines in the order in which they are served.
+    /// Lines, in the order in which the site serves them.
     Lines {
-        /// The place of the first of them, counted from 1.
+        /// The place of the first of `rows`, counted from 1.
         from: LineNo,
         /// The lines.
         rows: BoundedList<Line, 16>,
     },
     /// Each slot of the plan, by carrier number, then slot.
     Slots(BoundedList<SlotState, 32>),
-    /// It is done.
+    /// The command is done.
     Done,
     /// No radio of this number is registered.
     NotRegistered,
-    /// The control slot's outbox has no room for what would have to be sent.
+    /// The control slot's outbox has no room for the PDUs that the command would queue.
     Busy,
-    /// No call stands there.
+    /// No call is active on the slot.
     NoCall,
     /// The plan has no such carrier.
     NoCarrier,

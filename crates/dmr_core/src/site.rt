@@ -16,9 +16,11 @@ use dmr_plan::Plan;
 use std::alloc::Global;
 use std::marker::Model;
 
-/// A trunked site. Contracts see it as its plan and its facts: which carriers are up, which radios are registered, the asks,
-/// lines and calls that stand, what waits for each slot, how much the control slot was disturbed, and whether the control
-/// channel is to be moved. The facts of a site fit together always, as [`keeps`](Site::keeps) tells.
+/// A trunked site: its plan and its facts.
+///
+/// The facts are the carriers that are up, the registered radios, and the asks, lines and calls that are active. They are also the
+/// PDUs that wait for each slot, the noise numbers, the Fills, the last late entry, and the move of the control channel. They fit
+/// together at all times, as [`keeps`](Site::keeps) states.
 #[derive(Drop)]
 pub struct Site {
     machine: Machine,
@@ -35,8 +37,9 @@ impl Model for Site {
 }
 
 impl Site {
-    /// The site of a plan on which nothing stands. It takes all the memory that it ever needs; `Err` where there is none
-    /// for that.
+    /// Makes a site of this plan on which nothing has happened.
+    ///
+    /// It allocates all the memory that the site ever needs. Returns `OutOfMemory` if the allocation fails.
     pub fn new(alloc: Global, plan: Plan) -> Result<Site, OutOfMemory>
         ensures { IfOk result (λ site. site ≡ record { plan = plan; facts = no_facts }) }
     {
@@ -53,9 +56,10 @@ impl Site {
         self.machine.plan()
     }
 
-    /// Answers an event. The acts, and the reply to a command, are those that the rules give for the event and what stands
-    /// when it comes; after it the facts are those that the event and the acts leave. No event is refused, and no memory is
-    /// taken.
+    /// Answers an event with acts and, if it is a command, with a reply.
+    ///
+    /// The acts and the reply are those of the rules for the event and the facts before it. The facts afterwards are those that the
+    /// event and the acts leave. No event is refused, and no memory is allocated.
     pub fn apply(&mut self, event: Event) -> Acts
         ensures acts { result.list ≡ acts_of self.old.plan self.old.facts event }
         ensures said { result.said ≡ reply_to self.old.plan self.old.facts event }
@@ -64,7 +68,9 @@ impl Site {
         self.machine.apply(&event)
     }
 
-    /// A site of its own with the same plan and facts. `Err` where there is no memory for it; this site stays as it is.
+    /// Makes an independent site with the same plan and facts.
+    ///
+    /// Returns `OutOfMemory` if the allocation fails. This site is unchanged in either case.
     pub fn try_clone(&self, alloc: Global) -> Result<Site, OutOfMemory>
         ensures { IfOk result (λ copy. copy ≡ self.now) }
     {
@@ -73,7 +79,7 @@ impl Site {
         })
     }
 
-    /// Does nothing. A proof learns from it what every site keeps.
+    /// Does nothing. A proof calls it to use the invariant of every site.
     pub fn keeps(&self)
         ensures { IsSite self.now }
     {
@@ -81,7 +87,7 @@ impl Site {
     }
 }
 
-/// Two sites are equal where they have the same plan and the same facts.
+/// Two sites are equal if they have the same plan and the same facts.
 impl PartialEq for Site {
     ghost use Rattle.std.specs.Cmp.{partial_equiv_from_equiv};
     ghost use Rattle.dmr_core.specs.Same.{are_same, are_same-equivalence};

@@ -1,4 +1,4 @@
-//! What a carrier sends, frame by frame, as a controller cuts it that serves every version of the link format.
+//! Shows the octets of a carrier, frame by frame. It cuts them like a controller that serves every version of the link.
 
 use crate::words_of_bursts::show_word;
 use dmr_frames::{Cutter, FrameIn, Step, Version};
@@ -6,8 +6,8 @@ use std::alloc::Global;
 use std::io;
 use std::io::Write;
 
-/// A carrier's connection that is read: its cutter, how many octets came, and with which of them the frame began that isn't
-/// whole yet.
+/// A carrier's connection: its cutter, the number of octets so far, and the place of the first octet of the incomplete
+/// frame.
 #[derive(Drop)]
 pub struct CarrierReader {
     cutter: Cutter,
@@ -17,7 +17,7 @@ pub struct CarrierReader {
 }
 
 impl CarrierReader {
-    /// A connection on which nothing came yet.
+    /// Returns a connection without octets.
     pub fn new() -> CarrierReader {
         CarrierReader {
             cutter: Cutter::new(Version::NEWEST),
@@ -27,8 +27,8 @@ impl CarrierReader {
         }
     }
 
-    /// Prints the frames that octets complete, each with the number of its first octet, counted from 0 over the whole connection,
-    /// and the first octet from which no frame can follow.
+    /// Prints the frames that octets complete, each with the number of its first octet, and the first fault with the
+    /// number of its octet. The numbers count from 0 over the whole connection.
     pub fn show<W: Write>(&mut self, alloc: Global, octets: &[u8], out: &mut W) -> io::Result<()> {
         for octet in octets {
             let step = self.cutter.feed_byte(*octet);
@@ -52,7 +52,7 @@ impl CarrierReader {
         Ok(())
     }
 
-    /// Prints how many octets of a frame wait for more.
+    /// Prints the number of octets of an incomplete frame.
     pub fn show_rest<W: Write>(&self, out: &mut W) -> io::Result<()> {
         let begins = self.begins;
         let rest = self.came.saturating_sub(begins);
@@ -66,7 +66,7 @@ impl CarrierReader {
     }
 }
 
-/// Prints a frame, and what its word means.
+/// Prints a frame, and the meaning of its word.
 fn show_frame<W: Write>(
     alloc: Global,
     begins: usize,

@@ -1,11 +1,16 @@
-//! Says in words what the octets of a site are, as the controller reads them: `dmr_decode carrier HEX..` the frames that a
-//! carrier sent, `dmr_decode site HEX..` those that it was sent, `dmr_decode word HEX` the 25 octets of a word, `dmr_decode pdu
-//! HEX` ten octets; `dmr_decode replay` what a replay printed, `dmr_decode script` a script. `dmr_decode write PDU` goes the
-//! other way.
+//! Shows in words what the octets of a site are, as the controller reads them.
 //!
-//! A word's meaning is `dmr_burst::read`'s, and frames from carriers are cut by `dmr_frames::Cutter`, so what is said is what the
-//! controller would make of it. `words_of_bursts` says what a word means, `carrier` and `site` go through the frames,
-//! `pdu_in_words` reads a PDU that is written in words, and `tasks` puts them together.
+//! - `dmr_decode carrier HEX..`: the frames that a carrier sent
+//! - `dmr_decode site HEX..`: the frames that a carrier received
+//! - `dmr_decode word HEX`: the 25 octets of a word
+//! - `dmr_decode pdu HEX`: ten octets
+//! - `dmr_decode replay`: the output of a replay
+//! - `dmr_decode script`: a script
+//! - `dmr_decode write PDU`: the octets, check and burst of a PDU that is given in words
+//!
+//! `dmr_burst::read` reads the words, and `dmr_frames::Cutter` cuts the frames of carriers, so the output shows what
+//! the controller makes of the octets. `words_of_bursts` shows words, `carrier` and `site` show frames, `pdu_in_words`
+//! reads a PDU in words, and `tasks` connects them.
 #![tactic(auto)]
 
 mod carrier;
@@ -19,7 +24,7 @@ use std::io::{BufWriter, Eprint, Write};
 use std::process::ExitCode;
 use std::{env, io};
 
-/// What `--help` says.
+/// The text of `--help`.
 const HELP: &str = "\
 Says in words what the octets of a site are, as the controller reads them.
 
@@ -38,7 +43,7 @@ A PDU is written as it is printed, a field that is left out being 0:
 Status: 0 it was said; 1 the input is not what was named, or a file; 2 the words.
 ";
 
-/// What a task reads: the words behind its name, or standard input where there are none.
+/// Returns the input of a task: the words after its name, or standard input if there are none.
 fn input_of<R: AllocGlobal + Input>(rt: &R, rest: &[String]) -> io::Result<String> {
     if rest.is_empty() {
         return io::read_to_string(rt.alloc(), rt.reader());
@@ -51,7 +56,7 @@ fn input_of<R: AllocGlobal + Input>(rt: &R, rest: &[String]) -> io::Result<Strin
     Ok(text)
 }
 
-/// Does the task of a name, prints what it says, and answers the exit status.
+/// Runs the task with this name, prints its output, and returns the exit status.
 fn do_task<R: AllocGlobal + Print + Eprint>(rt: &R, task: &str, text: &str) -> io::Result<u8> {
     let mut out = BufWriter::new(rt.alloc(), io::writer(rt))?;
     let done = run(rt.alloc(), task, text, &mut out);

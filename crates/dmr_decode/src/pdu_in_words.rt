@@ -1,14 +1,14 @@
-//! A PDU written in words, as it is printed: its name, and `name=value` for each field. A field that is left out is 0.
+//! A PDU in words, as it is printed: its name, and `name=value` for each field. A missing field is 0.
 
 ghost use Rattle.std.specs.Prelude.{◌<◌, IfOk};
 
 use dmr_pdu::{Address, Kind, Lpcn, Number, Pdu, Reason, SlotNo};
 use thiserror::Error;
 
-/// Why words are no PDU.
+/// The fault of words that are not a PDU.
 #[derive(Clone, Copy, Debug, Error)]
 pub enum WordFault<'a> {
-    /// No words.
+    /// There are no words.
     #[error("a PDU begins with its name")]
     NoName,
     /// No PDU has this name.
@@ -17,19 +17,19 @@ pub enum WordFault<'a> {
     /// The PDU has no field of the name before the `=`, or there is no `=`.
     #[error("the PDU has no such field: {0}")]
     NoSuchField(&'a str),
-    /// The value of this field is no number, no name of a value, or out of the field's range.
+    /// The value of this field is not a number or the name of a value, or it is out of the field's range.
     #[error("no value, or out of range: {0}")]
     BadValue(&'a str),
 }
 
-/// The fields that are written behind a PDU's name.
+/// The fields after a PDU's name.
 #[derive(Clone, Copy)]
 struct Fields<'w, 'a> {
     words: &'w [&'a str],
 }
 
 impl<'w, 'a> Fields<'w, 'a> {
-    /// The fields, all of which must have one of these names.
+    /// Returns the fields. Each of them has to have one of these names.
     fn of(words: &'w [&'a str], names: &[&str]) -> Result<Fields<'w, 'a>, WordFault<'a>> {
         for word in words {
             let Some((name, _)) = word.split_once('=') else {
@@ -42,7 +42,7 @@ impl<'w, 'a> Fields<'w, 'a> {
         Ok(Fields { words })
     }
 
-    /// The text of a field, if it is given.
+    /// Returns the text of a field, if it is given.
     fn text(&self, name: &str) -> Option<&'a str> {
         for word in self.words {
             if let Some((given, value)) = word.split_once('=') {
@@ -54,7 +54,7 @@ impl<'w, 'a> Fields<'w, 'a> {
         None
     }
 
-    /// The number of a field, which is below a bound; 0 where it is not given.
+    /// Returns the number of a field, which is below a bound, or 0 if it is not given.
     fn number(&self, name: &'static str, bound: u32) -> Result<u32, WordFault<'a>>
         requires { 0 < bound }
         ensures { IfOk result (λ n. n < bound) }
@@ -68,28 +68,28 @@ impl<'w, 'a> Fields<'w, 'a> {
         }
     }
 
-    /// A field of one bit.
+    /// Returns a field of one bit.
     fn flag(&self, name: &'static str) -> Result<bool, WordFault<'a>> {
         Ok(self.number(name, 2)? == 1)
     }
 
-    /// A field that is an address.
+    /// Returns a field that is an address.
     fn address(&self, name: &'static str) -> Result<Address, WordFault<'a>> {
         Ok(Address::new(self.number(name, 1 << 24)?))
     }
 
-    /// A field that is a channel; it must be given.
+    /// Returns the channel, which has to be given.
     fn channel(&self) -> Result<Lpcn, WordFault<'a>> {
         let number = self.number("lpcn", 4096)?;
         Lpcn::try_new(number).ok_or(WordFault::BadValue("lpcn"))
     }
 
-    /// The slot.
+    /// Returns the slot.
     fn slot(&self) -> Result<SlotNo, WordFault<'a>> {
         Ok(SlotNo::new(self.number("slot", 2)?))
     }
 
-    /// The service kind, by its name or number.
+    /// Returns the service kind, by its name or number.
     fn kind(&self) -> Result<Kind, WordFault<'a>> {
         let text = self.text("kind").unwrap_or("");
         for (kind, name) in Kind::NAMES {
@@ -100,7 +100,7 @@ impl<'w, 'a> Fields<'w, 'a> {
         Ok(Kind::new(self.number("kind", 16)?))
     }
 
-    /// The reason, by its name or number.
+    /// Returns the reason, by its name or number.
     fn reason(&self) -> Result<Reason, WordFault<'a>> {
         let text = self.text("reason").unwrap_or("");
         for (reason, name) in Reason::NAMES {
@@ -112,7 +112,7 @@ impl<'w, 'a> Fields<'w, 'a> {
     }
 }
 
-/// The PDU that words are.
+/// Returns the PDU that these words mean.
 pub fn pdu_of<'a>(words: &[&'a str]) -> Result<Pdu, WordFault<'a>> {
     let [name, fields @ ..] = words else {
         return Err(WordFault::NoName);
@@ -249,7 +249,7 @@ fn control_move<'a>(words: &[&'a str]) -> Result<Pdu, WordFault<'a>> {
     })
 }
 
-/// Ten octets, which may be any.
+/// Returns the PDU of any ten octets.
 fn other<'a>(words: &[&'a str]) -> Result<Pdu, WordFault<'a>> {
     let mut octets = [0; 10];
     match words {

@@ -1,4 +1,4 @@
-//! What the site sends to a carrier, frame by frame.
+//! Shows the octets of the site to a carrier, frame by frame.
 
 ghost use Rattle.std.specs.Prelude.{◌≡◌, ◌++◌, IfSome};
 ghost use Rattle.dmr_frames.specs.Frames.{spelling_out};
@@ -11,15 +11,15 @@ use std::alloc::Global;
 use std::io;
 use std::io::Write;
 
-/// The frame that octets begin with, and the octets behind it.
+/// The first frame of octets, and the octets after it.
 #[derive(Clone, Copy)]
 struct Front<'a> {
     frame: FrameOut,
     rest: &'a [u8],
 }
 
-/// Prints the frames of octets that went to a carrier, each with the number of its first octet, and the first octets that begin
-/// none.
+/// Prints the frames of octets that were sent to a carrier, and the first octets that begin no frame. Each is printed
+/// with the number of its first octet.
 pub fn show_site<W: Write>(alloc: Global, octets: &[u8], out: &mut W) -> io::Result<()> {
     let mut rest = octets;
     for _ in 0..octets.len() {
@@ -41,7 +41,7 @@ pub fn show_site<W: Write>(alloc: Global, octets: &[u8], out: &mut W) -> io::Res
     Ok(())
 }
 
-/// Prints a frame, and what its word means.
+/// Prints a frame, and the meaning of its word.
 fn show_frame<W: Write>(
     alloc: Global,
     begins: usize,
@@ -59,9 +59,9 @@ fn show_frame<W: Write>(
     }
 }
 
-/// The frame that octets begin with; `None` where they begin with none.
+/// Returns the first frame of octets and the rest, or `None` if they begin with no frame.
 fn front_of<'a>(octets: &'a [u8]) -> Option<Front<'a>>
-    // The octets are the frame's spelling and the rest.
+    // The octets are the frame's octets and then the rest.
     ensures { IfSome result (λ front. octets.entry.now ≡ spelling_out front.frame ++ front.rest.now) }
 {
     let frame = frame_at(octets)?;
@@ -70,7 +70,8 @@ fn front_of<'a>(octets: &'a [u8]) -> Option<Front<'a>>
     Some(Front { frame, rest })
 }
 
-/// Returns the TX of a slot and the 25 octets of a word, which follow its number.
+/// Returns the TX with this number, if there is one, whose slot and word are in `burst`. The word has 25 octets after
+/// the slot.
 fn burst_of(number: Option<u8>, burst: &[u8]) -> Option<FrameOut> {
     let [slot, octets @ ..] = burst else {
         return None;
@@ -84,7 +85,8 @@ fn burst_of(number: Option<u8>, burst: &[u8]) -> Option<FrameOut> {
     })
 }
 
-/// Returns the TX that these octets may begin with behind its length octet, in the version that has this length.
+/// Returns the TX that octets can begin with, by its length octet and the octets after it. The length decides the
+/// version.
 fn transmission_of(length: u8, body: &[u8]) -> Option<FrameOut> {
     for version in Version::ALL {
         if length != FrameKind::Tx.body_length(version) {
@@ -98,7 +100,7 @@ fn transmission_of(length: u8, body: &[u8]) -> Option<FrameOut> {
     None
 }
 
-/// Returns the refusal that has this octet.
+/// Returns the refusal with this octet.
 fn refusal_of(octet: u8) -> Option<Refusal> {
     for refusal in [Refusal::BadVersion, Refusal::WrongCarrier] {
         if octet == refusal.octet() {
@@ -108,7 +110,7 @@ fn refusal_of(octet: u8) -> Option<Refusal> {
     None
 }
 
-/// Returns the frame that octets may begin with, by its type and body, and a TX by its length too.
+/// Returns the frame that octets can begin with, by its type and body, and a TX also by its length.
 fn frame_at(octets: &[u8]) -> Option<FrameOut> {
     let [octet, length, body @ ..] = octets else {
         return None;

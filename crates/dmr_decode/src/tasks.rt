@@ -1,4 +1,4 @@
-//! What the program is asked to do, each task over the text of its input.
+//! The tasks of the program, each over the text of its input.
 
 use crate::carrier::CarrierReader;
 use crate::pdu_in_words::{WordFault, pdu_of};
@@ -11,28 +11,28 @@ use std::io;
 use std::io::Write;
 use thiserror::Error;
 
-/// Why a task was not done.
+/// The fault of a task.
 #[derive(Debug, Drop, Error)]
 pub enum TaskFault<'a> {
     /// No task has this name.
     #[error("there is no task {0}")]
     NoSuchTask(&'a str),
-    /// The input is something other than hexadecimal digits, two an octet.
+    /// The input is not hexadecimal digits, two for each octet.
     #[error("not hexadecimal digits, two an octet")]
     NotHex,
     /// The input is not the 25 octets of a word.
     #[error("not the 25 octets of a word")]
     NotWord,
-    /// One of the four bits behind a word is 1.
+    /// One of the four bits after a word is 1.
     #[error("not a word: its last four bits are not 0")]
     BadPad,
     /// The input is not ten octets.
     #[error("not ten octets")]
     NotTen,
-    /// The input is no PDU in words.
+    /// The input is not a PDU in words.
     #[error(transparent)]
     Words(#[from] WordFault<'a>),
-    /// The output took not all of what was said.
+    /// The output could not be written in full.
     #[error(transparent)]
     Io(#[from] io::Error),
     /// Memory ran out.
@@ -40,7 +40,7 @@ pub enum TaskFault<'a> {
     Memory(#[from(alloc)] AllocError),
 }
 
-/// Does the task of a name over a text, and says what it finds.
+/// Runs the task with this name over a text, and writes its output.
 pub fn run<'a, W: Write>(
     alloc: Global,
     task: &'a str,
@@ -59,7 +59,7 @@ pub fn run<'a, W: Write>(
     }
 }
 
-/// The octets of hexadecimal digits, with spaces anywhere.
+/// Returns the octets of hexadecimal digits, with spaces anywhere.
 fn octets_of<'a>(alloc: Global, text: &str) -> Result<Vec<u8>, TaskFault<'a>> {
     let mut digits = String::new(alloc);
     for part in text.split_whitespace() {
@@ -116,7 +116,7 @@ fn written<'a, W: Write>(alloc: Global, text: &'a str, out: &mut W) -> Result<()
     Ok(show_burst(alloc, &pdu, out)?)
 }
 
-/// What a replay printed, line by line.
+/// Shows the output of a replay, line by line.
 fn replay<'a, W: Write>(alloc: Global, text: &str, out: &mut W) -> Result<(), TaskFault<'a>> {
     for line in text.lines() {
         replay_line(alloc, line, out)?;
@@ -124,7 +124,7 @@ fn replay<'a, W: Write>(alloc: Global, text: &str, out: &mut W) -> Result<(), Ta
     Ok(())
 }
 
-/// The line of a carrier, frame by frame, or another as it is.
+/// Shows the line of a carrier frame by frame, and any other line as it is.
 fn replay_line<'a, W: Write>(alloc: Global, line: &str, out: &mut W) -> Result<(), TaskFault<'a>> {
     let words: Vec<&str> = line.split_whitespace().collect(alloc)?;
     match words.as_slice() {
@@ -137,7 +137,7 @@ fn replay_line<'a, W: Write>(alloc: Global, line: &str, out: &mut W) -> Result<(
     }
 }
 
-/// The lines of a script as they are, and below each piece of a carrier's octets the frames that it completes.
+/// Shows the lines of a script as they are, and after each piece of a carrier's octets the frames that it completes.
 fn script<'a, W: Write>(alloc: Global, text: &str, out: &mut W) -> Result<(), TaskFault<'a>> {
     let mut readers = Vec::new(alloc);
     for _ in 0..16u32 {
@@ -150,7 +150,7 @@ fn script<'a, W: Write>(alloc: Global, text: &str, out: &mut W) -> Result<(), Ta
     Ok(())
 }
 
-/// The frames that the line of a script completes.
+/// Shows the frames that a line of a script completes.
 fn script_line<'a, W: Write>(
     alloc: Global,
     line: &str,
@@ -173,7 +173,7 @@ fn script_line<'a, W: Write>(
     }
 }
 
-/// The frames that a piece of a carrier's octets completes.
+/// Shows the frames that a piece of a carrier's octets completes.
 fn piece<'a, W: Write>(
     alloc: Global,
     digits: &str,
@@ -184,7 +184,7 @@ fn piece<'a, W: Write>(
     Ok(reader.show(alloc, octets.as_slice(), out)?)
 }
 
-/// The reader of the carrier whose number is written so.
+/// Returns the reader of the carrier with this number.
 fn reader_of<'r>(readers: &'r mut [CarrierReader], number: &str) -> Option<&'r mut CarrierReader> {
     let place = number.parse::<usize>().ok()?;
     readers.get_mut(place)

@@ -1,4 +1,4 @@
-//! What a word of 196 bits means, and which of its bits were flipped.
+//! Shows what a word of 196 bits means, and which of its bits were flipped.
 
 ghost use Rattle.std.specs.Prelude.{◌<◌};
 
@@ -10,10 +10,10 @@ use std::alloc::Global;
 use std::io;
 use std::io::Write;
 
-/// At most so many flipped bits are mended.
+/// The largest number of flipped bits that are mended.
 const MENDED: u32 = 3;
 
-/// Prints what a word means: its PDU and the bits that were mended, or why it means none.
+/// Prints the meaning of a word: its PDU and the mended bits, or why it has none.
 pub fn show_word<W: Write>(alloc: Global, word: &Word196, out: &mut W) -> io::Result<()> {
     match read(word) {
         Some(pdu) => {
@@ -33,7 +33,7 @@ pub fn show_word<W: Write>(alloc: Global, word: &Word196, out: &mut W) -> io::Re
     }
 }
 
-/// Prints at which places a word differs from the burst of what it means.
+/// Prints the places at which a word differs from the burst of its PDU.
 fn show_flips<W: Write>(word: &Word196, clean: &Word196, out: &mut W) -> io::Result<()> {
     let apart = word.places_apart(clean);
     if apart > MENDED {
@@ -59,7 +59,7 @@ fn show_flips<W: Write>(word: &Word196, clean: &Word196, out: &mut W) -> io::Res
     Ok(())
 }
 
-/// Prints a place, and the cell that it holds.
+/// Prints a place and its cell.
 fn show_place<W: Write>(place: usize, out: &mut W) -> io::Result<()>
     requires { place < 196 }
 {

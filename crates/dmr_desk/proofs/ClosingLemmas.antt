@@ -1,4 +1,4 @@
--- From what the seats and the views show, what closing shows.
+-- From seats and views to what closing shows.
 use Rattle.std.proofs.Common.{◌≡◌, ℕ, List, length, reverse, arith, Some, refl, sym, ap, ◌∙◌, subst}
 use Rattle.std.specs.Prelude.{slice_get, Contains}
 use Rattle.std.proofs.lemmas.Option.{same_Some, slice_get_within}
@@ -13,7 +13,7 @@ use Rattle.dmr_desk.specs.Views.{view_of}
 use Rattle.dmr_desk.specs.Audited.{AreGathered, IsAudited, IsDiffering, IsFault, IsReported, SameBelow, count_of_deposits, deposits_of_seats}
 use Rattle.dmr_desk.proofs.NoOtherActors.{no_others}
 
--- views that differ from the journal of a book, at a desk of the book's site and limit
+-- views that differ from a book's journal, at a desk of the book's site and limit
 pub differs_fault : (pages : Pages) (actors : ℕ) (seats : List Sitting) (views : List (List Deposit)) (actor : ℕ) → AreSoundPages pages → AreGathered seats views → length views ≡ actors → length pages.entries ≡ deposits_of_seats seats
     → IsDiffering views pages.entries actor → IsFault (record { site = pages.opening; limit = pages.limit; actors = actors }) seats (Differs actor)
 differs_fault pages actors seats views actor kept g count counted differs =
@@ -33,7 +33,7 @@ differs_fault pages actors seats views actor kept g count counted differs =
       },
     )
 
--- a report of what a book has, at the very site and limit that it was opened with
+-- a report of a book, at exactly the site and limit that it was opened with
 pub of_book : (pages : Pages) (report : Report) → AreSoundPages pages → IsSafe pages.opening.plan pages.opening.facts (reverse pages.entries) → report.site ≡ site_after_entries pages.opening pages.entries → report.journal ≡ pages.entries → SameBelow (length report.views.items) report.views.items pages.entries → length pages.entries ≡ count_of_deposits report.views.items → IsReported pages.opening pages.limit report.views.items report
 of_book pages report kept safe site journal same count =
     let P : List Entry → Type 0 = λ entries. IsReported pages.opening pages.limit report.views.items (record { site = site_after_entries pages.opening entries; journal = entries; views = report.views }) in
@@ -48,7 +48,7 @@ of_book pages report kept safe site journal same count =
     let Q : Report → Type 0 = λ r. IsReported pages.opening pages.limit report.views.items r in
     subst Q (λ i. record { site = sym site i; journal = sym journal i; views = report.views }) base
 
--- what a seat has is what the journal has of its actor
+-- the deposits of a seat are the journal's list for its actor
 pub seat_has_view : (desk : Opened) (seats : List Sitting) (report : Report) → IsAudited desk seats report → (seat : Sitting) → Contains seats seat → seat.deposits ≡ view_of seat.actor report.journal
 seat_has_view desk seats report is seat has =
     let seen = is.gathered.each seat has in

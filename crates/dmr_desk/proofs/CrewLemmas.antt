@@ -53,7 +53,7 @@ new_but_last xs ys x e h =
     let both = new_init 0 ys x (subst P e h) in
     let z : 0 + length ys ≡ length ys = omega arith in (both.0, subst Q z both.1)
 
--- a seat that is taken with the last station is that of its number
+-- a seat that is taken with the last station has that station's number
 pub last_number : {S : Type 0} (stations left : List S) (station : S) (seats rest : List Sitting) (seat : Sitting) (f : S → Stand)
     → length seats ≡ length stations → stations ≡ left ++ station ∷ [] → seats ≡ rest ++ seat ∷ [] → AreNew 0 seats → seat.actor ≡ 0 + length (map f left)
 last_number stations left station seats rest seat f same first second new =

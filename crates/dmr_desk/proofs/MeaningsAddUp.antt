@@ -1,4 +1,4 @@
--- What the connections of a link mean, added up.
+-- The meanings of a link's connections, added up.
 use Rattle.std.proofs.Common.{◌≡◌, List, [], ◌∷◌, ◌++◌, map, refl, sym, ap, ◌∙◌, subst, append_assoc}
 use Rattle.std.specs.Prelude.{All}
 use Rattle.std.proofs.lemmas.List.{append-nil, map-append}
@@ -15,7 +15,7 @@ use Rattle.dmr_desk.specs.Work.{deposits_of_sessions}
 
 -- ---- each connection
 
--- what each connection means, and that a link that is over owes nothing
+-- what each connection means, and that nothing is pending of a link that is over
 module _ (laws : (l : LinkState) (s : Session) → Stands l s → Accounts l s) (over_owes : (l : LinkState) → IsOver l → notices_owed l ≡ []) where
   newest : (l : LinkState) (s : Session) (h : Stands l s) → IsAccounted l.who s (laws l s h).done (notices_owed l)
   newest l s h = let a = laws l s h in record { means = a.means; events = a.events; taken = a.taken }

@@ -21,7 +21,7 @@ no_answers : (deposits : List Deposit) → answers_in (map Handed deposits) ≡ 
 no_answers [] = refl
 no_answers (d ∷ deposits) = no_answers deposits
 
--- ---- what a desk took, aside
+-- ---- without what a desk took
 
 abbrev bare : Hearing → Hearing
 bare h = record { session = in_record h.session; row = h.row; writing = h.writing }
@@ -56,7 +56,7 @@ bare_all h (a ∷ answers) = ap (λ (k : Hearing). hearing_after_answers k answe
 
 -- ---- a call of serve
 
--- where there is no connection nothing is heard
+-- without a connection, answers of reads and writes change nothing
 unheard : (row writing reads : ℕ) (a : Answer) → is_wire a ≡ true → reading_after_any (reading_at [] row writing reads) a ≡ reading_at [] row writing reads
 unheard row writing reads Opened wire = cc
 unheard row writing reads NotYet wire = cc
@@ -80,11 +80,11 @@ none_heard row writing reads (a ∷ answers) wire =
 
 -- ---- steps
 
--- a call may begin there: no interruption came last that it counts on
+-- a call may begin at this reading: it counts on no interruption that came last
 abbrev Begins : Reading → Type 0
 Begins r = (r.writing ≡ 0) × (((r.reads ≡ 0) × (r.row ≡ 0)) ⊎ (r.reads ≡ 64))
 
--- a reading is where a call is: after this many reads of it, or after the reads of the call before, and before its first
+-- a reading agrees with a call after some of its reads; it began the call itself, or continues after the 64 reads of the call before
 record Matches (ss : List Session) (r : Reading) (k : Hearing) (reads : ℕ) : Type 0 where
   pub past : r.past ≡ k.session ∷ ss
   pub writing : r.writing ≡ k.writing
@@ -124,11 +124,11 @@ matched laws s ss row writing reads answers begins wire few =
           })
     ]
 
--- what a reading has of connections
+-- the connections of a reading
 abbrev Has : Reading → List Session → Type 0
 Has r past = r.past ≡ map in_record past
 
--- a call adds to the reading what it does to the connections; where it made its 64 reads, another may begin
+-- a call adds to the reading what it does to the connections; after its 64 reads, another may begin
 after_call : RecordLaws → (who : Peer) (now : List Session) (row writing reads : ℕ) (happened : List Happening) (stop : Ended) → Begins (reading_at (map in_record now) row writing reads) → IsCall who now happened stop →
     Has (reading_after_all (reading_at (map in_record now) row writing reads) (answers_in happened)) (sessions_after now (answers_in happened) (deposits_in happened))
     × (reads_in (answers_in happened) ≡ 64 → Begins (reading_after_all (reading_at (map in_record now) row writing reads) (answers_in happened)))
@@ -148,7 +148,7 @@ after_call laws who (s ∷ ss) row writing reads happened stop begins call =
       ),
     )
 
--- a call behind which another may begin made its 64 reads
+-- if another call may begin directly after a call, that call made its 64 reads
 paused_full : (happened : List Happening) (stop : Ended) (earlier : List Doing) → MayBeginServe (Served happened stop ∷ earlier) → StopsAt stop (answers_in happened) → reads_in (answers_in happened) ≡ 64
 paused_full happened ended.Paused earlier may stops = stops
 paused_full happened ended.Idle earlier may stops = absurd may
@@ -189,7 +189,7 @@ served_more laws who past earlier happened stop r call may f =
     let after = after_call laws who now r.row r.writing r.reads happened stop (subst P (sym here) (f.begins may)) call in
     subst Q here (record { has = after.0; begins = λ more. after.1 (paused_full happened stop earlier more call.stops) })
 
--- one step more
+-- one more step
 read_more : (past : List Session) (earlier : List Doing) (d : Doing) (answers : List Answer) (r : Reading) → answers_in (happened_in d) ≡ answers →
     Follows past (d ∷ earlier) (reading_after_all (reading_after_all r (answers_in (happened_of earlier))) answers) → Follows past (d ∷ earlier) (reading_after_all r (answers_in (happened_of (d ∷ earlier))))
 read_more past earlier d answers r are f =
@@ -216,7 +216,7 @@ follows laws who past (Waited x deposits ∷ earlier) orderly =
 pub one_record : RecordLaws → (who : Peer) (past : List Session) (doings : List Doing) → IsOrderly who past doings → IsOneRecord past doings
 one_record laws who past doings orderly = sym (follows laws who past doings orderly).has
 
--- of a port that tells its record
+-- the same for a port that reports its record
 pub record_since : RecordLaws → (who : Peer) (past : List Session) (doings : List Doing) (begun whole : List Answer) → IsOrderly who past doings → (before after : Option (List Answer)) → Tells before (answers_in (happened_of doings)) after →
     before ≡ Some begun → after ≡ Some whole → (answers : List Answer) × (whole ≡ begun ++ answers) × (map in_record (past_after past doings) ≡ read_on past answers)
 record_since laws who past doings begun whole orderly before after tells some later =

@@ -24,7 +24,7 @@ going_live false kept lost h = absurd (h refl)
 pub quiet_live : (l : LinkState) → IsQuiet l → is_live l ≡ true
 quiet_live l h = going_live (is_going l.connection) (is_kept l.pending.kept) (is_lost l.pending.lost) h.stays
 
--- what is known of every link, and of what happened in one step and then in another
+-- facts about every link, and about what happened in one step and then in another
 pub record LinkLaws : Type 0 where
   pub dead_over : (l : LinkState) → is_live l ≡ false → IsOver l
   pub over_dead : (l : LinkState) → IsOver l → is_live l ≡ false

@@ -1,4 +1,4 @@
--- What all workers did is a term.
+-- The work of all workers is a term.
 use Rattle.std.proofs.Common.{◌≡◌, ℕ, zero, suc, ◌+◌, ◌≤◌, ◌<◌, ltb, Bool, true, false, if◌then◌else◌, List, [], ◌∷◌, ◌++◌, Option, Some, None, length, map, slice_get, refl, sym, ◌∙◌, ap, subst, arith, length-append}
 use Rattle.std.specs.Prelude.{◌≢◌, All, Contains}
 use Rattle.std.proofs.lemmas.Bool.Decides.{nat_tests}
@@ -91,7 +91,7 @@ over_at_limit : (b : Bool) (entries limit : ℕ) (es : List Ending) (k : ℕ) �
 over_at_limit true entries limit es k e h g = absurd (no_over es 0 k h g)
 over_at_limit false entries limit es k e h g = grind (arith, nat_tests)
 
--- no ending up to this place is TermOver, where the first is not, nor one of those behind it
+-- no ending up to this place is TermOver, if the first is not and none of those after it is
 none_below : (e : Ending) (es : List Ending) (i : ℕ) → e ≢ ending.TermOver → ((j : ℕ) → j < i → slice_get es j ≢ Some ending.TermOver) → (j : ℕ) → j < suc i → slice_get (e ∷ es) j ≢ Some ending.TermOver
 none_below e es i first rest zero below g = first (same_some e ending.TermOver g)
 none_below e es i first rest (suc j) below g = rest j (omega arith) g
@@ -113,7 +113,7 @@ below_limit : (b : Bool) (entries limit : ℕ) (es : List Ending) (k : ℕ) → 
 below_limit true entries limit es k e h = (grind (arith, nat_tests), first_at 0 k es h)
 below_limit false entries limit es k e h = absurd cc
 
--- ---- what was handed back, taken apart
+-- ---- the results, split
 
 pub map_same : {W S X D : Type 0} (f : S → X) (a : W → S) (p : D → X) (h : W → D) (ws : List W) → ((w : W) → f (a w) ≡ p (h w)) → map f (map a ws) ≡ map p (map h ws)
 map_same f a p h [] e = refl
@@ -123,7 +123,7 @@ pub map_parts : {W X D : Type 0} (a : W → X) (p : D → X) (h : W → D) (ws :
 map_parts a p h [] e = refl
 map_parts a p h (w ∷ ws) e = let t = map_parts a p h ws e in let q = e w in cc
 
--- where a worker ended at a shut gate, its station's was
+-- if a worker ended at a shut gate, its station's gate was shut
 pub shut_at : {W S : Type 0} (station : W → S) (ending_of : W → Ending) (shut : S → Type 0) (ws : List W) (rest : List Ending)
     → All (λ w. ending_of w ≡ ending.GateShut → shut (station w)) ws → (k : ℕ) (s : S) → slice_get (map station ws) k ≡ Some s → slice_get (map ending_of ws ++ rest) k ≡ Some ending.GateShut → shut s
 shut_at station ending_of shut [] rest all k s gs ge = absurd cc
@@ -178,7 +178,7 @@ has_run desk seats report ends stations ss ds before after ts te s d is es ee et
       all_ended = ap length ee ∙ length-append (map (λ (x : Done). x.ending) ds) (te ∷ d.ending ∷ []) ∙ ap (λ (k : ℕ). k + 2) ne;
     }
 
--- where nobody ended early, it is a term
+-- if no worker ended early, it is a term
 pub is_term : (start : Start) (end : End) → HasRun start end → early_actor (length end.journal) start.limit end.ends ≡ None → IsTerm start end
 is_term start end run early = record {
   run = run;

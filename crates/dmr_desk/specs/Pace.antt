@@ -1,4 +1,4 @@
--- What a pacer tells, and what the ticker does.
+-- What a pacer reports, and what the ticker does.
 use Rattle.std.specs.Prelude.{◌≡◌, ℕ, ◌+◌, ◌⊎◌, Bool, true, false, List, ◌++◌, Option, Some, None, length, All}
 use Rattle.dmr_core.specs.declared.event.Event.TheVariants.{Tick}
 use Rattle.dmr_link.specs.declared.desk.Deposit.{Deposit}
@@ -7,37 +7,39 @@ use Rattle.dmr_desk.specs.declared.ending.Ending.TheVariants as ending
 use Rattle.dmr_desk.specs.declared.pace.Pace.{Pace}
 use Rattle.dmr_desk.specs.declared.pace.Pace.TheVariants as pace
 
--- how many ticks a pacer gave, and whether it said last that there are no more
+-- the number of ticks that a pacer gave, and whether its last answer was that there are no more
 pub record Paced : Type 0 where
   pub ticks : ℕ
   pub finished : Bool
 
+-- the report of a pacer after an answer
 abbrev pub paced_after : Paced → Pace → Paced
 paced_after p pace.Tick = record { ticks = p.ticks + 1; finished = false }
 paced_after p pace.NotYet = record { ticks = p.ticks; finished = false }
 paced_after p pace.Finished = record { ticks = p.ticks; finished = true }
 
--- where it is told afterwards, it follows from what was told before
+-- the report after an answer, if there is one, follows from the report before it
 abbrev pub FollowsPace : Option Paced → Pace → Option Paced → Type 0
 FollowsPace before x None = Unit {0}
 FollowsPace None x (Some after) = ⊥
 FollowsPace (Some before) x (Some after) = after ≡ paced_after before x
 
--- so many ticks were given in between
+-- the pacer gave `n` ticks between the two reports
 abbrev pub Gave : Option Paced → Option Paced → ℕ → Type 0
 Gave before None n = Unit {0}
 Gave None (Some after) n = ⊥
 Gave (Some before) (Some after) n = after.ticks ≡ before.ticks + n
 
+-- the last answer that the pacer reports, if it reports any, was that there are no more ticks
 abbrev pub SaysFinished : Option Paced → Type 0
 SaysFinished None = Unit {0}
 SaysFinished (Some p) = p.finished ≡ true
 
--- each hands in a tick
+-- each deposit is a tick
 abbrev pub AreTicks : List Deposit → Type 0
 AreTicks deposits = All (λ (deposit : Deposit). deposit.event ≡ Tick) deposits
 
--- as many as the pacer gave; one that met the term's end is dropped
+-- the desk took as many ticks as the pacer gave; when the term is over, one tick may have been dropped
 abbrev pub TicksTo : Option Paced → Option Paced → ℕ → Ending → Type 0
 TicksTo before after taken ending.Finished = Gave before after taken × SaysFinished after
 TicksTo before after taken ending.GateShut = ⊥
@@ -49,9 +51,11 @@ Ticks before calls after later e = (took : List Deposit) × (later ≡ calls ++ 
 
 -- ---- on the way
 
+-- so far the ticker's desk took a tick for each that the pacer gave
 abbrev pub Ticking : Option Paced → List Deposit → Option Paced → List Deposit → Type 0
 Ticking before calls after later = (took : List Deposit) × (later ≡ calls ++ took) × AreTicks took × Gave before after (length took)
 
+-- after a step the ticker goes on, or its whole work is done
 abbrev pub TicksOn : Option Paced → List Deposit → Option Paced → List Deposit → Option Ending → Type 0
 TicksOn before calls after later None = Ticking before calls after later
 TicksOn before calls after later (Some e) = Ticks before calls after later e

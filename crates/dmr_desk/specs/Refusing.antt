@@ -17,12 +17,12 @@ use Rattle.dmr_desk.specs.Sitting.{Sitting, HasSeat}
 use Rattle.dmr_desk.specs.Term.{Start, End, HasRun}
 use Rattle.dmr_desk.specs.Work.{Stand}
 
--- the numbers that the plan's carriers have among these many from this one on, the least first
+-- the carrier numbers of the plan among the `many` numbers that begin with `n`, least first
 abbrev pub numbers_from : Settings → ℕ → ℕ → List ℕ
 numbers_from plan zero n = []
 numbers_from plan (suc many) n = if has_carrier plan n then n ∷ numbers_from plan many (n + 1) else numbers_from plan many (n + 1)
 
--- the numbers of the plan's carriers, the least first
+-- the numbers of the plan's carriers, least first
 abbrev pub carrier_numbers : Settings → List ℕ
 carrier_numbers plan = numbers_from plan carriers_of_site 0
 
@@ -35,7 +35,7 @@ carrier_of_peer Operator = None
 abbrev pub AreStations : Settings → List Stand → Type 0
 AreStations plan stations = map (λ (s : Stand). carrier_of_peer s.link.who) stations ≡ map (λ (n : ℕ). Some n) (carrier_numbers plan)
 
--- of actors that have all done their part, this is the least that ended because the term was over, though the journal was below its
+-- all actors have done their part, and this is the least actor that ended because the term was over although the journal was below its
 -- limit
 pub record IsEarly (start : Start) (actor : ℕ) : Type 0 where
   pub end : End
@@ -44,13 +44,13 @@ pub record IsEarly (start : Start) (actor : ℕ) : Type 0 where
   pub told : slice_get end.ends actor ≡ Some ending.TermOver
   pub least : (lower : ℕ) → lower < actor → slice_get end.ends lower ≢ Some ending.TermOver
 
--- a desk that was opened with the site and the limit, and got the seats of all actors back, gave no report
+-- a desk that was opened with the site and the limit returned no report, although it received the seats of all actors
 pub record IsUnaudited (start : Start) (fault : CloseFault) : Type 0 where
   pub seats : List Sitting
   pub each : (actor : ℕ) → actor < length start.stations + 2 → HasSeat seats actor
   pub refused : IsFault (record { site = start.site; limit = start.limit; actors = length start.stations + 2 }) seats fault
 
--- what may be wrong where the stations are right: the first that applies
+-- a fault that applies if the stations are right; the first one
 abbrev pub IsFaultFor : Start → TermFault → Type 0
 IsFaultFor start BadStations = ⊥
 IsFaultFor start (Open BadLimit) = ¬ IsLimit start.limit
@@ -60,25 +60,25 @@ IsFaultFor start NoThread = IsLimit start.limit
 IsFaultFor start (Audit fault) = IsLimit start.limit × IsUnaudited start fault
 IsFaultFor start (Early actor) = IsLimit start.limit × IsEarly start actor
 
--- why there is no term: the first that applies
+-- why there is no term: the first fault that applies
 abbrev pub IsTermFault : Start → TermFault → Type 0
 IsTermFault start BadStations = ¬ AreStations start.site.plan start.stations
 IsTermFault start fault = AreStations start.site.plan start.stations × IsFaultFor start fault
 
 -- ---- on the way
 
--- a fault that is met when threads have run
+-- a fault that is found after threads have run
 abbrev pub IsLate : Start → TermFault → Type 0
 IsLate start (Audit fault) = IsUnaudited start fault
 IsLate start (Early actor) = IsEarly start actor
 IsLate start fault = ⊥
 
--- the first that ended because the term was over
+-- the first actor that ended because the term was over
 abbrev pub first_over : ℕ → List Ending → Option ℕ
 first_over n [] = None
 first_over n (ending.TermOver ∷ es) = Some n
 first_over n (e ∷ es) = first_over (n + 1) es
 
--- the least that was told so though the journal is below its limit
+-- the least actor that ended because the term was over although the journal is below its limit
 abbrev pub early_actor : ℕ → ℕ → List Ending → Option ℕ
 early_actor entries limit ends = if ltb entries limit then first_over 0 ends else None

@@ -1,4 +1,4 @@
--- Seats, and the desk that they stand round.
+-- Seats, and their desk.
 use Rattle.std.specs.Prelude.{◌≡◌, ◌<◌, ◌++◌, ℕ, zero, suc, false, List, [], ◌∷◌, None, Contains}
 use Rattle.dmr_plan.specs.declared.settings.Settings.{Settings}
 use Rattle.dmr_core.specs.Facts.{no_facts}
@@ -7,16 +7,16 @@ use Rattle.dmr_core.specs.declared.act.Acts.{Acts}
 use Rattle.dmr_core.specs.State.{SiteState}
 use Rattle.dmr_link.specs.declared.desk.Deposit.{Deposit}
 
--- a seat: whose it is, and what was deposited from it, the oldest first
+-- a seat: its actor, and its deposits, oldest first
 pub record Sitting : Type 0 where
   pub actor : ℕ
   pub deposits : List Deposit
 
--- the seat with one deposit more, the newest: an event, and the answer to it
+-- the seat with one more deposit, the newest: an event and its answer
 abbrev pub seat_with_deposit : Sitting → Event → Acts → Sitting
 seat_with_deposit seat event acts = record { actor = seat.actor; deposits = seat.deposits ++ record { event = event; acts = acts } ∷ [] }
 
--- settings that no site file gives
+-- settings that no site file yields
 abbrev pub no_settings : Settings
 no_settings = record {
   system = 0;
@@ -48,25 +48,25 @@ no_settings = record {
   control = 0;
 }
 
--- a desk: the site when it was opened, the most entries that its journal may have, and how many actors it has
+-- a desk: the site when it was opened, the limit of its journal, and the number of its actors
 pub record Opened : Type 0 where
   pub site : SiteState
   pub limit : ℕ
   pub actors : ℕ
 
--- a desk for nothing, which no call opens: what a ledger names where the call that makes it picks nothing
+-- a desk that no call opens: a ledger names it if the call that makes the ledger picks no desk
 abbrev pub unopened : Opened
 unopened = record { site = record { plan = no_settings; facts = no_facts }; limit = 0; actors = 0 }
 
--- a seat of this actor is among them
+-- this actor has a seat among these
 abbrev pub HasSeat : List Sitting → ℕ → Type 0
 HasSeat seats actor = (seat : Sitting) × Contains seats seat × (seat.actor ≡ actor)
 
--- none is missing: each actor below this number has a seat
+-- each actor below this number has a seat
 abbrev pub NoneMissing : List Sitting → ℕ → Type 0
 NoneMissing seats actors = (actor : ℕ) → actor < actors → HasSeat seats actor
 
--- the seats of the actors below a number, in order, from which nothing was deposited yet
+-- the seats of the actors below a number, in order, without deposits
 abbrev pub empty_seats : ℕ → List Sitting
 empty_seats zero = []
 empty_seats (suc n) = empty_seats n ++ record { actor = n; deposits = [] } ∷ []

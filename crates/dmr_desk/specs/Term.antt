@@ -16,7 +16,7 @@ use Rattle.dmr_desk.specs.Work.{Stand, moment, WorksUntil}
 
 -- ---- each actor's part
 
--- a link's worker did its work from one stand to another, with a new desk that took these events
+-- a link's worker did its work from one state of its station to another, with a new desk that took these events
 abbrev pub HasWorked : Stand → Stand → List Deposit → Ending → Type 0
 HasWorked s t view e = WorksUntil (moment s []) (moment t view) e
 
@@ -26,7 +26,7 @@ HasTicked before after view e = Ticks before [] after view e
 
 -- ---- the whole
 
--- what is handed in
+-- the arguments of a term
 pub record Start : Type 0 where
   pub site : SiteState
   pub limit : ℕ
@@ -34,7 +34,7 @@ pub record Start : Type 0 where
   pub pacer : Option Paced
   pub console : Stand
 
--- what is handed back
+-- the results of a term
 pub record End : Type 0 where
   pub site : SiteState
   pub journal : List Entry
@@ -44,10 +44,11 @@ pub record End : Type 0 where
   pub pacer : Option Paced
   pub console : Stand
 
--- what a term begins with, and what it ends with
+-- the start of a term from these arguments
 abbrev pub start_of_term : SiteState → ℕ → List Stand → Option Paced → Stand → Start
 start_of_term site limit stations pacer console = record { site = site; limit = limit; stations = stations; pacer = pacer; console = console }
 
+-- the end of a term with these results
 abbrev pub end_of_term : Report → List Ending → List Stand → Option Paced → Stand → End
 end_of_term report ends stations pacer console = record {
   site = report.site;
@@ -59,18 +60,19 @@ end_of_term report ends stations pacer console = record {
   console = console;
 }
 
--- WHAT WAS DONE. The actors are the stations, in their order, then the ticker, then the console
+-- the work of a whole term: a legal, safe journal, a view for each actor, and each actor's part. The actors are the stations, in their
+-- order, then the ticker, then the console
 pub record HasRun (start : Start) (end : End) : Type 0 where
-  -- the journal is legal from the site handed in, safe, and has at most `limit` entries; the site handed back is as it leaves it
+  -- the journal is legal from the site of the start, safe, and has at most `limit` entries; the end's site is in the state that it leads to
   pub legal : IsLegal start.site.plan start.site.facts (reverse end.journal)
   pub safe : IsSafe start.site.plan start.site.facts (reverse end.journal)
   pub within : length end.journal ≤ start.limit
   pub site : end.site ≡ site_after_entries start.site end.journal
-  -- each actor has a view, which is what the journal has of it, and no entry is of anybody else
+  -- each actor has a view, which is the journal's list for it, and no entry belongs to another actor
   pub actors : length end.views ≡ length start.stations + 2
   pub views : (k : ℕ) → k < length end.views → slice_get end.views k ≡ Some (view_of k end.journal)
   pub nobody : All (λ (entry : Entry). entry.actor < length end.views) end.journal
-  -- each station was handed back, and each actor has ended
+  -- each station was returned, and each actor has ended
   pub handed_back : length end.stations ≡ length start.stations
   pub all_ended : length end.ends ≡ length start.stations + 2
   -- each actor did its part, and its view is what its desk took
@@ -79,14 +81,14 @@ pub record HasRun (start : Start) (end : End) : Type 0 where
   pub ticker : (e : Ending) → slice_get end.ends (length start.stations) ≡ Some e → HasTicked start.pacer end.pacer (view_of (length start.stations) end.journal) e
   pub console : (e : Ending) → slice_get end.ends (length start.stations + 1) ≡ Some e → HasWorked start.console end.console (view_of (length start.stations + 1) end.journal) e
 
--- A TERM: all this was done, and a worker ended because the term was over only where it was
+-- A TERM: all this was done, and a worker ended because the term was over only if the journal was at its limit
 pub record IsTerm (start : Start) (end : End) : Type 0 where
   pub run : HasRun start end
   pub over : (k : ℕ) → slice_get end.ends k ≡ Some ending.TermOver → length end.journal ≡ start.limit
 
 -- ---- on the way
 
--- what a link's worker hands back: where its station stands, its seat, and why it ended
+-- the result of a link's worker: the state of its station, its seat, and why it ended
 pub record Done : Type 0 where
   pub at : Stand
   pub seat : Sitting
@@ -109,11 +111,11 @@ AllDone actor ss ds = ⊥
 abbrev pub IsTicked : ℕ → Option Paced → Option Paced → Sitting → Ending → Type 0
 IsTicked actor before after seat e = (seat.actor ≡ actor) × HasTicked before after seat.deposits e
 
--- a seat of this actor, from which nothing was told yet
+-- a seat of this actor, without deposits
 abbrev pub IsNew : ℕ → Sitting → Type 0
 IsNew actor seat = (seat.actor ≡ actor) × (seat.deposits ≡ [])
 
--- seats of the actors from this number on, from which nothing was told yet
+-- seats of the actors from this number on, without deposits
 abbrev pub AreNew : ℕ → List Sitting → Type 0
 AreNew actor [] = Unit {0}
 AreNew actor (seat ∷ seats) = IsNew actor seat × AreNew (actor + 1) seats

@@ -1,4 +1,4 @@
--- What a link's worker does, step by step: a carrier's, or the operators'.
+-- The steps of a link's worker: a carrier's, or the operators'.
 use Rattle.std.specs.Prelude.{◌≡◌, ◌≤◌, true, List, [], ◌∷◌, ◌++◌, Option, Some, None, map}
 use Rattle.dmr_wire.specs.Told.{Answer, Opened, NotYet, Finished, Again, Silent, Tells}
 use Rattle.dmr_link.specs.declared.desk.Deposit.{Deposit}
@@ -15,26 +15,28 @@ use Rattle.dmr_link.specs.LinkSteps.{is_live}
 use Rattle.dmr_desk.specs.declared.ending.Ending.{Ending}
 use Rattle.dmr_desk.specs.declared.ending.Ending.TheVariants as ending
 
--- ---- where a station stands
+-- ---- the state of a station
 
--- its link, the record that its port tells, and the record that its gate tells
+-- the state of a station: its link, and the records that its port and its gate report
 pub record Stand : Type 0 where
   pub link : LinkState
   pub told : Option (List Answer)
   pub passed : Option (List Passage)
 
+-- the state of a station with these three
 abbrev pub stand : LinkState → Option (List Answer) → Option (List Passage) → Stand
 stand link told passed = record { link = link; told = told; passed = passed }
 
--- it, and what the desk took so far
+-- a station's state, and what the desk took so far
 pub record Moment : Type 0 where
   pub at : Stand
   pub calls : List Deposit
 
+-- the moment with this state and these deposits
 abbrev pub moment : Stand → List Deposit → Moment
 moment at calls = record { at = at; calls = calls }
 
--- what port, desk and gate tell then
+-- the reports of port, desk and gate at that moment
 abbrev pub sides_at : Stand → List Deposit → Sides
 sides_at at calls = sides at.told calls at.passed
 
@@ -44,16 +46,16 @@ pub record Answers (before : Stand) (answer : Answer) (after : Stand) : Type 0 w
   pub link : after.link ≡ before.link
   pub passed : after.passed ≡ before.passed
 
--- the link changed, and of the same peer it is still
+-- the link changed, but still belongs to the same peer
 pub record Turns (before : Stand) (after : Stand) : Type 0 where
   pub who : after.link.who ≡ before.link.who
   pub told : after.told ≡ before.told
   pub passed : after.passed ≡ before.passed
 
--- ---- steps, the newest first
+-- ---- steps, newest first
 
--- an ask for a connection; a call of `serve`, in which these things happened, and which ended so; a wait, and what the desk took of
--- a link that was cut for silence
+-- a step: a request for a connection, a call of `serve`, or a wait. A call has what happened in it and how it ended; a wait has what the
+-- desk took when the link was cut for silence
 pub data Doing : Type 0 where
   Asked : (answer : Answer) → Doing
   Served : (happened : List Happening) (stop : Ended) → Doing
@@ -65,56 +67,58 @@ happened_in (Asked answer) = Answered answer ∷ []
 happened_in (Served happened stop) = happened
 happened_in (Waited answer deposits) = Answered answer ∷ map Handed deposits
 
--- what happened in all, the oldest first
+-- what happened in all steps, oldest first
 abbrev pub happened_of : List Doing → List Happening
 happened_of [] = []
 happened_of (d ∷ earlier) = happened_of earlier ++ happened_in d
 
--- what the newest connection has handed in
+-- the connections, with these deposits added to the newest
 abbrev pub with_newest_deposits : List Session → List Deposit → List Session
 with_newest_deposits [] deposits = []
 with_newest_deposits (s ∷ ss) deposits = with_calls s deposits ∷ ss
 
--- the connections, after an ask, and after a wait
+-- the connections after a request for one
 abbrev pub sessions_after_ask : List Session → Answer → List Session
 sessions_after_ask past Opened = new_session ∷ past
 sessions_after_ask past answer = past
 
+-- the connections after a wait
 abbrev pub sessions_after_wait : List Session → Answer → List Deposit → List Session
 sessions_after_wait past Silent deposits = with_newest_deposits (sessions_after_silence past) deposits
 sessions_after_wait past answer deposits = past
 
--- the connections, after a step
+-- the connections after a step
 abbrev pub past_then : List Session → Doing → List Session
 past_then past (Asked answer) = sessions_after_ask past answer
 past_then past (Served happened stop) = sessions_after past (answers_in happened) (deposits_in happened)
 past_then past (Waited answer deposits) = sessions_after_wait past answer deposits
 
--- the connections, after all
+-- the connections after all steps
 abbrev pub past_after : List Session → List Doing → List Session
 past_after past [] = past
 past_after past (d ∷ earlier) = past_then (past_after past earlier) d
 
--- what a desk took of connections, the oldest first
+-- what a desk took of connections, oldest first
 abbrev pub deposits_of_sessions : List Session → List Deposit
 deposits_of_sessions [] = []
 deposits_of_sessions (s ∷ ss) = deposits_of_sessions ss ++ s.calls
 
 -- ---- in order
 
+-- a port may answer a request for a connection so
 abbrev pub IsAsk : Answer → Type 0
 IsAsk Opened = Unit {0}
 IsAsk NotYet = Unit {0}
 IsAsk Finished = Unit {0}
 IsAsk answer = ⊥
 
--- of a link that isn't cut the desk takes nothing
+-- a port may answer a wait so, and the desk takes events only if the link was cut for silence
 abbrev pub IsWait : Answer → List Deposit → Type 0
 IsWait Again deposits = deposits ≡ []
 IsWait Silent deposits = Unit {0}
 IsWait answer deposits = ⊥
 
--- no connection is open, and nothing is owed
+-- no connection is open, and nothing is pending
 abbrev pub Rests : List Session → Type 0
 Rests past = (link : LinkState) × IsOver link × StandsFor link past
 
@@ -131,14 +135,14 @@ abbrev pub MayWait : List Doing → Type 0
 MayWait (Served happened ended.Idle ∷ earlier) = Unit {0}
 MayWait other = ⊥
 
--- why a call of `serve` ends, in the words of the port's answers
+-- why a call of `serve` ends, in terms of the port's answers
 abbrev pub StopsAt : Ended → List Answer → Type 0
 StopsAt ended.Idle answers = EndsInBlock answers
 StopsAt ended.Paused answers = reads_in answers ≡ most_reads
 StopsAt stop answers = Unit {0}
 
--- a call of `serve` on these connections of a peer: it reads and writes alone, and reads at most `most_reads` times; the gate is passed for each
--- event, and an event's answer is written behind it; and connections are read and written in their turn
+-- a call of `serve` on these connections of a peer: it only reads and writes, and reads at most `most_reads` times. It passes the gate for
+-- each event, and writes an event's answer after the event. It reads and writes connections in their turn
 pub record IsCall (who : Peer) (past : List Session) (happened : List Happening) (stop : Ended) : Type 0 where
   pub wire : AreOfWire (answers_in happened)
   pub few : reads_in (answers_in happened) ≤ most_reads
@@ -148,8 +152,8 @@ pub record IsCall (who : Peer) (past : List Session) (happened : List Happening)
   pub rested : (s : Session) (ss : List Session) → past ≡ s ∷ ss → (hearing_after_answers (hearing_at s 0) (answers_in happened)).writing ≡ 0
   pub stops : StopsAt stop (answers_in happened)
 
--- it asked only where no connection was open and nothing was owed, its calls of `serve` began where they may, and each wait stands right
--- behind a read that would block
+-- the worker asked for a connection only if none was open and nothing was pending. It began a call of `serve` only if
+-- `MayBeginServe` allowed it, and each wait directly follows a read that would block
 abbrev pub IsOrderly : Peer → List Session → List Doing → Type 0
 IsOrderly who past [] = Unit {0}
 IsOrderly who past (Asked answer ∷ earlier) = IsAsk answer × Rests (past_after past earlier) × IsOrderly who past earlier
@@ -158,18 +162,18 @@ IsOrderly who past (Waited answer deposits ∷ earlier) = IsWait answer deposits
 
 -- ---- from one moment to another
 
--- these steps were done
+-- these steps lead from moment `m` to moment `n`
 pub record Went (m : Moment) (n : Moment) (doings : List Doing) : Type 0 where
   pub who : n.at.link.who ≡ m.at.link.who
-  -- what port, desk and gate tell goes on by what happened, and by nothing else
+  -- the reports of port, desk and gate continue with what happened, and with nothing else
   pub happens : Happens (sides_at m.at m.calls) (happened_of doings) (sides_at n.at n.calls)
-  -- whatever connections the link stood for, it stands for what these steps make of them
+  -- if the link's state agreed with some connections before (`StandsFor`), it agrees with what these steps make of them
   pub stands : (past : List Session) → StandsFor m.at.link past → StandsFor n.at.link (past_after past doings)
-  -- what the desk took in these steps is, in one list, what it took of these connections since
+  -- the desk's deposits in these steps, in one list, are those of these connections since
   pub view : (past : List Session) → StandsFor m.at.link past → deposits_of_sessions (past_after past doings) ≡ deposits_of_sessions past ++ deposits_in (happened_of doings)
   pub orderly : (past : List Session) → StandsFor m.at.link past → IsOrderly m.at.link.who past doings
 
--- the last answer to an ask was that there will be no more connections
+-- the last answer to a request was that there will be no more connections
 abbrev pub HasFinished : List Doing → Type 0
 HasFinished (Asked Finished ∷ earlier) = Unit {0}
 HasFinished other = ⊥
@@ -179,26 +183,27 @@ abbrev pub WasShut : List Doing → Type 0
 WasShut (Served happened ended.GateShut ∷ earlier) = Unit {0}
 WasShut other = ⊥
 
--- a worker has finished only where no connection is open and nothing is owed
+-- the steps allow this ending; a worker has finished only if no connection is open and nothing is pending
 abbrev pub EndsFor : Ending → LinkState → List Doing → Type 0
 EndsFor ending.Finished link doings = HasFinished doings × IsOver link
 EndsFor ending.GateShut link doings = WasShut doings
 EndsFor ending.TermOver link doings = Unit {0}
 
--- the whole work
+-- a worker's whole work: steps that lead from `m` to `n`, and allow its ending
 abbrev pub WorksUntil : Moment → Moment → Ending → Type 0
 WorksUntil m n e = (doings : List Doing) × Went m n doings × EndsFor e n.at.link doings
 
 -- ---- on the way
 
--- it goes on: to a call of `serve`, or to an ask
+-- the work goes on, with a call of `serve` or a request for a connection
 abbrev pub Going : Moment → Moment → Type 0
 Going m n = (doings : List Doing) × Went m n doings × (is_live n.at.link ≡ true → MayBeginServe doings)
 
--- it is about to wait
+-- the worker is about to wait
 abbrev pub IsAboutToWait : Moment → Moment → Type 0
 IsAboutToWait m n = (doings : List Doing) × Went m n doings × MayWait doings × IsQuiet n.at.link × (n.at.link.unread ≡ [])
 
+-- the work goes on, or it has ended so
 abbrev pub GoesOn : Moment → Moment → Option Ending → Type 0
 GoesOn m n None = Going m n
 GoesOn m n (Some e) = WorksUntil m n e

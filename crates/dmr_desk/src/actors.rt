@@ -1,4 +1,4 @@
-//! Each actor's work at its seat.
+//! The work of each actor at its seat.
 
 ghost use Rattle.std.specs.Prelude.{◌≡◌, []};
 ghost use Rattle.dmr_desk.specs.Term.{HasWorked, HasTicked, IsWorkDone, IsTicked, work_done};
@@ -16,29 +16,29 @@ use std::sync::Wait;
 use std::sync::ledger::Ledger;
 use std::thread::Promise;
 
-/// What the worker of a link hands back.
+/// The result of a link's worker.
 #[derive(Drop)]
 pub struct LinkWork<S, L: Ledger> {
     /// The station.
     pub station: S,
     /// The seat.
     pub seat: Seat<L>,
-    /// Why it ended.
+    /// Why the worker ended.
     pub ending: Ending,
 }
 
-/// What the ticker hands back.
+/// The ticker's result.
 #[derive(Drop)]
 pub struct TickerWork<T, L: Ledger> {
     /// The pacer.
     pub pacer: T,
     /// The seat.
     pub seat: Seat<L>,
-    /// Why it ended.
+    /// Why the ticker ended.
     pub ending: Ending,
 }
 
-/// That the worker of this station does its work, with a new seat of this actor.
+/// The promise that the worker of this station does its work, with a new seat of this actor.
 #[derive(Drop)]
 pub struct LinkKept<S>(pub Snapshot<S>, pub u8);
 
@@ -48,7 +48,7 @@ impl<S: Serving, L: Ledger> Promise<LinkWork<S, L>> for LinkKept<S> {
     ghost kept_by = { λ p r. IsWorkDone p.1 (S.stand p.0.value) (work_done (S.stand r.station) r.seat r.ending) × (r.ending ≡ GateShut → S.shut r.station) };
 }
 
-/// That the ticker does its work with this pacer, and a new seat of this actor.
+/// The promise that the ticker does its work with this pacer, and a new seat of this actor.
 #[derive(Drop)]
 pub struct TickerKept<T>(pub Snapshot<T>, pub u8);
 
@@ -56,7 +56,7 @@ impl<T: Pacer, L: Ledger> Promise<TickerWork<T, L>> for TickerKept<T> {
     ghost kept_by = { λ p r. IsTicked p.1 (T.paced p.0.value) (T.paced r.pacer) r.seat r.ending };
 }
 
-/// Serves a station from a seat that is new.
+/// Serves a station from a new seat.
 pub fn serve_at<S: Serving, L: DeskLedger, R: Wait>(
     rt: &R,
     desk: &SharedDesk<L>,
@@ -77,7 +77,7 @@ pub fn serve_at<S: Serving, L: DeskLedger, R: Wait>(
     }
 }
 
-/// Hands in ticks from a seat that is new.
+/// Deposits ticks from a new seat.
 pub fn tick_at<T: Pacer, L: DeskLedger, R: Wait>(
     rt: &R,
     desk: &SharedDesk<L>,

@@ -1,4 +1,4 @@
-//! A site and the journal of what it was told.
+//! A site and the journal of its events.
 
 ghost use Rattle.std.specs.Prelude.{◌≡◌, ◌<◌, [], length, reverse, IsOk, IsTrue, ◌↔◌, IfOk, IfErr};
 ghost use Rattle.dmr_link.specs.Runs.{IsSafe};
@@ -12,9 +12,9 @@ use dmr_pdu::OutOfMemory;
 use std::alloc::Global;
 use std::marker::Model;
 
-/// A site, and the journal of every event that it was told since the book was opened, with its answers. Contracts see it as
-/// the site at its opening, the most entries that it may have, and its entries, the oldest first. The journal is legal from
-/// that site, as [`keeps`](Book::keeps) tells, and the site stands as the journal leaves it.
+/// A site, with the journal of all events and answers since the book was opened. Contracts see the site at its opening, the limit of the
+/// journal, and the entries, oldest first. The journal is legal from that site ([`keeps`](Book::keeps)), and the site is in the state that
+/// the journal leads to.
 #[derive(Drop)]
 pub struct Book {
     opening: Site,
@@ -34,7 +34,7 @@ impl Model for Book {
     ghost invariant = { λ b. AreSoundPages (record { opening = b.opening; limit = b.limit; entries = b.journal.items }) × (b.site ≡ site_after_entries b.opening b.journal.items) × (b.limit ≤ vec_capacity b.journal) };
 }
 
-/// The entry of an actor's event and its answer.
+/// Makes the entry of an actor's event and its answer.
 fn entry_of(actor: u8, event: &Event, acts: &Acts) -> Entry
     ensures { result ≡ record { actor = actor; event = event.now; acts = acts.now } }
 {
@@ -46,8 +46,8 @@ fn entry_of(actor: u8, event: &Event, acts: &Acts) -> Entry
 }
 
 impl Book {
-    /// The book of a site, with no entry yet. Its journal may have `limit` entries, and has room for them from the beginning.
-    /// `Err`: an allocation was refused; the site is handed back as it was.
+    /// Opens the book of a site, without entries. Its journal may have `limit` entries, and has room for them from the beginning. On an
+    /// error an allocation was refused; the error returns the site unchanged.
     pub fn new(alloc: Global, site: Site, limit: usize) -> Result<Book, (OutOfMemory, Site)>
         ensures ok { IfOk result (λ book. book ≡ record { opening = site; limit = limit; entries = [] }) }
         ensures err { IfErr result (λ fault. fault.1 ≡ site) }
@@ -68,8 +68,8 @@ impl Book {
         })
     }
 
-    /// Tells the site an event that the actor of this number brings, enters it with the site's answer, and gives the answer. It
-    /// takes no memory. `Err`: the journal has as many entries as it may have; the site was not told, and nothing has changed.
+    /// Applies an event of the actor with this number to the site, enters it with the answer, and returns the answer. It allocates no
+    /// memory. On an error the journal is at its limit; the site has not received the event, and nothing has changed.
     pub fn apply(&mut self, actor: u8, event: Event) -> Result<Acts, TermOver>
         ensures acts { IfOk result (λ acts. acts ≡ answer_to self.old event) }
         ensures entered { IfOk result (λ acts. self.new ≡ pages_with_entry self.old actor event acts) }
@@ -79,7 +79,7 @@ impl Book {
         self.enter(actor, &event)
     }
 
-    /// As [`apply`](Book::apply), of an event that is lent.
+    /// Does the same as [`apply`](Book::apply), for a borrowed event.
     fn enter(&mut self, actor: u8, event: &Event) -> Result<Acts, TermOver>
         ensures acts { IfOk result (λ acts. acts ≡ answer_to self.old event.now) }
         ensures entered { IfOk result (λ acts. self.new ≡ pages_with_entry self.old actor event.now acts) }
@@ -95,21 +95,21 @@ impl Book {
         Ok(acts)
     }
 
-    /// How many entries there are.
+    /// The number of entries.
     pub(crate) fn len(&self) -> usize
         ensures { result ≡ length self.now.entries }
     {
         self.journal.len()
     }
 
-    /// Whether there are as many entries as there may be.
+    /// Whether the journal is at its limit.
     pub fn is_full(&self) -> bool
         ensures { IsTrue result ↔ (length self.now.entries ≡ self.now.limit) }
     {
         self.journal.len() >= self.limit
     }
 
-    /// Does nothing. A proof learns from it what every book keeps, and that every act in its journal is safe.
+    /// Does nothing. By its contract every book's journal is legal and within its limit, and every act in it is safe.
     pub fn keeps(&self)
         ensures kept { AreSoundPages self.now }
         ensures safe { IsSafe self.now.opening.plan self.now.opening.facts (reverse self.now.entries) }
@@ -118,14 +118,14 @@ impl Book {
         let _ = &self.journal;
     }
 
-    /// The entries, the oldest first.
+    /// The entries, oldest first.
     pub fn as_slice(&self) -> &[Entry]
         ensures { result.now ≡ self.now.entries }
     {
         self.journal.as_slice()
     }
 
-    /// The site as the journal leaves it, and the journal.
+    /// Returns the site, in the state that the journal leads to, and the journal.
     pub fn into_parts(self) -> (Site, Journal)
         ensures site { result.0 ≡ site_after_entries self.opening self.entries }
         ensures journal { result.1 ≡ self.entries }

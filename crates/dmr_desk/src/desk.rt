@@ -1,4 +1,4 @@
-//! The desk: a book behind a lock, and seats round it.
+//! The desk: a book that a lock guards, and its seats.
 
 ghost use Rattle.std.specs.Prelude.{◌≡◌, ◌≤◌, ◌+◌, ◌↔◌, ◌⊎◌, length, true, false, IsTrue, IfOk, IfErr, OnOk};
 ghost use Rattle.dmr_desk.specs.Pages.{answer_to, pages_with_entry};
@@ -22,8 +22,8 @@ use std::marker::Model;
 use std::sync::ledger::{Blank, Ledger, Share};
 use std::sync::{Mutex, Wait, ledger};
 
-/// What the lock keeps: the book, the ledger's total, which is how many entries the book has, the parts of the ledger that no
-/// seat has, how many seats there are, and whether the desk was abandoned. By its type it is of the desk that the ledger names.
+/// The content of the lock. `total` is the ledger's total, which is the number of the book's entries. `rest` has the parts of the ledger
+/// that no seat has. `actors` is the number of seats. By its type, the content belongs to the desk that the ledger names.
 #[derive(Drop)]
 struct Locked<L: DeskLedger> {
     book: Book,
@@ -38,8 +38,8 @@ struct Locked<L: DeskLedger> {
 }
 
 impl<L: DeskLedger> Locked<L> {
-    /// Tells the site an event from a seat. `Err`: there is no room, or the desk was abandoned, and nothing has changed; it has the
-    /// number of the book's entries.
+    /// Applies an event to the site for a seat, and returns the answer. On an error the book has no room or the desk was abandoned; nothing
+    /// has changed, and the error has the number of the book's entries.
     fn tell(&mut self, seat: &mut Seat<L>, event: &Event) -> Result<Acts, TermOver>
         ensures acts { IfOk result (λ acts. acts ≡ answer_to self.old.book event.now) }
         ensures entered { IfOk result (λ acts. self.new.book ≡ pages_with_entry self.old.book seat.old.actor event.now acts) }
@@ -61,14 +61,14 @@ impl<L: DeskLedger> Locked<L> {
         seat.tell(book, total, event)
     }
 
-    /// Whether the term is over: the book has as many entries as it may have, or the desk was abandoned.
+    /// Whether the term is over: the book is at its limit, or the desk was abandoned.
     fn is_over(&self) -> bool
         ensures { IsTrue result ↔ ((length self.now.book.entries ≡ self.now.book.limit) ⊎ (self.now.abandoned ≡ true)) }
     {
         self.abandoned || self.book.is_full()
     }
 
-    /// Abandons the desk, for good. The book stays as it is.
+    /// Abandons the desk permanently. The book does not change.
     fn abandon(&mut self)
         ensures abandoned { self.new.abandoned ≡ true }
         ensures book { self.new.book ≡ self.old.book }
@@ -76,8 +76,8 @@ impl<L: DeskLedger> Locked<L> {
         self.abandoned = true;
     }
 
-    /// The report of the book and these seats. `Err`: a seat is missing, that of the least such actor; or else a seat differs from
-    /// the journal, that of the least such actor.
+    /// Returns the report of the book and these seats. On an error a seat is missing, and the error names the least such actor. If none is
+    /// missing, a seat differs from the journal, and the error names the least such actor.
     fn audit(self, seats: Vec<Seat<L>>) -> Result<Report, CloseFault>
         requires { L.parts ≡ most_actors }
         ensures ok { IfOk result (λ report. IsAudited (record { site = self.book.opening; limit = self.book.limit; actors = self.actors }) seats.items report) }
@@ -107,8 +107,8 @@ impl<L: DeskLedger> Locked<L> {
     }
 }
 
-/// Seats of the actors below a number, each with one part of a share in which nothing is counted yet. `Err`: an allocation was
-/// refused.
+/// Returns the seats of the actors 0 to `actors - 1`. Each has one part of `rest`, in which nothing is counted yet. On an error an
+/// allocation was refused.
 fn seats_for<L: Ledger>(
     alloc: Global,
     rest: &mut Share<L>,
@@ -129,9 +129,9 @@ fn seats_for<L: Ledger>(
     Ok(seats)
 }
 
-/// One site that many threads tell events to, one at a time. Contracts see the site at its opening, the most entries that the
-/// journal may have, and the number of actors, as the desk's ledger names them. What is behind the lock they cannot name; what it was
-/// is shown by the report, when the desk is closed.
+/// One site to which many threads apply events, one at a time. Contracts see the site at its opening, the limit of the journal and the
+/// number of actors, as the desk's ledger names them. Contracts cannot name the content of the lock; the report shows it when the desk is
+/// closed.
 #[derive(Drop)]
 pub struct SharedDesk<L: DeskLedger> {
     locked: Mutex<Locked<L>>,
@@ -146,10 +146,10 @@ impl<L: DeskLedger> Model for SharedDesk<L> {
 }
 
 impl<L: DeskLedger> SharedDesk<L> {
-    /// The desk of a site, and the seats of `actors` actors, which are numbered from 0, in this order. The journal may have
-    /// `limit` entries; the journal and each seat have room for so many from the beginning. The blank is that of the ledger `L`,
-    /// of [`PARTS`](crate::PARTS) parts, and the ledger names this site, this limit and this number of actors ([`DeskLedger`]). `Err`: the first fault
-    /// that applies, in the order of [`OpenFault`]; the site is handed back as it was, the blank is used up.
+    /// Opens a desk for a site, and returns it with the seats of `actors` actors (1 to 18), numbered from 0, in this order. The journal may
+    /// have `limit` entries (1 to 100,000). The journal and each seat have room for `limit` from the beginning. The blank belongs to the
+    /// ledger `L`, of [`PARTS`](crate::PARTS) parts, and the ledger names this site, this limit and this number of actors ([`DeskLedger`]).
+    /// The error is the first fault that applies, in the order of [`OpenFault`]. It returns the site unchanged; the blank is used up.
     pub fn open(
         alloc: Global,
         blank: Blank,
@@ -192,11 +192,11 @@ impl<L: DeskLedger> SharedDesk<L> {
         }
     }
 
-    /// Tells the site an event from a seat, and gives the site's answer, which the seat keeps with the event. It waits for the
-    /// lock: one event is told at a time, whichever thread tells it. It takes no memory. `Err`: the journal has as many entries as
-    /// it may have, or a thread of the desk's term could not be started; `entries` is how many it has, which are no fewer than were
-    /// deposited from the seat; the site was not told, and nothing has changed. The clauses say what becomes of the seat: what
-    /// becomes of the site and the journal is behind the lock, and the report shows it.
+    /// Applies an event to the site from a seat, and returns the site's answer, which the seat keeps with the event. It waits for the lock,
+    /// so the threads' events are applied one at a time. It allocates no memory. On an error the journal is at its limit, or a thread of
+    /// the desk's term could not be started. The site has not received the event, and nothing has changed. `entries` is the length of the
+    /// journal, which is at least the number of deposits from this seat. The clauses describe the seat alone; the report shows the site and
+    /// the journal, which the lock guards.
     pub fn deposit<R: Wait>(
         &self,
         rt: &R,
@@ -209,24 +209,25 @@ impl<L: DeskLedger> SharedDesk<L> {
         self.locked.lock(rt).tell(seat, &event)
     }
 
-    /// Whether the journal has as many entries as it may have, or a thread of the desk's term could not be started. It waits for the
-    /// lock, as [`deposit`](SharedDesk::deposit) does. No clause says what it answers: contracts cannot name what is behind a lock.
+    /// Whether the journal is at its limit, or a thread of the desk's term could not be started. It waits for the lock, as
+    /// [`deposit`](SharedDesk::deposit) does. No clause describes the result: contracts cannot name the content of the lock.
     pub fn over<R: Wait>(&self, rt: &R) -> bool {
         self.locked.lock(rt).is_over()
     }
 
-    /// Abandons the desk, since a thread of its term could not be started: from now on it takes no event, and whoever asks is
-    /// answered that the term is over. It waits for the lock. The journal stays as it is. No clause says so: contracts cannot name
-    /// what is behind a lock.
+    /// Abandons the desk, because a thread of its term could not be started. From now on the desk takes no event, and
+    /// [`over`](SharedDesk::over) returns true. It waits for the lock. The journal does not change. No clause says so: contracts cannot
+    /// name the content of the lock.
     pub fn abandon<R: Wait>(&self, rt: &R) {
         self.locked.lock(rt).abandon();
     }
 
-    /// Closes the desk, with its seats in any order. The report has the site, the journal, and the view of each actor, moved out of
-    /// its seat; what it says, [`reports_account`](crate::reports_account) says in one place. It takes no memory. `Err`: a seat is
-    /// missing, of the least actor of which that is so; or else a seat differs from the journal, of the least such actor. Site, journal
-    /// and seats are gone then. Of the journal from which a seat differs the clause says that it is legal from the desk's site, within
-    /// the desk's limit, and has one entry for each deposit of all seats; contracts cannot name the one that was behind the lock.
+    /// Closes the desk, with its seats in any order. The report has the site, the journal, and the view of each actor, moved out of its
+    /// seat; [`reports_account`](crate::reports_account) has all that holds of it. It allocates no memory. On an error a seat is missing,
+    /// and the error names the least such actor. If none is missing, a seat differs from the journal, and the error names the least such
+    /// actor. The site, the journal and the seats are then lost. If a seat differs, the clause cannot name the journal, which the lock
+    /// guarded. It says of the journal that it is legal from the desk's site, within the desk's limit, and has one entry for each deposit
+    /// of all seats.
     pub fn close<R: Wait>(self, _rt: &R, seats: Vec<Seat<L>>) -> Result<Report, CloseFault>
         requires { L.parts ≡ most_actors }
         ensures ok { IfOk result (λ report. IsAudited self seats.items report) }

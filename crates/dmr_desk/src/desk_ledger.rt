@@ -5,9 +5,9 @@ ghost use Rattle.dmr_desk.specs.Sitting.{Opened, unopened};
 use std::marker::Brand;
 use std::sync::ledger::Ledger;
 
-/// A ledger that belongs to one desk. It names the site that the desk is opened with, the most entries of its journal and the number
-/// of its actors. The names exist in proofs alone: the call that makes the ledger picks them, and nothing can change them
-/// afterwards. What the lock keeps is tied to them by its type, so what comes out of the lock is of the desk that was opened.
+/// A ledger that belongs to one desk. It names the desk's site at its opening, the limit of its journal, and the number of its actors. The
+/// names exist in proofs alone: the call that makes the ledger picks them, and they never change. The type of the lock's content ties the
+/// content to them, so it belongs to the desk that was opened.
 pub trait DeskLedger: Ledger {
     ghost desk: { Opened };
 }

@@ -1,18 +1,18 @@
-//! Why a worker ends.
+//! Why a worker ended.
 
-/// Why a worker ended.
+/// The reason why a worker ended.
 #[derive(Clone, Copy, Debug, PartialEq, Eq)]
 pub enum Ending {
-    /// Its port has no more connections, or its pacer no more ticks. Its link, if it has one, owes nothing.
+    /// Its port has no more connections, or its pacer no more ticks. Its link, if it has one, has nothing pending.
     Finished,
-    /// Its gate was shut. The event that was to be handed in is kept by its link.
+    /// Its gate was shut. The link keeps the event that it was about to deposit.
     GateShut,
-    /// The term is over: its journal has as many entries as it may have, or a thread of it could not be started; then `run_term`
-    /// gives no term. An event that the desk did not take is kept by the link; a tick is dropped.
+    /// The term is over: the journal is at its limit, or a thread of the term could not be started, and then `run_term` returns no term.
+    /// The link keeps an event that the desk did not take; a tick is dropped.
     TermOver,
 }
 
-/// Finished.
+/// `Finished`.
 impl Default for Ending {
     ghost use Rattle.std.specs.Prelude.{◌≡◌};
     ghost use Rattle.dmr_desk.specs.declared.ending.Ending.TheVariants.{Finished};

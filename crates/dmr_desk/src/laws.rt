@@ -1,4 +1,4 @@
-//! What the report of a desk says. This function does nothing: its contract is the law.
+//! The law about a desk's report. This function does nothing: its contract is the law.
 
 ghost use Rattle.std.specs.Prelude.{◌≡◌, ◌<◌, ◌≤◌, ℕ, All, Contains, List, Some, length, reverse, slice_get};
 ghost use Rattle.dmr_core.specs.Facts.{facts_after};
@@ -10,12 +10,14 @@ ghost use Rattle.dmr_desk.specs.Sitting.{HasSeat, Opened, Sitting};
 ghost use Rattle.dmr_desk.specs.Views.{view_of};
 ghost use Rattle.dmr_desk.specs.declared.report.Report.{Report as AReport};
 
-/// What the report says that [`close`](crate::SharedDesk::close) gives of a desk, for these seats. The journal is legal from the
-/// site that the desk was opened with: each entry has the one answer of the site machine. It has at most as many entries as the
-/// limit of the desk, and the site that is handed back is of the same plan, with the facts that the journal leaves. There are as
-/// many views, and as many seats, as the desk has actors, and a seat for each actor. What was deposited from a seat is its actor's view, and is
-/// exactly what the journal has of the actor, in the journal's order; no entry is of another actor. The safety laws hold of the
-/// journal.
+/// Says what holds of the report that [`close`](crate::SharedDesk::close) returns for a desk and these seats.
+/// - The journal is legal from the site that the desk was opened with: each entry has the one answer of the site machine.
+/// - The journal has at most as many entries as the limit of the desk.
+/// - The report's site has the same plan, and the facts that the journal leads to.
+/// - There are as many views, and as many seats, as the desk has actors, and each actor has a seat.
+/// - The deposits of a seat are its actor's view, and are exactly the journal's list for the actor, in the journal's order.
+/// - No entry belongs to another actor.
+/// - The safety laws hold of the journal.
 pub fn reports_account()
     ensures legal { (desk : Opened) (seats : List Sitting) (report : AReport) → IsAudited desk seats report → IsLegal desk.site.plan desk.site.facts (reverse report.journal) }
     ensures within { (desk : Opened) (seats : List Sitting) (report : AReport) → IsAudited desk seats report → length report.journal ≤ desk.limit }

@@ -1,22 +1,19 @@
-//! One site for many threads, told one event at a time, and the proof, made when it is closed, that what each thread was
-//! answered is what one legal journal says.
+//! One site for many threads. Each event takes a lock and becomes one entry of a journal. When the site is closed, the contract says that
+//! each thread received exactly the answers that one legal journal has for it.
 //!
-//! - A [`Book`] is a site and the journal of what it was told, in one thread: each event is entered with its answer.
-//! - A [`SharedDesk`] is a book behind a lock, and a [`Seat`] an actor's place at it. Whoever has a seat deposits events from
-//!   it, each of which takes the lock and becomes one entry; the seat keeps what was deposited from it, with the answers. A
-//!   [`SeatAt`] is a seat as a link's `Desk`.
-//! - [`close`](SharedDesk::close) takes the desk and all its seats, and gives a [`Report`]: the site, the [`Journal`], and each
-//!   actor's [`View`]. It compares each seat with the journal. What a report says stands in one place, in the contract of
-//!   [`reports_account`].
-//! - A worker serves the connections of one [`Station`], or of the [`ConsoleStation`], from a seat, or hands in the ticks of a
-//!   [`Pacer`]. [`run_term`] gives each of them a thread round one desk, waits for all, closes the desk, and gives a [`Term`].
+//! - A [`Book`] is a site with the journal of its events, for one thread. Each event is entered with its answer.
+//! - A [`SharedDesk`] is a book with a lock, and a [`Seat`] is an actor's place at it. The owner of a seat deposits events from it. Each
+//!   deposit takes the lock and becomes one entry; the seat keeps the deposit with its answer. A [`SeatAt`] is a seat as a link's `Desk`.
+//! - [`close`](SharedDesk::close) takes the desk and all its seats, and returns a [`Report`]: the site, the [`Journal`], and the [`View`]
+//!   of each actor. It compares each seat with the journal. The contract of [`reports_account`] has all that holds of a report.
+//! - A worker serves the connections of one [`Station`] or of the [`ConsoleStation`] from a seat, or deposits the ticks of a [`Pacer`].
+//!   [`run_term`] starts a thread for each worker at one desk, waits for all of them, closes the desk, and returns a [`Term`].
 //!
-//! That no entry is of anybody else needs no comparison. A desk and its seats share the parts of a ledger, in which each deposit
-//! counts one; when all parts are together, the journal is exactly as long as all seats' lists. Nor does it need a comparison that what
-//! comes out of the lock is of the desk's own site, limit and number of actors: the ledger names these, as a [`DeskLedger`], and the
-//! type of what the lock keeps says that it is of the desk that its ledger names.
+//! Two things need no comparison. No entry belongs to another actor: a desk and its seats share the parts of a ledger, which counts each
+//! deposit. When all parts are together, the journal is exactly as long as all seats' lists. The content of the lock belongs to the desk's
+//! own site, limit and number of actors: the ledger names them ([`DeskLedger`]), and the content's type says that they agree.
 //!
-//! What a worker's connections mean, all together, [`one_record`] and [`one_meaning`] say.
+//! [`one_record`] and [`one_meaning`] say what all connections of a worker mean together.
 #![tactic(auto)]
 
 mod actors;

@@ -1,4 +1,4 @@
-//! The ticker: what it is paced by, and its work.
+//! The ticker: its pacer and its work.
 
 ghost use Rattle.std.specs.Prelude.{◌≡◌, ◌⊎◌, Option, Some};
 ghost use Rattle.dmr_core.specs.declared.event.Event.{Event as AnEvent};
@@ -10,29 +10,29 @@ use dmr_core::Event;
 use dmr_link::Desk;
 use std::sync::Wait;
 
-/// What a pacer answers.
+/// A pacer's answer when it is asked for a tick.
 #[derive(Clone, Copy, Debug, PartialEq, Eq)]
 pub enum Pace {
     /// A tick is due.
     Tick,
-    /// None is due yet. It may be asked again.
+    /// No tick is due yet. The pacer may be asked again.
     NotYet,
     /// No tick will be due any more.
     Finished,
 }
 
-/// Says when a tick is due.
+/// Decides when a tick is due.
 pub trait Pacer {
-    /// How many ticks were due, and whether it said last that there are no more, where it tells that. It may cease to tell it at
-    /// any call, and from then on tells nothing.
+    /// If the pacer reports it: the number of ticks so far, and whether its last answer was that there are no more. It may stop reporting
+    /// at any call, and then never reports again.
     ghost paced: { Self → Option Paced };
 
-    /// Waits for the next tick, as long as it sees fit, and says whether it is due.
+    /// Waits for the next tick, as long as it decides to, and says whether the tick is due.
     fn next(&mut self) -> Pace
         ensures { FollowsPace (paced self.old) result (paced self.new) };
 }
 
-/// Asks once for a tick, and hands it in where one is due. `Some` where the work is at its end.
+/// Asks the pacer once, and deposits a tick if one is due. Returns `Some` if the work has ended.
 fn tick_once<T: Pacer, D: Desk>(pacer: &mut T, desk: &mut D) -> Option<Ending>
     ensures actor { D.actor desk.new ≡ D.actor desk.old }
     ensures ticks { (before : _) (calls : _) → Ticking before calls (T.paced pacer.old) (D.calls desk.old) → TicksOn before calls (T.paced pacer.new) (D.calls desk.new) result }
@@ -51,8 +51,8 @@ fn tick_once<T: Pacer, D: Desk>(pacer: &mut T, desk: &mut D) -> Option<Ending>
     }
 }
 
-/// Hands in a tick whenever the pacer says that one is due, until it has no more, or the term is over. A tick that the desk does not
-/// take is dropped. The desk is asked whether the term is over before each ask for a tick.
+/// Deposits a tick whenever the pacer says that one is due, until the pacer has no more or the term is over. A tick that the desk does not
+/// take is dropped. Before each question to the pacer, the ticker asks the desk whether the term is over.
 pub fn work_ticker<R: Wait, T: Pacer, D: Desk>(rt: &R, pacer: &mut T, desk: &mut D) -> Ending
     ensures actor { D.actor desk.new ≡ D.actor desk.old }
     ensures ticks { Ticks (T.paced pacer.old) (D.calls desk.old) (T.paced pacer.new) (D.calls desk.new) result }

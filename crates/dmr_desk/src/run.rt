@@ -28,7 +28,7 @@ use std::sync::Wait;
 use std::sync::ledger::{Blank, Ledger};
 use std::thread::Threads;
 
-/// Whether these are the stations of the last `many` carrier numbers that the plan has, by number.
+/// Whether these are the stations of the plan's carriers among the last `many` carrier numbers, in the order of their numbers.
 fn are_stations<P, G>(plan: &Plan, many: u32, stations: &[Station<P, G>]) -> bool
     requires { many ≤ 16 }
     ensures { IsTrue result ↔ (map (λ s. carrier_of_peer s.link.who) stations.now ≡ map (λ n. Some n) (numbers_from plan.now many (16 - many))) }
@@ -51,7 +51,7 @@ fn are_stations<P, G>(plan: &Plan, many: u32, stations: &[Station<P, G>]) -> boo
     }
 }
 
-/// Room for what the workers of so many stations, the ticker and the console hand back. `Err`: an allocation was refused.
+/// Allocates room for the results of the workers of `stations` stations, the ticker and the console. On an error an allocation was refused.
 fn room_for<S: Drop, L: Ledger>(
     alloc: Global,
     stations: usize,
@@ -122,13 +122,13 @@ where
     }
 }
 
-/// Runs a term: a worker for each station, one for the ticker and one for the console, each in a thread of its own, round one locked
-/// site, whose journal may have `limit` entries. The stations are those of the plan's carriers, one for each, in the order of their
-/// numbers; the actors are the stations, then the ticker, then the console. The term is over when all workers have ended: then the desk
-/// is closed, and its journal compared with what each worker was answered. All memory is taken before a thread is started, and each
-/// thread that was started is waited for. Where a thread cannot be started, the desk takes no event from then on, and each worker that
-/// was started ends when it next asks whether the term is over; no clause says how soon it does. `Err`: the first fault that applies, in
-/// the order of [`TermFault`]; what was handed in is used up.
+/// Runs a term at one desk: a worker for each station, one for the ticker and one for the console, each in a thread of its own. The desk's
+/// journal may have `limit` entries (1 to 100,000). There is one station for each carrier of the plan, in the order of their numbers. The
+/// actors are the stations, then the ticker, then the console. When all workers have ended, the term is over: the desk is closed, and its
+/// journal is compared with the answers that each worker received. All memory is allocated before a thread is started, and the call waits
+/// for each started thread. If a thread cannot be started, the desk takes no further event. Each started worker then ends when it next asks
+/// whether the term is over; no clause says how soon. The error is the first fault that applies, in the order of [`TermFault`]; all
+/// arguments are used up.
 pub fn run_term<P, G, T, C, R>(
     rt: &R,
     alloc: Global,

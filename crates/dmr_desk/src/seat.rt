@@ -15,9 +15,8 @@ use std::marker::Model;
 use std::sync::ledger;
 use std::sync::ledger::{Ledger, Share};
 
-/// One actor's place at a desk: the number of the actor, and what was deposited from here, in order. Contracts see the two. It
-/// fits the desk that it was opened with and no other, by the ledger `L`, and has room for as many deposits as that desk's
-/// journal may have entries.
+/// One actor's place at a desk: the actor's number and the deposits, in order. Contracts see both. By the ledger `L` it fits only the desk
+/// that it was opened with. It has room for as many deposits as that desk's journal may have entries.
 #[derive(Drop)]
 pub struct Seat<L: Ledger> {
     actor: u8,
@@ -38,7 +37,7 @@ impl<L: Ledger> Model for Seat<L> {
 }
 
 impl<L: Ledger> Seat<L> {
-    /// The seat of an actor, with room for `limit` deposits. `Err`: an allocation was refused.
+    /// Makes the seat of an actor, with room for `limit` deposits. On an error an allocation was refused.
     pub(crate) fn new(
         alloc: Global,
         actor: u8,
@@ -58,23 +57,23 @@ impl<L: Ledger> Seat<L> {
         })
     }
 
-    /// What a refusal tells: how many entries the book has. They are no fewer than were deposited from here, where the ledger counts
-    /// the book's entries. Nothing changes.
+    /// Makes the error of a refused deposit, with the number of the book's entries. If the ledger counts the book's entries, that is at
+    /// least the number of deposits from this seat. Nothing changes.
     pub(crate) fn refusal(&mut self, book: &Book, total: &mut ledger::Book<L>) -> TermOver
         ensures seat { self.new ≡ self.old }
         ensures total { total.new.total ≡ total.old.total }
         ensures among { length self.old.deposits ≤ total.old.total }
         ensures entries { result.entries ≡ length book.now.entries }
     {
-        // It counts nothing, and tells that the seat's part is no more than the total.
+        // It counts nothing, and shows that the seat's part is at most the total.
         total.audit(&mut self.share);
         TermOver {
             entries: book.len(),
         }
     }
 
-    /// Tells the book an event as this actor, counts it in the ledger, and keeps it with the answer. `Err`: the book or the seat
-    /// has no room, and nothing has changed; it has the number of the book's entries.
+    /// Applies an event to the book for this actor, counts it in the ledger, and keeps it with the answer. On an error the book or the seat
+    /// has no room, and nothing has changed; the error has the number of the book's entries.
     pub(crate) fn tell(
         &mut self,
         book: &mut Book,
@@ -89,8 +88,7 @@ impl<L: Ledger> Seat<L> {
         ensures over { IfErr result (λ over. (book.new ≡ book.old) × (self.new ≡ self.old) × (total.new.total ≡ total.old.total) × (over.entries ≡ length book.old.entries)) }
     {
         let over = self.refusal(book, total);
-        // Where the seat is full the book is full too, since each deposit is an entry. No contract says so: nothing ties the
-        // limits of the two.
+        // If the seat is full, the book is full too, since each deposit is an entry. No contract says so: nothing ties the two limits.
         if self.deposits.len() >= self.limit {
             return Err(over);
         }
@@ -100,7 +98,7 @@ impl<L: Ledger> Seat<L> {
         Ok(acts)
     }
 
-    /// What was deposited from here, and the seat's part of the ledger, whose amount is their number.
+    /// Returns the deposits, and the seat's part of the ledger, whose amount is their number.
     pub(crate) fn into_parts(self) -> (Vec<Deposit>, Share<L>)
         ensures deposits { result.0.items ≡ self.deposits }
         ensures part { result.1.parts ≡ 1 }
@@ -114,14 +112,14 @@ impl<L: Ledger> Seat<L> {
         (deposits, share)
     }
 
-    /// The number of the actor.
+    /// The actor's number.
     pub fn actor(&self) -> u8
         ensures { result ≡ self.now.actor }
     {
         self.actor
     }
 
-    /// What was deposited from here: the events and their answers, in order.
+    /// The deposits from this seat, in order: the events and their answers.
     pub fn deposits(&self) -> &[Deposit]
         ensures { result.now ≡ self.now.deposits }
     {

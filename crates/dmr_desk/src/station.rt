@@ -1,4 +1,4 @@
-//! Stations: a link, and what its worker serves it by.
+//! Stations: a link with its port, and its gate if it has one.
 
 ghost use Rattle.std.specs.Prelude.{◌≡◌, true, false, not, [], ◌∷◌, IfOk, IfErr, List};
 ghost use Rattle.dmr_core.specs.declared.event.Event.{Event as AnEvent};
@@ -31,12 +31,12 @@ pub struct ConsoleStation<P> {
     pub port: P,
 }
 
-/// What a link's worker serves. Contracts see where it stands.
+/// What a link's worker serves. Contracts see its state (`Stand`).
 pub trait Serving {
-    /// Its link, and what its port and its gate tell. A console has no gate, and tells nothing of it.
+    /// The link, and the records that its port and its gate report. A console has no gate, and reports nothing of one.
     ghost stand: { Self → Stand };
 
-    /// Its gate was shut when it was last to be entered.
+    /// The gate was shut at the last try to pass it.
     ghost shut: { Self → Type 0 };
 
     /// Whether the link is live.

@@ -1,4 +1,4 @@
-//! A term: the workers of a site, each in a thread of its own, round one locked site.
+//! A term: the workers of a site, each in a thread of its own, at one desk.
 
 ghost use Rattle.std.specs.Prelude.{◌≡◌, ◌+◌, ◌≤◌, ◌<◌, ◌++◌, ◌∷◌, [], ℕ, All, List, Option, Some, IfOk, IfErr, IfSome, map, slice_get, vec_len, vec_capacity, length};
 ghost use Rattle.arrayvec.specs.ArrayVec.{array_vec_len};
@@ -25,14 +25,14 @@ use std::sync::Wait;
 use std::sync::ledger::Ledger;
 use std::thread::Threads;
 
-/// What a term leaves, when all its workers have ended and the desk's report was given.
+/// The result of a term. All its workers have ended, and the desk returned its report.
 #[derive(Drop)]
 pub struct Term<S, T, C> {
-    /// The site, the journal, and what each actor told the site.
+    /// The site, the journal, and each actor's events with their answers.
     pub report: Report,
-    /// Why each actor's worker ended, by number: the stations', the ticker's, the console's.
+    /// Why each actor's worker ended, by number: the stations, the ticker, the console.
     pub ends: ArrayVec<Ending, MOST_ACTORS>,
-    /// The stations, in the order in which they were handed in.
+    /// The stations, in the order of the call.
     pub stations: Vec<S>,
     /// The pacer.
     pub pacer: T,
@@ -40,7 +40,7 @@ pub struct Term<S, T, C> {
     pub console: C,
 }
 
-/// The first that ended because the term was over.
+/// The number of the first worker that ended because the term was over; numbers begin with `from`.
 fn first_told(from: u8, ends: &[Ending]) -> Option<u8>
     requires { from + length ends.now < 256 }
     ensures { result ≡ first_over from ends.now }
@@ -52,7 +52,7 @@ fn first_told(from: u8, ends: &[Ending]) -> Option<u8>
     }
 }
 
-/// The least actor that was told that the term is over, though the journal is below its limit.
+/// The least actor that ended because the term was over although the journal is below its limit.
 fn early(journal: &Journal, limit: usize, ends: &ArrayVec<Ending, MOST_ACTORS>) -> Option<u8>
     ensures { result ≡ early_actor (length journal.now) limit ends.now.items }
 {
@@ -63,7 +63,7 @@ fn early(journal: &Journal, limit: usize, ends: &ArrayVec<Ending, MOST_ACTORS>) 
     }
 }
 
-/// What workers handed back, each kind in a list of its own.
+/// The workers' results, each kind in a list of its own.
 #[derive(Drop)]
 pub struct Back<S, L: Ledger> {
     /// The stations.
@@ -74,7 +74,7 @@ pub struct Back<S, L: Ledger> {
     pub ends: ArrayVec<Ending, MOST_ACTORS>,
 }
 
-/// Takes apart what the carriers' workers handed back, and puts it behind what is there.
+/// Splits the results of the carriers' workers, and appends them to `back`.
 fn gather<S: Drop, L: Ledger>(mut works: Vec<LinkWork<S, L>>, back: Back<S, L>) -> Back<S, L>
     requires stations { vec_len back.stations + vec_len works ≤ vec_capacity back.stations }
     requires seats { vec_len back.seats + vec_len works ≤ vec_capacity back.seats }
@@ -103,7 +103,7 @@ fn gather<S: Drop, L: Ledger>(mut works: Vec<LinkWork<S, L>>, back: Back<S, L>) 
     back
 }
 
-/// Takes apart what all workers handed back: the carriers', then the ticker, then the console's.
+/// Splits the results of all workers: the carriers', then the ticker's, then the console's.
 fn gather_all<S: Drop, T: Drop, C: Drop, L: Ledger>(
     all: AllWork<S, T, C, L>,
     back: Back<S, L>,
@@ -133,8 +133,8 @@ fn gather_all<S: Drop, T: Drop, C: Drop, L: Ledger>(
     (back, ticker.pacer, console.station)
 }
 
-/// Closes the desk with the seats that the workers left. `back` has room for what they handed back. `Err`: the desk gave no report; or
-/// else a worker ended early, the least such actor.
+/// Closes the desk with the workers' seats. `back` has room for their results. On an error the desk returned no report, or else a worker
+/// ended early; the error names the least such actor.
 pub fn finish<S, T, C, L, R>(
     rt: &R,
     desk: SharedDesk<L>,
@@ -198,8 +198,8 @@ where
 }
 
 /// Runs the workers, each in a thread of its own, from new seats: one for each station, then the ticker's, then the console's. `room` is
-/// for what the stations' workers hand back. `None` where a thread could not be started; the desk was abandoned then, and those that were
-/// started have ended.
+/// for the results of the stations' workers. If a thread could not be started, returns `None`; the desk was abandoned, and all started
+/// threads have ended.
 pub fn run_threads<S, T, C, L, R>(
     rt: &R,
     desk: &SharedDesk<L>,

@@ -29,18 +29,18 @@ pub struct Others<T, C, L: Ledger> {
     pub console_seat: Seat<L>,
 }
 
-/// What all workers hand back.
+/// The results of all workers.
 #[derive(Drop)]
 pub struct AllWork<S, T, C, L: Ledger> {
-    /// The carriers' workers, in the order of their stations.
+    /// The results of the carriers' workers, in the order of their stations.
     pub carriers: Vec<LinkWork<S, L>>,
-    /// The ticker.
+    /// The ticker's result.
     pub ticker: TickerWork<T, L>,
-    /// The console's worker.
+    /// The result of the console's worker.
     pub console: LinkWork<C, L>,
 }
 
-/// Starts the console's worker, and waits for it. `None` where no thread could be started; the desk is abandoned then.
+/// Starts the console's worker, and waits for it. If no thread can be started, abandons the desk and returns `None`.
 fn run_console<'s, E, C, L, R>(
     rt: &'s R,
     scope: &'s Scope<'s, E>,
@@ -72,8 +72,8 @@ where
     }
 }
 
-/// Starts the ticker and the console's worker, and waits for both. `None` where a thread could not be started; the desk is abandoned
-/// then, so that one that was started ends.
+/// Starts the ticker and the console's worker, and waits for both. If a thread cannot be started, abandons the desk, so that a started one
+/// ends, and returns `None`.
 fn run_others<'s, E, S, T, C, L, R>(
     rt: &'s R,
     scope: &'s Scope<'s, E>,
@@ -127,8 +127,8 @@ where
     }
 }
 
-/// Starts the last station's worker, does the rest, and waits for it. `None` where a thread could not be started; the desk was abandoned
-/// then, and those that were started have ended.
+/// Starts the last station's worker, runs the rest, and waits for the worker. If a thread could not be started, returns `None`; the desk
+/// was abandoned, and all started threads have ended.
 fn run_all<'s, E, S, T, C, L, R>(
     rt: &'s R,
     scope: &'s Scope<'s, E>,
@@ -190,7 +190,7 @@ where
     }
 }
 
-/// What a term's threads take with them: a new seat for each station and for the others, and room for what comes back.
+/// What a term's threads receive: a new seat for each station and for the others, and room for the results.
 #[derive(Drop)]
 pub struct Crew<S, T, C, L: Ledger> {
     /// The stations.
@@ -199,7 +199,7 @@ pub struct Crew<S, T, C, L: Ledger> {
     pub seats: Vec<Seat<L>>,
     /// The pacer and the console.
     pub others: Others<T, C, L>,
-    /// Room for what the stations' workers hand back.
+    /// Room for the results of the stations' workers.
     pub room: Vec<LinkWork<S, L>>,
     ghost each: { vec_len seats ≡ vec_len stations },
     ghost new: { are_new 0 seats.items ≡ true },
@@ -209,8 +209,8 @@ pub struct Crew<S, T, C, L: Ledger> {
     ghost fits: { vec_len stations ≤ vec_capacity room },
 }
 
-/// Starts the workers of all that the crew has, and waits for them. `None` where a thread could not be started; the desk was abandoned
-/// then, and those that were started have ended.
+/// Starts the workers of the whole crew, and waits for them. If a thread could not be started, returns `None`; the desk was abandoned, and
+/// all started threads have ended.
 fn run_crew<'s, E, S, T, C, L, R>(
     rt: &'s R,
     scope: &'s Scope<'s, E>,
@@ -239,8 +239,8 @@ where
     run_all(rt, scope, desk, stations, seats, others, room)
 }
 
-/// Runs all workers, each in a thread of its own, and waits for them. `None` where a thread could not be started; the desk was abandoned
-/// then, so that each that was started ended when it next asked whether the term is over.
+/// Runs all workers, each in a thread of its own, and waits for them. If a thread could not be started, returns `None`; the desk was
+/// abandoned, and each started worker ended when it next asked whether the term is over.
 pub fn start<S, T, C, L, R>(
     rt: &R,
     desk: &SharedDesk<L>,

@@ -1,4 +1,4 @@
-//! What one actor told the site, and how it was answered.
+//! The events of one actor and their answers.
 
 ghost use Rattle.std.specs.Prelude.{◌≡◌, ◌↔◌, IsTrue};
 ghost use Rattle.dmr_desk.specs.Views.{deposit_in, view_of};
@@ -9,7 +9,7 @@ use std::alloc::Global;
 use std::default::MadeWith;
 use std::marker::Model;
 
-/// The deposit of an event and its answer.
+/// Makes the deposit of an event and its answer.
 pub(crate) fn deposit_of(event: &Event, acts: &Acts) -> Deposit
     ensures { result ≡ record { event = event.now; acts = acts.now } }
 {
@@ -26,7 +26,7 @@ fn is_of(deposit: &Deposit, entry: &Entry) -> bool
     deposit.event.is(&entry.event) && deposit.acts.is(&entry.acts)
 }
 
-/// Whether these deposits are what a journal has of an actor, in its order.
+/// Whether these deposits are the journal's list for an actor, in its order.
 pub fn is_view(deposits: &[Deposit], actor: u8, journal: &[Entry]) -> bool
     ensures { IsTrue result ↔ (deposits.now ≡ view_of actor journal.now) }
 {
@@ -42,7 +42,7 @@ pub fn is_view(deposits: &[Deposit], actor: u8, journal: &[Entry]) -> bool
     next == deposits.len()
 }
 
-/// What one actor told the site, and the answers, in order. Contracts see it as the list of its deposits.
+/// The events of one actor and their answers, in order. Contracts see the list of deposits.
 #[derive(Drop)]
 pub struct View {
     deposits: Vec<Deposit>,
@@ -58,7 +58,7 @@ impl Model for View {
 }
 
 impl View {
-    /// The view of these deposits.
+    /// Makes the view of these deposits.
     pub(crate) fn new(deposits: Vec<Deposit>) -> Self
         ensures { result ≡ deposits.items }
     {
@@ -73,7 +73,7 @@ impl View {
     }
 }
 
-/// The view of no deposits. It takes no memory.
+/// The view without deposits. It allocates no memory.
 impl MadeWith<Global> for View {
     ghost use Rattle.std.specs.Prelude.{◌≡◌, []};
 

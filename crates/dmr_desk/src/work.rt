@@ -1,4 +1,4 @@
-//! The workers of links: a carrier's, and the console's.
+//! The workers of links: one for each carrier, and one for the console.
 
 ghost use Rattle.std.specs.Prelude.{◌≡◌, ◌⊎◌, true, false, None, Some};
 ghost use Rattle.dmr_core.specs.declared.event.Event.{Event as AnEvent};
@@ -13,7 +13,7 @@ use dmr_link::{Desk, Ended, Gate};
 use dmr_wire::{Connect, Port, Waited};
 use std::sync::Wait;
 
-/// Asks once for a connection, and begins it where there is one. `Some` where the work is at its end.
+/// Asks the port once for a connection, and opens it if there is one. Returns `Some` if the work has ended.
 fn connect<S: Serving, D: Desk>(station: &mut S, desk: &mut D) -> Option<Ending>
     requires { is_live (S.stand station.old).link ≡ false }
     ensures actor { D.actor desk.new ≡ D.actor desk.old }
@@ -36,8 +36,8 @@ fn connect<S: Serving, D: Desk>(station: &mut S, desk: &mut D) -> Option<Ending>
     }
 }
 
-/// Waits after a read that would block. If the other side was silent, cuts the link and reports that to the port. `Some` where the work
-/// is at its end.
+/// Waits after a read that would block. If the other side was silent, cuts the link and reports that to the port. Returns `Some` if the
+/// work has ended.
 fn wait<S: Serving, D: Desk>(station: &mut S, desk: &mut D) -> Option<Ending>
     requires { is_live (S.stand station.old).link ≡ true }
     ensures actor { D.actor desk.new ≡ D.actor desk.old }
@@ -62,8 +62,8 @@ fn wait<S: Serving, D: Desk>(station: &mut S, desk: &mut D) -> Option<Ending>
     }
 }
 
-/// Serves the link once. Waits if a read would block; if the connection was closed, reports to the port how. `Some` where the work is at
-/// its end.
+/// Serves the link once. Waits if a read would block; if the connection was closed, reports to the port how. Returns `Some` if the work has
+/// ended.
 fn serve<S: Serving, D: Desk>(station: &mut S, desk: &mut D) -> Option<Ending>
     requires { is_live (S.stand station.old).link ≡ true }
     ensures actor { D.actor desk.new ≡ D.actor desk.old }
@@ -81,7 +81,7 @@ fn serve<S: Serving, D: Desk>(station: &mut S, desk: &mut D) -> Option<Ending>
         Ended::TermOver => Some(Ending::TermOver),
         Ended::GateShut => Some(Ending::GateShut),
         Ended::Paused => None,
-        // The connection is closed: another is asked for.
+        // The connection is closed, so the next step asks for another.
         _ => {
             station.report_closing();
             None
@@ -89,7 +89,7 @@ fn serve<S: Serving, D: Desk>(station: &mut S, desk: &mut D) -> Option<Ending>
     }
 }
 
-/// Asks for a connection where the link isn't live, and else serves it. `Some` where the work is at its end.
+/// Serves the link if it is live, and otherwise asks for a connection. Returns `Some` if the work has ended.
 fn go_on<S: Serving, D: Desk>(station: &mut S, desk: &mut D) -> Option<Ending>
     ensures actor { D.actor desk.new ≡ D.actor desk.old }
     ensures goes { (m : _) → Going m (moment (S.stand station.old) (D.calls desk.old)) → GoesOn m (moment (S.stand station.new) (D.calls desk.new)) result }
@@ -103,7 +103,7 @@ fn go_on<S: Serving, D: Desk>(station: &mut S, desk: &mut D) -> Option<Ending>
     }
 }
 
-/// Serves a station's connections, one after another, until its work is at its end.
+/// Serves a station's connections, one after another, until the work has ended.
 pub fn work<R: Wait, S: Serving, D: Desk>(rt: &R, station: &mut S, desk: &mut D) -> Ending
     ensures actor { D.actor desk.new ≡ D.actor desk.old }
     ensures works { WorksUntil (moment (S.stand station.old) (D.calls desk.old)) (moment (S.stand station.new) (D.calls desk.new)) result }
@@ -120,9 +120,9 @@ pub fn work<R: Wait, S: Serving, D: Desk>(rt: &R, station: &mut S, desk: &mut D)
     unreachable!()
 }
 
-/// Serves a carrier's connections, one after another, until its port has no more of them, its gate is shut, or the term is over. The
-/// desk is asked whether the term is over before each ask for a connection, each call of `serve` and each wait. The port receives how
-/// each connection was closed (`Port::closed`) before it is asked for the next.
+/// Serves a carrier's connections, one after another, until its port has no more of them, its gate is shut, or the term is over. Before
+/// each request for a connection, each call of `serve` and each wait, the worker asks the desk whether the term is over. It reports to the
+/// port how each connection was closed (`Port::closed`) before it asks for the next.
 pub fn work_carrier<R: Wait, P: Port, G: Gate, D: Desk>(
     rt: &R,
     station: &mut Station<P, G>,
@@ -136,9 +136,9 @@ pub fn work_carrier<R: Wait, P: Port, G: Gate, D: Desk>(
     work(rt, station, desk)
 }
 
-/// Serves the console's connections, one after another, until its port has no more of them, or the term is over. The desk is asked
-/// whether the term is over before each ask for a connection, each call of `serve` and each wait. The port receives how each connection
-/// was closed (`Port::closed`) before it is asked for the next.
+/// Serves the console's connections, one after another, until its port has no more of them, or the term is over. Before each request for a
+/// connection, each call of `serve` and each wait, the worker asks the desk whether the term is over. It reports to the port how each
+/// connection was closed (`Port::closed`) before it asks for the next.
 pub fn work_console<R: Wait, P: Port, D: Desk>(
     rt: &R,
     station: &mut ConsoleStation<P>,

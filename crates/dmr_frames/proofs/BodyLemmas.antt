@@ -59,7 +59,7 @@ pub active_body : (b : Bool) (body : List ℕ) → IsWhole b kind.Active body �
 active_body b [] w = absurd (omega (arith, w.all))
 active_body b (slot ∷ more) w = slot_small slot (w.fitting 0 (omega arith))
 
--- what a whole body brings is a frame, and the body is that of the frame's spelling
+-- the result of a whole body is a frame, and the body is that of the frame's spelling
 abbrev pub IsFrameStep : Version → FrameKind → List ℕ → Step → Type 0
 IsFrameStep v k body s = (f : FrameIn) × (s ≡ Frame f) × IsFrame v f × (frame_octets v k body ≡ spelling f)
 
@@ -77,7 +77,7 @@ hello_whole v (a ∷ b ∷ c ∷ d ∷ []) w =
     (Hello a b (256 * c + d), refl, (w.small 0, w.small 1, omega arith), (λ i. 1 ∷ 4 ∷ a ∷ b ∷ (high i) ∷ (low i) ∷ []))
 hello_whole v (a ∷ b ∷ c ∷ d ∷ e ∷ body) w = absurd (omega (arith, w.all))
 
--- the RX of a whole body, where bursts are numbered or not
+-- the RX of a whole body, with or without numbers
 record IsRxStep (b : Bool) (body : List ℕ) : Type 0 where
   number : Option ℕ
   slot : ℕ
@@ -159,7 +159,7 @@ active-fits b slot small (suc i) lt = absurd (omega arith)
 word-pad : (word : List Bool) → length word ≡ 196 → get_or (word_octets word) 24 0 % 16 ≡ 0
 word-pad word len = sym (pad-last (word_octets word)) ∙ (word_octets-spells word len).pad
 
--- the body of an RX, where bursts are numbered or not
+-- the body of an RX, with or without numbers
 pub record IsRxSpelled (b : Bool) (number : Option ℕ) (slot : ℕ) (word : List Bool) : Type 0 where
   pub body : List ℕ
   pub whole : IsWhole b kind.Rx body

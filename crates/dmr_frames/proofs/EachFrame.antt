@@ -1,5 +1,5 @@
--- Frame by frame, and field by field: what these proofs know of each by itself. A new frame is one more case of functions here, and of none in
--- another file.
+-- Frame by frame, and field by field: all that these proofs know of each by itself. A new frame needs one more case in functions here, and
+-- in no other file.
 use Rattle.std.proofs.Common.{◌≡◌, ◌==◌, ℕ, suc, ◌+◌, ◌-◌, ◌*◌, ◌/◌, ◌%◌, ◌<◌, ◌≤◌, nat_lt, cond, Bool, true, false, Option, Some, None, List, [], ◌∷◌, ◌++◌, length, get_or, replicate, refl, sym, ap, ◌∙◌, arith, ⊎_elim, length-append, subst}
 use Rattle.std.proofs.lemmas.Bool.{cases_lt}
 use Rattle.std.proofs.lemmas.List.{get_or-append_right, get_or-replicate, get_or_past, length-replicate}
@@ -34,7 +34,7 @@ IsCarriers kind.Active = Unit {0}
 IsCarriers kind.Bye = Unit {0}
 IsCarriers other = ⊥
 
--- it comes from a carrier, and exists in a version
+-- a carrier sends the frame, and it exists in a version
 abbrev pub IsCarriersIn : Version → FrameKind → Type 0
 IsCarriersIn v k = IsCarriers k × (is_since (frame_row k).since v ≡ true)
 
@@ -75,7 +75,7 @@ length-most b kind.Refused = omega arith
 hello_free : AreFree (frame_row kind.Hello).body
 hello_free = ((λ place x. refl), ((λ place x. refl), ((λ place x. refl), tt)))
 
--- at an octet of a body that is a fault, it is the one that belongs to its place
+-- if an octet of a body is a fault, the fault is that of its place
 pub cause_at : (b : Bool) (k : FrameKind) (place x : ℕ) (cause : Cause) → IsCarriers k → body_fault b k place x ≡ Some cause → fault_at b (suc (suc place)) ≡ Some cause
 cause_at b kind.Hello place x cause is e = free_cause b kind.Hello place x cause hello_free e
 cause_at b kind.Rx place x cause is e = rx_cause b place x cause e
@@ -148,7 +148,7 @@ whole_frame v kind.Refused body is w = absurd is.0
 
 -- ---- a frame has a whole body
 
--- which frame of the table it is, and its body
+-- the frame's kind in the table, and its body
 pub record IsSpelled (v : Version) (f : FrameIn) : Type 0 where
   pub which : FrameKind
   pub body : List ℕ
@@ -157,7 +157,7 @@ pub record IsSpelled (v : Version) (f : FrameIn) : Type 0 where
   pub spelled : spelling f ≡ frame_octets v which body
   pub again : whole_step (has_numbers v) which body ≡ Frame f
 
--- the two octets of a channel number are read as it
+-- the two octets of a channel number are read as that number
 halves : (l : ℕ) → 256 * (l / 256) + l % 256 ≡ l
 halves l = omega arith
 
@@ -190,7 +190,7 @@ frame_spelled v (Active slot) is = record {
 }
 frame_spelled v Bye is = record { which = kind.Bye; body = []; known = refl; whole = record { all = refl; small = none_small; fitting = λ i lt. refl }; spelled = refl; again = refl }
 
--- a body means the same where it has the same length
+-- the result of a body is the same in versions in which it has the same length
 pub same_step : (b c : Bool) (k : FrameKind) (body : List ℕ) → body_length b k ≡ body_length c k → whole_step b k body ≡ whole_step c k body
 unfolding whole_step
 same_step true true k body e = refl

@@ -1,4 +1,4 @@
--- What the octets of one frame bring, one after another.
+-- The results of the octets of one frame, one after another.
 use Rattle.std.proofs.Common.{◌≡◌, ℕ, ◌+◌, ◌-◌, ◌<◌, List, [], ◌∷◌, ◌++◌, length, take, drop, get_or, refl, sym, ap, ◌∙◌, arith, append_assoc, add-one, drop-cons, take-append-drop, length-append, subst}
 use Rattle.std.proofs.Math.Seq.{take-length}
 use Rattle.std.proofs.lemmas.List.{append-nil, take_more, length-take-le, get_or-take}
@@ -31,11 +31,11 @@ at_last v q x f Need hf e is = absurd (open_no_spelling v (q ++ x ∷ []) f [] h
 at_last v q x f (Frame g) hf e is = ap Frame (spelled_once v v g f [] [] is.0 hf (ap (λ (p : List ℕ). p ++ []) (sym is.1 ∙ e))).0
 at_last v q x f (Fault cause) hf e is = absurd (is.0 (f, [], hf, append-nil (q ++ x ∷ []) ∙ e))
 
--- the last octet of a frame brings it
+-- the result of a frame's last octet is the frame
 pub step-at_last : (v : Version) (q : List ℕ) (x : ℕ) (f : FrameIn) → x < 256 → IsFrame v f → q ++ x ∷ [] ≡ spelling f → step_at v q x ≡ Frame f
 step-at_last v q x f lt hf e = at_last v q x f (step_at v q x) hf e (step_sound v q x (f, x, [], hf, e) lt)
 
--- a step that needs more leaves a rest that is open, and one that brings a frame has spelled it
+-- a step that needs more leaves an open rest, and a step with a frame has spelled it
 pub open-after_need : (v : Version) (q : List ℕ) (x : ℕ) → x < 256 → IsOpen v q → step_at v q x ≡ Need → IsOpen v (q ++ x ∷ [])
 open-after_need v q x lt h e = let P : Step → Type 0 = λ s. IsStep v q x s in subst P e (step_sound v q x h lt)
 

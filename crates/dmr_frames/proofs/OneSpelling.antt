@@ -1,4 +1,4 @@
--- Each frame has one spelling, and no spelling goes on to another.
+-- Each frame has one spelling, and no spelling continues as another.
 use Rattle.std.proofs.Common.{◌≡◌, ℕ, ◌<◌, Some, List, ◌∷◌, ◌++◌, take, drop, sym, ap, ◌∙◌, arith, subst}
 use Rattle.std.proofs.lemmas.List.{take_at, drop_at}
 use Rattle.dmr_frames.specs.declared.frame.FrameIn.{FrameIn}
@@ -12,7 +12,7 @@ use Rattle.dmr_frames.specs.Shape.{AreSmall, IsWhole}
 use Rattle.dmr_frames.proofs.TableLemmas.{small-cons, kind_same}
 use Rattle.dmr_frames.proofs.EachFrame.{octet_small, length-most, IsSpelled, frame_spelled, same_step}
 
--- what follows the type octet of a frame
+-- the octets after the type octet of a frame
 pub record Follows (v : Version) (octet : ℕ) (rest : List ℕ) : Type 0 where
   pub which : FrameKind
   pub body : List ℕ
@@ -49,7 +49,7 @@ bodies_same v w f g k a b x y ha hb len e fa gb =
     let behind : x ≡ y = sym (drop_at a x n ha.all) ∙ ap (drop n) e ∙ drop_at b y n (hb.all ∙ sym len) in
     (frame_same f g (sym fa ∙ same_step (has_numbers v) (has_numbers w) k a len ∙ ap (whole_step (has_numbers w) k) same ∙ gb), behind)
 
--- no spelling goes on to another, of whichever versions the two are
+-- no spelling continues as another, of whichever versions the two are
 pub spelled_once : (v w : Version) (f g : FrameIn) (x y : List ℕ) → IsFrame v f → IsFrame w g → spelling f ++ x ≡ spelling g ++ y → (f ≡ g) × (x ≡ y)
 spelled_once v w f g x y hf hg e =
     let s : IsSpelled v f = frame_spelled v f hf in

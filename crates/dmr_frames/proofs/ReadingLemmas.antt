@@ -1,4 +1,4 @@
--- How a reading goes on, and what the octets of a frame, and those of a frame that has begun, bring to a rest of nothing.
+-- How a reading continues, and the results of the octets of a frame, or of a part of one, for an empty rest.
 use Rattle.std.proofs.Common.{◌≡◌, ℕ, ◌<◌, List, [], ◌∷◌, ◌++◌, refl, sym, ap, ◌∙◌, append_assoc, subst, All}
 use Rattle.std.specs.List.{flat_map}
 use Rattle.std.proofs.lemmas.List.{append-nil, flat_map_more}
@@ -25,7 +25,7 @@ use Rattle.dmr_frames.proofs.StepLemmas.{step_sound}
 pub open_nothing : (v : Version) → IsOpen v []
 open_nothing v = (Poll, 3, 0 ∷ [], tt, refl)
 
--- one frame more, of the version whose turn it is
+-- one more frame, of the version of the table at its place
 frames_more : (table : FrameTable) (fs : List FrameIn) (f : FrameIn) → AreFrames table fs → IsFrame (version_of (table_after_frames table fs)) f → AreFrames table (fs ++ f ∷ [])
 frames_more table [] f h is = (is, tt)
 frames_more table (g ∷ fs) f h is = (h.0, frames_more (table_after table g) fs f h.1 is)
@@ -124,12 +124,12 @@ reads_frame table f h = record {
   rest_is = (refl, refl, open_nothing (version_of (table_after table f)));
 }
 
--- what is no whole frame yet brings none, and stays
+-- a part of a frame produces no frame, and is kept
 pub open-brings : (table : FrameTable) (q : List ℕ) → IsOpen (version_of table) q → (frames_from (Open table []) q ≡ []) × (rest_after_octets (Open table []) q ≡ Open table q)
 open-brings table q h =
     readings-same table q (frames_from (Open table []) q) [] (rest_after_octets (Open table []) q) (Open table q) (reads_all table q (all_small q (open-small (version_of table) q h))) (reads_open table q h)
 
--- the octets of a frame bring it, and nothing is left
+-- the octets of a frame produce it, and nothing is left
 pub spelling-brings : (table : FrameTable) (f : FrameIn) → IsFrame (version_of table) f →
     (frames_from (Open table []) (spelling f) ≡ f ∷ []) × (rest_after_octets (Open table []) (spelling f) ≡ Open (table_after table f) [])
 spelling-brings table f h =

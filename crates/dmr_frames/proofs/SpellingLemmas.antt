@@ -1,4 +1,4 @@
--- The spellings of the frames to a carrier part, and the length octets.
+-- The spellings of the frames to a carrier differ, and the length octets.
 use Rattle.std.proofs.Common.{◌≡◌, ℕ, ◌+◌, ◌≤◌, Bool, Option, Some, None, List, [], ◌∷◌, ◌++◌, length, get_or, take, drop, refl, sym, ap, ◌∙◌, arith}
 use Rattle.std.proofs.lemmas.List.{take_at, drop_at}
 use Rattle.dmr_bits.specs.Words.{word_octets, word_of}
@@ -21,7 +21,7 @@ same_words v w x y lv lw e =
 abbrev first_octet : List ℕ → ℕ
 first_octet octets = get_or octets 0 0
 
--- two bursts, after their type: whether each has a number is told by its length octet
+-- two bursts, after their type: the length octet says whether each has a number
 same_bursts : (m n : Option ℕ) (s t : ℕ) (v w : List Bool) (x y : List ℕ) → length v ≡ 196 → length w ≡ 196 →
     body_length (has_numbers (version_by m)) kind.Tx ∷ (burst_octets m s (word_octets v) ++ x) ≡ body_length (has_numbers (version_by n)) kind.Tx ∷ (burst_octets n t (word_octets w) ++ y) → (m ≡ n) × (s ≡ t) × (v ≡ w) × (x ≡ y)
 same_bursts None None s t v w x y lv lw e =
@@ -73,7 +73,7 @@ spelled_out_once (Refused BadVersion) (Refused WrongCarrier) x y hf hg e = absur
 spelled_out_once (Refused WrongCarrier) (Refused BadVersion) x y hf hg e = absurd (omega (arith, ap third e))
 spelled_out_once (Refused WrongCarrier) (Refused WrongCarrier) x y hf hg e = (refl, cc)
 
--- the octets of a burst go on with those of its word
+-- the octets of a burst continue with those of its word
 pub burst-more : (number : Option ℕ) (slot : ℕ) (octets : List ℕ) → burst_octets number slot [] ++ octets ≡ burst_octets number slot octets
 burst-more None slot octets = refl
 burst-more (Some n) slot octets = refl

@@ -1,4 +1,4 @@
--- Each step is what one octet more makes of an open rest.
+-- Each step is what one more octet makes of an open rest.
 use Rattle.std.proofs.Common.{◌≡◌, ◌==◌, ℕ, ◌+◌, ◌<◌, not, cond, nat_lt, Bool, true, false, Option, Some, None, is_some, List, [], ◌∷◌, ◌++◌, length, get_or, refl, sym, ap, ◌∙◌, arith, length-append, append_assoc, subst}
 use Rattle.std.proofs.Math.Seq.{get_or-append_seam}
 use Rattle.std.proofs.lemmas.Bool.{eqb-true, eq-eqb, ltb-false, ltb-true}
@@ -42,7 +42,7 @@ type_sound v x (Some k) e = open_shape v x k [] e tt
 
 -- ---- at a length octet and in a body
 
--- a whole body brings its frame
+-- the result of a whole body is its frame
 whole_sound : (v : Version) (octet : ℕ) (k : FrameKind) (body q : List ℕ) (x : ℕ) → carrier_kind v octet ≡ Some k → IsWhole (has_numbers v) k body → q ++ x ∷ [] ≡ octet ∷ body_length (has_numbers v) k ∷ body → IsStep v q x (whole_step (has_numbers v) k body)
 whole_sound v octet k body q x known w e =
     let found : (octet ≡ (frame_row k).octet) × IsCarriersIn v k = kind_found v octet k known in

@@ -1,4 +1,4 @@
--- Two readings of one stream are one.
+-- Two readings of one stream are the same.
 use Rattle.std.proofs.Common.{◌≡◌, ℕ, List, [], ◌∷◌, ◌++◌, length, refl, sym, ap, ◌∙◌, arith, ⊎_elim, inl, inr, ◌⊎◌, length-append, append_assoc, subst, Some}
 use Rattle.std.specs.List.{flat_map}
 use Rattle.std.proofs.lemmas.List.{append-nil}
@@ -12,7 +12,7 @@ use Rattle.dmr_frames.specs.Stream.{Begins, IsOpen, IsFaulty, IsRest, Reads, Are
 use Rattle.dmr_frames.specs.Versions.{has_numbers, version_of, table_after, table_after_frames}
 use Rattle.dmr_frames.proofs.OneSpelling.{spelled_once}
 
--- two ways to part a list: one front goes on to the other
+-- two ways to split a list: one front continues as the other
 pub append_cases : {A : Type 0} (a b c d : List A) → a ++ b ≡ c ++ d → ((m : List A) × (c ≡ a ++ m) × (b ≡ m ++ d)) ⊎ ((m : List A) × (a ≡ c ++ m) × (d ≡ m ++ b))
 append_cases [] b c d e = inl (c, refl, e)
 append_cases (x ∷ a) b [] d e = inr (x ∷ a, refl, sym e)
@@ -21,7 +21,7 @@ append_cases (x ∷ a) b (y ∷ c) d e =
     let tail : a ++ b ≡ c ++ d = cc in
     ⊎_elim (λ h. inl (h.0, (λ i. (sym head i) ∷ (h.1 i)), h.2)) (λ h. inr (h.0, (λ i. (head i) ∷ (h.1 i)), h.2)) (append_cases a b c d tail)
 
--- an open rest begins with no whole spelling
+-- an open rest does not begin with a whole spelling
 pub open_no_spelling : (v : Version) (q : List ℕ) (g : FrameIn) (y : List ℕ) → IsFrame v g → q ≡ spelling g ++ y → IsOpen v q → ⊥
 open_no_spelling v q g y hg e (f, x, more, hf, h) =
     let joined : spelling g ++ (y ++ x ∷ more) ≡ spelling f ++ [] = sym (append_assoc (spelling g) y (x ∷ more)) ∙ ap (λ (p : List ℕ). p ++ x ∷ more) (sym e) ∙ h ∙ sym (append-nil (spelling f)) in
@@ -35,7 +35,7 @@ open_begins v q x m (f, y, more, hf, h) = (f, m ++ y ∷ more, hf, append_assoc 
 spelling_begins : (v : Version) (q : List ℕ) (x : ℕ) (m : List ℕ) (g : FrameIn) → IsFrame v g → spelling g ≡ q ++ x ∷ m → Begins v (q ++ x ∷ [])
 spelling_begins v q x m g hg h = (g, m, hg, append_assoc q (x ∷ []) m ∙ sym h)
 
--- a faulty rest begins with no whole spelling
+-- a faulty rest does not begin with a whole spelling
 faulty_no_spelling : (v : Version) (octets : List ℕ) (cause : Cause) (g : FrameIn) (y : List ℕ) → IsFrame v g → octets ≡ spelling g ++ y → IsFaulty v octets cause → ⊥
 faulty_no_spelling v octets cause g y hg e h =
     ⊎_elim
@@ -58,7 +58,7 @@ rest_no_spelling : (table : FrameTable) (tail : List ℕ) (rest : Rest) (g : Fra
 rest_no_spelling table tail (Open t q) g y hg e h = open_no_spelling (version_of table) q g y hg (sym h.1 ∙ e) (moved_open t table q (sym h.0) h.2)
 rest_no_spelling table tail (Faulty cause) g y hg e h = faulty_no_spelling (version_of table) tail cause g y hg e h
 
--- no open rest is faulty
+-- an open rest is not faulty
 open_not_faulty : (v : Version) (q : List ℕ) (cause : Cause) → IsOpen v q → IsFaulty v q cause → ⊥
 open_not_faulty v q cause o h =
     let P : List ℕ → Type 0 = λ xs. IsOpen v xs in

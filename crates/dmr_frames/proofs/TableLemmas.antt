@@ -1,4 +1,4 @@
--- The table of frames: which frame a type octet is of, and which octets of a body are faults.
+-- The table of frames: the frame of each type octet, and the octets of a body that are faults.
 use Rattle.std.proofs.Common.{◌≡◌, ◌==◌, ℕ, zero, suc, ◌+◌, ◌-◌, ◌%◌, ◌<◌, ◌≤◌, nat_lt, cond, Bool, true, false, Some, None, List, [], ◌∷◌, ◌++◌, length, get_or, replicate, refl, sym, ap, ◌∙◌, arith, ⊎_elim, length-append, subst}
 use Rattle.std.proofs.Math.Seq.{get_or-append_seam}
 use Rattle.std.proofs.lemmas.Bool.{cases_lt, eqb-true, le-ltb}
@@ -45,7 +45,7 @@ some_same a b e = cc
 pub none_some : {A : Type 0} (a : A) → None ≡ Some a → ⊥
 none_some a e = cc
 
--- each of these frames is such a one
+-- each of these frames has the property
 abbrev pub AreAll : (FrameKind → Type 0) → List FrameKind → Type 0
 AreAll P [] = Unit {0}
 AreAll P (k ∷ kinds) = P k × AreAll P kinds
@@ -63,7 +63,7 @@ among_is P v (j ∷ kinds) x k all e = at (x == (frame_row j).octet) (is_since (
     at true false later ea eb e = absurd (none_some k e)
     at false b later ea eb e = later e
 
--- a type octet is that of one frame, in whichever version
+-- a type octet belongs to one frame, in whichever version
 among_same : (v w : Version) (kinds : List FrameKind) (x : ℕ) (i j : FrameKind) → kind_among v kinds x ≡ Some i → kind_among w kinds x ≡ Some j → i ≡ j
 among_same v w [] x i j d e = absurd (none_some i d)
 among_same v w (k ∷ kinds) x i j d e = at (x == (frame_row k).octet) (is_since (frame_row k).since v) (is_since (frame_row k).since w) (λ d e. among_same v w kinds x i j d e) d e
@@ -78,7 +78,7 @@ among_same v w (k ∷ kinds) x i j d e = at (x == (frame_row k).octet) (is_since
 pub kind_same : (v w : Version) (x : ℕ) (i j : FrameKind) → carrier_kind v x ≡ Some i → carrier_kind w x ≡ Some j → i ≡ j
 kind_same v w x i j d e = among_same v w carrier_kinds x i j d e
 
--- ---- octets that are no fault
+-- ---- octets that are never a fault
 
 -- octets of these fields are never a fault
 abbrev pub AreFree : List Field → Type 0
@@ -133,7 +133,7 @@ whole-last b k body x h lt none le = record {
   fitting = fitting-one b k body x h.fitting none;
 }
 
--- ---- which fault it is
+-- ---- which fault an octet is
 
 slot_cause : (x : ℕ) (cause : Cause) → cond (nat_lt x 2) None (Some BadSlot) ≡ Some cause → Some BadSlot ≡ Some cause
 slot_cause x cause e = at (nat_lt x 2) e

@@ -28,12 +28,13 @@ abbrev pub burst_octets : Option ℕ → ℕ → List ℕ → List ℕ
 burst_octets None slot octets = slot ∷ octets
 burst_octets (Some number) slot octets = number ∷ slot ∷ octets
 
--- a burst has an octet as its number where its version numbers bursts, and none elsewhere
+-- a burst has an octet as its number if its version numbers bursts, and otherwise none
 abbrev pub IsNumberWhere : Bool → Option ℕ → Type 0
 IsNumberWhere true (Some number) = number < 256
 IsNumberWhere false None = Unit {0}
 IsNumberWhere other number = ⊥
 
+-- a burst of this version has a number if and only if the version numbers bursts
 abbrev pub IsNumbered : Version → Option ℕ → Type 0
 IsNumbered version number = IsNumberWhere (has_numbers version) number
 
@@ -45,7 +46,7 @@ IsFrame v Poll = Unit {0}
 IsFrame v (Active slot) = slot < 2
 IsFrame v Bye = Unit {0}
 
--- the octets of a frame from a carrier; only RX has other octets in each version
+-- the octets of a frame from a carrier; only RX has different octets in each version
 abbrev pub spelling : FrameIn → List ℕ
 spelling (Hello version carrier lpcn) = plain_octets kind.Hello (version ∷ carrier ∷ (lpcn / 256) ∷ (lpcn % 256) ∷ [])
 spelling (Rx number slot word) = frame_octets (version_by number) kind.Rx (burst_octets number slot (word_octets word))
@@ -55,28 +56,28 @@ spelling Bye = plain_octets kind.Bye []
 
 -- ---- the frame of a body
 
--- the body of a HELLO
+-- the frame of a HELLO's body
 unfoldable pub hello_step : List ℕ → Step
 hello_step (version ∷ carrier ∷ high ∷ low ∷ []) = Frame (Hello version carrier (256 * high + low))
 hello_step body = Need
 
--- a slot and a word, after their number
+-- the RX of a slot and a word, after the number
 unfoldable pub burst_step : Option ℕ → List ℕ → Step
 burst_step number [] = Need
 burst_step number (slot ∷ octets) = Frame (Rx number slot (word_of octets))
 
--- the body of an RX, which begins with a number where bursts are numbered
+-- the frame of an RX's body, which begins with a number if bursts are numbered
 unfoldable pub rx_step : Bool → List ℕ → Step
 rx_step false body = burst_step None body
 rx_step true [] = Need
 rx_step true (number ∷ body) = burst_step (Some number) body
 
--- the body of an ACTIVE
+-- the frame of an ACTIVE's body
 unfoldable pub active_step : List ℕ → Step
 active_step (slot ∷ []) = Frame (Active slot)
 active_step body = Need
 
--- a whole body in which no octet is a fault
+-- the frame of a whole body in which no octet is a fault
 unfoldable pub whole_step : Bool → FrameKind → List ℕ → Step
 whole_step numbered kind.Hello body = hello_step body
 whole_step numbered kind.Rx body = rx_step numbered body
@@ -99,7 +100,7 @@ IsFrameOut (Tx number slot word) = IfSome number (λ n. n < 256) × (slot < 2) �
 IsFrameOut Done = Unit {0}
 IsFrameOut (Refused refusal) = Unit {0}
 
--- the octets of a frame to a carrier; only TX has other octets in each version
+-- the octets of a frame to a carrier; only TX has different octets in each version
 abbrev pub spelling_out : FrameOut → List ℕ
 spelling_out (Welcome version) = plain_octets kind.Welcome (version ∷ [])
 spelling_out (Tx number slot word) = frame_octets (version_by number) kind.Tx (burst_octets number slot (word_octets word))

@@ -1,4 +1,4 @@
--- What the octets after the last whole frame are.
+-- The octets after the last whole frame.
 use Rattle.std.specs.Prelude.{ℕ, List, Option, Some, None}
 use Rattle.dmr_frames.specs.declared.frame.Cause.{Cause}
 use Rattle.dmr_frames.specs.declared.version.FrameTable.{FrameTable}

@@ -1,4 +1,4 @@
--- The octets from which a frame can follow: words for the cutter and its private functions. Nothing above rests on them.
+-- The octets from which a frame can follow: definitions for the cutter and its private functions. No public contract depends on them.
 use Rattle.std.specs.Prelude.{◌≡◌, ℕ, ◌<◌, Bool, true, false, List, [], ◌∷◌, length, slice_index, Option, Some, None}
 use Rattle.dmr_bits.specs.Bits.{field_of}
 use Rattle.dmr_frames.specs.declared.table.FrameKind.{FrameKind}

@@ -14,7 +14,7 @@ use Rattle.dmr_frames.specs.Table.{body_length}
 use Rattle.dmr_frames.specs.Rest.{Rest, Open, Faulty}
 use Rattle.dmr_frames.specs.Versions.{has_numbers, version_of, table_after, table_after_frames}
 
--- the spelling of some frame of this version begins so
+-- the spelling of some frame of this version begins with these octets
 abbrev pub Begins : Version → List ℕ → Type 0
 Begins version q = (f : FrameIn) × (more : List ℕ) × IsFrame version f × (q ++ more ≡ spelling f)
 
@@ -22,11 +22,11 @@ Begins version q = (f : FrameIn) × (more : List ℕ) × IsFrame version f × (q
 abbrev pub IsOpen : Version → List ℕ → Type 0
 IsOpen version q = (f : FrameIn) × (x : ℕ) × (more : List ℕ) × IsFrame version f × (q ++ x ∷ more ≡ spelling f)
 
--- the place of the slot in an RX, counted from 0; that of an ACTIVE stands at place 2 in each version
+-- the place of the slot in an RX, counted from 0; in an ACTIVE it is 2 in each version
 abbrev pub slot_place : Bool → ℕ
 slot_place numbered = if numbered then 3 else 2
 
--- the fault that comes after so many octets of a frame
+-- the fault of an octet after `n` octets of a frame
 abbrev pub fault_at : Bool → ℕ → Option Cause
 fault_at numbered n =
     if n == 0 then Some UnknownType else
@@ -34,7 +34,7 @@ fault_at numbered n =
     if n == 2 || n == slot_place numbered then Some BadSlot else
     if n == body_length numbered kind.Rx + 1 then Some BadPad else None
 
--- a proper prefix of a spelling, one octet with which no spelling begins, and anything
+-- a proper prefix of a spelling, one octet with which no spelling begins, and any octets
 pub record IsFaulty (version : Version) (octets : List ℕ) (cause : Cause) : Type 0 where
   pub front : List ℕ
   pub octet : ℕ
@@ -44,12 +44,12 @@ pub record IsFaulty (version : Version) (octets : List ℕ) (cause : Cause) : Ty
   pub no_frame : Begins version (front ++ octet ∷ []) → ⊥
   pub cause_is : fault_at (has_numbers version) (length front) ≡ Some cause
 
--- octets after the last whole frame, by the table there, and what they are
+-- octets after the last whole frame are this rest, by this table
 abbrev pub IsRest : FrameTable → List ℕ → Rest → Type 0
 IsRest table octets (Open t q) = (table ≡ t) × (octets ≡ q) × IsOpen (version_of t) q
 IsRest table octets (Faulty cause) = IsFaulty (version_of table) octets cause
 
--- each frame is of the version whose turn it is
+-- each frame is of the version of the table at its place
 abbrev pub AreFrames : FrameTable → List FrameIn → Type 0
 AreFrames table [] = Unit {0}
 AreFrames table (f ∷ fs) = IsFrame (version_of table) f × AreFrames (table_after table f) fs
@@ -61,7 +61,7 @@ pub record Reads (table : FrameTable) (octets : List ℕ) (frames : List FrameIn
   pub each : AreFrames table frames
   pub rest_is : IsRest (table_after_frames table frames) tail rest
 
--- what one octet more makes of an open rest: still an open one, a whole frame, or a fault
+-- an open rest with one more octet is still open, a whole frame, or a fault, as the result says
 abbrev pub IsStep : Version → List ℕ → ℕ → Step → Type 0
 IsStep version q x Need = IsOpen version (q ++ x ∷ [])
 IsStep version q x (Frame f) = IsFrame version f × (q ++ x ∷ [] ≡ spelling f)

@@ -1,4 +1,4 @@
--- The table of frames: of each frame its type octet, its name, the version that it exists since, and the fields of its body.
+-- The table of frames: of each frame its type octet, its name, the version that introduced it, and the fields of its body.
 use Rattle.std.specs.Prelude.{ℕ, ◌+◌, ◌-◌, ◌%◌, ◌==◌, nat_lt, Bool, List, [], ◌∷◌, Option, Some, None, if◌then◌else◌, codes}
 use Rattle.dmr_frames.specs.declared.frame.Cause.{Cause}
 use Rattle.dmr_frames.specs.declared.frame.Cause.TheVariants.{BadSlot, BadPad}
@@ -17,10 +17,11 @@ pub record Row : Type 0 where
   pub since : Version
   pub body : List Field
 
+-- makes a row of its octet, its name, the version that introduced it, and its fields
 abbrev pub row : ℕ → List ℕ → Version → List Field → Row
 row octet name since body = record { octet = octet; name = name; since = since; body = body }
 
--- the table
+-- the row of each frame: the table of frames
 abbrev pub frame_row : FrameKind → Row
 frame_row kind.Hello = row 0x01 (codes "HELLO") V1 (field.Version ∷ field.Carrier ∷ field.Lpcn ∷ [])
 frame_row kind.Rx = row 0x02 (codes "RX") V1 (field.Number ∷ field.Slot ∷ field.Word ∷ [])
@@ -54,19 +55,19 @@ carrier_kind version octet = kind_among version carrier_kinds octet
 abbrev pub site_kind : Version → ℕ → Option FrameKind
 site_kind version octet = kind_among version site_kinds octet
 
--- how many octets a field has: a number none where bursts are not numbered
+-- the number of octets of a field; a number has none if bursts are not numbered
 abbrev pub field_length : Bool → Field → ℕ
 field_length numbered field.Lpcn = 2
 field_length numbered field.Number = if numbered then 1 else 0
 field_length numbered field.Word = 25
 field_length numbered other = 1
 
--- how many octets fields have together
+-- the number of octets of fields together
 abbrev pub fields_length : Bool → List Field → ℕ
 fields_length numbered [] = 0
 fields_length numbered (field ∷ fields) = field_length numbered field + fields_length numbered fields
 
--- how many octets a frame has after its length octet
+-- the number of octets of a frame after its length octet
 abbrev pub body_length : Bool → FrameKind → ℕ
 body_length numbered kind = fields_length numbered (frame_row kind).body
 

@@ -1,4 +1,4 @@
--- The versions of the link format, and which one the frames of a connection are of.
+-- The versions of the link format, and the version of each frame of a connection.
 use Rattle.std.specs.Prelude.{ℕ, ◌==◌, ◌&&◌, Bool, true, false, List, Option, Some, None, if◌then◌else◌, fold}
 use Rattle.dmr_frames.specs.declared.frame.FrameIn.{FrameIn}
 use Rattle.dmr_frames.specs.declared.frame.FrameIn.TheVariants.{Hello}
@@ -17,18 +17,18 @@ abbrev pub has_numbers : Version → Bool
 has_numbers V1 = false
 has_numbers V2 = true
 
--- whether what exists since one version exists in another
+-- whether `version` has the things that another version introduced
 abbrev pub is_since : Version → Version → Bool
 is_since V1 version = true
 is_since V2 V1 = false
 is_since V2 V2 = true
 
--- the first version in which a burst is told so: with a number, or with none
+-- the first version that has bursts with a number, or without one
 abbrev pub version_by : Option ℕ → Version
 version_by None = V1
 version_by (Some number) = V2
 
--- the version that an octet names, of those up to the greatest that is served
+-- the version that an octet names, if it is at most the greatest that is served
 abbrev pub version_named : Version → ℕ → Option Version
 version_named greatest octet = if octet == 0x01 then Some V1 else if octet == 0x02 && is_since V2 greatest then Some V2 else None
 
@@ -37,16 +37,16 @@ abbrev pub or_first : Option Version → Version
 or_first None = V1
 or_first (Some version) = version
 
--- the version that an octet names, of all that there are, or else the first
+-- the version that an octet names, or else the first
 abbrev pub named_or_first : ℕ → Version
 named_or_first octet = or_first (version_named V2 octet)
 
--- the version that a first frame chooses: a HELLO that of its octet, if that is served; any other frame the first
+-- the version that a first frame chooses: a HELLO chooses that of its octet, if it is served; any other frame chooses the first
 abbrev pub chosen_by : Version → FrameIn → Version
 chosen_by greatest (Hello version carrier lpcn) = or_first (version_named greatest version)
 chosen_by greatest other = V1
 
--- the version whose spellings come next: the first frame has those of version 1
+-- the version of the next frame's spelling: the first frame has that of version 1
 abbrev pub version_of : FrameTable → Version
 version_of (First greatest) = V1
 version_of (Later version) = version

@@ -20,19 +20,19 @@ use dmr_bits::Word196;
 use dmr_pdu::SlotNo;
 use std::marker::Model;
 
-/// What an octet brings.
+/// The result of an octet.
 #[derive(Clone, Copy, Debug, PartialEq, Eq)]
 pub enum Step {
     /// No frame yet: a frame has begun, and more of its octets must come.
     Need,
     /// The octet is the last one of this frame.
     Frame(FrameIn),
-    /// The octets can be no frame, and this octet is the first that shows it; or there was such an octet before.
+    /// The octets cannot be a frame, and this octet is the first that shows it; or an earlier octet showed it.
     Fault(Cause),
 }
 
-/// Cuts the octets of one connection into frames: the octets since the last whole frame and the table by which they are cut, or the
-/// fault that was met. Contracts see it as that rest.
+/// Cuts the octets of one connection into frames. It keeps the octets since the last whole frame and the table by which they are cut, or
+/// the fault that was found. Contracts see this `Rest`.
 #[derive(Debug, Drop)]
 pub struct Cutter {
     octets: [u8; LONGEST_FRAME],
@@ -56,14 +56,14 @@ impl Model for Cutter {
 }
 
 impl Cutter {
-    /// The cutter of a connection that has begun, where versions up to this one are served: no frame, no octets, no fault.
+    /// Makes the cutter of a new connection, if versions up to `greatest` are served: no frame, no octets, no fault.
     pub fn new(greatest: Version) -> Self
         ensures { result ≡ Open (FrameTable.First greatest) [] }
     {
         Cutter::by(FrameTable::First(greatest))
     }
 
-    /// The cutter of a connection that has come so far that its octets are cut by this table: no octets, no fault.
+    /// Makes the cutter of a connection whose octets are now cut by this table: no octets, no fault.
     pub(crate) fn by(table: FrameTable) -> Self
         ensures { result ≡ Open table [] }
     {
@@ -75,7 +75,7 @@ impl Cutter {
         }
     }
 
-    /// The same cutter once more. What the one is fed does nothing to the other.
+    /// Copies the cutter. Octets fed to one of the two do not change the other.
     pub fn fork(&self) -> Self
         ensures { result ≡ self.now }
     {
@@ -87,14 +87,14 @@ impl Cutter {
         }
     }
 
-    /// Takes the next octet, and says what it brings. A frame comes at its last octet, a fault at the first octet with
-    /// which the octets since the last frame begin no frame at all: `UnknownType`, `BadLength`, `BadSlot` or `BadPad`.
-    /// From then on every octet is answered with that same fault.
+    /// Takes the next octet, and returns its result. A frame is returned at its last octet. A fault is returned at the first octet with
+    /// which the octets since the last frame can no longer begin a frame: `UnknownType`, `BadLength`, `BadSlot` or `BadPad`. From then on
+    /// every octet returns that same fault.
     ///
-    /// The first frame is cut by the table of version 1, and those after it by that of the version which it chose.
+    /// The table of version 1 cuts the first frame. The table of the version that the first frame chose cuts those after it.
     pub fn feed_byte(&mut self, octet: u8) -> Step
-        // Where the octets so far are the spellings of these frames and a rest, they still are with this octet and
-        // with the frame that it brings, if it brings one.
+        // If the octets so far are the spellings of these frames and a rest, they still are with this octet. The frames then include the
+        // frame of this result, if it has one.
         ensures stream { (table : FrameTable) (octets : List ℕ) (frames : List FrameIn) →
             Reads table octets frames self.old →
             Reads table (octets ++ octet ∷ []) (frames ++ frame_of result) self.new }
@@ -131,7 +131,7 @@ impl Cutter {
     }
 }
 
-/// Returns what an octet brings after those of a frame that has begun.
+/// Returns the result of an octet after those of a frame that has begun.
 #[tactic(auto, unfolding(crate::specs::Reading::step_at, crate::specs::Reading::kind_step))]
 fn read_octet(version: Version, begun: &[u8], octet: u8) -> Step
     requires { IsShape version begun.now }
@@ -149,7 +149,7 @@ fn read_octet(version: Version, begun: &[u8], octet: u8) -> Step
     }
 }
 
-/// Returns what a type octet brings. No carrier's frame consists of its type alone.
+/// Returns the result of a type octet. No carrier's frame consists of its type alone.
 #[tactic(auto, unfolding(crate::specs::Reading::step_at))]
 fn read_type(version: Version, octet: u8) -> Step
     ensures { result ≡ step_at version [] octet }
@@ -160,7 +160,7 @@ fn read_type(version: Version, octet: u8) -> Step
     }
 }
 
-/// Returns what the length octet of a frame brings in this version. It ends a frame that has no body.
+/// Returns the result of a frame's length octet in this version. It ends a frame that has no body.
 #[tactic(auto, unfolding(crate::specs::Reading::length_step))]
 fn read_length(version: Version, kind: FrameKind, octet: u8) -> Step
     ensures { result ≡ length_step (has_numbers version) kind octet }
@@ -174,7 +174,7 @@ fn read_length(version: Version, kind: FrameKind, octet: u8) -> Step
     read_whole(version, kind, &[])
 }
 
-/// Returns what an octet of a body brings, which follows these octets of it.
+/// Returns the result of an octet of a body, which follows these octets of the body.
 #[tactic(auto, unfolding(crate::specs::Reading::body_step))]
 fn read_body(version: Version, kind: FrameKind, body: &[u8], octet: u8) -> Step
     requires { IsBegun (has_numbers version) kind body.now }
@@ -224,7 +224,7 @@ fn read_hello(body: &[u8]) -> Step
     }
 }
 
-/// Returns the RX that has this body, which begins with a number where bursts are numbered.
+/// Returns the RX that has this body, which begins with a number if `numbered`.
 #[tactic(auto, unfolding(crate::specs::Frames::rx_step))]
 fn read_rx(numbered: bool, body: &[u8]) -> Step
     requires { IsRxBody numbered body.now }

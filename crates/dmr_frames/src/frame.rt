@@ -7,29 +7,28 @@ use dmr_bits::Word196;
 use dmr_pdu::SlotNo;
 use std::fmt;
 
-/// The octets of the longest frames, RX and TX of version 2: type, length, number, slot, and the 25 of a word. In version 1 they
-/// are shorter by the number.
+/// The octets of the longest frames, RX and TX of version 2: type, length, number, slot, and the 25 of a word. In version 1 they have no
+/// number and are one octet shorter.
 pub const LONGEST_FRAME: usize = 29;
 
 /// A frame that comes from a carrier.
 #[derive(Clone, Copy, Debug, PartialEq, Eq)]
 pub enum FrameIn {
-    /// HELLO, the first frame of a connection: the version of the link format that the carrier speaks, the carrier's
-    /// number within the site, and its logical physical channel number. All three are as they were sent; no range of
-    /// theirs was examined.
+    /// HELLO, the first frame of a connection: the version of the link format that the carrier speaks, the carrier's number within the
+    /// site, and its logical physical channel number. All three are as they were sent; their ranges were not checked.
     Hello {
         version: u8,
         carrier: u8,
         lpcn: u16,
     },
-    /// RX: a burst was received on a slot. Its number is the octet that the carrier counts its bursts by in version 2 of the link
-    /// format; in version 1 there is none.
+    /// RX: a burst was received on a slot. The carrier counts its bursts by the number, one octet, in version 2 of the link format. In
+    /// version 1 there is none.
     Rx {
         number: Option<u8>,
         slot: SlotNo,
         word: Word196,
     },
-    /// POLL: the carrier asks for what it is to send.
+    /// POLL: the carrier asks for the bursts that it is to send.
     Poll,
     /// ACTIVE: there is traffic on a slot.
     Active {
@@ -39,7 +38,7 @@ pub enum FrameIn {
     Bye,
 }
 
-/// The frame's name and what it carries, but for the word of an RX.
+/// The frame's name and its fields, except the word of an RX.
 impl fmt::Display for FrameIn {
     fn fmt<W: fmt::Write>(&self, f: &mut fmt::Formatter<W>) -> fmt::Result {
         f.write_str(self.kind().name())?;
@@ -70,12 +69,12 @@ impl fmt::Display for FrameIn {
 pub enum Refusal {
     /// The carrier speaks a version of the link format that is not served.
     BadVersion,
-    /// The carrier's number or its channel is not the one that belongs to the port.
+    /// The carrier's number or its channel does not belong to the port.
     WrongCarrier,
 }
 
 impl Refusal {
-    /// Returns the octet that stands for it in REFUSED: 1 or 2.
+    /// Returns the octet of this refusal in REFUSED: 1 or 2.
     pub fn octet(self) -> u8
         ensures { result ≡ refusal_octet self }
     {
@@ -99,7 +98,7 @@ impl fmt::Display for Refusal {
 /// A frame that goes to a carrier.
 #[derive(Clone, Copy, Debug, PartialEq, Eq)]
 pub enum FrameOut {
-    /// WELCOME: the answer to a HELLO that is accepted. It carries the version of the link format that is spoken from then on.
+    /// WELCOME: the answer to a HELLO that is accepted. It names the version of the link format for all frames after it.
     Welcome {
         version: u8,
     },
@@ -115,7 +114,7 @@ pub enum FrameOut {
     Refused(Refusal),
 }
 
-/// The frame's name and what it carries, but for the word of a TX.
+/// The frame's name and its fields, except the word of a TX.
 impl fmt::Display for FrameOut {
     fn fmt<W: fmt::Write>(&self, f: &mut fmt::Formatter<W>) -> fmt::Result {
         f.write_str(self.kind().name())?;
@@ -137,14 +136,12 @@ impl fmt::Display for FrameOut {
     }
 }
 
-/// What is wrong with a connection. The first four are told by the cutter at one octet, the last four by the session at
-/// a whole frame.
+/// What is wrong with a connection. The cutter finds the first four at one octet; the session finds the last four at a whole frame.
 #[derive(Clone, Copy, Debug, PartialEq, Eq)]
 pub enum Cause {
     /// A type octet that is not one of a carrier's frames, 01 to 05.
     UnknownType,
-    /// A length octet other than the one that belongs to the type octet before it, in the version of the link format by which
-    /// the octets are cut.
+    /// A length octet that does not belong to the type octet before it, in the version of the link format by which the octets are cut.
     BadLength,
     /// A slot octet, in RX or ACTIVE, that is not 00 or 01.
     BadSlot,
@@ -154,9 +151,9 @@ pub enum Cause {
     NoHello,
     /// A HELLO that is not the first frame of the connection.
     SecondHello,
-    /// A HELLO whose version is not served. This goes before `WrongCarrier`.
+    /// A HELLO whose version is not served. It is checked before `WrongCarrier`.
     BadVersion,
-    /// A HELLO of a version that is served, whose carrier number or channel is not the one that belongs to the port.
+    /// A HELLO of a version that is served, whose carrier number or channel does not belong to the port.
     WrongCarrier,
 }
 

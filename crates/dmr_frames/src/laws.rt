@@ -1,4 +1,4 @@
-//! What holds of frames and of streams of octets. These functions do nothing: their contracts are the laws.
+//! Laws of frames and of streams of octets. These functions do nothing: their contracts are the laws.
 
 ghost use Rattle.std.specs.Prelude.{◌≡◌, ◌+◌, ◌<◌, ◌≤◌, ℕ, List, [], ◌∷◌, ◌++◌, All, length, slice_index};
 ghost use Rattle.dmr_frames.specs.declared.frame.FrameIn.{FrameIn};
@@ -13,8 +13,7 @@ ghost use Rattle.dmr_frames.specs.Stream.{IsOpen, Reads};
 ghost use Rattle.dmr_frames.specs.Versions.{table_after, version_of};
 ghost use Rattle.dmr_frames.specs.Reading.{frames_from, rest_after_octets};
 
-/// Octets have one reading at most by each table, and any octets have one: the frames and the rest that they bring one by one, in
-/// whatever pieces they come.
+/// Octets have exactly one reading by each table: the frames that they produce one by one, and the rest, in whatever pieces they come.
 pub fn one_reading()
     ensures one { (table : FrameTable) (octets : List ℕ) (fs gs : List FrameIn) (r q : Rest) →
         Reads table octets fs r → Reads table octets gs q → (fs ≡ gs) × (r ≡ q) }
@@ -23,7 +22,7 @@ pub fn one_reading()
     ensures cut { (rest : Rest) (a b : List ℕ) →
         (frames_from rest (a ++ b) ≡ frames_from rest a ++ frames_from (rest_after_octets rest a) b)
         × (rest_after_octets rest (a ++ b) ≡ rest_after_octets (rest_after_octets rest a) b) }
-    // The octets of a frame bring it and leave nothing; those of a part of a frame bring nothing and stay.
+    // The octets of a frame produce it and leave nothing; those of a part of a frame produce nothing and are kept.
     ensures frame { (table : FrameTable) (f : FrameIn) → IsFrame (version_of table) f →
         (frames_from (Open table []) (spelling f) ≡ f ∷ [])
         × (rest_after_octets (Open table []) (spelling f) ≡ Open (table_after table f) []) }
@@ -31,8 +30,8 @@ pub fn one_reading()
         (frames_from (Open table []) q ≡ []) × (rest_after_octets (Open table []) q ≡ Open table q) }
 {}
 
-/// Each frame has one spelling, and none is a proper prefix of another's: octets that begin with the spelling of one
-/// frame begin with no other frame's, of whichever version the two are. The second octet of a spelling counts the octets after it.
+/// Each frame has one spelling, and no spelling is a proper prefix of another's. So octets that begin with the spelling of one frame do not
+/// begin with that of another, of whichever version the two are. The second octet of a spelling counts the octets after it.
 pub fn spellings_part()
     ensures from_carrier { (v w : Version) (f g : FrameIn) (a b : List ℕ) → IsFrame v f → IsFrame w g →
         spelling f ++ a ≡ spelling g ++ b → (f ≡ g) × (a ≡ b) }

@@ -1,6 +1,6 @@
-//! The table of frames, which everything here reads that cuts, writes or names them: of each frame its type octet, its name, the version
-//! of the link format that it exists since, and the fields of its body. A frame is its type octet, the number of octets in its body, and the
-//! body (this project's profile). What a field may hold is here too; what a frame means is not.
+//! The table of frames: of each frame its type octet, its name, the version that introduced it, and the fields of its body. All code here
+//! that cuts, writes or names frames reads it. A frame is its type octet, the number of octets in its body, and the body (this project's
+//! profile). The values that a field may have are here too; the meaning of a frame is not.
 
 ghost use Rattle.std.specs.Prelude.{◌≡◌, ◌<◌, slice_index};
 ghost use Rattle.dmr_frames.specs.Frames.{spelling, spelling_out};
@@ -56,11 +56,11 @@ pub enum Field {
 /// A row of the table of frames.
 #[derive(Clone, Copy)]
 pub struct FrameRow {
-    /// The type octet. Each frame has another.
+    /// The type octet, which differs for each frame.
     pub octet: u8,
-    /// How the frame is called.
+    /// The name of the frame.
     pub name: &'static str,
-    /// The version of the link format that the frame exists since.
+    /// The version of the link format that introduced the frame.
     pub since: Version,
     /// The fields of its body, in their order.
     pub body: &'static [Field],
@@ -83,7 +83,7 @@ const SITE_KINDS: [FrameKind; 4] = [
     FrameKind::Refused,
 ];
 
-/// Returns the row of a frame that exists since version 1.
+/// Returns the row of a frame that version 1 introduced.
 fn row_of(octet: u8, name: &'static str, body: &'static [Field]) -> FrameRow
     ensures octet { result.octet ≡ octet }
     ensures name { result.name.now ≡ name.now }
@@ -123,7 +123,7 @@ impl FrameKind {
         }
     }
 
-    /// Returns how the frame is called.
+    /// Returns the frame's name.
     pub fn name(self) -> &'static str
         ensures { result.now ≡ (frame_row self).name }
     {
@@ -161,7 +161,7 @@ impl FrameKind {
 }
 
 impl FrameIn {
-    /// Returns which frame it is: the one whose type octet its spelling begins with.
+    /// Returns the frame's kind: the one with the type octet that the frame's spelling begins with.
     pub fn kind(&self) -> FrameKind
         ensures { (frame_row result).octet ≡ slice_index (spelling self.now) 0 }
     {
@@ -176,7 +176,7 @@ impl FrameIn {
 }
 
 impl FrameOut {
-    /// Returns which frame it is: the one whose type octet its spelling begins with.
+    /// Returns the frame's kind: the one with the type octet that the frame's spelling begins with.
     pub fn kind(&self) -> FrameKind
         ensures { (frame_row result).octet ≡ slice_index (spelling_out self.now) 0 }
     {
@@ -190,7 +190,7 @@ impl FrameOut {
 }
 
 impl Field {
-    /// Returns how many octets the field has in a version.
+    /// Returns the number of octets of the field in a version.
     pub fn length(self, version: Version) -> u8
         ensures { result ≡ field_length (has_numbers version) self }
     {
@@ -234,7 +234,7 @@ fn find_kind(version: Version, kinds: &[FrameKind], octet: u8) -> Option<FrameKi
     }
 }
 
-/// Returns how many octets these fields have together in a version.
+/// Returns the number of octets of these fields together in a version.
 fn add_lengths(version: Version, fields: &[Field]) -> u8
     requires { fields_length (has_numbers version) fields.now < 256 }
     ensures { result ≡ fields_length (has_numbers version) fields.now }

@@ -6,17 +6,17 @@ ghost use Rattle.dmr_frames.specs.Versions.{chosen_by, has_numbers, is_since, na
 
 use crate::frame::FrameIn;
 
-/// A version of the link format. They differ in RX and TX alone: in whether bursts have numbers.
+/// A version of the link format. Versions differ in RX and TX alone: in whether bursts have numbers.
 #[derive(Clone, Copy, Debug, PartialEq, Eq)]
 pub enum Version {
     /// Version 1: bursts have no number.
     V1,
-    /// Version 2: each burst has a number octet before its slot, so that a carrier can send an RX once more.
+    /// Version 2: each burst has a number octet before its slot, so that a carrier can retransmit an RX.
     V2,
 }
 
 impl Version {
-    /// Every version, the oldest first.
+    /// Every version, oldest first.
     pub const ALL: [Version; 2] = [Version::V1, Version::V2];
 
     /// The newest version.
@@ -32,14 +32,14 @@ impl Version {
         }
     }
 
-    /// Returns whether what exists since a version exists in this one.
+    /// Returns whether this version has the things that version `since` introduced.
     pub fn is_since(self, since: Version) -> bool
         ensures { result ≡ is_since since self }
     {
         self.octet() >= since.octet()
     }
 
-    /// Returns the first version in which a burst is told so, with a number or with none.
+    /// Returns the first version that has bursts with a number, or without one if `number` is `None`.
     pub fn by_number(number: Option<u8>) -> Version
         ensures { result ≡ version_by number }
     {
@@ -49,7 +49,7 @@ impl Version {
         }
     }
 
-    /// The octet that names it, in HELLO and in WELCOME: 1 or 2.
+    /// The octet of the version in HELLO and WELCOME: 1 or 2.
     pub fn octet(self) -> u8
         ensures { result ≡ version_octet self }
     {
@@ -59,7 +59,7 @@ impl Version {
         }
     }
 
-    /// The version that an octet names, of those up to this one, the greatest that is served. `None` where it names none of them.
+    /// The version of an octet, if it is at most this one, the greatest that is served. `None` if the octet names no such version.
     pub fn named(self, octet: u8) -> Option<Version>
         ensures { result ≡ version_named self octet }
     {
@@ -75,7 +75,7 @@ impl Version {
         }
     }
 
-    /// Returns the version that an octet names, and version 1 if it names none.
+    /// Returns the version of an octet, or version 1 if the octet names none.
     pub fn named_or_first(octet: u8) -> Version
         ensures { result ≡ named_or_first octet }
     {
@@ -85,8 +85,8 @@ impl Version {
         }
     }
 
-    /// The version that a connection's first frame chooses for those after it, where versions up to this one are served: a HELLO that of
-    /// its octet, if that is served; any other frame version 1.
+    /// The version that a connection's first frame chooses for those after it, if versions up to this one are served. A HELLO chooses the
+    /// version of its octet, if that is served. Any other frame chooses version 1.
     pub fn chosen_by(self, frame: &FrameIn) -> Version
         ensures { result ≡ chosen_by self frame.now }
     {
@@ -100,7 +100,7 @@ impl Version {
     }
 }
 
-/// By which table of spellings the octets of a connection are cut.
+/// The table of spellings by which the octets of a connection are cut.
 #[derive(Clone, Copy, Debug, PartialEq, Eq)]
 pub enum FrameTable {
     /// No frame has come yet: the first has the spelling of version 1. Versions up to this one are served.
@@ -110,7 +110,7 @@ pub enum FrameTable {
 }
 
 impl FrameTable {
-    /// The version whose spellings come next.
+    /// The version of the next frame's spelling.
     pub fn version(self) -> Version
         ensures { result ≡ version_of self }
     {
@@ -120,7 +120,8 @@ impl FrameTable {
         }
     }
 
-    /// The table after a frame: a first frame that is a HELLO of a version that is served chooses it, any other version 1.
+    /// The table after a frame. A first frame that is a HELLO of a served version chooses that version; any other first frame chooses
+    /// version 1.
     pub fn after(self, frame: &FrameIn) -> FrameTable
         ensures { result ≡ table_after self frame.now }
     {

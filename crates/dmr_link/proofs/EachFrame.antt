@@ -1,5 +1,4 @@
--- Frame by frame: what these proofs know of each frame by itself. A new frame is one more case of each function here, and of none in another
--- file.
+-- Facts about each frame by itself. A new frame is one more case of each function here, and of none in another file.
 use Rattle.std.proofs.Common.{◌≡◌, ◌<◌, ℕ, Bool, true, false, Option, Some, None, refl, ap}
 use Rattle.std.specs.Prelude.{is_some}
 use Rattle.std.proofs.lemmas.Bool.{false≢true, and_parts, eqb-true}
@@ -37,7 +36,7 @@ accepted_served who frame.Poll fits is = absurd (false≢true is)
 accepted_served who (frame.Active slot) fits is = absurd (false≢true is)
 accepted_served who frame.Bye fits is = absurd (false≢true is)
 
--- one that is not accepted brings nothing, or the refusal of its carrier
+-- a first frame that is not accepted produces nothing, or the refusal of its carrier
 abbrev pub IsRefusalOf : ℕ → Option Notice → Type 0
 IsRefusalOf c None = Unit {0}
 IsRefusalOf c (Some notice) = (refusal : Refusal) × (notice ≡ Refused c refusal)
@@ -51,7 +50,7 @@ refusal_is who frame.Bye = tt
 
 -- ---- a frame of a carrier that is up
 
--- the last one closes the connection, and no other does
+-- a last frame closes the connection, and no other does
 abbrev pub ClosesIf : Bool → Option Closing → Type 0
 ClosesIf false closing = closing ≡ None
 ClosesIf true closing = (it : Closing) × (closing ≡ Some it)
@@ -67,7 +66,7 @@ heard_up : (c : ℕ) (slot : Slot) (found : Option Pdu) → slot.carrier ≡ c �
 heard_up c slot (Some pdu) is = is
 heard_up c slot None is = is
 
--- one that brings something: the last one the carrier's Lost, and any other an event of a carrier that is up
+-- a last frame produces the carrier's Lost, and any other an event of a carrier that is up
 abbrev pub IsEventIf : Bool → ℕ → Event → Type 0
 IsEventIf false c event = IsOfUp c event
 IsEventIf true c event = event ≡ Lost c
@@ -79,7 +78,7 @@ event_is c newest frame.Poll brings = refl
 event_is c newest (frame.Active slot) brings = refl
 event_is c newest frame.Bye brings = refl
 
--- an RX once more ends no connection, and has the number of the newest one
+-- a repeat ends no connection, and its number is that of the newest RX
 pub repeat_stays : (newest : Option ℕ) (f : FrameIn) → is_repeat newest f ≡ true → (is_last f ≡ false) × (newest_after newest f ≡ newest)
 repeat_stays (Some m) (frame.Rx (Some n) slot word) is = (refl, ap Some (eqb-true n m is))
 repeat_stays (Some m) (frame.Rx None slot word) is = absurd (false≢true is)

@@ -1,4 +1,4 @@
--- The sessions that an engine keeps are the connections that its contracts see.
+-- The states that an engine keeps are the connections and numbers that its contracts see.
 use Rattle.std.proofs.Common.{◌≡◌, ◌<◌, ◌+◌, ℕ, zero, suc, List, [], ◌∷◌, ◌++◌, Option, Some, None, length, map, get_or, set, replicate, refl, sym, ap, ◌∙◌, arith, ⊎_elim, subst, get_or-set_same, get_or-set_other, length-set}
 use Rattle.std.specs.Prelude.{Result, Ok, Err, OnOk}
 use Rattle.std.proofs.lemmas.Bool.{cases_eq}
@@ -46,9 +46,9 @@ pub sessions_number : (plan : Settings) (sessions : List (Option CarrierState)) 
     (c : ℕ) → IsNumberingOf (get_or (map connection_in sessions) c Closed) (get_or (map next_in sessions) c None)
 sessions_number plan sessions are c = rw (read_connection sessions c, read_next sessions c) (are.numbered c)
 
--- ---- new ones
+-- ---- new states
 
--- those of the carriers below a number
+-- the states of the carriers below a number
 pub record AreBegun (plan : Settings) (sessions : List (Option CarrierState)) (n : ℕ) : Type 0 where
   pub many : length sessions ≡ n
   pub own : (c : ℕ) → c < n → carrier_in (get_or sessions c None) ≡ who_of plan c
@@ -98,7 +98,7 @@ begun_all plan sessions are = record {
     closed : (c : ℕ) → connection_in (get_or sessions c None) ≡ Closed
     closed c = sym (read_connection sessions c) ∙ ap (λ (ks : List Connection). get_or ks c Closed) are.none ∙ get_or-all_same {A = Connection} 16 c Closed
 
--- ---- one of them goes on
+-- ---- one of the states changes
 
 pub sessions_set : (plan : Settings) (sessions : List (Option CarrierState)) (c : ℕ) (old new : CarrierState) → c < 16 → AreCarrierStates plan sessions →
     get_or sessions c None ≡ Some old → new.who ≡ old.who → IsStateSound new → AreCarrierStates plan (set sessions c (Some new))
@@ -130,14 +130,14 @@ sessions_set plan sessions c old new small are at same sound = record {
     read_here : (d : ℕ) → d ≡ c → get_or (set sessions c (Some new)) d None ≡ Some new
     read_here d here = ap (λ (n : ℕ). get_or (set sessions c (Some new)) n None) here ∙ get_or-set_same sessions c (Some new) None (omega (arith, are.sixteen))
 
--- ---- what an input to a carrier leaves and puts out
+-- ---- the engine and the outputs after an input of a carrier
 
--- the engine with these sessions
+-- the engine with these states
 abbrev pub engine_with : Settings → Facts → List (Option CarrierState) → List ℕ → State
 engine_with plan facts sessions console = record { plan = plan; facts = facts; connections = map connection_in sessions; numbers = map next_in sessions; console = console }
 
 module _ (plan : Settings) (facts : Facts) (sessions : List (Option CarrierState)) (console : List ℕ) (c : ℕ) (small : c < 16) (are : AreCarrierStates plan sessions) (piece : Piece) where
-  -- the plan has no such carrier
+  -- if the plan does not have the carrier
   module _ (at : get_or sessions c None ≡ None) where
     no_carrier : None ≡ who_of plan c
     no_carrier = ap carrier_in (sym at) ∙ are.own c small
@@ -148,7 +148,7 @@ module _ (plan : Settings) (facts : Facts) (sessions : List (Option CarrierState
     pub none_texts : (texts : List (List ℕ)) → texts ≡ texts_by (engine_with plan facts sessions console) texts (who_of plan c) piece
     none_texts texts = ap (λ (who : Option CarrierIdentity). texts_by (engine_with plan facts sessions console) texts who piece) no_carrier
 
-  -- it has
+  -- if the plan has the carrier
   module _ (old : CarrierState) (at : get_or sessions c None ≡ Some old) where
     its_carrier : Some old.who ≡ who_of plan c
     its_carrier = ap carrier_in (sym at) ∙ are.own c small
@@ -162,7 +162,7 @@ module _ (plan : Settings) (facts : Facts) (sessions : List (Option CarrierState
     its_next : next_of (engine_with plan facts sessions console) old.who.carrier ≡ old.numbering
     its_next = ap (next_of (engine_with plan facts sessions console)) its_number ∙ read_next sessions c ∙ ap next_in at
 
-    -- what its piece brings, and the frames that it puts out
+    -- the notices that the piece produces, and the frames that answer them
     abbrev brought_by : Connection → List Notice
     brought_by k = piece_brings old.who k piece
 
@@ -188,7 +188,7 @@ module _ (plan : Settings) (facts : Facts) (sessions : List (Option CarrierState
         ((put ∙ (λ j. get_or texts (sym its_number j) [] ++ frames_text (sym its_next j) (frames_said plan facts (brought_by (sym its_connection j))))) i))
         ∙ ap (λ (who : Option CarrierIdentity). texts_by (engine_with plan facts sessions console) texts who piece) its_carrier
 
--- ---- an input to a carrier of the plan, as the engine does it
+-- ---- an input of a carrier of the plan, as the engine processes it
 
 module _ (site later : Site) (sessions : List (Option CarrierState)) (console : List ℕ) (n c : ℕ) (small : n < 16) (same : n ≡ c) (are : AreCarrierStates site.plan sessions)
     (found : Option CarrierState) (read : found ≡ get_or sessions n found) (old : CarrierState) (is : found ≡ Some old) (piece : Piece)
@@ -209,7 +209,7 @@ module _ (site later : Site) (sessions : List (Option CarrierState)) (console : 
       let P : Settings → Type 0 = λ plan. AreCarrierStates plan (set sessions n (Some new)) in
       subst P (sym (ap (λ (x : Site). x.plan) brought)) (sessions_set site.plan sessions n old new small are its_session whose sound)
 
--- a state that stays its carrier's, and sound
+-- a new state of the same carrier, sound if the old one is
 pub states_stay : (plan later : Settings) (sessions : List (Option CarrierState)) (n : ℕ) → n < 16 → AreCarrierStates plan sessions → (found : Option CarrierState) → found ≡ get_or sessions n found → (old : CarrierState) → found ≡ Some old →
     (new : CarrierState) → later ≡ plan → new.who ≡ old.who → (IsStateSound old → IsStateSound new) → AreCarrierStates later (set sessions n (Some new))
 states_stay plan later sessions n small are found read old is new kept whose stays =
@@ -225,13 +225,13 @@ states_stay plan later sessions n small are found read old is new kept whose sta
     its_greatest : old.who.greatest ≡ greatest_of plan
     its_greatest = who_greatest plan n old.who (sym (are.own n small) ∙ ap carrier_in at)
 
--- the end of a connection puts out no TX
+-- no TX is sent for the end of a connection
 pub ends_uncounted : (plan : Settings) (facts : Facts) (c : ℕ) (k : Connection) (next : Option ℕ) → next ≡ next_after_frames next (frames_said plan facts (notices_at_end c k))
 ends_uncounted plan facts c Closed next = refl
 ends_uncounted plan facts c (Waiting rest) next = refl
 ends_uncounted plan facts c (Running rest newest) next = refl
 
--- ---- what two facts of an answer give
+-- ---- a conclusion from two facts of an answer
 
 pub both_ok : {T E : Type 0} (r : Result T E) (P Q R : Type 0) → (P → Q → R) → OnOk r P → OnOk r Q → OnOk r R
 both_ok (Ok x) P Q R then p q = then p q

@@ -1,4 +1,4 @@
--- How a gate is passed in a call whose happenings are in order.
+-- The passages of a gate in a call whose happenings are in order.
 use Rattle.std.proofs.Common.{◌≡◌, ◌==◌, List, [], ◌∷◌, Bool, true, false, cond, refl, sym, ap, subst, ◌∙◌}
 use Rattle.dmr_wire.specs.Told.{Opened, NotYet, Finished, Came, InputEnded, ReadInterrupted, ReadBlocked, ReadFailed, Took, WriteInterrupted, WriteBlocked, WriteFailed, Again, Silent}
 use Rattle.dmr_link.specs.declared.desk.Deposit.{Deposit}
@@ -21,7 +21,7 @@ not_disordered ended.Idle e = cc
 not_disordered ended.Paused e = cc
 not_disordered ended.GateShut e = cc
 
--- how it is passed from a stage on
+-- the passages of the gate from a stage on
 abbrev IsPassed : Stage → List Happening → Ended → Type 0
 IsPassed Outside xs stop = passages_in xs ≡ passages_of (deposits_in xs) stop
 IsPassed Within xs stop = Entered ∷ passages_in xs ≡ passages_of (deposits_in xs) stop
@@ -42,7 +42,7 @@ passed_end ended.Paused = refl
 passed_end ended.GateShut = refl
 
 module _ (xs : List Happening) (stop : Ended) where
-  -- nothing comes after what is out of order
+  -- a call that is out of order does not end
   stray : {P : Type 0} → stage_after_all Disordered xs ≡ stage_at stop → P
   stray at = absurd (not_disordered stop (sym (stays_disordered xs) ∙ at))
 

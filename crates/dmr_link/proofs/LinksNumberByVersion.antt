@@ -1,4 +1,4 @@
--- The number of a link's next TX is one of its connection's version, since it follows from what came and was answered.
+-- The number of a link's next TX is one of its connection's version, since it follows from the octets that came and their answers.
 use Rattle.std.proofs.Common.{◌≡◌, ℕ, suc, List, [], ◌∷◌, ◌++◌, Bool, true, false, ◌==◌, Option, Some, None, map, length, refl, sym, ap, ◌∙◌, subst, append_assoc, arith}
 use Rattle.std.specs.Prelude.{if◌then◌else◌}
 use Rattle.std.proofs.lemmas.List.{append-nil}
@@ -40,7 +40,7 @@ use Rattle.dmr_link.specs.LinkSteps.{next_when_answered, IsLinkNumbering}
 use Rattle.dmr_link.proofs.NumbersFollowVersions.{begins_numbered, event_frames_number}
 use Rattle.dmr_link.proofs.OctetsMeanWhatTheyBring.{octets-open, octets-left}
 
--- ---- what was brought on a connection whose carrier is up: an acceptance in its version, and then events
+-- ---- the notices of a connection whose carrier is up: an acceptance in its version, and then events
 
 abbrev IsEvent : Notice → Type 0
 IsEvent (Happened event) = Unit {0}
@@ -122,13 +122,13 @@ octets_led who (x ∷ octets) ns k led =
     subst P (append_assoc ns (list_of_notice (notice_of_octet who k x)) (notices_of_octets who (connection_after_octet who k x) octets))
     (octets_led who octets (ns ++ list_of_notice (notice_of_octet who k x)) (connection_after_octet who k x) (octet_led who ns k x led))
 
--- what the octets of a connection mean led to where they leave it
+-- the meaning of a connection's octets led to the connection after them
 meaning_led : (who : CarrierIdentity) (octets : List ℕ) → HasLed who (meaning_of_octets who octets false) (left_by_octets who octets)
 meaning_led who octets = rw (octets-open who octets, octets-left who octets) (octets_led who octets [] (new_connection who) (refl, refl))
 
--- ---- the number after what was answered
+-- ---- the number after an answer
 
--- the number after the frames of events is one of the version of the number before them
+-- the number after the frames of events is of the same version as the number before them
 events_number : (version : Version) (carrier : ℕ) (events : List Notice) (entries : List Entry) (next : Option ℕ) → AreEvents events → IsNumbered version next →
     IsNumbered version (next_after_frames next (session_frames carrier events entries))
 events_number version carrier [] entries next are is = is
@@ -146,7 +146,7 @@ events_number version carrier (Happened event ∷ events) (entry ∷ entries) ne
     said_numbers true = event_frames_number version entry.event entry.acts.list next is
     said_numbers false = is
 
--- what is kept is the acceptance, or an event
+-- the notice that is kept is the acceptance, or an event
 kept_number : (version : Version) (kept : Option SiteNotice) (next : Option ℕ) → AreEvents (kept_of kept) → IsNumbered version next → IsNumbered version (next_when_answered kept next)
 kept_number version None next are is = is
 kept_number version (Some (site.Accepted c v)) next are is = absurd are.0
@@ -179,7 +179,7 @@ abbrev behind_first : List Notice → List Notice
 behind_first [] = []
 behind_first (n ∷ ns) = ns
 
--- an acceptance was kept
+-- the acceptance is kept
 first_kept : (who : CarrierIdentity) (version : Version) (kept : Option SiteNotice) → BeganIn who version (kept_of kept) → IsNumbered version (next_when_answered kept None)
 first_kept who version None began = absurd (false≢true (ap accepts_first began.is))
 first_kept who version (Some (site.Happened event)) began = absurd (false≢true (ap accepts_first began.is))
@@ -187,7 +187,7 @@ first_kept who version (Some (site.Accepted c v)) began =
     let P : Version → Type 0 = λ u. IsNumbered u (first_number (version_octet v)) in
     subst P (ap (version_first version) began.is) (begins_numbered v)
 
--- it was answered, and then events
+-- the acceptance was answered, and events came after it
 module _ (who : CarrierIdentity) (version v : Version) (c : ℕ) (ds : List Notice) (kept : Option SiteNotice) (began : BeganIn who version (Accepted c v ∷ (ds ++ kept_of kept))) where
   its_events : AreEvents ds × AreEvents (kept_of kept)
   its_events = tail_events ds (kept_of kept) began.events (sym (ap behind_first began.is)) began.each

@@ -1,4 +1,4 @@
--- What holds of all of a list, by its parts.
+-- A predicate of all elements of a list, and of those of its parts.
 use Rattle.std.proofs.Common.{List, [], ◌∷◌, ◌++◌}
 use Rattle.std.specs.List.{AllByRecursion}
 

@@ -21,7 +21,7 @@ next_after_frames-append = fold-append next_after
 pub frames_text-one : (next : Option ℕ) (f : FrameOut) → frames_text next (f ∷ []) ≡ frame_text next f
 frames_text-one next f = append-nil (frame_text next f)
 
--- ---- the frames of one item more
+-- ---- the frames of one more item
 
 pub flat_more : {X Y : Type 0} (f : X → List Y) (items : List X) (i : ℕ) (item : X) → i < length items → item ≡ get_or items i item → flat_map f (take (i + 1) items) ≡ flat_map f (take i items) ++ f item
 flat_more {X} {Y} f items i item inside is =
@@ -43,7 +43,7 @@ module _ {X : Type 0} (f : X → List FrameOut) (start next : Option ℕ) (items
       ∙ frames_text-append start (flat_map f (take i items)) (f item)
       ∙ ap (λ (n : Option ℕ). frames_text start (flat_map f (take i items)) ++ frames_text n (f item)) (sym at)
 
-  -- what was put out, and now its frames
+  -- the octets written before, and then those of the item's frames
   pub put_item : (before text out : List ℕ) → text ≡ before ++ frames_text start (flat_map f (take i items)) → out ≡ text ++ frames_text next (f item) → out ≡ before ++ frames_text start (flat_map f (take (i + 1) items))
   put_item before text out put more =
       more
@@ -51,7 +51,7 @@ module _ {X : Type 0} (f : X → List FrameOut) (start next : Option ℕ) (items
       ∙ append_assoc before (frames_text start (flat_map f (take i items))) (frames_text next (f item))
       ∙ ap (λ (t : List ℕ). before ++ t) (sym text_item)
 
--- and DONE after all of them
+-- the octets of DONE after all items
 pub put_done : (start : Option ℕ) (before text octets out : List ℕ) (frames all : List FrameOut) → frames ≡ all → text ≡ before ++ frames_text start frames → octets ≡ spelling_out Done → out ≡ text ++ octets →
     out ≡ before ++ frames_text start (all ++ Done ∷ [])
 put_done start before text octets out frames all same put done whole =

@@ -34,7 +34,7 @@ use Rattle.dmr_link.specs.Session.{transmissions, event_frames, frames_said}
 use Rattle.dmr_link.specs.Sound.{IsConnectionSound, IsNumberingOf}
 use Rattle.dmr_link.specs.Steps.{waiting_brings, running_brings, waiting_leaves, running_leaves, notice_of_octet, connection_after_octet}
 
--- ---- what each number keeps, the next TX's number keeps over the answer to an event
+-- ---- a property that each next number keeps is kept by the answer to an event
 
 -- the number after one more TX
 abbrev counted : Option ℕ → Option ℕ
@@ -73,7 +73,7 @@ counted_stays : (b : Bool) (next : Option ℕ) → is_some next ≡ b → is_som
 counted_stays b None is = is
 counted_stays b (Some n) is = is
 
--- a TX is numbered after what octets brought exactly if the version of their HELLO numbers it
+-- after the notice of an octet, TX are numbered exactly as `numbered_after_all` says
 pub numbered_said : (plan : Settings) (facts : Facts) (next : Option ℕ) (brought : Option Notice) →
     is_some (next_after_frames next (frames_said plan facts (list_of_notice brought))) ≡ numbered_after_all (is_some next) (list_of_notice brought)
 numbered_said plan facts next None = refl
@@ -84,7 +84,7 @@ numbered_said plan facts next (Some (Unheeded fault)) = refl
 
 -- ---- the number of a version
 
--- the number of a first TX, where bursts are numbered or not
+-- the number of a first TX, by whether bursts are numbered
 abbrev first_where : Bool → Option ℕ
 first_where numbered = if numbered then Some 0 else None
 
@@ -103,7 +103,7 @@ begins_where : (b : Bool) → IsNumberWhere b (first_where b)
 begins_where true = omega arith
 begins_where false = tt
 
--- a WELCOME begins the numbers of its version
+-- a WELCOME starts the numbers of its version
 pub begins_numbered : (version : Version) → IsNumbered version (first_number (version_octet version))
 begins_numbered version = let P : Option ℕ → Type 0 = λ n. IsNumbered version n in subst P (sym (first_is version)) (begins_where (has_numbers version))
 
@@ -116,7 +116,7 @@ counted_where true (Some n) is = omega arith
 counted_numbered : (version : Version) (next : Option ℕ) → IsNumbered version next → IsNumbered version (counted next)
 counted_numbered version next is = counted_where (has_numbers version) next is
 
--- the number after the answer to an event is one of the same version
+-- the number after the answer to an event is of the same version
 pub event_frames_number : (version : Version) (event : Event) (acts : List Act) (next : Option ℕ) → IsNumbered version next → IsNumbered version (next_after_frames next (event_frames event acts))
 event_frames_number version (Poll c) acts next is = acts_keep (IsNumbered version) (counted_numbered version) acts next is
 event_frames_number version (Up c) acts next is = is
@@ -128,7 +128,7 @@ event_frames_number version Tick acts next is = is
 event_frames_number version (Say command) acts next is = is
 
 module _ (who : CarrierIdentity) (plan : Settings) (facts : Facts) (next : Option ℕ) where
-  -- the number after what a step brings
+  -- the number after the notice of a step
   abbrev next_by : Option Notice → Option ℕ
   next_by brought = next_after_frames next (frames_said plan facts (list_of_notice brought))
 
@@ -165,7 +165,7 @@ module _ (who : CarrierIdentity) (plan : Settings) (facts : Facts) (next : Optio
   numbering_goes (Running (Open (First version) q) newest) x sound is = absurd sound
   numbering_goes (Running (Open (Later version) q) newest) x sound is = running_numbered version newest q x (step_at version q x) is
 
-  -- the same of what the code finds
+  -- the same for the values that the code computes
   pub numbering_stays : (k later : Connection) (x : ℕ) (brought : Option Notice) (new : Option ℕ) → brought ≡ notice_of_octet who k x → later ≡ connection_after_octet who k x → new ≡ next_by brought →
       IsConnectionSound who.greatest k → IsNumberingOf k next → IsNumberingOf later new
   numbering_stays k later x brought new brings left counts sound is = rw (counts, brings, left) (numbering_goes k x sound is)

@@ -1,4 +1,4 @@
--- What octets bring and put out: the next one, and those after it.
+-- The notices and the outputs of octets: those of the next octet, and those of the octets after it.
 use Rattle.std.proofs.Common.{◌≡◌, ℕ, ◌+◌, ◌<◌, ◌≤◌, Bool, List, ◌∷◌, ◌++◌, Option, Some, None, length, drop, drop-cons, get_or, sym, ap, ◌∙◌, append_assoc, arith, add-one}
 use Rattle.std.proofs.lemmas.List.Sums.{fold-append}
 use Rattle.dmr_core.specs.State.{SiteState as Site}
@@ -15,7 +15,7 @@ use Rattle.dmr_link.specs.Steps.{notice_of_octet, connection_after_octet, notice
 use Rattle.dmr_link.proofs.NumberingLemmas.{frames_text-append, next_after_frames-append}
 use Rattle.dmr_link.proofs.PiecesInTwo.{frames_said-append}
 
--- the octets from a place on
+-- the octets from a position on
 from_here : (octets : List ℕ) (i : ℕ) → i < length octets → drop i octets ≡ get_or octets i 0 ∷ drop (i + 1) octets
 from_here octets i inside = drop-cons octets i 0 inside ∙ ap (λ (n : ℕ). get_or octets i 0 ∷ drop n octets) (sym (add-one i))
 
@@ -27,7 +27,7 @@ most-append : (numbered : Bool) (notice : Option Notice) (more : List Notice) �
 most-append numbered None more = omega arith
 most-append numbered (Some notice) more = omega arith
 
--- whose octets they are, where the connection stood, what the octet brought, and where it left the connection
+-- the carrier of the octets, the connection before the octet, the notice that the octet produced, and the connection after it
 module _ (who whose : CarrierIdentity) (same : whose ≡ who) (k later : Connection) (octets : List ℕ) (i : ℕ) (inside : i < length octets) (brought : Option Notice)
     (brings : brought ≡ notice_of_octet whose k (get_or octets i 0)) (left : later ≡ connection_after_octet whose k (get_or octets i 0)) where
   abbrev before : List Notice
@@ -57,7 +57,7 @@ module _ (who whose : CarrierIdentity) (same : whose ≡ who) (k later : Connect
       let left : most_in then behind ≡ most_in (numbered_after_all numbered (list_of_notice brought)) behind = ap (λ (b : Bool). most_in b behind) at in
       omega (arith, most_goes numbered, left, put, kept, fits)
 
-  -- and what the site did with it
+  -- the site after that notice
   module _ (site new : Site) (told : new ≡ site_after_notices site (list_of_notice brought)) where
     pub site_goes : (whole : Site) → site_after_notices site before ≡ whole → site_after_notices new behind ≡ whole
     site_goes whole e =

@@ -1,4 +1,4 @@
--- Room for what octets put out.
+-- Room for the octets that answer octets.
 use Rattle.std.proofs.Common.{◌≡◌, Bool, true, false, ℕ, ◌+◌, ◌-◌, ◌*◌, ◌^◌, ◌<◌, ◌≤◌, min, List, [], ◌∷◌, Option, Some, None, length, drop, get_or, refl, sym, ap, ◌∙◌, arith}
 use Rattle.std.specs.Prelude.{is_some}
 use Rattle.std.proofs.lemmas.Bool.{false≢true}
@@ -31,7 +31,7 @@ room_whole room who numbered trial octets i whole past fits e =
     counted : (room more whole : ℕ) → more ≡ 0 → room ≤ 2 ^ 64 - 1 → min (room + more) (2 ^ 64 - 1) ≡ whole → room ≡ whole
     counted room more whole none fits e = omega (arith, none, fits, e)
 
--- one octet more was counted
+-- one more octet was counted
 pub room_more : (who : CarrierIdentity) (numbered then : Bool) (k later : Connection) (octets : List ℕ) (i : ℕ) (brought : Option Notice) (room most more whole : ℕ) → i < length octets → brought ≡ notice_of_octet who k (get_or octets i 0) →
     later ≡ connection_after_octet who k (get_or octets i 0) → then ≡ numbered_after_all numbered (list_of_notice brought) → most ≡ most_in numbered (list_of_notice brought) → more ≡ min (room + most) (2 ^ 64 - 1) →
     min (room + most_in numbered (notices_of_octets who k (drop i octets))) (2 ^ 64 - 1) ≡ whole → min (more + most_in then (notices_of_octets who later (drop (i + 1) octets))) (2 ^ 64 - 1) ≡ whole

@@ -5,7 +5,7 @@ use Rattle.dmr_link.specs.declared.connection.Connection.{Connection}
 use Rattle.dmr_link.specs.declared.connection.Connection.TheVariants.{Closed, Waiting, Running}
 use Rattle.dmr_link.specs.declared.carrier_state.CarrierState.{CarrierState}
 
--- a carrier's state: its connection, and the number of the next TX, if TX are numbered
+-- the state of a carrier: its connection, and the number of the next TX, if TX are numbered
 abbrev pub state_on : CarrierIdentity → Connection → Option ℕ → CarrierState
 state_on who k next = record { who = who; connection = k; numbering = next }
 
@@ -15,7 +15,7 @@ is_open Closed = false
 is_open (Waiting rest) = true
 is_open (Running rest newest) = true
 
--- the carrier, if it is up
+-- the carrier's number, if the carrier is up
 abbrev pub up_by : CarrierIdentity → Connection → Option ℕ
 up_by who (Running rest newest) = Some who.carrier
 up_by who other = None

@@ -20,7 +20,7 @@ use Rattle.dmr_link.specs.declared.connection.Connection.TheVariants.{Closed, Wa
 use Rattle.dmr_link.specs.Meaning.{is_accepted, is_served, no_octets}
 use Rattle.dmr_link.specs.Steps.{connection_after_octet}
 
--- what is answered for a connection that was closed so
+-- what `serve` returns for a connection that was closed in this way
 abbrev pub ended_of : Closing → Ended
 ended_of closing.Over = ended.Closed
 ended_of closing.Bye = ended.Closed
@@ -31,17 +31,17 @@ ended_of (closing.Refused why hello) = ended.BadFrame why
 
 -- ---- by the frames of a connection
 
--- a fault after the last frame
+-- how a fault after the last frame closes a connection, if there is one
 abbrev pub fault_of : Rest → Option Closing
 fault_of (Open table octets) = None
 fault_of (Faulty why) = Some (closing.Bad why)
 
--- why a connection is closed whose HELLO is refused
+-- the cause for which a connection is closed when its HELLO is refused
 abbrev pub cause_of_refusal : Refusal → Cause
 cause_of_refusal refusal.BadVersion = cause.BadVersion
 cause_of_refusal refusal.WrongCarrier = cause.WrongCarrier
 
--- how a first frame that isn't accepted closes a connection: a HELLO is refused, for its version before all else
+-- how a first frame that is not accepted closes a connection: a HELLO is refused, for its version before all else
 abbrev pub first_fault : CarrierIdentity → FrameIn → Closing
 first_fault who (frame.Hello version carrier lpcn) =
     closing.Refused (if is_served who version then cause.WrongCarrier else cause.BadVersion) (record { version = version; carrier = carrier; lpcn = lpcn })
@@ -57,17 +57,17 @@ frame_closes (frame.Hello version carrier lpcn) = Some (closing.Bad cause.Second
 frame_closes frame.Bye = Some closing.Bye
 frame_closes other = None
 
--- the first that there is
+-- the first closing, if there is one; else the second
 abbrev pub or_else : Option Closing → Option Closing → Option Closing
 or_else None other = other
 or_else (Some it) other = Some it
 
--- frames of a carrier that is up
+-- how frames of a carrier that is up, and the rest after them, close the connection, if they do
 abbrev pub up_closed : List FrameIn → Rest → Option Closing
 up_closed [] rest = fault_of rest
 up_closed (f ∷ fs) rest = or_else (frame_closes f) (up_closed fs rest)
 
--- frames of a connection
+-- how the frames of a connection, and the rest after them, close it, if they do
 abbrev pub frames_closed : CarrierIdentity → List FrameIn → Rest → Option Closing
 frames_closed who [] rest = fault_of rest
 frames_closed who (f ∷ fs) rest = if is_accepted who f then up_closed fs rest else Some (first_fault who f)
@@ -78,11 +78,13 @@ closing_of_octets who octets = frames_closed who (frames_from (no_octets who) oc
 
 -- ---- octet by octet
 
+-- how a cutter's step closes a connection that waits for its first frame, if it does
 abbrev pub waiting_closes : CarrierIdentity → Step → Option Closing
 waiting_closes who Need = None
 waiting_closes who (Frame f) = first_closes who f
 waiting_closes who (Fault why) = Some (closing.Bad why)
 
+-- how a cutter's step closes a connection whose carrier is up, if it does
 abbrev pub running_closes : Step → Option Closing
 running_closes Need = None
 running_closes (Frame f) = frame_closes f
@@ -94,7 +96,7 @@ closes who Closed x = None
 closes who (Waiting rest) x = waiting_closes who (step_from rest x)
 closes who (Running rest newest) x = running_closes (step_from rest x)
 
--- the same of octets
+-- how octets close a connection, if they do: the first octet that does decides
 abbrev pub all_closes : CarrierIdentity → Connection → List ℕ → Option Closing
 all_closes who k [] = None
 all_closes who k (x ∷ xs) = or_else (closes who k x) (all_closes who (connection_after_octet who k x) xs)

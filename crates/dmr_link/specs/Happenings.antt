@@ -1,4 +1,4 @@
--- What happens in a call of serve, in its order.
+-- The happenings of a call of `serve`, in their order.
 use Rattle.std.specs.Prelude.{◌≡◌, ℕ, ◌==◌, List, [], ◌∷◌, ◌++◌, Option, Some, None, Result, Ok, Err, if◌then◌else◌, filter_map, fold}
 use Rattle.dmr_wire.specs.Told.{Answer, Came, InputEnded, ReadInterrupted, ReadBlocked, ReadFailed}
 use Rattle.dmr_link.specs.declared.desk.Deposit.{Deposit}
@@ -12,35 +12,37 @@ pub data Happening : Type 0 where
   Handed : (deposit : Deposit) → Happening
   Passed : (passage : Passage) → Happening
 
--- what a port answers there, a desk takes, or a gate tells
+-- the answer of the port, if the happening is one
 abbrev pub port_answer : Happening → Option Answer
 port_answer (Answered a) = Some a
 port_answer (Handed d) = None
 port_answer (Passed p) = None
 
+-- the event that the desk took, if the happening is one
 abbrev pub desk_deposit : Happening → Option Deposit
 desk_deposit (Answered a) = None
 desk_deposit (Handed d) = Some d
 desk_deposit (Passed p) = None
 
+-- the passage of the gate, if the happening is one
 abbrev pub gate_passage : Happening → Option Passage
 gate_passage (Answered a) = None
 gate_passage (Handed d) = None
 gate_passage (Passed p) = Some p
 
--- the answers of the port among them
+-- the answers of the port among happenings
 abbrev pub answers_in : List Happening → List Answer
 answers_in happened = filter_map port_answer happened
 
--- what the desk took
+-- the events that the desk took among happenings, with their answers
 abbrev pub deposits_in : List Happening → List Deposit
 deposits_in happened = filter_map desk_deposit happened
 
--- how the gate was passed
+-- the passages of the gate among happenings
 abbrev pub passages_in : List Happening → List Passage
 passages_in happened = filter_map gate_passage happened
 
--- how many reads an answer is of, and answers are of
+-- 1 for an answer to a read, else 0
 abbrev pub is_read : Answer → ℕ
 is_read (Came octets) = 1
 is_read InputEnded = 1
@@ -51,8 +53,9 @@ is_read other = 0
 
 -- ---- their order
 
--- where a call stands: outside the gate; within it, with an event to hand in; within it, when the desk has taken the event; when
--- it has left the gate and the desk took none; before a shut gate; after a read that would block; or where it should not
+-- the stage of a call of `serve`, by which the order of its happenings is defined. `Outside`: outside the gate. `Within`: within it, with
+-- an event to hand in. `Answering`: within it, after the desk took the event. `TurnedAway`: it left the gate, and the desk took no event.
+-- `ShutOut`: before a shut gate. `Blocked`: after a read that would block. `Disordered`: out of order
 pub data Stage : Type 0 where
   Outside : Stage
   Within : Stage
@@ -62,7 +65,8 @@ pub data Stage : Type 0 where
   Blocked : Stage
   Disordered : Stage
 
--- outside it reads, and writes what it tells of notices that are no events; a read that would block is the last
+-- the stage after a happening outside the gate. There the call reads, and writes the answers to notices for the peer alone; a read that
+-- would block is the last
 abbrev pub outside_then : Happening → Stage
 outside_then (Answered ReadBlocked) = Blocked
 outside_then (Answered a) = Outside
@@ -71,7 +75,7 @@ outside_then (Passed Entered) = Within
 outside_then (Passed Shut) = ShutOut
 outside_then (Passed Left) = Disordered
 
--- within it hands in the event, or leaves where the desk doesn't take it
+-- the stage after a happening within the gate: the call hands in the event, or leaves if the desk refuses it
 abbrev pub within_then : Happening → Stage
 within_then (Answered a) = Disordered
 within_then (Handed d) = Answering
@@ -79,7 +83,7 @@ within_then (Passed Entered) = Disordered
 within_then (Passed Shut) = Disordered
 within_then (Passed Left) = TurnedAway
 
--- it writes the answer, and leaves
+-- the stage after a happening when the desk has taken the event: the call writes the answer, and leaves
 abbrev pub answering_then : Happening → Stage
 answering_then (Answered a) = if is_read a == 0 then Answering else Disordered
 answering_then (Handed d) = Disordered
@@ -87,29 +91,31 @@ answering_then (Passed Entered) = Disordered
 answering_then (Passed Shut) = Disordered
 answering_then (Passed Left) = Outside
 
+-- the stage after a happening
 abbrev pub stage_then : Stage → Happening → Stage
 stage_then Outside x = outside_then x
 stage_then Within x = within_then x
 stage_then Answering x = answering_then x
 stage_then other x = Disordered
 
+-- the stage after happenings, one after another
 abbrev pub stage_after_all : Stage → List Happening → Stage
 stage_after_all stage happened = fold stage_then stage happened
 
--- where a call stands when it ends so
+-- the stage of a call that ends with this result
 abbrev pub stage_at : Ended → Stage
 stage_at ended.TermOver = TurnedAway
 stage_at ended.GateShut = ShutOut
 stage_at ended.Idle = Blocked
 stage_at other = Outside
 
--- where it is after a step of it, which stopped it or not
+-- the stage after a step of a call, which stopped the call or did not
 abbrev pub stage_after : {X : Type 0} → Result X Ended → Stage
 stage_after (Ok done) = Outside
 stage_after (Err stop) = stage_at stop
 
--- how the gate is passed in a call that ends so, in which the desk took these events: it is entered and left for each; once more
--- where the desk took one no more; and it is found shut where it was
+-- the passages of the gate in a call that ends with this result, and in which the desk took these events. The gate is entered and left
+-- for each of them, and for an event that the desk refused. If it was shut, that is the last passage
 abbrev pub passages_of : List Deposit → Ended → List Passage
 passages_of [] ended.TermOver = Entered ∷ Left ∷ []
 passages_of [] ended.GateShut = Shut ∷ []

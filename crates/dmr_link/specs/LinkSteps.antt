@@ -1,4 +1,5 @@
--- The steps of a link. Contracts of functions within name these alone, but for `is_live` and `IsLinkNumbering`: nothing above rests on the others.
+-- The steps of a link. Only contracts inside this crate name these definitions, except `is_live` and `IsLinkNumbering`; nothing above
+-- depends on the others.
 use Rattle.std.specs.Prelude.{◌≡◌, ℕ, ◌≤◌, Bool, true, false, ◌||◌, List, [], Option, Some, None, Result, Ok, Err}
 use Rattle.dmr_core.specs.declared.event.Event.TheVariants.{Lost}
 use Rattle.dmr_wire.specs.Told.{Answer}
@@ -24,66 +25,70 @@ use Rattle.dmr_frames.specs.Versions.{version_octet}
 use Rattle.dmr_link.specs.Peers.{opened_for, is_going, up_of, brings, left_after, closes_by, numbered}
 use Rattle.dmr_link.specs.Sessions.{Sides, IsQuiet, IsOver, is_kept, is_lost, is_owing}
 
--- the number of the next TX once the WELCOME that is kept, if one is, was written
+-- the number of the next TX after the WELCOME that is kept, if one is, is written
 abbrev pub next_when_answered : Option SiteNotice → Option ℕ → Option ℕ
 next_when_answered None next = next
 next_when_answered (Some (site.Happened event)) next = next
 next_when_answered (Some (site.Accepted c version)) next = first_number (version_octet version)
 
--- the number of a link's next TX is then one of its connection's version
+-- the number of a link's next TX, after that WELCOME, is one of its connection's version
 abbrev pub IsLinkNumbering : Stream → Option SiteNotice → Type 0
 IsLinkNumbering stream.Closed kept = Unit {0}
 IsLinkNumbering (stream.Frames state) kept = IsNumberingOf state.connection (next_when_answered kept state.numbering)
 IsLinkNumbering (stream.Lines begun) kept = Unit {0}
 
--- ---- what waits to be handed in
+-- ---- pending notices
 
--- nothing
+-- nothing is pending
 abbrev pub nothing_pending : Pending
 nothing_pending = record { kept = None; lost = None }
 
--- the first of what waits: the event that is kept goes before a Lost
+-- the first pending notice, if there is one: the event that is kept goes before a Lost
 abbrev pub first_of : Option SiteNotice → Option ℕ → Option SiteNotice
 first_of (Some notice) lost = Some notice
 first_of None None = None
 first_of None (Some c) = Some (site.Happened (Lost c))
 
+-- the first notice of a queue, if there is one
 abbrev pub first_pending : Pending → Option SiteNotice
 first_pending p = first_of p.kept p.lost
 
--- the Lost that waits when the first has been taken out
+-- the Lost that is pending after the first notice was removed
 abbrev pub lost_without : Option SiteNotice → Option ℕ → Option ℕ
 lost_without (Some notice) lost = lost
 lost_without None lost = None
 
+-- the queue after its first notice was removed
 abbrev pub without_first : Pending → Pending
 without_first p = record { kept = None; lost = lost_without p.kept p.lost }
 
--- what waits becomes less with each that is taken out
+-- a measure of pending notices, which becomes less with each that is removed
 abbrev pub weight_of : Option SiteNotice → Option ℕ → ℕ
 weight_of (Some notice) lost = 2
 weight_of None (Some c) = 1
 weight_of None None = 0
 
+-- the measure of a queue
 abbrev pub pending_weight : Pending → ℕ
 pending_weight p = weight_of p.kept p.lost
 
+-- a link with this queue
 abbrev pub with_pending : LinkState → Pending → LinkState
 with_pending l p = record { who = l.who; connection = l.connection; pending = p; is_cut = l.is_cut; unread = l.unread; closing = l.closing }
 
 -- ---- a link's steps
 
--- its connection is closed so
+-- a link after its connection was closed in this way
 abbrev pub closed_as : LinkState → Closing → LinkState
 closed_as l closing = record { who = l.who; connection = stream.Closed; pending = record { kept = l.pending.kept; lost = up_of l.connection }; is_cut = l.is_cut; unread = l.unread; closing = closing }
 
--- the event among what is kept and what is brought
+-- the event that is kept after a notice: that of the notice, or the one that was kept before
 abbrev pub kept_then : Option SiteNotice → Option Notice → Option SiteNotice
 kept_then kept (Some (Happened event)) = Some (site.Happened event)
 kept_then kept (Some (Accepted c version)) = Some (site.Accepted c version)
 kept_then kept other = kept
 
--- what is brought, and is no event
+-- the notice, if it is for the peer alone
 abbrev pub aside_of : Option Notice → Option Notice
 aside_of None = None
 aside_of (Some (Happened event)) = None
@@ -91,11 +96,12 @@ aside_of (Some (Accepted c version)) = None
 aside_of (Some (Refused c refusal)) = Some (Refused c refusal)
 aside_of (Some (Unheeded fault)) = Some (Unheeded fault)
 
+-- how a connection was closed, after an octet that may have closed it
 abbrev pub closing_then : Closing → Option Closing → Closing
 closing_then old None = old
 closing_then old (Some new) = new
 
--- after an octet
+-- a link after an octet
 abbrev pub state_after_octet : LinkState → ℕ → LinkState
 state_after_octet l x = record {
   who = l.who;
@@ -106,15 +112,15 @@ state_after_octet l x = record {
   closing = closing_then l.closing (closes_by l.connection x);
 }
 
--- there is a connection, or an event of it still waits
+-- a connection is open, or an event of it is pending
 abbrev pub is_live : LinkState → Bool
 is_live l = is_going l.connection || is_kept l.pending.kept || is_lost l.pending.lost
 
--- the next TX has this number
+-- a link whose next TX has this number
 abbrev pub with_next : LinkState → Option ℕ → LinkState
 with_next l next = record { who = l.who; connection = numbered l.connection next; pending = l.pending; is_cut = l.is_cut; unread = l.unread; closing = l.closing }
 
--- after octets were written: as a whole, which leaves the first; or not, where the connection of the second is closed
+-- a link after octets were written: the first if the port took all of them, else the second with its connection closed
 abbrev pub after_put : Bool → LinkState → LinkState → LinkState
 after_put true whole l = whole
 after_put false whole l = closed_as l WriteFailed
@@ -124,14 +130,15 @@ abbrev pub Replies : Bool → LinkState → Option (List Answer) → List ℕ �
 Replies true old told octets written new now = (new ≡ old) × (now ≡ told)
 Replies false old told octets written new now = (whole : Bool) × Puts told octets whole now × (new ≡ after_put whole written old)
 
--- an event could not be handed in; or this holds
+-- an event could not be handed in and is pending, or this proposition holds
 abbrev pub IsHeld : {X : Type 0} → Result X Ended → LinkState → Type 0 → Type 0
 IsHeld (Ok done) l P = P
 IsHeld (Err ended.TermOver) l P = is_owing l ≡ true
 IsHeld (Err ended.GateShut) l P = is_owing l ≡ true
 IsHeld (Err other) l P = ⊥
 
--- it stopped so: an event could not be handed in, or the connection is closed
+-- a step stopped for this reason: an event could not be handed in and is pending, or the connection is closed in this way and nothing is
+-- pending
 abbrev pub IsStop : Ended → LinkState → Type 0
 IsStop ended.TermOver l = is_owing l ≡ true
 IsStop ended.GateShut l = is_owing l ≡ true
@@ -139,31 +146,33 @@ IsStop ended.Idle l = ⊥
 IsStop ended.Paused l = ⊥
 IsStop other l = IsOver l × (ended_of l.closing ≡ other)
 
--- all was handed in, and the connection is open; or it stopped
+-- all events were handed in and the connection is open, or the step stopped
 abbrev pub IsSettled : {X : Type 0} → Result X Ended → LinkState → Type 0
 IsSettled (Ok done) l = IsQuiet l
 IsSettled (Err stop) l = IsStop stop l
 
--- how many interruptions came last
+-- how many interruptions came last, in a row, after a read
 abbrev pub row_then : Option ℕ → ℕ
 row_then None = 0
 row_then (Some row) = row
 
+-- how many interruptions came last, in a row, after a step
 abbrev pub row_after : Result ℕ Ended → ℕ
 row_after (Ok row) = row
 row_after (Err stop) = 0
 
--- where a call stands then
+-- the stage of a call after a read
 abbrev pub stage_then_read : Option ℕ → Stage
 stage_then_read None = Blocked
 stage_then_read (Some row) = Outside
 
+-- the link after one turn: no notice is pending and all octets were processed, or the turn stopped
 abbrev pub HasTurned : Result ℕ Ended → LinkState → Type 0
 HasTurned (Ok row) l = IsQuiet l × (l.unread ≡ []) × (row ≤ most_interruptions)
 HasTurned (Err ended.Idle) l = IsQuiet l × (l.unread ≡ [])
 HasTurned (Err stop) l = IsStop stop l
 
--- so it ends, after so many reads
+-- the link after a call that ended with this result, after this many reads
 abbrev pub EndsBy : Ended → LinkState → ℕ → Type 0
 EndsBy ended.Idle l reads = IsQuiet l × (l.unread ≡ [])
 EndsBy ended.Paused l reads = IsQuiet l × (l.unread ≡ []) × (reads ≡ most_reads)
@@ -177,15 +186,15 @@ pub record Listens (old new : LinkState) (before after : Sides) (result : Ended)
   pub few : reads ≤ most_reads
   pub ends : EndsBy result new reads
 
--- the Lost that waits, or else that of the carrier that is up
+-- the pending Lost, else that of the carrier that is up
 abbrev pub lost_then : Option ℕ → Option ℕ → Option ℕ
 lost_then None up = up
 lost_then (Some c) up = Some c
 
--- the link, when it is cut
+-- a link after a cut
 abbrev pub cut_state : LinkState → LinkState
 cut_state l = record { who = l.who; connection = stream.Closed; pending = record { kept = l.pending.kept; lost = lost_then l.pending.lost (up_of l.connection) }; is_cut = true; unread = l.unread; closing = Over }
 
--- a connection of it begins
+-- a link after a connection has begun
 abbrev pub with_new_connection : LinkState → LinkState
 with_new_connection l = record { who = l.who; connection = opened_for l.who; pending = l.pending; is_cut = false; unread = []; closing = l.closing }

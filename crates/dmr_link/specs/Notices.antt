@@ -1,4 +1,4 @@
--- What octets bring, whoever they are from: the notices of a whole site, in one order.
+-- The results of octets: the notices of all peers of a site, in one order.
 use Rattle.std.specs.Prelude.{ℕ}
 use Rattle.dmr_core.specs.declared.event.Event.{Event}
 use Rattle.dmr_core.specs.declared.event.Event.TheVariants.{Up}
@@ -12,30 +12,30 @@ use Rattle.dmr_link.specs.declared.notices.Notice.TheVariants as notice
 use Rattle.dmr_link.specs.declared.notices.SiteNotice.{SiteNotice}
 use Rattle.dmr_link.specs.declared.notices.SiteNotice.TheVariants as site
 
--- something happens to the site; or a carrier's HELLO is accepted, which is its Up, in this version of the link; or a carrier is refused,
--- or a line of an operator is no command, of which the site doesn't learn
+-- an event of the site, an accepted HELLO of a carrier, a refused carrier, or a rejected line of an operator. An accepted HELLO is the
+-- carrier's Up, in this version of the link. The site does not learn of the last two
 pub data Notice : Type 0 where
   Happened : (event : Event) → Notice
   Accepted : (carrier : ℕ) (version : Version) → Notice
   Refused : (carrier : ℕ) (refusal : Refusal) → Notice
   Unheeded : (fault : LineFault) → Notice
 
--- that of which the site learns
+-- the notice that a value of the program for the site means
 abbrev pub site_notice : SiteNotice → Notice
 site_notice (site.Happened event) = Happened event
 site_notice (site.Accepted c version) = Accepted c version
 
--- and what it learns
+-- the event of a notice for the site
 abbrev pub event_of_notice : SiteNotice → Event
 event_of_notice (site.Happened event) = event
 event_of_notice (site.Accepted c version) = Up c
 
--- that of which the site doesn't learn
+-- the notice that a value of the program for the peer alone means
 abbrev pub aside_notice : Aside → Notice
 aside_notice (aside.Refused c refusal) = Refused c refusal
 aside_notice (aside.Unheeded fault) = Unheeded fault
 
--- what octets bring, as the code has it
+-- the notice that a value of the program means
 abbrev pub notice_meant : ANotice → Notice
 notice_meant (notice.Site n) = site_notice n
 notice_meant (notice.Aside a) = aside_notice a

@@ -1,17 +1,17 @@
--- What a gate tells of those who pass it.
+-- How a gate is passed, as its record has it.
 use Rattle.std.specs.Prelude.{◌≡◌, Bool, true, false, List, ◌++◌, Option, Some}
 
--- a gate is entered, or is found shut; or it is left
+-- a gate is entered, is found shut, or is left
 pub data Passage : Type 0 where
   Entered : Passage
   Shut : Passage
   Left : Passage
 
--- what a gate answers to who would enter
+-- the passage that `enter` makes when it returns this
 abbrev pub of_enter : Bool → Passage
 of_enter true = Entered
 of_enter false = Shut
 
--- between two times these passages were made: a record that is told then is the one that was told before, and these after it
+-- these passages were made between two times: a record that the gate has afterwards is the one that it had before, followed by these
 pub record Passes (before : Option (List Passage)) (passages : List Passage) (after : Option (List Passage)) : Type 0 where
   pub follows : (whole : List Passage) → after ≡ Some whole → (begun : List Passage) × (before ≡ Some begun) × (whole ≡ begun ++ passages)

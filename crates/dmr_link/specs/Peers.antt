@@ -1,4 +1,4 @@
--- Carriers and operators: what octets from each mean, and what goes out to each.
+-- Carriers and operators: the meaning of octets from each, and the octets written to each.
 use Rattle.std.specs.Prelude.{ℕ, Bool, true, false, List, [], Option, Some, None, map, flat_map, scan}
 use Rattle.dmr_console.specs.declared.line_cutter.LineStep.{LineStep}
 use Rattle.dmr_console.specs.declared.line_cutter.LineStep.TheVariants as step
@@ -30,55 +30,55 @@ use Rattle.dmr_link.specs.Numbering.{frames_text, next_after_frames}
 use Rattle.dmr_link.specs.Session.{answer_frames, session_frames, session_text}
 use Rattle.dmr_link.specs.Steps.{new_connection, notice_of_octet, connection_after_octet}
 
--- ---- what octets mean
+-- ---- the meaning of octets
 
--- MEANING of a connection: of the octets that came on it, and whether it has ended. A carrier's end is its Lost, if it was up; an
--- operator's means nothing, nor does the line that it leaves open
+-- MEANING of a connection: the notices of the octets that came on it, and of its end if it has ended. A carrier's end is its Lost, if it
+-- was up. An operator's end means nothing, and neither does the line that it leaves open
 abbrev pub meaning_from : Peer → List ℕ → Bool → List Notice
 meaning_from (Carrier who) octets has_ended = meaning_of_octets who octets has_ended
 meaning_from Operator octets has_ended = meaning_of_text octets
 
--- a connection on which these octets came, and whose next TX has this number; of an operator's open line the first 81 octets are kept
+-- the connection on which these octets came, and whose next TX has this number; of an operator's open line the first 81 octets are kept
 abbrev pub left_from : Peer → List ℕ → Option ℕ → Stream
 left_from (Carrier who) octets next = stream.Frames (state_on who (left_by_octets who octets) next)
 left_from Operator octets next = stream.Lines (first_octets_of_line (open_in octets))
 
--- HOW OCTETS CLOSE a connection, if they do. An operator's never do
+-- HOW OCTETS CLOSE a connection, if they do; an operator's never do
 abbrev pub closing_from : Peer → List ℕ → Option Closing
 closing_from (Carrier who) octets = closing_of_octets who octets
 closing_from Operator octets = None
 
--- ---- what goes out
+-- ---- the octets written
 
--- an entry of a journal, as a desk took it
+-- the journal entry of an event that a desk took
 abbrev pub entry_of_deposit : Deposit → Entry
 entry_of_deposit d = entry_by_nobody d.event d.acts
 
--- what goes out to a peer of notices and of what a desk took, where the next TX has this number: a carrier's session text, or the console
--- text
+-- the octets written to a peer for notices and the events that a desk took, if the next TX has this number: a carrier's session text, or
+-- the console text
 abbrev pub text_onward : Peer → Option ℕ → List Notice → List Deposit → List ℕ
 text_onward (Carrier who) next notices calls = session_text next who.carrier notices (map entry_of_deposit calls)
 text_onward Operator next notices calls = console_text notices (map entry_of_deposit calls)
 
--- and the number of the next TX then
+-- the number of the next TX after these octets
 abbrev pub next_onward : Peer → Option ℕ → List Notice → List Deposit → Option ℕ
 next_onward (Carrier who) next notices calls = next_after_frames next (session_frames who.carrier notices (map entry_of_deposit calls))
 next_onward Operator next notices calls = next
 
--- TEXT to a peer, of the notices of a connection and of what a desk took of it
+-- TEXT to a peer: the octets written for the notices of a connection and the events that a desk took of it
 abbrev pub text_to_peer : Peer → List Notice → List Deposit → List ℕ
 text_to_peer who notices calls = text_onward who None notices calls
 
--- what answers that of which the site learns: WELCOME, a command's reply, or what an event and its answer say to their carrier
+-- the octets that answer a notice for the site: WELCOME, a command's reply, or the frames that answer an event to its carrier
 abbrev pub answer_text : Option ℕ → SiteNotice → Acts → List ℕ
 answer_text next (site.Happened (Say command)) acts = reply_text acts.said
 answer_text next notice acts = frames_text next (answer_frames notice acts.list)
 
--- the number of the next TX then
+-- the number of the next TX after such an answer
 abbrev pub next_after_answer : Option ℕ → SiteNotice → Acts → Option ℕ
 next_after_answer next notice acts = next_after_frames next (answer_frames notice acts.list)
 
--- what is told of a notice that the site doesn't learn of
+-- the octets that answer a notice for the peer alone
 abbrev pub aside_text : Notice → List ℕ
 aside_text (Happened event) = []
 aside_text (Accepted c version) = []
@@ -87,7 +87,7 @@ aside_text (Unheeded fault) = fault_text fault
 
 -- ---- octet by octet
 
--- a connection that has just begun
+-- a connection of this peer that has just begun
 abbrev pub opened_for : Peer → Stream
 opened_for (Carrier who) = stream.Frames (state_on who (new_connection who) None)
 opened_for Operator = stream.Lines []
@@ -98,12 +98,12 @@ is_going stream.Closed = false
 is_going (stream.Frames state) = is_open state.connection
 is_going (stream.Lines begun) = true
 
--- the number of the next TX, where there is one
+-- the number of the next TX, if there is one
 abbrev pub numbering_of : Stream → Option ℕ
 numbering_of (stream.Frames state) = state.numbering
 numbering_of other = None
 
--- the connection whose next TX has another number
+-- the connection with another number for its next TX
 abbrev pub numbered : Stream → Option ℕ → Stream
 numbered stream.Closed next = stream.Closed
 numbered (stream.Frames state) next = stream.Frames (state_on state.who state.connection next)
@@ -114,30 +114,30 @@ abbrev pub up_of : Stream → Option ℕ
 up_of (stream.Frames state) = up_by state.who state.connection
 up_of other = None
 
--- what a step of the line cutter brings
+-- the notice that a step of the line cutter produces, if any
 abbrev pub line_brings : LineStep → Option Notice
 line_brings step.Need = None
 line_brings step.TooLong = Some (Unheeded TooLong)
 line_brings (step.Line line) = Some (notice_of_command (command_of line.items))
 
--- what an octet brings
+-- the notice that an octet produces, if any
 abbrev pub brings : Stream → ℕ → Option Notice
 brings stream.Closed x = None
 brings (stream.Frames state) x = notice_of_octet state.who state.connection x
 brings (stream.Lines begun) x = line_brings (line_step_at begun x)
 
--- the connection after it
+-- the connection after an octet
 abbrev pub left_after : Stream → ℕ → Stream
 left_after stream.Closed x = stream.Closed
 left_after (stream.Frames state) x = stream.Frames (state_on state.who (connection_after_octet state.who state.connection x) state.numbering)
 left_after (stream.Lines begun) x = stream.Lines (open_line_after_octet begun x)
 
--- how it closes the connection, if it does
+-- how an octet closes the connection, if it does
 abbrev pub closes_by : Stream → ℕ → Option Closing
 closes_by stream.Closed x = None
 closes_by (stream.Frames state) x = closes state.who state.connection x
 closes_by (stream.Lines begun) x = None
 
--- what octets bring
+-- the notices that octets produce, one after another
 abbrev pub all_brings : Stream → List ℕ → List Notice
 all_brings k octets = flat_map list_of_notice (scan left_after brings k octets)

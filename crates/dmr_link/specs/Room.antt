@@ -1,4 +1,5 @@
--- How much octets can put out, and how a text grows for it. Contracts of functions within name these alone: nothing above rests on them.
+-- The most octets that can answer octets, and how a text grows for them. Only contracts inside this crate name these definitions; nothing
+-- above depends on them.
 use Rattle.std.specs.Prelude.{◌≡◌, ◌⊎◌, ℕ, ◌+◌, ◌*◌, ◌<◌, ◌≤◌, max, Bool, true, false, is_some, List, [], ◌∷◌, fold}
 use Rattle.dmr_core.specs.declared.event.Event.{Event}
 use Rattle.dmr_core.specs.declared.event.Event.TheVariants.{Poll}
@@ -8,11 +9,11 @@ use Rattle.dmr_link.specs.Notices.{Happened, Accepted, Refused, Unheeded}
 use Rattle.dmr_link.specs.Numbering.{first_number}
 use Rattle.dmr_frames.specs.Versions.{version_octet}
 
--- the octets of WELCOME, and of REFUSED
+-- the length in octets of WELCOME, and of REFUSED
 abbrev pub most_to_hello : ℕ
 most_to_hello = 3
 
--- the octets of a TX: 28 in version 1 of the link, and 29 in version 2, where it has a number
+-- the length in octets of a TX: 28 without a number, as in version 1 of the link, and 29 with one, as in version 2
 abbrev pub length_of_tx : Bool → ℕ
 length_of_tx false = 28
 length_of_tx true = 29
@@ -27,14 +28,14 @@ abbrev pub most_at : Bool → Event → ℕ
 most_at numbered (Poll c) = most_to_poll numbered
 most_at numbered event = 0
 
--- the most octets that answer a notice
+-- the most octets that answer a notice, by whether TX are numbered
 abbrev pub most_of : Bool → Notice → ℕ
 most_of numbered (Happened event) = most_at numbered event
 most_of numbered (Accepted c version) = most_to_hello
 most_of numbered (Refused c refusal) = most_to_hello
 most_of numbered (Unheeded fault) = 0
 
--- whether TX are numbered after a notice: the version of a HELLO that is accepted says so
+-- whether TX are numbered after a notice: the version of a HELLO that is accepted decides
 abbrev pub numbered_after : Bool → Notice → Bool
 numbered_after numbered (Accepted c version) = is_some (first_number (version_octet version))
 numbered_after numbered other = numbered
@@ -52,8 +53,9 @@ most_in numbered (notice ∷ notices) = most_of numbered notice + most_in (numbe
 abbrev pub most_to_lines : List ℕ → ℕ
 most_to_lines octets = 1024 * ends_in octets
 
--- a text of this length makes room for these octets: their number, and the text's capacity before and after. If the text has room for them,
--- its capacity stays. If not, the text grows by their number, or, to grow less often, by its own length if that is more
+-- how a text of this length makes room for more octets: `octets` is their number, and `before` and `after` are the text's capacity. If
+-- the text has room for them, its capacity stays. If not, the text grows by their number, or, to grow less often, by its own length if
+-- that is more
 abbrev pub MakesRoom : (length octets before after : ℕ) → Type 0
 MakesRoom length octets before after =
     ((length + octets ≤ before) × (after ≡ before))

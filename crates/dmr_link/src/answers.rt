@@ -1,5 +1,5 @@
-//! The octets that answer a carrier's event. The engine appends them to its outputs, a link writes them; nothing else encodes what answers
-//! an event of a carrier.
+//! Encodes the answers to a carrier's events. The engine appends them to its outputs, a link writes them. No other code encodes the
+//! answer to an event of a carrier.
 
 ghost use Rattle.std.specs.Prelude.{◌≡◌, ◌+◌, ◌*◌, ◌≤◌, ◌++◌, [], ◌∷◌, flat_map, is_some, length, MatchOption};
 ghost use Rattle.arrayvec.specs.ArrayVec.{array_vec_len};
@@ -16,13 +16,13 @@ use dmr_burst::write;
 use dmr_core::{Act, Event};
 use dmr_frames::{FrameOut, LONGEST_FRAME, Version};
 
-/// The room for an answer: a TX for each of 16 acts, and DONE, each taken for a frame of the greatest length.
+/// The room for an answer: a TX for each of 16 acts, and DONE, each counted as a frame of the greatest length.
 const LONGEST_ANSWER: usize = (16 + 1) * LONGEST_FRAME;
 
-/// An answer's octets.
+/// The octets of an answer.
 pub type AnswerText = ArrayVec<u8, LONGEST_ANSWER>;
 
-/// The WELCOME of a carrier whose HELLO is accepted, in the version that is spoken from then on.
+/// Returns the WELCOME to a carrier whose HELLO is accepted, with the version that the connection uses from then on.
 fn welcome_to(version: Version) -> FrameOut
     ensures { welcome version ≡ result ∷ [] }
 {
@@ -31,7 +31,7 @@ fn welcome_to(version: Version) -> FrameOut
     }
 }
 
-/// The TX of an act that sends a PDU in a slot. It gets its number when it is spelled.
+/// Returns the TX of an act, if the act sends a PDU in a slot. The TX receives its number when it is encoded.
 fn tx_of(act: &Act) -> Option<FrameOut>
     ensures { MatchOption result (transmissions act.now ≡ []) (λ frame. transmissions act.now ≡ frame ∷ []) }
 {
@@ -45,7 +45,7 @@ fn tx_of(act: &Act) -> Option<FrameOut>
     }
 }
 
-/// Appends a frame, a TX with its number.
+/// Appends a frame. A TX receives its number.
 fn append_frame(answer: &mut AnswerText, numbering: &mut Numbering, frame: &FrameOut)
     requires { array_vec_len answer.old + 29 ≤ 493 }
     ensures items { answer.new.items ≡ answer.old.items ++ frame_text numbering.old frame.now }
@@ -58,7 +58,7 @@ fn append_frame(answer: &mut AnswerText, numbering: &mut Numbering, frame: &Fram
     };
 }
 
-/// Appends the TX of an act, if it sends a PDU in a slot.
+/// Appends the TX of an act, if the act sends a PDU in a slot.
 fn append_tx(answer: &mut AnswerText, numbering: &mut Numbering, act: &Act)
     requires { array_vec_len answer.old + 29 ≤ 493 }
     ensures items { answer.new.items ≡ answer.old.items ++ frames_text numbering.old (transmissions act.now) }
@@ -71,7 +71,7 @@ fn append_tx(answer: &mut AnswerText, numbering: &mut Numbering, act: &Act)
     }
 }
 
-/// The answer to a POLL: a TX for each act that sends a PDU, and DONE.
+/// Returns the answer to a POLL: a TX for each act that sends a PDU, and DONE. At most 16 acts are allowed.
 fn poll_answer(numbering: &mut Numbering, acts: &[Act]) -> AnswerText
     requires { length acts.now ≤ 16 }
     ensures items { result.items ≡ frames_text numbering.old (flat_map transmissions acts.now ++ FrameOut.Done ∷ []) }
@@ -86,7 +86,7 @@ fn poll_answer(numbering: &mut Numbering, acts: &[Act]) -> AnswerText
     answer
 }
 
-/// The answer to a HELLO that is accepted: WELCOME.
+/// Returns the answer to a HELLO that is accepted: WELCOME.
 fn hello_answer(numbering: &mut Numbering, version: Version) -> AnswerText
     ensures items { result.items ≡ frames_text numbering.old (welcome version) }
     ensures next { numbering.new ≡ next_after_frames numbering.old (welcome version) }
@@ -97,13 +97,14 @@ fn hello_answer(numbering: &mut Numbering, version: Version) -> AnswerText
     answer
 }
 
-/// The octets that answer a carrier whose notice the site has learned of, which did these acts, at most 16: WELCOME to a HELLO, a TX for
-/// each PDU that is sent and DONE to a POLL, else none.
+/// Returns the octets that answer a carrier's notice.
+/// `acts` are the site's acts for the notice, at most 16. A HELLO is answered by WELCOME, and a POLL by a TX for each PDU that is sent,
+/// and DONE. Other notices are not answered.
 pub fn carrier_answer(numbering: &mut Numbering, notice: &SiteNotice, acts: &[Act]) -> AnswerText
     requires { length acts.now ≤ 16 }
     ensures items { result.items ≡ frames_text numbering.old (answer_frames notice.now acts.now) }
     ensures next { numbering.new ≡ next_after_frames numbering.old (answer_frames notice.now acts.now) }
-    // It fits into the room that is made for the notice.
+    // The answer fits into the room that is made for the notice.
     ensures few { IsFewAt (event_of_notice notice.now) acts.now → array_vec_len result ≤ most_of (is_some numbering.old) (site_notice notice.now) }
 {
     match notice {

@@ -1,4 +1,4 @@
-//! The state of a carrier's connections, one after another. An engine has one for each of its carriers, a link has its own.
+//! The state of a carrier's connections, one after another. An engine has one for each of its carriers, and a carrier's link has its own.
 
 ghost use Rattle.std.specs.Prelude.{◌≡◌, None, option_map};
 ghost use Rattle.dmr_link.specs.CarrierStates.{state_on, is_open, up_by};
@@ -15,16 +15,16 @@ use dmr_pdu::CarrierNo;
 /// The state of a carrier's connections.
 #[derive(Debug, Drop)]
 pub struct CarrierState {
-    /// The carrier that they are for.
+    /// The carrier of the connections.
     pub who: CarrierIdentity,
-    /// The connection, as far as its octets have led.
+    /// The newest connection, after its octets so far.
     pub connection: Connection,
     /// The number of the next TX.
     pub numbering: Numbering,
 }
 
 impl CarrierState {
-    /// There has been no connection.
+    /// Returns the state of a carrier that has had no connection.
     pub fn new(who: CarrierIdentity) -> CarrierState
         ensures { result ≡ state_on who closed None }
     {
@@ -35,7 +35,7 @@ impl CarrierState {
         }
     }
 
-    /// A connection has just begun.
+    /// Returns the state of a carrier whose connection has just begun.
     pub fn open(who: CarrierIdentity) -> CarrierState
         ensures { result ≡ state_on who (new_connection who) None }
     {
@@ -46,7 +46,7 @@ impl CarrierState {
         }
     }
 
-    /// Whether a connection is open.
+    /// Returns whether a connection is open.
     pub fn is_open(&self) -> bool
         ensures { result ≡ is_open self.now.connection }
     {
@@ -56,7 +56,7 @@ impl CarrierState {
         }
     }
 
-    /// The carrier, if it is up.
+    /// Returns the carrier, if it is up.
     pub fn carrier_up(&self) -> Option<CarrierNo>
         ensures { result ≡ up_by self.now.who self.now.connection }
     {
@@ -66,8 +66,9 @@ impl CarrierState {
         }
     }
 
-    /// Takes the next octet, and says what it brings, and how it closes the connection, if it does. A frame is taken at its last
-    /// octet; a fault, and a frame that ends the connection, close it, and from then on octets bring nothing.
+    /// Processes the next octet. Returns the notice that it produces, if any, and how it closes the connection, if it does.
+    /// A frame is processed at its last octet. A fault closes the connection, and so does a frame that ends it. After that, octets have
+    /// no effect.
     pub fn receive(&mut self, octet: u8) -> Outcome
         ensures notice { option_map notice_meant result.notice ≡ notice_of_octet self.old.who self.old.connection octet }
         ensures closing { result.closing ≡ closes self.old.who self.old.connection octet }

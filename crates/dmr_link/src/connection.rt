@@ -1,4 +1,4 @@
-//! A carrier's connection, and what its octets do to it.
+//! A carrier's connection, and the effect of its octets.
 
 ghost use Rattle.std.specs.Prelude.{◌≡◌, Some, None, false, true, option_map, IfErr, IfOk};
 ghost use Rattle.dmr_burst.specs.Functions.{meaning_of};
@@ -21,45 +21,46 @@ use dmr_pdu::{CarrierNo, Lpcn, Slot};
 use dmr_wire::{Closing, Hello};
 use std::mem::replace;
 
-/// Which carrier a session is for: it has to say HELLO with just these.
+/// The carrier that a session is for. Its HELLO must have these numbers.
 #[derive(Clone, Copy, Debug, PartialEq, Eq)]
 pub struct CarrierIdentity {
     /// The carrier's number within the site.
     pub carrier: CarrierNo,
     /// The logical physical channel number of its slots.
     pub lpcn: Lpcn,
-    /// The greatest version of the link that it is served: its HELLO names that, or one below.
+    /// The greatest version of the link that it is served. Its HELLO names this version or one below it.
     pub greatest: Version,
 }
 
 /// A carrier's connection, with the octets of the frame that has begun on it.
 #[derive(Debug, Drop)]
 pub enum Connection {
-    /// None is open: octets mean nothing.
+    /// No connection is open: octets mean nothing.
     Closed,
-    /// It is open, and its first frame has not come whole.
+    /// The connection is open, and its first frame is not complete.
     Waiting(Cutter),
-    /// The carrier said HELLO, and is up.
+    /// The carrier sent a HELLO that was accepted, and is up.
     Running {
         /// The octets of the frame that has begun.
         cutter: Cutter,
-        /// The number of the newest RX, if it has one: an RX of that number is the same once more.
+        /// The number of the newest RX, if it has one. An RX with this number is a repeat.
         newest: Option<u8>,
     },
 }
 
-/// What an octet does to a connection: what it brings, and how it closes the connection, if it does.
+/// The effect of an octet on a connection: the notice it produces, if any, and how it closes the connection, if it does.
 #[derive(Clone, Copy, Debug)]
 pub struct Outcome {
-    /// What it brings, if it brings something.
+    /// The notice that it produces, if any.
     pub notice: Option<Notice>,
     /// How it closes the connection, if it does.
     pub closing: Option<Closing>,
 }
 
 impl CarrierIdentity {
-    /// Returns the version of the link that a HELLO with these numbers chooses, if that is served and the numbers are this carrier's. `Err`
-    /// is why it is refused: for its version before all else.
+    /// Returns the version of the link that a HELLO with these numbers chooses, if that is served and the numbers are this carrier's.
+    /// `Err` is the reason of the refusal: `BadVersion` if the version is not served, whatever the other numbers are, else
+    /// `WrongCarrier`.
     fn accept(&self, version: u8, carrier: u8, lpcn: u16) -> Result<Version, Refusal>
         ensures ok { IfOk result (λ v. (is_accepted self.now (frame.Hello version carrier lpcn) ≡ true) × (chosen_by self.now.greatest (frame.Hello version carrier lpcn) ≡ v)) }
         ensures err { IfErr result (λ r. (is_accepted self.now (frame.Hello version carrier lpcn) ≡ false) × (refusal_of_first self.now (frame.Hello version carrier lpcn) ≡ Some (Refused self.now.carrier r)) × (first_fault self.now (frame.Hello version carrier lpcn) ≡ closed.Refused (cause_of_refusal r) (record { version = version; carrier = carrier; lpcn = lpcn }))) }
@@ -75,7 +76,7 @@ impl CarrierIdentity {
     }
 }
 
-/// Returns why a connection is closed whose HELLO is refused.
+/// Returns the cause for which a connection is closed when its HELLO is refused.
 fn cause_of(refusal: Refusal) -> Cause
     ensures { result ≡ cause_of_refusal refusal }
 {
@@ -95,7 +96,7 @@ fn heard(slot: Slot, word: &Word196) -> Event
     }
 }
 
-/// Returns whether a burst of this number is the newest one again, which had that number, if one.
+/// Returns whether an RX is a repeat: it has a number, and the newest RX before it has the same. Each number is `None` if there is none.
 fn is_again(newest: Option<u8>, number: Option<u8>) -> bool
     ensures { (slot : _) (word : _) → result ≡ is_newest_again newest (frame.Rx number slot word) }
 {
@@ -106,14 +107,14 @@ fn is_again(newest: Option<u8>, number: Option<u8>) -> bool
 }
 
 impl Outcome {
-    /// Nothing is brought, and the connection stays as open as it was.
+    /// There is no notice, and the octet does not close the connection.
     pub const NOTHING: Outcome = Outcome {
         notice: None,
         closing: None,
     };
 }
 
-/// A carrier's HELLO is accepted.
+/// Returns the outcome of a HELLO that is accepted.
 fn accepts(carrier: CarrierNo, version: Version) -> Outcome
     ensures notice { option_map notice_meant result.notice ≡ Some (Accepted carrier version) }
     ensures closing { result.closing ≡ None }
@@ -124,7 +125,7 @@ fn accepts(carrier: CarrierNo, version: Version) -> Outcome
     }
 }
 
-/// A carrier's HELLO of these numbers is refused, which closes the connection.
+/// Returns the outcome of this HELLO, which is refused. That closes the connection.
 fn refuses(carrier: CarrierNo, refusal: Refusal, hello: Hello) -> Outcome
     ensures notice { option_map notice_meant result.notice ≡ Some (Refused carrier refusal) }
     ensures closing { result.closing ≡ Some (closed.Refused (cause_of_refusal refusal) hello) }
@@ -135,7 +136,7 @@ fn refuses(carrier: CarrierNo, refusal: Refusal, hello: Hello) -> Outcome
     }
 }
 
-/// The connection of a carrier that was not up yet is closed for this.
+/// Returns the outcome if the connection of a carrier that was not up yet is closed for this cause.
 fn closes_for(cause: Cause) -> Outcome
     ensures notice { result.notice ≡ None }
     ensures closing { result.closing ≡ Some (closed.Bad cause) }
@@ -146,7 +147,7 @@ fn closes_for(cause: Cause) -> Outcome
     }
 }
 
-/// Something happens to the site, and the connection stays open.
+/// Returns the outcome of an event of the site. The connection stays open.
 fn brings(event: Event) -> Outcome
     ensures notice { option_map notice_meant result.notice ≡ Some (Happened event) }
     ensures closing { result.closing ≡ None }
@@ -157,7 +158,7 @@ fn brings(event: Event) -> Outcome
     }
 }
 
-/// The connection of a carrier that was up is closed so, which is its Lost.
+/// Returns the outcome if the connection of a carrier that was up is closed: its Lost, and how the connection is closed.
 fn loses(carrier: CarrierNo, closing: Closing) -> Outcome
     ensures notice { option_map notice_meant result.notice ≡ Some (Happened (Lost carrier)) }
     ensures closing { result.closing ≡ Some closing }
@@ -168,7 +169,7 @@ fn loses(carrier: CarrierNo, closing: Closing) -> Outcome
     }
 }
 
-/// Returns what a step of the cutter does before the first frame has come whole, and the connection after it.
+/// Returns the outcome of a cutter's step on a connection that waits for its first frame, and the connection after it.
 fn take_first(who: &CarrierIdentity, cutter: Cutter, step: &Step) -> (Outcome, Connection)
     ensures notice { option_map notice_meant result.0.notice ≡ waiting_brings who.now step.now }
     ensures closing { result.0.closing ≡ waiting_closes who.now step.now }
@@ -204,7 +205,8 @@ fn take_first(who: &CarrierIdentity, cutter: Cutter, step: &Step) -> (Outcome, C
     }
 }
 
-/// Returns what a step of the cutter does while the carrier is up and its newest RX has this number, if one; and the connection after it.
+/// Returns the outcome of a cutter's step while the carrier is up, and the connection after it. `newest` is the number of the newest RX,
+/// if it has one.
 fn take_next(
     carrier: CarrierNo,
     cutter: Cutter,
@@ -254,14 +256,14 @@ fn take_next(
 }
 
 impl Connection {
-    /// A connection of a carrier that has just begun.
+    /// Returns a carrier's connection that has just begun.
     pub fn open(who: &CarrierIdentity) -> Connection
         ensures { result ≡ new_connection who.now }
     {
         Connection::Waiting(Cutter::new(who.greatest))
     }
 
-    /// The same connection once more. What octets do to the one does nothing to the other.
+    /// Returns a copy of the connection. Octets that one of the two receives do not change the other.
     pub fn fork(&self) -> Connection
         ensures { result ≡ self.now }
     {
@@ -275,8 +277,9 @@ impl Connection {
         }
     }
 
-    /// Takes the next octet, and says what it brings, and how it closes the connection, if it does. A frame is taken at its last
-    /// octet; a fault, and a frame that ends the connection, close it, and from then on octets bring nothing.
+    /// Processes the next octet. Returns the notice that it produces, if any, and how it closes the connection, if it does.
+    /// A frame is processed at its last octet. A fault closes the connection, and so does a frame that ends it. After that, octets have
+    /// no effect.
     pub fn receive(&mut self, who: &CarrierIdentity, octet: u8) -> Outcome
         ensures notice { option_map notice_meant result.notice ≡ notice_of_octet who.now self.old octet }
         ensures closing { result.closing ≡ closes who.now self.old octet }

@@ -1,4 +1,4 @@
-//! An operators' link: the console's connections, one after another, between a port and a desk.
+//! The operators' link serves the console's connections, one after another, between a port and a desk.
 
 ghost use Rattle.std.specs.Prelude.{◌≡◌, List, [], ◌∷◌, None, not, true, false, IfOk, IfErr};
 ghost use Rattle.dmr_core.specs.declared.event.Event.{Event as AnEvent};
@@ -16,10 +16,11 @@ use crate::stream::Peer;
 use dmr_wire::{Closing, Wire};
 use std::marker::Model;
 
-/// The console's link. It has a connection or none, and keeps what a desk has not taken of it: a command, and the octets of the
-/// last read of which nothing has been made yet. Contracts see it as that, and it stands for the connections that it has had.
-/// It is a [`Link`](crate::Link) in lines and replies in place of frames: an operator is no carrier, so there is no Lost, no line
-/// closes a connection, and there is no gate.
+/// Serves the console's connections, one after another, between a port and a desk.
+/// It is a [`Link`](crate::Link) with lines and replies in place of frames. An operator is not a carrier: there is no Lost, no line
+/// closes a connection, and there is no gate. A link has one connection or none. It keeps everything that a desk has not taken: a
+/// command, and octets of the last read that are not yet processed. Contracts see this state, and the connections that a link has had
+/// (`StandsFor`).
 #[derive(Drop)]
 pub struct ConsoleLink {
     state: LinkState,
@@ -39,7 +40,7 @@ impl Model for ConsoleLink {
 }
 
 impl ConsoleLink {
-    /// A link with no connection. It answers Closed until `open`.
+    /// Creates a link with no connection. `serve` returns `Closed` until `open`.
     pub fn new() -> ConsoleLink
         ensures who { result.who ≡ Operator }
         ensures past { StandsFor result [] }
@@ -49,21 +50,23 @@ impl ConsoleLink {
         }
     }
 
-    /// Whether a connection is open, or a command of it still waits.
+    /// Returns whether a connection is open, or a command of it is pending.
     pub fn live(&self) -> bool
         ensures { result ≡ is_live self.now }
     {
         self.state.is_live()
     }
 
-    /// How the connection was closed: by the end of its input, a fault or a cut; the last time, while another is open.
+    /// Returns how the connection was closed: by the end of its input, a fault or a cut. While a connection is open, it is how the one
+    /// before was closed.
     pub fn closing(&self) -> Closing
         ensures { result ≡ self.now.closing }
     {
         self.state.closing
     }
 
-    /// Does nothing. A proof learns from it that every link is an operators', and stands for some past.
+    /// Does nothing. A proof that calls it learns that the peer of every console link is an operator, and that the link has a past
+    /// (`StandsFor`).
     pub fn keeps(&self)
         ensures who { self.now.who ≡ Operator }
         ensures past { (past : List Session) × StandsFor self.now past }
@@ -71,8 +74,8 @@ impl ConsoleLink {
         let _ = &self.state;
     }
 
-    /// Begins a connection, with no open line: what an earlier one left open means nothing. `false` where the link is live, and
-    /// then nothing has changed.
+    /// Begins a connection with no open line: the open line of an earlier connection has no effect. Returns `false` if the link is live,
+    /// and nothing has changed then.
     pub fn open(&mut self) -> bool
         ensures answer { result ≡ not (is_live self.old) }
         ensures no { result ≡ false → self.new ≡ self.old }
@@ -85,18 +88,18 @@ impl ConsoleLink {
         true
     }
 
-    /// Hands in what waits, makes commands of the lines that are read, hands them in and writes their replies, until it has to
-    /// stop; `Ended` says why, and what is left. It is never BadFrame or GateShut. A line that is no command, or too long, is
-    /// answered by what is wrong with it, and the connection goes on. A call makes at most
-    /// [`MOST_READS`](crate::MOST_READS) reads, of at most 64 octets each; a read or write that was interrupted is tried again,
-    /// [`MOST_INTERRUPTIONS`](crate::MOST_INTERRUPTIONS) times in a row. On a connection that was cut nothing is read or written.
+    /// Serves the connection until the link has to stop, and returns why, but never `BadFrame` or `GateShut`.
+    /// The link hands in a pending command, reads lines, hands in their commands, and writes the replies. [`Ended`] says what is left. If
+    /// a line is too long or not a command, the operator receives an error, and the connection goes on. A call makes at most
+    /// [`MOST_READS`](crate::MOST_READS) reads, of at most 64 octets each. It tries an interrupted read or write again, at most
+    /// [`MOST_INTERRUPTIONS`](crate::MOST_INTERRUPTIONS) times in a row. After a cut it neither reads nor writes.
     pub fn serve<W: Wire, D: Desk>(&mut self, port: &mut W, desk: &mut D) -> Ended
         ensures actor { D.actor desk.new ≡ D.actor desk.old }
         ensures serves { Serves self.old self.new (sides (W.told port.old) (D.calls desk.old) None) (sides (W.told port.new) (D.calls desk.new) None) result }
         ensures over { result ≡ Ended.TermOver → (before : _) × (event : AnEvent) × (over : ATermOver) × D.refuses before event over desk.new }
         ensures open { result ≡ Ended.GateShut → ⊥ }
         ensures no_cause { (cause : Cause) → result ≡ Ended.BadFrame cause → ⊥ }
-        // A link that isn't live answers how its connection was closed, and touches nothing.
+        // A link that is not live returns how its connection was closed, and touches nothing.
         ensures ended { is_live self.old ≡ false → (result ≡ ended_of self.old.closing) × (self.new ≡ self.old) × (port.new ≡ port.old) × (desk.new ≡ desk.old) }
     {
         if !self.state.is_live() {
@@ -105,9 +108,9 @@ impl ConsoleLink {
         self.state.listen(port, desk, &mut OpenGate)
     }
 
-    /// Cuts the connection: hands in the command that is kept, and writes nothing; an open line means nothing. The link answers
-    /// Closed then, until `open`. `Err`: the term is over. The cut stands even so, and the next `cut` or `serve` hands in what is
-    /// left. A link that isn't live is left as it is.
+    /// Cuts the connection, and hands in the command that is kept. It writes nothing, and an open line has no effect.
+    /// After that, `serve` returns `Closed` until `open`. `Err`: the term is over. The link is cut all the same, and the next `cut` or
+    /// `serve` hands in the command. A link that is not live does not change.
     pub fn cut<D: Desk>(&mut self, desk: &mut D) -> Result<(), TermOver>
         ensures actor { D.actor desk.new ≡ D.actor desk.old }
         ensures cuts { is_live self.old ≡ true → Cuts self.old self.new (D.calls desk.old) (D.calls desk.new) }
@@ -123,7 +126,7 @@ impl ConsoleLink {
     }
 }
 
-/// A link with no connection.
+/// Creates a link with no connection.
 impl Default for ConsoleLink {
     ghost use Rattle.std.specs.Prelude.{◌≡◌, []};
     ghost use Rattle.dmr_link.specs.Sessions.{StandsFor};

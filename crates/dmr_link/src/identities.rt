@@ -1,4 +1,4 @@
-//! Which carriers a site has, and what each has to say in its HELLO.
+//! The carriers of a site, and the numbers that the HELLO of each must have.
 
 ghost use Rattle.std.specs.Prelude.{◌≡◌};
 ghost use Rattle.dmr_link.specs.Identities.{greatest_of, who_of};
@@ -8,14 +8,14 @@ use dmr_frames::Version;
 use dmr_pdu::CarrierNo;
 use dmr_plan::Plan;
 
-/// The greatest version of the link that the site of a plan serves its carriers: the key `link_version` of the site file.
+/// Returns the greatest version of the link that a plan's site serves its carriers: the key `link_version` of the site file.
 pub fn greatest_version(plan: &Plan) -> Version
     ensures { result ≡ greatest_of plan.now }
 {
     Version::named_or_first(plan.link_version())
 }
 
-/// The plan's carrier of a number, if it has one.
+/// Returns the identity of the plan's carrier with this number, if the plan has one.
 pub fn identity_of(plan: &Plan, carrier: CarrierNo) -> Option<CarrierIdentity>
     ensures { result ≡ who_of plan.now carrier }
 {

@@ -1,17 +1,18 @@
-//! What comes from a site's carriers and operators, made into events of the site, and what is put out for each carrier and for
-//! the operators. What the octets of a connection mean, and what is put out for it, is this project's link profile, versions 1
-//! and 2; what an operator's octets mean is its console profile. There are two ways to use them:
+//! Turns the octets of a site's carriers and operators into events of the site, and the site's answers into octets.
 //!
-//! - An [`Engine`] holds a site, the connections of its carriers, and an operator's open line. It takes [`Input`]s one by one,
-//!   in one thread: a connection begins, octets come on it in pieces of any length, it is cut, an operator's octets come, also
-//!   in pieces of any length, the clock ticks.
-//! - A [`Link`] holds one carrier's connection, a [`ConsoleLink`] an operator's, and neither has a site: each reads octets from a
-//!   `Wire`, hands the events that they mean to a [`Desk`], and writes the answers to the wire. Links stand beside one another, a
-//!   thread each, round desks that share a site. A wire may fail, block or be interrupted, and a desk may take no more events: a
-//!   link says why it stopped ([`Ended`]), and keeps what the desk has not taken. A [`Gate`] is passed round each event that a
-//!   carrier's link hands in.
+//! The meaning of a carrier's octets, and the octets that answer them, follow this project's link profile, versions 1 and 2. The meaning
+//! of an operator's octets follows its console profile. There are two ways to use this crate:
 //!
-//! Octets mean the same to both, by the same definitions. What holds of them throughout is in [`laws`].
+//! - An [`Engine`] holds a site, the connections of its carriers, and an operator's open line. It takes [`Input`]s one by one, in one
+//!   thread: a connection begins, octets arrive on a connection, a connection is cut, octets arrive from an operator, or the clock ticks.
+//!   Octets may arrive in pieces of any length.
+//! - A [`Link`] holds one carrier's connection, and a [`ConsoleLink`] holds an operator's. Neither has a site: each reads octets from a
+//!   `Wire`, hands their events to a [`Desk`], and writes the answers to the wire. Each link can have a thread of its own, with a desk of
+//!   its own; the desks share a site. A wire may fail, block or be interrupted, and a desk may take no more events. The link then reports
+//!   why it stopped ([`Ended`]), and keeps everything that the desk has not taken. While a carrier's link serves, it enters a [`Gate`]
+//!   before it hands in an event, and leaves it after that.
+//!
+//! Octets mean the same to engines and links, by the same definitions. The module [`laws`] states facts about them.
 #![tactic(auto)]
 
 mod answers;

@@ -1,4 +1,4 @@
-//! What every link accounts for, and how a port's record is read. The functions do nothing: their contracts are the laws.
+//! Laws of what every link accounts for, and of how a port's record is read. The functions do nothing: their contracts are the laws.
 
 ghost use Rattle.std.specs.Prelude.{◌≡◌, ◌≤◌, ◌⊎◌, ℕ, List, [], ◌∷◌, ◌++◌, Option, false};
 ghost use Rattle.dmr_wire.specs.Told.{Answer, Tells};
@@ -12,21 +12,24 @@ ghost use Rattle.dmr_link.specs.Recorded.{of_hearing, reading_at, reading_after_
 
 use dmr_console::lines_in_any_cutting;
 
-/// A link's newest connection means the events that the desk took of it, and then what the link owes; it took its text.
+/// States what a link accounts for. Its newest connection means the notices that are done, followed by those that the link still has to
+/// handle.
+/// The desk took the events of those that are done. The connection took the text that answers them, or a first part of it.
 pub fn links_account()
     ensures { (l : ALinkState) (s : Session) → Stands l s → Accounts l s }
 {
     lines_in_any_cutting();
 }
 
-/// A link that isn't live has no connection and owes nothing, and only such a link.
+/// States that a link that is not live has no connection and nothing pending, and that only such a link is not live.
 pub fn links_rest()
     ensures over { (l : ALinkState) → is_live l ≡ false → IsOver l }
     ensures dead { (l : ALinkState) → IsOver l → is_live l ≡ false }
     ensures nothing { (l : ALinkState) → IsOver l → notices_owed l ≡ [] }
 {}
 
-/// What happened in one call and then in another happened in both: what a port, a desk and a gate tell goes on.
+/// States that the happenings of one call, followed by those of the next, are the happenings of both: the records of port, desk and gate
+/// go on.
 pub fn happenings_follow()
     ensures none { (x : Sides) → Happens x [] x }
     ensures both { (x y z : Sides) (first second : List Happening) → Happens x first y → Happens y second z → Happens x (first ++ second) z }
@@ -34,9 +37,9 @@ pub fn happenings_follow()
     ensures told_both { (a b c : Option (List Answer)) (first second : List Answer) → Tells a first b → Tells b second c → Tells a (first ++ second) c }
 {}
 
-/// The answers of one call of `serve` are read in a whole record as in the call, if they follow an opening, a wait, or the
-/// [`MOST_READS`](crate::MOST_READS) reads of the call before. The reads are counted as in the call: after those of the call before,
-/// the count begins again at the first read of this call.
+/// States that the answers of one call of `serve` are read in a whole record as in the call.
+/// This holds if they follow an opening, a wait, or the [`MOST_READS`](crate::MOST_READS) reads of the call before. After those reads,
+/// the count of reads starts again at the first read of this call.
 pub fn records_read()
     ensures begun { (s : Session) (ss : List Session) (answers : List Answer) → AreOfWire answers → reads_in answers ≤ most_reads →
         reading_after_all (reading_at (s ∷ ss) 0 0 0) answers ≡ of_hearing ss (reads_in answers) (hearing_after_answers (hearing_at s 0) answers) }

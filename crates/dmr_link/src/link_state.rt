@@ -1,4 +1,4 @@
-//! What a link keeps of its connection, and the steps of its work.
+//! The state that a link keeps of its connection, and the steps of its work.
 
 ghost use Rattle.std.specs.Prelude.{◌≡◌, ◌+◌, ◌<◌, ◌≤◌, ℕ, Bool, List, [], ◌∷◌, Option, Some, None, option_map, Err, length, drop, true, false, IfOk, IfErr};
 ghost use Rattle.dmr_core.specs.declared.event.Event.{Event as AnEvent};
@@ -26,25 +26,25 @@ use dmr_console::lines_in_any_cutting;
 use dmr_core::Acts;
 use dmr_wire::{Closing, Got, Wire};
 
-/// What a link keeps of its connection.
+/// The state that a link keeps of its connection.
 #[derive(Drop)]
 pub struct LinkState {
-    /// Who is at the other end.
+    /// The peer.
     pub who: Peer,
     /// The connection.
     pub connection: Stream,
-    /// What no desk has taken yet.
+    /// The events that no desk has taken yet.
     pub pending: Pending,
-    /// Whether the connection was cut: nothing is written on it any more.
+    /// Whether the connection was cut. After a cut nothing is written on it.
     pub is_cut: bool,
-    /// The octets that were read, and that nothing has been made of yet.
+    /// The octets that were read and are not yet processed.
     pub unread: Unread,
     /// How the connection was closed.
     pub closing: Closing,
 }
 
 impl LinkState {
-    /// The state of a link with no connection.
+    /// Returns the state of a link with no connection.
     pub fn new(who: Peer) -> LinkState
         ensures who { result.who ≡ who }
         ensures connection { IsClosed result.connection }
@@ -61,7 +61,7 @@ impl LinkState {
         }
     }
 
-    /// Closes the connection. Where its carrier was up, its Lost is still to be handed in.
+    /// Closes the connection. If its carrier was up, its Lost becomes pending.
     fn close(&mut self, closing: Closing)
         ensures { self.new ≡ closed_as self.old closing }
     {
@@ -70,7 +70,7 @@ impl LinkState {
         self.closing = closing;
     }
 
-    /// Takes an octet. What it brings for the site is kept; what it brings for the peer alone is given.
+    /// Processes an octet. A notice for the site is kept; a notice for the peer alone is returned.
     fn receive(&mut self, octet: u8) -> Option<Aside>
         ensures state { self.new ≡ state_after_octet self.old octet }
         ensures aside { option_map aside_notice result ≡ aside_of (brings self.old.connection octet) }
@@ -89,14 +89,14 @@ impl LinkState {
         }
     }
 
-    /// Whether there is a connection, or an event of it still waits.
+    /// Returns whether a connection is open, or an event of it is pending.
     pub fn is_live(&self) -> bool
         ensures { result ≡ is_live self.now }
     {
         self.connection.is_open() || self.pending.first().is_some()
     }
 
-    /// Writes what answers a notice, unless the connection was cut. Where a write fails, the connection is closed.
+    /// Writes the answer to a notice, unless the connection was cut. If a write fails, it closes the connection.
     fn reply<W: Wire>(&mut self, notice: &SiteNotice, acts: &Acts, port: &mut W)
         ensures { Replies self.old.is_cut self.old (W.told port.old) (answer_text (numbering_of self.old.connection) notice.now acts.now) (with_next self.old (next_after_answer (numbering_of self.old.connection) notice.now acts.now)) self.new (W.told port.new) }
     {
@@ -111,7 +111,8 @@ impl LinkState {
         }
     }
 
-    /// Writes what the peer alone is told of. Where a write fails, that is how the connection was closed.
+    /// Writes the answer to a notice for the peer alone. If a write fails, the connection is closed for that, even if its octets closed
+    /// it before.
     fn answer_aside<W: Wire>(&mut self, aside: &Aside, port: &mut W)
         ensures { Replies false self.old (W.told port.old) (aside_text (aside_notice aside.now)) self.old self.new (W.told port.new) }
     {
@@ -120,7 +121,8 @@ impl LinkState {
         }
     }
 
-    /// Hands in the first notice that waits, by the gate, and writes its answer before the gate is left.
+    /// Hands in the first pending notice through the gate, and writes its answer before it leaves the gate.
+    /// `Err`: the gate is shut or the term is over, and the notice is still pending.
     fn deposit_first<W: Wire, D: Desk, G: Gate>(
         &mut self,
         notice: &SiteNotice,
@@ -153,7 +155,7 @@ impl LinkState {
         }
     }
 
-    /// Hands in all that waits, in its order. Where the connection is closed then, says how.
+    /// Hands in all pending notices, in order. `Err` says why it stopped, or how the connection was closed if it is not open afterwards.
     fn deposit_pending<W: Wire, D: Desk, G: Gate>(
         &mut self,
         port: &mut W,
@@ -176,8 +178,7 @@ impl LinkState {
         Err(Ended::from(self.closing))
     }
 
-    /// Takes the first of the octets that were read, if there is one. The event that it brings is kept; what is told of another
-    /// notice is written.
+    /// Processes the first unread octet, if there is one. An event that it produces is kept. The answer to another notice is written.
     fn take_unread<W: Wire>(&mut self, port: &mut W)
         requires { IsQuiet self.old }
         ensures moves { (calls : List ADeposit) (passed : Option (List Passage)) → Moves self.old self.new (sides (W.told port.old) calls passed) (sides (W.told port.new) calls passed) 0 0 0 Outside Outside }
@@ -192,7 +193,7 @@ impl LinkState {
         }
     }
 
-    /// Hands in all that waits, and makes all of the octets that were read. Where it stops, says why.
+    /// Hands in all pending notices, and processes all unread octets. `Err` says why it stopped.
     fn work<W: Wire, D: Desk, G: Gate>(
         &mut self,
         port: &mut W,
@@ -214,7 +215,8 @@ impl LinkState {
         Ok(())
     }
 
-    /// Reads once. Gives how many interruptions came last, in a row; `None` where the read would block.
+    /// Reads once. Returns how many reads were interrupted last, in a row; `None` if the read would block.
+    /// `row` is that number before the read. The number starts again at 0 if the read closes the connection.
     fn read<W: Wire>(&mut self, row: usize, port: &mut W) -> Option<usize>
         requires quiet { IsQuiet self.old }
         requires none { self.old.unread ≡ [] }
@@ -244,7 +246,8 @@ impl LinkState {
         }
     }
 
-    /// Reads once, and makes all of what came. Gives how many interruptions came last, in a row, or why it stops.
+    /// Reads once, and processes all octets received. Returns how many reads were interrupted last, in a row, or why it stopped.
+    /// `row` is that number before the read.
     fn read_and_work<W: Wire, D: Desk, G: Gate>(
         &mut self,
         row: usize,
@@ -271,7 +274,7 @@ impl LinkState {
         Ok(0)
     }
 
-    /// Works until it stops, or has read so often as one call reads.
+    /// Works until it has to stop, or has made the most reads of one call. Returns why.
     pub fn listen<W: Wire, D: Desk, G: Gate>(
         &mut self,
         port: &mut W,
@@ -305,7 +308,7 @@ impl LinkState {
         self.unread.clear();
     }
 
-    /// Cuts the connection. Where its carrier was up, its Lost is still to be handed in.
+    /// Cuts the connection. If its carrier was up, its Lost becomes pending.
     pub fn break_off(&mut self)
         ensures { self.new ≡ cut_state self.old }
     {
@@ -317,7 +320,7 @@ impl LinkState {
         self.closing = Closing::Over;
     }
 
-    /// Hands in all that waits, in its order. Nothing is written.
+    /// Hands in all pending notices, in order, and writes nothing. `Err`: the term is over, and the remaining notices are still pending.
     pub fn flush_pending<D: Desk>(&mut self, desk: &mut D) -> Result<(), TermOver>
         requires { self.old.is_cut ≡ true }
         ensures actor { D.actor desk.new ≡ D.actor desk.old }

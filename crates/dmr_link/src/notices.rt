@@ -1,4 +1,4 @@
-//! What octets bring: those of a carrier, and those of an operator.
+//! Notices: the results of octets, a carrier's or an operator's.
 
 ghost use Rattle.std.specs.Prelude.{◌≡◌};
 ghost use Rattle.dmr_link.specs.Notices.{event_of_notice};
@@ -7,17 +7,17 @@ use dmr_core::Event;
 use dmr_frames::{Refusal, Version};
 use dmr_pdu::CarrierNo;
 
-/// What the site learns of.
+/// A notice for the site.
 #[derive(Clone, Copy, Debug, PartialEq, Eq)]
 pub enum SiteNotice {
-    /// Something happens to it.
+    /// This event happens to the site.
     Happened(Event),
-    /// This carrier's HELLO is accepted, which is its Up. The link is spoken in this version from then on.
+    /// This carrier's HELLO is accepted, which is its Up. From then on the connection uses this version of the link.
     Accepted(CarrierNo, Version),
 }
 
 impl SiteNotice {
-    /// What happens to the site.
+    /// Returns the event of the notice.
     pub fn event(&self) -> Event
         ensures { result ≡ event_of_notice self.now }
     {
@@ -28,29 +28,29 @@ impl SiteNotice {
     }
 }
 
-/// What is wrong with an operator's line (this project's profile).
+/// The reason why an operator's line is rejected (this project's profile).
 #[derive(Clone, Copy, Debug, PartialEq, Eq)]
 pub enum LineFault {
-    /// It is no command.
+    /// The line is not a command.
     UnknownCommand,
-    /// It has more than 80 octets before its LF.
+    /// The line has more than 80 octets before its LF.
     TooLong,
 }
 
-/// What the peer alone is told of, and the site doesn't learn of.
+/// A notice for the peer alone: the site does not learn of it.
 #[derive(Clone, Copy, Debug, PartialEq, Eq)]
 pub enum Aside {
-    /// This carrier is refused, and why.
+    /// This carrier is refused, for this reason.
     Refused(CarrierNo, Refusal),
-    /// A line of an operator is no command, and why.
+    /// A line of an operator is rejected, for this reason.
     Unheeded(LineFault),
 }
 
-/// What comes of a peer's octets, a carrier's or an operator's.
+/// The result of a peer's octets, a carrier's or an operator's.
 #[derive(Clone, Copy, Debug, PartialEq, Eq)]
 pub enum Notice {
     /// The site learns of it, and answers.
     Site(SiteNotice),
-    /// The peer is answered without the site.
+    /// The peer is answered, and the site does not learn of it.
     Aside(Aside),
 }

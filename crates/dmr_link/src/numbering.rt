@@ -1,4 +1,4 @@
-//! The numbers of a connection's TX frames, which the frames get as they go out.
+//! The numbers of a connection's TX frames. A TX receives its number when it is encoded.
 
 ghost use Rattle.std.specs.Prelude.{◌≡◌, ◌+◌, ◌%◌, None, is_some, option_map};
 ghost use Rattle.dmr_link.specs.Numbering.{first_number, frame_text, next_after};
@@ -7,7 +7,7 @@ use arrayvec::ArrayVec;
 use dmr_frames::{FrameOut, LONGEST_FRAME, Version, write_frame};
 use std::marker::Model;
 
-/// The number of a connection's next TX, if the version of the link that is spoken on it has numbers. Contracts see it as that.
+/// The number of a connection's next TX, or none if its version of the link has no numbers. Contracts see it as that optional number.
 #[derive(Clone, Copy, Debug)]
 pub struct Numbering {
     next: Option<u8>,
@@ -23,7 +23,7 @@ impl Model for Numbering {
     ghost inverse = { λ next. record { next = next } };
 }
 
-/// The number of a connection's first TX, by the version octet of its WELCOME.
+/// Returns the number of a connection's first TX, or none, by the version octet of its WELCOME.
 fn first_of(version: u8) -> Option<u8>
     ensures { result ≡ first_number version }
 {
@@ -35,14 +35,14 @@ fn first_of(version: u8) -> Option<u8>
 }
 
 impl Numbering {
-    /// That of a connection on which nothing was put out.
+    /// Returns the numbering of a connection on which nothing was sent: there is no number.
     pub fn new() -> Numbering
         ensures { result ≡ None }
     {
         Numbering { next: None }
     }
 
-    /// Spells a frame as it goes out after those before it: a TX with its number. A WELCOME begins the numbers.
+    /// Encodes the next frame that goes out. A TX receives its number. A WELCOME starts the numbers, if its version has them.
     pub fn spell(&mut self, frame: &FrameOut) -> ArrayVec<u8, LONGEST_FRAME>
         ensures octets { result.items ≡ frame_text self.old frame.now }
         ensures next { self.new ≡ next_after self.old frame.now }
@@ -72,7 +72,7 @@ impl Numbering {
         self.next.is_some()
     }
 
-    /// One TX more has gone out.
+    /// Advances the number after a TX; 0 follows 255.
     fn count(&mut self)
         ensures { self.new ≡ option_map (λ n. (n + 1) % 256) self.old }
     {

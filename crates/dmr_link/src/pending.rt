@@ -1,4 +1,4 @@
-//! What a desk has not taken of a connection yet.
+//! Events of a connection that no desk has taken yet.
 
 ghost use Rattle.std.specs.Prelude.{◌≡◌};
 ghost use Rattle.dmr_link.specs.LinkSteps.{first_pending, nothing_pending, without_first};
@@ -7,17 +7,17 @@ use crate::notices::SiteNotice;
 use dmr_core::Event;
 use dmr_pdu::CarrierNo;
 
-/// A queue of two places: the event that is kept, and after it the Lost that an Up still lacks.
+/// A queue of two places: the event that is kept, and after it the Lost that must still follow an Up.
 #[derive(Clone, Copy, Debug, PartialEq, Eq)]
 pub struct Pending {
-    /// The event that no desk has taken yet.
+    /// The event that is kept: no desk has taken it yet.
     pub kept: Option<SiteNotice>,
-    /// The carrier whose Lost is still to be handed in.
+    /// The carrier whose Lost the link must still hand in.
     pub lost: Option<CarrierNo>,
 }
 
 impl Pending {
-    /// Nothing waits.
+    /// Returns an empty queue.
     pub fn none() -> Pending
         ensures { result ≡ nothing_pending }
     {
@@ -27,7 +27,7 @@ impl Pending {
         }
     }
 
-    /// Returns the first that waits, if something does.
+    /// Returns the first notice of the queue, if there is one.
     pub fn first(&self) -> Option<SiteNotice>
         ensures { result ≡ first_pending self.now }
     {
@@ -38,7 +38,7 @@ impl Pending {
         }
     }
 
-    /// Takes the first out.
+    /// Removes the first notice of the queue, if there is one.
     pub fn remove_first(&mut self)
         ensures { self.new ≡ without_first self.old }
     {

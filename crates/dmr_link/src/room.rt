@@ -1,5 +1,5 @@
-//! How much octets can put out, found out before anything is done with them, and the room that a text makes for it. Nothing else in this
-//! crate makes a text grow.
+//! Computes the most octets that can answer a piece of input before it is processed, and makes room for them in a text. Nothing else in
+//! this crate makes a text grow.
 
 ghost use Rattle.std.specs.Prelude.{◌≡◌, ◌+◌, ◌<◌, ◌≤◌, ◌^◌, ◌-◌, min, vec_len, vec_capacity, option_map, OnOk, OnErr};
 ghost use Rattle.dmr_link.specs.Meaning.{list_of_notice};
@@ -12,7 +12,7 @@ use crate::notices::{Aside, Notice, SiteNotice};
 use dmr_core::Event;
 use dmr_pdu::OutOfMemory;
 
-/// The octets of WELCOME, and of REFUSED, which answer a HELLO: type, length, and a version or a refusal.
+/// The length of WELCOME, and of REFUSED, which answer a HELLO: type, length, and a version or a refusal.
 const ANSWER_TO_HELLO: usize = 3;
 
 /// Returns the most octets that answer a POLL: a TX in each of two slots, and DONE. A TX is one octet longer if it has a number.
@@ -22,7 +22,7 @@ fn most_for_poll(numbered: bool) -> usize
     if numbered { 60 } else { 58 }
 }
 
-/// Returns the most octets of the site's answer to a notice, if TX are numbered or not until then.
+/// Returns the most octets of the site's answer to a notice. `numbered` is whether TX are numbered before it.
 fn most_of_site(notice: &SiteNotice, numbered: bool) -> usize
     ensures { result ≡ most_of numbered (site_notice notice.now) }
 {
@@ -33,7 +33,7 @@ fn most_of_site(notice: &SiteNotice, numbered: bool) -> usize
     }
 }
 
-/// Returns the most octets that answer what an octet brings, if TX are numbered or not until then.
+/// Returns the most octets that answer a notice; 0 without one. `numbered` is whether TX are numbered before it.
 fn most(notice: &Option<Notice>, numbered: bool) -> usize
     ensures { result ≡ most_in numbered (list_of_notice (option_map notice_meant notice.now)) }
 {
@@ -44,7 +44,7 @@ fn most(notice: &Option<Notice>, numbered: bool) -> usize
     }
 }
 
-/// Returns whether TX are numbered from then on: the version of a HELLO that is accepted says so.
+/// Returns whether TX are numbered after a notice. The version of a HELLO that is accepted decides; any other notice leaves `numbered`.
 #[tactic(auto, using(crate::proofs::NumbersFollowVersions::numbers_by_version))]
 fn is_numbered_after(notice: &Option<Notice>, numbered: bool) -> bool
     ensures { result ≡ numbered_after_all numbered (list_of_notice (option_map notice_meant notice.now)) }
@@ -55,8 +55,9 @@ fn is_numbered_after(notice: &Option<Notice>, numbered: bool) -> bool
     }
 }
 
-/// Returns the most octets that answer octets of a connection: what each frame that they complete can put out, and 0 if no connection is
-/// open. `numbered` says whether the connection's TX are numbered. A number that is too large for a `usize` is its greatest value.
+/// Returns the most octets that can answer octets of a connection: the sum over the frames that they complete.
+/// It is 0 if no connection is open. `numbered` is whether the connection's TX are numbered. If the sum is too large for a `usize`, the
+/// result is the greatest `usize`.
 pub fn room_for(
     who: &CarrierIdentity,
     connection: &Connection,
@@ -76,9 +77,10 @@ pub fn room_for(
     room
 }
 
-/// Makes room for `octets` more octets at the end of a text. A text that grows does so by its own length if that is more: a text that
-/// is made of many pieces is then not copied for each of them. If the system refuses that much room, the text grows by `octets`. `Err`:
-/// the system refused that too, and the text is unchanged.
+/// Makes room for `octets` more octets at the end of a text.
+/// A text that must grow does so by its own length, if that is more. A text that is made of many pieces is then not copied for each
+/// piece. If the system refuses that much memory, the text grows by `octets`. `Err`: the system refused that too, and the text is
+/// unchanged.
 pub fn make_room(text: &mut Vec<u8>, octets: usize) -> Result<(), OutOfMemory>
     ensures items { text.new.items ≡ text.old.items }
     ensures length { vec_len text.new ≡ vec_len text.old }

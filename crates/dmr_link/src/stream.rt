@@ -1,4 +1,4 @@
-//! Who is at the other end of a link, and what each octet from there brings.
+//! A link's peer, and the effect of each octet from the peer.
 
 ghost use Rattle.std.specs.Prelude.{◌≡◌, option_map};
 ghost use Rattle.dmr_link.specs.Notices.{notice_meant};
@@ -11,28 +11,28 @@ use crate::numbering::Numbering;
 use dmr_console::LineCutter;
 use dmr_pdu::CarrierNo;
 
-/// Who is at the other end of a link.
+/// The peer of a link.
 #[derive(Clone, Copy, Debug, PartialEq, Eq)]
 pub enum Peer {
-    /// A carrier, which speaks in frames.
+    /// A carrier, which sends frames.
     Carrier(CarrierIdentity),
-    /// An operator, who speaks in lines.
+    /// An operator, who sends lines.
     Operator,
 }
 
-/// A link's connection, as far as its octets have led.
+/// A link's connection, after its octets so far.
 #[derive(Drop)]
 pub enum Stream {
-    /// None is open: octets mean nothing.
+    /// No connection is open: octets mean nothing.
     Closed,
-    /// A carrier's state.
+    /// The state of a carrier's connection.
     Frames(CarrierState),
-    /// An operator's connection, with what is kept of the open line.
+    /// An operator's connection, with the octets that are kept of the open line.
     Lines(LineCutter),
 }
 
 impl Stream {
-    /// A connection that has just begun.
+    /// Returns a connection of this peer that has just begun.
     pub fn open(peer: Peer) -> Stream
         ensures { result ≡ opened_for peer }
     {
@@ -42,7 +42,7 @@ impl Stream {
         }
     }
 
-    /// Whether a connection is open.
+    /// Returns whether a connection is open.
     pub fn is_open(&self) -> bool
         ensures { result ≡ is_going self.now }
     {
@@ -53,7 +53,7 @@ impl Stream {
         }
     }
 
-    /// The carrier that is up, if one is.
+    /// Returns the carrier of the connection, if it is up.
     pub fn carrier_up(&self) -> Option<CarrierNo>
         ensures { result ≡ up_of self.now }
     {
@@ -63,7 +63,7 @@ impl Stream {
         }
     }
 
-    /// The number of the next TX; none where TX have none, or nobody is sent any.
+    /// Returns the number of the next TX; none if TX have no numbers, or if no TX is sent on this connection.
     pub fn numbering(&self) -> Numbering
         ensures { result ≡ numbering_of self.now }
     {
@@ -73,7 +73,7 @@ impl Stream {
         }
     }
 
-    /// The next TX has this number. Where nobody is sent any TX, nothing changes.
+    /// Sets the number of the next TX. If no TX is sent on this connection, nothing changes.
     pub fn number(&mut self, next: Numbering)
         ensures { self.new ≡ numbered self.old next }
     {
@@ -82,8 +82,8 @@ impl Stream {
         }
     }
 
-    /// Takes the next octet, and says what it brings, and how it closes the connection, if it does. No octet of an operator
-    /// closes one.
+    /// Processes the next octet. Returns the notice that it produces, if any, and how it closes the connection, if it does.
+    /// No octet of an operator closes a connection.
     pub fn receive(&mut self, octet: u8) -> Outcome
         ensures notice { option_map notice_meant result.notice ≡ brings self.old octet }
         ensures closing { result.closing ≡ closes_by self.old octet }

@@ -15,8 +15,9 @@ use dmr_core::{Acts, Event, Reply};
 use dmr_frames::{FrameOut, write_frame};
 use dmr_wire::{Put, Wire};
 
-/// Writes octets, write by write, and says whether all were taken; where there are none, nothing is written. It stops at a write that takes none, would block or fails, and
-/// at one that is interrupted after [`MOST_INTERRUPTIONS`] others in a row; what was taken until then is not written again.
+/// Writes octets, write by write, and returns whether the port took all of them.
+/// Without octets it writes nothing. It stops at a write that takes no octet, would block or fails. It also stops at an interruption that
+/// follows [`MOST_INTERRUPTIONS`] others in a row. Octets that the port took until then are not written again.
 fn send<W: Wire>(port: &mut W, octets: &[u8]) -> bool
     ensures { Puts (W.told port.old) octets.now result (W.told port.new) }
 {
@@ -47,7 +48,7 @@ fn send<W: Wire>(port: &mut W, octets: &[u8]) -> bool
     true
 }
 
-/// Writes the text of a reply, if there is one.
+/// Writes the text of a reply, if there is one, and returns whether the port took all of it.
 fn write_reply<W: Wire>(port: &mut W, reply: &Option<Reply>) -> bool
     ensures { Puts (W.told port.old) (reply_text reply.now) result (W.told port.new) }
 {
@@ -60,8 +61,10 @@ fn write_reply<W: Wire>(port: &mut W, reply: &Option<Reply>) -> bool
     }
 }
 
-/// Writes the answer to a notice that the site has learned of: to a carrier WELCOME, or the TXs and DONE of a poll; to an operator the reply. The
-/// whole answer is offered in one write; only if a part of it was taken, another write follows. If all was taken, the numbering is the next.
+/// Writes the site's answer to a notice, and returns whether the port took all of it.
+/// A carrier receives WELCOME, or the TXs and DONE of a poll; an operator receives the reply. The first write offers the whole answer.
+/// Another write follows only if the port took a part of it, or if the write was interrupted. If the port took all, `numbering` has the
+/// number of the next TX.
 pub fn write_answer<W: Wire>(
     port: &mut W,
     numbering: &mut Numbering,
@@ -80,7 +83,8 @@ pub fn write_answer<W: Wire>(
     }
 }
 
-/// Writes what the peer alone receives: REFUSED to a carrier, or to an operator what is wrong with a line.
+/// Writes the answer to a notice for the peer alone, and returns whether the port took all of it.
+/// A carrier receives REFUSED; an operator receives what is wrong with a line.
 pub fn write_aside<W: Wire>(port: &mut W, aside: &Aside) -> bool
     ensures { Puts (W.told port.old) (aside_text (aside_notice aside.now)) result (W.told port.new) }
 {

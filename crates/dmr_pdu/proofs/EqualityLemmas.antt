@@ -9,7 +9,7 @@ use Rattle.dmr_pdu.specs.declared.pdu.Pdu.TheVariants.{Aloha, Ahoy, Random, Ackd
 use Rattle.dmr_pdu.specs.contracts.pdu.PduPartialEq.TheImpl as pdu_eq
 use Rattle.dmr_pdu.specs.contracts.pdu.PduEq.TheImpl.Laws as laws
 
--- tests, joined
+-- the conjunction of tests
 abbrev joined : List Bool → Bool
 joined [] = true
 joined (b ∷ []) = b

@@ -1,4 +1,4 @@
--- The functions `octets_of` and `pdu_of` give the octets that a PDU is written as, and the PDU that agrees with octets.
+-- The functions `octets_of` and `pdu_of` return the octets that a PDU is written as, and the PDU that agrees with octets.
 use Rattle.std.proofs.Common.{◌≡◌, ◌==◌, ℕ, ◌+◌, ◌-◌, ◌*◌, ◌/◌, ◌%◌, ◌^◌, ◌<◌, ◌≤◌, Bool, true, false, cond, List, [], ◌∷◌, Option, Some, None, length, get_or, map, refl, sym, ap, ◌∙◌, arith, ⊎_elim, zero-add}
 use Rattle.std.specs.Prelude.{◌&&◌, nat_le, IfSome, option_map}
 use Rattle.std.specs.List.{range_with_len}
@@ -19,7 +19,7 @@ use Rattle.dmr_pdu.proofs.LayoutLemmas.{layout-fills, laid_out-read, agrees-laid
 
 -- ---- the octets of a PDU
 
--- where rows that fill the octets hold, the bits are theirs
+-- if rows that fill the octets hold, each bit is that of the rows
 row_bit-is : (first : ℕ) (rows : List Row) (octets : List ℕ) → fills first rows ≡ true → Holds octets rows → (q : ℕ) → first ≤ q → q < 80 → row_bit rows q ≡ octet_bit octets q
 row_bit-is first [] octets e holds q low high = absurd (omega (arith, eqb-true first 80 e))
 row_bit-is first (r ∷ rows) octets e holds q low high =
@@ -85,7 +85,7 @@ do_hold-holds : (octets : List ℕ) (rows : List Row) → Holds octets rows → 
 do_hold-holds octets [] holds = refl
 do_hold-holds octets (r ∷ rows) holds = and_from (field_of octets r.0.first r.0.width == r.1) (do_hold octets rows) (eq-eqb (field_of octets r.0.first r.0.width) r.1 holds.0) (do_hold-holds octets rows holds.1)
 
--- what is read has a layout, and names a channel that may stand
+-- a PDU that was read has a layout, and a channel number from 1 to 4094 if it has any
 record IsFormed (pdu : Pdu) : Type 0 where
   listed : IsListed pdu
   channel_is : HasChannel pdu
@@ -115,7 +115,7 @@ read_as-formed opcode o =
     (either (opcode == 0xB9) _ _ (on_channel (field_of o 44 12) _ (λ lpcn is. record { listed = tt; channel_is = is }))
     tt))))))))
 
--- where nothing is read, or its layout doesn't hold, no PDU is laid out
+-- if nothing is read, or the layout does not hold, no PDU is laid out in the octets
 none-unread : (octets : List ℕ) → read_as (field_of octets 0 8) octets ≡ None → (pdu : Pdu) → ¬ IsLaidOut pdu octets
 none-unread octets e pdu is = let read : read_as (field_of octets 0 8) octets ≡ Some pdu = laid_out-read pdu octets is in let both : None ≡ Some pdu = sym e ∙ read in cc
 

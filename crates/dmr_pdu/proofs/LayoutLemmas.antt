@@ -1,4 +1,4 @@
--- The facts about each layout: one line for each.
+-- The facts about each layout, one line for each.
 use Rattle.std.proofs.Common.{◌≡◌, ◌==◌, ℕ, zero, suc, Bool, true, false, List, [], ◌∷◌, Some, None, refl, sym, ap, ◌∙◌, subst}
 use Rattle.std.specs.Prelude.{nat_le, if◌then◌else◌, option_map}
 use Rattle.std.proofs.lemmas.Bool.{le-leb, and_from}
@@ -25,7 +25,7 @@ layout-fills (TvGrant lpcn slot late target source) is = refl
 layout-fills (Move register backoff lpcn) is = refl
 layout-fills (Other octets) is = absurd is
 
--- so a PDU's octets are determined
+-- the octets of a PDU are determined
 pub laid_out_alone : (pdu : Pdu) (a b : List ℕ) → IsOctets 10 a → IsOctets 10 b → IsLaidOut pdu a → IsLaidOut pdu b → a ≡ b
 laid_out_alone pdu a b a_octets b_octets a_is b_is = rows_determine (layout pdu) a b (layout-fills pdu a_is.listed) a_octets b_octets a_is.rows b_is.rows
 
@@ -36,7 +36,7 @@ bit-read o first false e = ap (λ n. n == 1) e
 channel-is : (m n : ℕ) → m ≡ n → IsChannel n → channel m ≡ Some n
 channel-is m n e is = ap channel e ∙ ap (λ t. if t then Some n else None) (and_from (nat_le 1 n) (nat_le n 4094) (le-leb 1 n is.0) (le-leb n 4094 is.1))
 
--- what row `i` of a layout says
+-- row `i` of a layout holds
 abbrev RowHolds : List ℕ → List Row → ℕ → Type 0
 RowHolds o [] i = Unit {0}
 RowHolds o (r ∷ rows) zero = field_of o r.0.first r.0.width ≡ r.1
@@ -47,7 +47,7 @@ row-holds o [] holds i = tt
 row-holds o (r ∷ rows) holds zero = holds.0
 row-holds o (r ∷ rows) holds (suc i) = row-holds o rows holds.1 i
 
--- octets in which the rows of a PDU's layout hold are read as it: one line for each layout, whose rows are counted from 0
+-- octets in which the rows of a PDU's layout hold are read as that PDU: one line for each layout, with rows counted from 0
 read-rows : (pdu : Pdu) (o : List ℕ) → IsListed pdu → HasChannel pdu → ((i : ℕ) → RowHolds o (layout pdu) i) → read_as (field_of o 0 8) o ≡ Some pdu
 unfolding layout IsListed HasChannel read_as
 read-rows (Aloha sync version offset active mask function nrand_wait register backoff system address) o listed may r =
@@ -70,7 +70,7 @@ read-rows (Move register backoff lpcn) o listed may r =
     ap (λ n. read_as n o) (r 0) ∙ (λ i. option_map (λ l. Move (bit-read o 35 register (r 3) i) (r 4 i) l) (channel-is (field_of o 44 12) lpcn (r 6) may i))
 read-rows (Other octets) o listed may r = absurd listed
 
--- octets that are laid out as a PDU's layout says are read as it
+-- octets in which a PDU is laid out are read as that PDU
 pub laid_out-read : (pdu : Pdu) (o : List ℕ) → IsLaidOut pdu o → read_as (field_of o 0 8) o ≡ Some pdu
 laid_out-read pdu o is = read-rows pdu o is.listed is.channel (row-holds o (layout pdu) is.rows)
 
@@ -104,7 +104,7 @@ agrees-laid_out pdu o is = is
 pub some-same : (p q : Pdu) → Some p ≡ Some q → p ≡ q
 some-same p q e = cc
 
--- where a PDU of the table is laid out, no other agrees
+-- if a PDU of the table is laid out in octets, no other agrees with them
 pub agrees-same : (p q : Pdu) (o : List ℕ) → IsLaidOut p o → Agrees q o → q ≡ p
 unfolding Agrees
 agrees-same p (Other carried) o p_is q_is = absurd (q_is.1 p p_is)
@@ -119,7 +119,7 @@ unfolding Agrees
 agrees-other_same (Other carried) o none is = ap Other is.0
 agrees-other_same q o none is = absurd (none q is)
 
--- what a PDU is written as agrees with it
+-- the octets that a readable PDU is written as agree with it
 pub spells-agrees : (pdu : Pdu) (octets : List ℕ) → IsReadable pdu → SpellsPdu pdu octets → Agrees pdu octets
 unfolding IsReadable SpellsPdu Agrees
 spells-agrees (Other carried) octets readable is = (is, λ pdu laid_out. readable pdu (subst (IsLaidOut pdu) (sym is) laid_out))

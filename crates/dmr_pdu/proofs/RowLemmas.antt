@@ -16,7 +16,7 @@ pub right : (a b : Bool) → (a && b) ≡ true → b ≡ true
 right true b e = e
 right false b e = absurd (false≢true e)
 
--- what is known of the first of rows that follow one another
+-- the facts about the first of rows that follow one another
 pub record Follows (first : ℕ) (r : Row) (rows : List Row) : Type 0 where
   pub starts : r.0.first ≡ first
   pub width : r.0.width ≤ 32
@@ -35,7 +35,7 @@ pub fills-le : (first : ℕ) (rows : List Row) → fills first rows ≡ true →
 fills-le first [] e = omega (arith, eqb-true first 80 e)
 fills-le first (r ∷ rows) e = omega (arith, fills-le (first + r.0.width) rows (follows first r rows e).rest)
 
--- rows that fill the octets leave no bit open
+-- rows that fill the octets determine each bit
 pub rows_bits : (first : ℕ) (rows : List Row) (a b : List ℕ) → fills first rows ≡ true → Holds a rows → Holds b rows → (q : ℕ) → first ≤ q → q < 80 → octet_bit a q ≡ octet_bit b q
 rows_bits first [] a b e a_holds b_holds q low high = absurd (omega (arith, eqb-true first 80 e))
 rows_bits first (r ∷ rows) a b e a_holds b_holds q low high =
@@ -48,7 +48,7 @@ rows_bits first (r ∷ rows) a b e a_holds b_holds q low high =
     (λ (behind : first + r.0.width ≤ q). rows_bits (first + r.0.width) rows a b here.rest a_holds.1 b_holds.1 q behind high)
     (cases_lt q (first + r.0.width))
 
--- rows that fill the octets hold in one list of octets alone
+-- rows that fill the octets hold in only one list of octets
 pub rows_determine : (rows : List Row) (a b : List ℕ) → fills 0 rows ≡ true → IsOctets 10 a → IsOctets 10 b → Holds a rows → Holds b rows → a ≡ b
 rows_determine rows a b e a_octets b_octets a_holds b_holds = octets-same 10 a b a_octets b_octets (λ q lt. rows_bits 0 rows a b e a_holds b_holds q (omega arith) (omega arith))
 
@@ -64,7 +64,7 @@ pub record IsWritten (rows : List Row) (i : ℕ) (octets : List ℕ) : Type 0 wh
 pub is_written-none : (rows : List Row) → fills 0 rows ≡ true → AllFit rows → IsWritten rows 0 (replicate 10 0)
 is_written-none rows e fit = record { octets_are = zeros-octets 10; first = 0; rest = e; fit = fit; keeps = λ o same holds. holds }
 
--- what is known of the row that is written next
+-- the facts about the row that is written next
 pub record IsNext (rows : List Row) (i : ℕ) (octets : List ℕ) (r : Row) (is : IsWritten rows i octets) : Type 0 where
   pub follows_on : Follows is.first r (drop (i + 1) rows)
   pub fits : r.1 < 2 ^ r.0.width

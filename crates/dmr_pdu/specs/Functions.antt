@@ -1,5 +1,5 @@
--- The octets of a PDU, and the PDU of octets, as functions. The contract of `octets_mean_one_pdu` says that they are what `SpellsPdu` and
--- `Agrees` say, and nothing else; the crates above rest on that alone.
+-- The octets of a PDU, and the PDU of octets, as functions. The contract of `octets_mean_one_pdu` says that they compute the relations
+-- `SpellsPdu` and `Agrees`. The crates above depend on that contract only.
 use Rattle.std.specs.Prelude.{◌==◌, ℕ, ◌+◌, ◌-◌, ◌*◌, ◌/◌, ◌%◌, ◌^◌, Bool, false, nat_lt, List, [], ◌∷◌, Option, Some, None, if◌then◌else◌, map}
 use Rattle.std.specs.List.{list_all, range_with_len}
 use Rattle.dmr_bits.specs.Bits.{bits_value, field_of}
@@ -18,11 +18,11 @@ unfoldable pub octets_of : Pdu → List ℕ
 octets_of (Other carried) = carried
 octets_of pdu = map (λ k. bits_value (row_bit (layout pdu)) (8 * k) 8) (range_with_len 0 10)
 
--- every row holds, as a test
+-- whether every row holds
 abbrev pub do_hold : List ℕ → List Row → Bool
 do_hold octets rows = list_all (λ (r : Row). field_of octets r.0.first r.0.width == r.1) rows
 
--- the PDU that was read, where all of its layout holds
+-- the PDU that was read, if all of its layout holds, or else the octets themselves
 abbrev pub pdu_or_other : List ℕ → Option Pdu → Pdu
 pdu_or_other octets None = Other octets
 pdu_or_other octets (Some pdu) = if do_hold octets (layout pdu) then pdu else Other octets

@@ -1,4 +1,4 @@
--- The layouts of the PDUs, and which octets a PDU agrees with.
+-- The layouts of the PDUs, and the octets that a PDU agrees with.
 use Rattle.std.specs.Prelude.{◌≡◌, ℕ, Bool, List, [], ◌∷◌, if◌then◌else◌}
 use Rattle.std.specs.List.{AllByRecursion}
 use Rattle.dmr_bits.specs.Bits.{field_of}
@@ -7,18 +7,19 @@ use Rattle.dmr_pdu.specs.declared.layouts.Place.{Place}
 use Rattle.dmr_pdu.specs.declared.pdu.Pdu.{Pdu}
 use Rattle.dmr_pdu.specs.declared.pdu.Pdu.TheVariants.{Aloha, Ahoy, Random, Ackd, Acku, Clear, PvGrant, TvGrant, Move, Other}
 
--- a row of a layout: a place of ten octets, and the number that stands there
+-- a row of a layout: a place in ten octets, and the number there
 abbrev pub Row : Type 0
 Row = Place × ℕ
 
+-- the row with this first bit, this width in bits, and this number
 abbrev pub layout_row : ℕ → ℕ → ℕ → Row
 layout_row first width number = (record { first = first; width = width }, number)
 
--- the number of a bit
+-- a bit as a number: 1 or 0
 abbrev pub bit : Bool → ℕ
 bit b = if b then 1 else 0
 
--- the rows of each PDU: octet 0 is LB, PF and the opcode, octet 1 the feature set, and what no field fills is 0
+-- the rows of each PDU: octet 0 is LB, PF and the opcode, octet 1 the feature set; bits without a field are 0
 unfoldable pub layout : Pdu → List Row
 layout (Aloha sync version offset active mask function nrand_wait register backoff system address) =
     layout_row 0 8 0x99 ∷ layout_row 8 8 0 ∷ layout_row 16 2 0 ∷ layout_row 18 1 (bit sync) ∷ layout_row 19 3 version ∷ layout_row 22 1 (bit offset) ∷ layout_row 23 1 (bit active)
@@ -41,11 +42,11 @@ layout (Move register backoff lpcn) =
     layout_row 0 8 0xB9 ∷ layout_row 8 8 0 ∷ layout_row 16 19 0 ∷ layout_row 35 1 (bit register) ∷ layout_row 36 4 backoff ∷ layout_row 40 4 0 ∷ layout_row 44 12 lpcn ∷ layout_row 56 24 0 ∷ []
 layout (Other octets) = []
 
--- every row holds
+-- every row holds: the field at its place of the octets is its number
 abbrev pub Holds : List ℕ → List Row → Type 0
 Holds octets rows = AllByRecursion (λ (r : Row). field_of octets r.0.first r.0.width ≡ r.1) rows
 
--- a PDU that names a channel names one that may stand
+-- a PDU with a channel number has one from 1 to 4094
 unfoldable pub HasChannel : Pdu → Type 0
 HasChannel (Clear lpcn group target source) = IsChannel lpcn
 HasChannel (PvGrant lpcn slot target source) = IsChannel lpcn
@@ -53,28 +54,28 @@ HasChannel (TvGrant lpcn slot late target source) = IsChannel lpcn
 HasChannel (Move register backoff lpcn) = IsChannel lpcn
 HasChannel pdu = Unit {0}
 
--- the PDU has a layout of the table
+-- the PDU is not `Other`: it has a layout of the table
 unfoldable pub IsListed : Pdu → Type 0
 IsListed (Other octets) = ⊥
 IsListed pdu = Unit {0}
 
--- the octets are laid out as the PDU's layout says
+-- the octets are laid out by the PDU's layout
 pub record IsLaidOut (pdu : Pdu) (octets : List ℕ) : Type 0 where
   pub listed : IsListed pdu
   pub rows : Holds octets (layout pdu)
   pub channel : HasChannel pdu
 
--- the octets that a PDU is written as: those of its layout, and those that `Other` carries
+-- the octets are those that the PDU is written as: those of its layout, or those that `Other` carries
 unfoldable pub SpellsPdu : Pdu → List ℕ → Type 0
 SpellsPdu (Other carried) octets = carried ≡ octets
 SpellsPdu pdu octets = IsLaidOut pdu octets
 
--- a PDU and ten octets agree
+-- a PDU and ten octets agree: the PDU is laid out in them, or it is `Other` and no PDU is laid out in them
 unfoldable pub Agrees : Pdu → List ℕ → Type 0
 Agrees (Other carried) octets = (carried ≡ octets) × ((pdu : Pdu) → ¬ IsLaidOut pdu octets)
 Agrees pdu octets = IsLaidOut pdu octets
 
--- the octets that the PDU is written as mean it: always, save where `Other` carries octets that are laid out as a PDU
+-- the octets of the PDU are read as it: true of each PDU, except an `Other` that carries octets in which a PDU is laid out
 unfoldable pub IsReadable : Pdu → Type 0
 IsReadable (Other carried) = (pdu : Pdu) → ¬ IsLaidOut pdu carried
 IsReadable pdu = Unit {0}

@@ -1,18 +1,18 @@
--- What the fields of ten octets are, if the first octet is to be believed and fixed bits are left aside.
+-- The fields of ten octets, by the first octet. Fixed bits are ignored.
 use Rattle.std.specs.Prelude.{◌==◌, ℕ, Bool, ◌&&◌, nat_le, List, Option, Some, None, if◌then◌else◌, option_map}
 use Rattle.dmr_bits.specs.Bits.{field_of}
 use Rattle.dmr_pdu.specs.declared.pdu.Pdu.{Pdu}
 use Rattle.dmr_pdu.specs.declared.pdu.Pdu.TheVariants.{Aloha, Ahoy, Random, Ackd, Acku, Clear, PvGrant, TvGrant, Move}
 
--- the number, where it is one that a channel may have
+-- the number, if a channel may have it: 1 to 4094
 abbrev pub channel : ℕ → Option ℕ
 channel n = if nat_le 1 n && nat_le n 4094 then Some n else None
 
--- a field of one bit
+-- the field of one bit at this place
 abbrev pub bit_of : List ℕ → ℕ → Bool
 bit_of octets first = field_of octets first 1 == 1
 
--- the PDU of those fields, by the first octet
+-- the PDU with the fields of the octets, by the first octet; none if it is of no layout, or the channel number is 0 or 4095
 unfoldable pub read_as : ℕ → List ℕ → Option Pdu
 read_as opcode o =
     if opcode == 0x99 then Some (Aloha (bit_of o 18) (field_of o 19 3) (bit_of o 22) (bit_of o 23) (field_of o 24 5) (field_of o 29 2) (field_of o 31 4) (bit_of o 35) (field_of o 36 4) (field_of o 40 16) (field_of o 56 24))

@@ -1,4 +1,4 @@
-//! A list of bounded length that is `Copy` and takes no memory from an allocator.
+//! A list of bounded length that is `Copy` and does not use an allocator.
 
 ghost use Rattle.std.specs.Prelude.{◌≡◌, ◌<◌, ◌≤◌, ◌++◌, ◌∷◌, ◌↔◌, [], length, IsTrue};
 ghost use Rattle.std.specs.Cmp.Lexicographic.{pointwise, lists_per, lists_equiv};
@@ -7,7 +7,7 @@ use crate::OutOfMemory;
 use std::fmt;
 use std::marker::Model;
 
-/// A type with a value that stands in the unused cells of a [`BoundedList`].
+/// A type with a value for the unused cells of a [`BoundedList`].
 pub trait Blank: Copy {
     ghost blank: { Self };
 
@@ -16,8 +16,8 @@ pub trait Blank: Copy {
         ensures { result ≡ blank };
 }
 
-/// A list of at most `N` entries, held in place: `Copy`, and without an allocator. Contracts see it as the list of its
-/// entries. Unused cells hold the type's blank, so two lists are equal exactly where their entries are.
+/// A list of at most `N` entries, stored in place: `Copy`, without an allocator. Contracts see it as the list of its
+/// entries. Unused cells have the type's blank value, so two lists are equal exactly if their entries are.
 pub struct BoundedList<T: Blank, const N: usize> {
     cells: [T; N],
     count: usize,
@@ -40,7 +40,7 @@ impl<T: Blank, const N: usize> Model for BoundedList<T, N> {
     ghost inverse_ok = { λ list is i. record { cells = with_padding-take N T.blank list.count list.cells is.0 is.1 is.2 i; count = length-take-le list.count list.cells (Prim.omega (arith, is.0, is.1)) i } };
 }
 
-/// The same list. It never fails.
+/// Copies the list. It never fails.
 impl<T: Blank, const N: usize> Clone for BoundedList<T, N> {
     ghost use Rattle.std.specs.Prelude.{◌≡◌, ⊤};
 
@@ -56,7 +56,7 @@ impl<T: Blank, const N: usize> Clone for BoundedList<T, N> {
 impl<T: Blank, const N: usize> Copy for BoundedList<T, N> {}
 
 impl<T: Blank, const N: usize> BoundedList<T, N> {
-    /// The list of no entries.
+    /// Returns the empty list.
     pub fn new() -> Self
         ensures { result ≡ [] }
     {
@@ -66,7 +66,7 @@ impl<T: Blank, const N: usize> BoundedList<T, N> {
         }
     }
 
-    /// The list of these entries, in their order. There must be at most `N` of them.
+    /// Returns the list of these entries, in their order. There must be at most `N` of them.
     pub fn from_slice(entries: &[T]) -> Self
         requires { length entries.now ≤ N }
         ensures { result ≡ entries.now }
@@ -78,7 +78,7 @@ impl<T: Blank, const N: usize> BoundedList<T, N> {
         list
     }
 
-    /// How many entries there are, 0 to `N`.
+    /// Returns the number of entries, 0 to `N`.
     pub fn len(&self) -> usize
         ensures value { result ≡ length self.now }
         ensures few { result ≤ N }
@@ -86,21 +86,21 @@ impl<T: Blank, const N: usize> BoundedList<T, N> {
         self.as_slice().len()
     }
 
-    /// Whether there are no entries.
+    /// Returns whether the list has no entries.
     pub fn is_empty(&self) -> bool
         ensures { IsTrue result ↔ (self.now ≡ []) }
     {
         self.count == 0
     }
 
-    /// Whether there are `N` entries, so that none may be added.
+    /// Returns whether the list has `N` entries, so that there is no room for another.
     pub fn is_full(&self) -> bool
         ensures { IsTrue result ↔ (length self.now ≡ N) }
     {
         self.count == N
     }
 
-    /// The entries, in the order in which they were added: at most `N`.
+    /// Returns the entries, in the order in which they were added: at most `N`.
     pub fn as_slice(&self) -> &[T]
         ensures value { result.now ≡ self.now }
         ensures few { length result.now ≤ N }
@@ -108,7 +108,7 @@ impl<T: Blank, const N: usize> BoundedList<T, N> {
         &self.cells[..self.count]
     }
 
-    /// Adds an entry at the end. There must be room for it.
+    /// Adds an entry at the end. The list must have room for it.
     pub fn push(&mut self, entry: T)
         requires { length self.old < N }
         ensures { self.new ≡ self.old ++ entry ∷ [] }
@@ -118,7 +118,7 @@ impl<T: Blank, const N: usize> BoundedList<T, N> {
     }
 }
 
-/// Two lists are equal where their entries are, one by one.
+/// Two lists are equal if their entries are, one by one.
 impl<T: Blank + PartialEq, const N: usize> PartialEq for BoundedList<T, N> {
     ghost eq = { λ v w. pointwise T.eq v w };
 
@@ -133,7 +133,7 @@ impl<T: Blank + Eq, const N: usize> Eq for BoundedList<T, N> {
     ghost laws = { lists_equiv T.Eq.laws };
 }
 
-/// As the slice of the entries.
+/// Writes the slice of the entries.
 impl<T: Blank + fmt::Debug, const N: usize> fmt::Debug for BoundedList<T, N> {
     fn fmt<W: fmt::Write>(&self, f: &mut fmt::Formatter<W>) -> fmt::Result {
         write!(f, "{:?}", self.as_slice())

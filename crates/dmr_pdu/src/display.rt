@@ -1,5 +1,5 @@
-//! PDUs and their numbers in words: a PDU's name, and `name=value` for each of its fields. They are for people; octets are the
-//! format.
+//! PDUs and their numbers in words: the name of a PDU, and `name=value` for each of its fields. Words are for people;
+//! the format is octets.
 
 use crate::layouts::show_fields;
 use crate::numbers::{Kind, Number, Reason};
@@ -7,7 +7,7 @@ use crate::pdu::Pdu;
 use dmr_bits::Octets10;
 use std::fmt;
 
-/// The decimal number.
+/// Writes the decimal number.
 impl<const WIDTH: u32> fmt::Display for Number<WIDTH> {
     fn fmt<W: fmt::Write>(&self, f: &mut fmt::Formatter<W>) -> fmt::Result {
         let number = self.get();
@@ -15,7 +15,7 @@ impl<const WIDTH: u32> fmt::Display for Number<WIDTH> {
     }
 }
 
-/// The name of a kind that the site knows, or else the decimal number.
+/// Writes the name of a kind that the site knows, or else the decimal number.
 impl fmt::Display for Kind {
     fn fmt<W: fmt::Write>(&self, f: &mut fmt::Formatter<W>) -> fmt::Result {
         let number = self.get();
@@ -27,7 +27,7 @@ impl fmt::Display for Kind {
 }
 
 impl Kind {
-    /// The kinds that the site knows, and what they are called.
+    /// The kinds that the site knows, and their names.
     pub const NAMES: [(Kind, &'static str); 4] = [
         (Kind::INDIVIDUAL_VOICE, "individual_voice"),
         (Kind::TALKGROUP_VOICE, "talkgroup_voice"),
@@ -35,7 +35,7 @@ impl Kind {
         (Kind::CANCEL, "cancel"),
     ];
 
-    /// What a kind that the site knows is called.
+    /// Returns the name of a kind that the site knows.
     pub fn name(&self) -> Option<&'static str> {
         Kind::NAMES
             .iter()
@@ -44,7 +44,7 @@ impl Kind {
     }
 }
 
-/// The name of a reason that has one, or else the decimal number.
+/// Writes the name of a reason that has one, or else the decimal number.
 impl fmt::Display for Reason {
     fn fmt<W: fmt::Write>(&self, f: &mut fmt::Formatter<W>) -> fmt::Result {
         let number = self.get();
@@ -76,7 +76,7 @@ impl Reason {
         (Reason::WAIT, "Wait"),
     ];
 
-    /// The name of a reason that has one.
+    /// Returns the name of a reason that has one.
     pub fn name(&self) -> Option<&'static str> {
         Reason::NAMES
             .iter()
@@ -85,14 +85,14 @@ impl Reason {
     }
 }
 
-/// The value of a field, as it is shown.
+/// The value of a field, as it is written in words.
 #[derive(Clone, Copy)]
 pub(crate) enum Shown {
-    /// The decimal number; of a flag its bit.
+    /// A decimal number; 0 or 1 for a flag.
     Number(u32),
-    /// The kind's name, where it has one.
+    /// The kind's name, if it has one, or else its number.
     Kind(Kind),
-    /// The reason's name, where it has one.
+    /// The reason's name, if it has one, or else its number.
     Reason(Reason),
 }
 
@@ -130,7 +130,7 @@ pub(crate) fn show_octets<W: fmt::Write>(
 }
 
 impl Pdu {
-    /// The PDU's name in the standard, or in the profile; `OTHER` for other octets.
+    /// Returns the PDU's name in the standard, or in the profile; `OTHER` for other octets.
     pub fn name(&self) -> &'static str {
         match self {
             Pdu::Aloha { .. } => "C_ALOHA",
@@ -147,8 +147,8 @@ impl Pdu {
     }
 }
 
-/// The PDU's name, and each field by its own: `C_RAND options=1 flags=0 kind=registration target=16776902 source=1001`. Of
-/// other octets the word `OTHER` and ten octets in hexadecimal digits.
+/// Writes the PDU's name and its fields: `C_RAND options=1 flags=0 kind=registration target=16776902 source=1001`. For
+/// other octets it writes `OTHER` and the ten octets in hexadecimal digits.
 impl fmt::Display for Pdu {
     fn fmt<W: fmt::Write>(&self, f: &mut fmt::Formatter<W>) -> fmt::Result {
         write!(f, "{}", self.name())?;

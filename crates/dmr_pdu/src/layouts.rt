@@ -1,5 +1,5 @@
-//! The table of layouts: where each field of each PDU stands in ten octets. It is read in both directions, and
-//! gives the names of the fields in words.
+//! The table of layouts: the place of each field of each PDU in ten octets. The table is used in both directions, and
+//! for the names of the fields in words.
 
 ghost use Rattle.std.specs.Prelude.{◌≡◌, ◌+◌, ◌<◌, ◌≤◌, ◌^◌, ℕ, IsTrue, IfSome, if◌then◌else◌};
 ghost use Rattle.dmr_bits.specs.Bits.{field_of, IsOctets};
@@ -14,18 +14,18 @@ use crate::slots::{Lpcn, SlotNo};
 use dmr_bits::{Octets10, field, set_field};
 use std::fmt;
 
-/// Where a number stands in ten octets: its first bit, 0 being the most significant bit of octet 0, and how many bits
-/// it has.
+/// The place of a number in ten octets: its first bit, and its width in bits. Bit 0 is the most significant bit of
+/// octet 0.
 #[derive(Clone, Copy)]
 struct Place {
     first: u32,
     width: u32,
 }
 
-/// The table of layouts (TS 102 361-4, clause 7.1.1; those of C_ALOHA, P_CLEAR and C_MOVE, and the bits that are fixed,
-/// are this project's profile). Of each PDU: its first octet (LB 1, PF 0, the opcode), and the rows behind the first two
-/// octets, which are first bit, width, and the field that stands there. Bits without a field are 0, and so is octet 1,
-/// the feature set.
+/// The table of layouts (TS 102 361-4, clause 7.1.1). The layouts of C_ALOHA, P_CLEAR and C_MOVE and the fixed bits are
+/// this project's profile. Each PDU has its first octet (LB 1, PF 0, the opcode), and the rows after the first two
+/// octets. A row is the first bit, the width, and the field. Bits without a field are 0, and so is octet 1, the feature
+/// set.
 macro_rules! layouts {
     ($direction:ident, $of:expr) => {
         $direction! { $of;
@@ -107,7 +107,7 @@ macro_rules! layouts {
     };
 }
 
-/// The number that stands in a row.
+/// The number in a row: that of its field, or else 0.
 macro_rules! number {
     () => {
         0
@@ -120,7 +120,7 @@ macro_rules! number {
     };
 }
 
-/// The octets that a PDU is written as, by its rows.
+/// The octets of a PDU, by its rows.
 macro_rules! octets_of {
     ($pdu:expr; $($name:ident = $opcode:literal { $($first:literal, $width:literal $(=> $field:ident: $type:ident)?;)* })*) => {
         match $pdu {
@@ -134,7 +134,7 @@ macro_rules! octets_of {
     };
 }
 
-/// The field that stands in a row.
+/// The field in a row.
 macro_rules! field_at {
     (bool, $octets:expr, $first:literal, $width:literal) => {
         flag_at($octets, $first)
@@ -147,7 +147,7 @@ macro_rules! field_at {
     };
 }
 
-/// The PDU whose fields stand in ten octets, by its rows.
+/// The PDU with the fields of ten octets, by its rows.
 macro_rules! pdu_of {
     ($octets:expr; $($name:ident = $opcode:literal { $($first:literal, $width:literal $(=> $field:ident: $type:ident)?;)* })*) => {
         Some(match number_at($octets, 0, 8) {
@@ -157,7 +157,7 @@ macro_rules! pdu_of {
     };
 }
 
-/// What stands in a row, as it is shown.
+/// The value of a field, as it is written in words.
 macro_rules! shown {
     ($field:ident: bool) => {
         Shown::Number(number_of(*$field))
@@ -173,7 +173,7 @@ macro_rules! shown {
     };
 }
 
-/// Shows the fields of a PDU, by its rows.
+/// Writes the fields of a PDU, by its rows.
 macro_rules! shown_rows {
     ($of:expr; $($name:ident = $opcode:literal { $($first:literal, $width:literal $(=> $field:ident: $type:ident)?;)* })*) => {{
         let (pdu, f) = $of;
@@ -184,12 +184,12 @@ macro_rules! shown_rows {
     }};
 }
 
-/// Writes ` name=value` for each field of a PDU, in the order of its layout; of `Other` its ten octets.
+/// Writes ` name=value` for each field of a PDU, in the order of its layout. For `Other` it writes the ten octets.
 pub(crate) fn show_fields<W: fmt::Write>(pdu: &Pdu, f: &mut fmt::Formatter<W>) -> fmt::Result {
     layouts!(shown_rows, (pdu, f))
 }
 
-/// The octets that a PDU is written as: those of its layout, and those that `Other` carries.
+/// Returns the octets of a PDU: those of its layout, or those that `Other` carries.
 #[tactic(auto, unfolding(crate::specs::Layout::SpellsPdu, crate::specs::Layout::layout, crate::specs::Layout::IsListed, crate::specs::Layout::HasChannel))]
 pub(crate) fn written(pdu: &Pdu) -> Octets10
     ensures octets { IsOctets 10 result }
@@ -198,8 +198,8 @@ pub(crate) fn written(pdu: &Pdu) -> Octets10
     layouts!(octets_of, *pdu)
 }
 
-/// The PDU of the table whose fields stand in ten octets, by the first of these. What the other bits hold is left
-/// aside.
+/// Returns the PDU with the fields of ten octets, by the first of these. Fixed bits are ignored. `None` if the first
+/// octet is not that of a layout, or a channel number is 0 or 4095.
 #[tactic(auto, unfolding(crate::specs::Reading::read_as, crate::specs::Layout::IsListed))]
 pub(crate) fn read(octets: &Octets10) -> Option<Pdu>
     ensures listed { IfSome result IsListed }
@@ -208,7 +208,7 @@ pub(crate) fn read(octets: &Octets10) -> Option<Pdu>
     layouts!(pdu_of, octets)
 }
 
-/// The ten octets in which every row holds.
+/// Returns the ten octets in which every row holds.
 fn spell(rows: &[(Place, u32)]) -> Octets10
     requires whole { IsTrue (fills 0 rows.now) }
     requires fit { AllFit rows.now }
@@ -222,7 +222,7 @@ fn spell(rows: &[(Place, u32)]) -> Octets10
     octets
 }
 
-/// The number of a bit.
+/// Returns a bit as a number.
 fn number_of(flag: bool) -> u32
     ensures value { result ≡ (if flag then 1 else 0) }
     ensures range { result < 2 }
@@ -230,7 +230,7 @@ fn number_of(flag: bool) -> u32
     if flag { 1 } else { 0 }
 }
 
-/// The number that stands at a place.
+/// Returns the number at a place.
 fn number_at(octets: &Octets10, first: u32, width: u32) -> u32
     requires width { width ≤ 32 }
     requires inside { first + width ≤ 80 }
@@ -240,7 +240,7 @@ fn number_at(octets: &Octets10, first: u32, width: u32) -> u32
     field(octets, first, width)
 }
 
-/// The bit that stands at a place.
+/// Returns the bit at a place.
 fn flag_at(octets: &Octets10, place: u32) -> bool
     requires { place < 80 }
     ensures { result ≡ bit_of octets.now place }
@@ -248,7 +248,7 @@ fn flag_at(octets: &Octets10, place: u32) -> bool
     field(octets, place, 1) == 1
 }
 
-/// The channel whose number stands from a bit on, if it is the number of one.
+/// Returns the channel whose 12 bits begin at a bit, or `None` if its number is 0 or 4095.
 fn channel_at(octets: &Octets10, first: u32) -> Option<Lpcn>
     requires { first + 12 ≤ 80 }
     ensures { result ≡ channel (field_of octets.now first 12) }
@@ -256,7 +256,7 @@ fn channel_at(octets: &Octets10, first: u32) -> Option<Lpcn>
     Lpcn::try_new(field(octets, first, 12))
 }
 
-/// The octets again, whose count and range the contract tells.
+/// Returns a copy of the octets. Its contract says that there are ten, each below 256.
 fn copy_of(octets: &Octets10) -> Octets10
     ensures octets { IsOctets 10 result }
     ensures same { result ≡ octets.now }

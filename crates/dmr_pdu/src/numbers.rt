@@ -1,4 +1,4 @@
-//! The numbers that PDUs carry, each with its range. Contracts see each of them as the number that it is.
+//! The numbers in PDUs, each with its range. Contracts see each of them as a natural number.
 
 ghost use Rattle.std.specs.Prelude.{◌≡◌, ◌<◌, ◌^◌, ℕ};
 ghost use Rattle.std.specs.Option.{SomeIff};
@@ -26,7 +26,7 @@ impl<const WIDTH: u32> Model for Number<WIDTH> {
 }
 
 impl<const WIDTH: u32> Number<WIDTH> {
-    /// A number below 2 to the power of `WIDTH`.
+    /// Returns this number, which must be below 2 to the power of `WIDTH`.
     pub fn new(number: u32) -> Self
         requires { number < 2 ^ WIDTH }
         ensures { result ≡ number }
@@ -34,7 +34,7 @@ impl<const WIDTH: u32> Number<WIDTH> {
         Number { value: number }
     }
 
-    /// The number as an integer.
+    /// Returns the number as an integer.
     pub fn get(&self) -> u32
         ensures value { result ≡ self.now }
         ensures range { result < 2 ^ WIDTH }
@@ -65,7 +65,7 @@ impl Model for Address {
 }
 
 impl Address {
-    /// The address of a number below 2 to the power of 24.
+    /// Returns the address with this number, which must be below 2 to the power of 24.
     pub fn new(number: u32) -> Self
         requires { number < 2 ^ 24 }
         ensures { result ≡ number }
@@ -73,7 +73,7 @@ impl Address {
         Address { number }
     }
 
-    /// The address of a number, where the number has at most 24 bits.
+    /// Returns the address with this number, or `None` if the number has more than 24 bits.
     pub fn try_new(number: u32) -> Option<Self>
         ensures { SomeIff result (number < 2 ^ 24) number }
     {
@@ -84,7 +84,7 @@ impl Address {
         }
     }
 
-    /// The address as an integer.
+    /// Returns the address as an integer.
     pub fn get(&self) -> u32
         ensures value { result ≡ self.now }
         ensures range { result < 2 ^ 24 }
@@ -93,7 +93,7 @@ impl Address {
     }
 }
 
-/// The decimal number.
+/// Writes the decimal number.
 impl fmt::Display for Address {
     ghost use Rattle.std.specs.Prelude.{Some, decimal};
 
@@ -124,7 +124,7 @@ impl Default for Address {
     }
 }
 
-/// The service kind, which says what a request asks for: 4 bits (TS 102 361-4, clause 7.2).
+/// The service kind of a request: 4 bits (TS 102 361-4, clause 7.2).
 #[derive(Clone, Copy, Debug, PartialEq, Eq)]
 pub struct Kind {
     code: u32,
@@ -143,19 +143,19 @@ impl Model for Kind {
 }
 
 impl Kind {
-    /// A voice call to one radio.
+    /// A voice call to one radio (0).
     pub const INDIVIDUAL_VOICE: Kind = Kind { code: 0 };
 
-    /// A voice call to a talkgroup.
+    /// A voice call to a talkgroup (1).
     pub const TALKGROUP_VOICE: Kind = Kind { code: 1 };
 
-    /// A radio registers, or leaves.
+    /// A radio registers, or leaves (14).
     pub const REGISTRATION: Kind = Kind { code: 14 };
 
-    /// A radio takes its call request back.
+    /// A radio cancels its call request (15).
     pub const CANCEL: Kind = Kind { code: 15 };
 
-    /// A kind of a number below 16.
+    /// Returns the kind with this number, which must be below 16.
     pub fn new(number: u32) -> Self
         requires { number < 2 ^ 4 }
         ensures { result ≡ number }
@@ -163,7 +163,7 @@ impl Kind {
         Kind { code: number }
     }
 
-    /// The kind as an integer.
+    /// Returns the kind as an integer.
     pub fn get(&self) -> u32
         ensures value { result ≡ self.now }
         ensures range { result < 2 ^ 4 }
@@ -192,55 +192,55 @@ impl Model for Reason {
 }
 
 impl Reason {
-    /// Not_Supported: the site has no such service.
+    /// Not_Supported (0x20): the site does not have the service.
     pub const NOT_SUPPORTED: Reason = Reason { octet: 0x20 };
 
-    /// Perm_User_Refused: this radio never has the service.
+    /// Perm_User_Refused (0x21): this radio never has the service.
     pub const PERM_USER_REFUSED: Reason = Reason { octet: 0x21 };
 
-    /// Transient_Sys_Refused: the site refuses for now.
+    /// Transient_Sys_Refused (0x23): the site refuses for now.
     pub const TRANSIENT_SYS_REFUSED: Reason = Reason { octet: 0x23 };
 
-    /// NoReg_MS_Away: the called radio isn't registered here.
+    /// NoReg_MS_Away (0x24): the called radio is not registered here.
     pub const NOREG_MS_AWAY: Reason = Reason { octet: 0x24 };
 
-    /// SysBusy_Refused: the site is busy.
+    /// SysBusy_Refused (0x27): the site is busy.
     pub const SYSBUSY_REFUSED: Reason = Reason { octet: 0x27 };
 
-    /// Call_Cancel_Refused: there is no call request that could be taken back.
+    /// Call_Cancel_Refused (0x29): there is not a call request to cancel.
     pub const CALL_CANCEL_REFUSED: Reason = Reason { octet: 0x29 };
 
-    /// Reg_Refused: the registration is refused.
+    /// Reg_Refused (0x2A): the registration is refused.
     pub const REG_REFUSED: Reason = Reason { octet: 0x2A };
 
-    /// Reg_Denied: the registration is denied for good.
+    /// Reg_Denied (0x2B): the registration is denied for good.
     pub const REG_DENIED: Reason = Reason { octet: 0x2B };
 
-    /// MS_Not_Registered: the asking radio isn't registered.
+    /// MS_Not_Registered (0x2D): the requesting radio is not registered.
     pub const MS_NOT_REGISTERED: Reason = Reason { octet: 0x2D };
 
-    /// Called_Party_Busy: the called radio is in a call.
+    /// Called_Party_Busy (0x2E): the called radio is in a call.
     pub const CALLED_PARTY_BUSY: Reason = Reason { octet: 0x2E };
 
-    /// Group_Not_Allowed: the site doesn't serve the talkgroup.
+    /// Group_Not_Allowed (0x2F): the site does not serve the talkgroup.
     pub const GROUP_NOT_ALLOWED: Reason = Reason { octet: 0x2F };
 
-    /// MS_Accepted: a radio accepts.
+    /// MS_Accepted (0x44): a radio accepts.
     pub const MS_ACCEPTED: Reason = Reason { octet: 0x44 };
 
-    /// Message_Accepted: the request is done.
+    /// Message_Accepted (0x60): the request is done.
     pub const MESSAGE_ACCEPTED: Reason = Reason { octet: 0x60 };
 
-    /// Reg_Accepted: the radio is registered.
+    /// Reg_Accepted (0x62): the radio is registered.
     pub const REG_ACCEPTED: Reason = Reason { octet: 0x62 };
 
-    /// Queued_For_Resource: the call request waits for a slot.
+    /// Queued_For_Resource (0xA0): the call request waits for a slot.
     pub const QUEUED_FOR_RESOURCE: Reason = Reason { octet: 0xA0 };
 
-    /// Wait: more signalling follows.
+    /// Wait (0xE0): more signalling follows.
     pub const WAIT: Reason = Reason { octet: 0xE0 };
 
-    /// A reason of an octet.
+    /// Returns the reason with this octet, which must be below 256.
     pub fn new(number: u32) -> Self
         requires { number < 2 ^ 8 }
         ensures { result ≡ number }
@@ -248,7 +248,7 @@ impl Reason {
         Reason { octet: number }
     }
 
-    /// The reason's octet.
+    /// Returns the reason's octet.
     pub fn get(&self) -> u32
         ensures value { result ≡ self.now }
         ensures range { result < 2 ^ 8 }

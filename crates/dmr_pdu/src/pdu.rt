@@ -1,4 +1,4 @@
-//! PDUs, and what they are in octets.
+//! PDUs, their octets, and the reading of octets.
 
 ghost use Rattle.std.specs.Prelude.{◌≡◌, ◌↔◌, ℕ, List, IsTrue, IfSome};
 ghost use Rattle.dmr_bits.specs.Bits.{IsOctets};
@@ -25,32 +25,32 @@ pub enum Pdu {
         offset: bool,
         /// Whether the site is connected to its network.
         active: bool,
-        /// How many bits of `address` a radio compares with its own address; 0: all radios are invited.
+        /// How many bits of `address` a radio compares with its own address; 0 if all radios are invited.
         mask: Number<5>,
-        /// The service function that is invited; 0: all.
+        /// The service function that is invited; 0 if all are.
         function: Number<2>,
         /// How long a radio waits for an answer before it tries again.
         nrand_wait: Number<4>,
         /// Whether radios must register.
         register: bool,
-        /// Over how many slots radios spread their tries.
+        /// The number of slots over which radios spread their tries.
         backoff: Number<4>,
-        /// The system's identity code.
+        /// The system identity code.
         system: Number<16>,
-        /// The address that `mask` is for.
+        /// The address that `mask` applies to.
         address: Address,
     },
-    /// C_AHOY: the site calls a radio, to see whether it is there (TS 102 361-4, clause 7.1.1).
+    /// C_AHOY: the site checks whether a radio is available (TS 102 361-4, clause 7.1.1).
     Ahoy {
         /// The service options of the request.
         options: Options,
-        /// Whether the call is one to a talkgroup.
+        /// Whether the call is to a talkgroup.
         group: bool,
-        /// The service that was asked for.
+        /// The service that is requested.
         kind: Kind,
-        /// The radio that is to answer.
+        /// The radio that has to answer.
         called: Address,
-        /// Who calls it.
+        /// The address that calls.
         calling: Address,
     },
     /// C_RAND: a radio's request by random access (TS 102 361-4, clause 7.1.1).
@@ -59,104 +59,104 @@ pub enum Pdu {
         options: Options,
         /// The bits between the options and the service kind.
         flags: Number<5>,
-        /// The service that is asked for.
+        /// The service that is requested.
         kind: Kind,
         /// The radio, talkgroup or service that is called.
         target: Address,
-        /// The radio that asks.
+        /// The radio that sends the request.
         source: Address,
     },
     /// C_ACKD: the site acknowledges (TS 102 361-4, clause 7.1.1).
     Ackd {
         /// The response information.
         info: Number<7>,
-        /// The answer.
+        /// The reason code.
         reason: Reason,
         /// A reserved bit.
         spare: bool,
         /// The radio that is answered.
         target: Address,
-        /// Whom the answer is from, or about.
+        /// The address that the answer is from, or about.
         additional: Address,
     },
     /// C_ACKU: a radio acknowledges (TS 102 361-4, clause 7.1.1).
     Acku {
         /// The response information.
         info: Number<7>,
-        /// The answer.
+        /// The reason code.
         reason: Reason,
         /// A reserved bit.
         spare: bool,
-        /// Whom the answer is for.
+        /// The address that the answer is for.
         target: Address,
         /// The radio that answers.
         additional: Address,
     },
-    /// P_CLEAR: a call's slot is taken back, and its radios go to a channel. The layout is this project's profile.
+    /// P_CLEAR: the call on a slot has ended, and its radios go to a channel. The layout is this project's profile.
     Clear {
         /// The channel that the radios go to.
         lpcn: Lpcn,
-        /// Whether the call is one to a talkgroup.
+        /// Whether the call was to a talkgroup.
         group: bool,
         /// The radio or talkgroup that was called.
         target: Address,
-        /// Who sends the PDU.
+        /// The address that sends the PDU.
         source: Address,
     },
-    /// PV_GRANT: a voice call to one radio gets a slot (TS 102 361-4, clause 7.1.1).
+    /// PV_GRANT: grants a slot to a voice call to one radio (TS 102 361-4, clause 7.1.1).
     PvGrant {
         /// The channel of the slot's carrier.
         lpcn: Lpcn,
-        /// Which of its slots.
+        /// The slot of that carrier.
         slot: SlotNo,
         /// The radio that is called.
         target: Address,
         /// The radio that calls.
         source: Address,
     },
-    /// TV_GRANT: a voice call to a talkgroup gets a slot (TS 102 361-4, clause 7.1.1).
+    /// TV_GRANT: grants a slot to a voice call to a talkgroup (TS 102 361-4, clause 7.1.1).
     TvGrant {
         /// The channel of the slot's carrier.
         lpcn: Lpcn,
-        /// Which of its slots.
+        /// The slot of that carrier.
         slot: SlotNo,
-        /// Whether the call is told again, to radios that come late.
+        /// Whether the grant announces a call that is active already (late entry).
         late: bool,
         /// The talkgroup that is called.
         target: Address,
         /// The radio that calls.
         source: Address,
     },
-    /// C_MOVE: radios are to use another control channel. The layout is this project's profile.
+    /// C_MOVE: sends radios to another control channel. The layout is this project's profile.
     Move {
         /// Whether radios must register there.
         register: bool,
-        /// Over how many slots radios spread their tries.
+        /// The number of slots over which radios spread their tries.
         backoff: Number<4>,
-        /// The channel to use.
+        /// The channel to go to.
         lpcn: Lpcn,
     },
-    /// Ten octets that no layout fits: another opcode or feature set, a fixed bit that isn't as listed, or a channel
+    /// Ten octets that no layout fits: another first octet or feature set, a fixed bit other than listed, or a channel
     /// number of 0 or 4095.
     Other(Octets10),
 }
 
 impl Pdu {
-    /// The octets that the PDU is written as: those of its layout, and those that `Other` carries.
+    /// Returns the octets of the PDU: those of its layout, or those that `Other` carries.
     pub fn to_octets(&self) -> Octets10
         ensures octets { IsOctets 10 result }
         ensures is { SpellsPdu self.now result }
-        // There are no others.
+        // No other octets spell the PDU.
         ensures alone { (octets : List ℕ) → IsOctets 10 octets → SpellsPdu self.now octets → octets ≡ result }
         ensures written { result ≡ octets_of self.now }
     {
         written(self)
     }
 
-    /// The one PDU that agrees with ten octets: that whose layout they are, or else `Other`.
+    /// Returns the one PDU that agrees with ten octets: the PDU that is laid out in them, or else `Other`.
     pub fn from_octets(octets: &Octets10) -> Self
         ensures agrees { Agrees result octets.now }
-        // There is no other.
+        // No other PDU agrees with the octets.
         ensures only { (pdu : APdu) → Agrees pdu octets.now → pdu ≡ result }
         ensures pdu { result ≡ pdu_of octets.now }
     {
@@ -166,18 +166,18 @@ impl Pdu {
         }
     }
 
-    /// The PDU of the table that is laid out in ten octets, if there is one.
+    /// Returns the PDU of the table that is laid out in ten octets, if there is one.
     fn listed(octets: &Octets10) -> Option<Self>
         ensures found { IfSome result (λ pdu. IsLaidOut pdu octets.now) }
         ensures only { (pdu : APdu) → IsLaidOut pdu octets.now → result ≡ Some pdu }
     {
         let pdu = read(octets)?;
-        // Whatever was left aside must be as the layout says.
+        // `read` ignores fixed bits, so they are compared here.
         let spelled = pdu.to_octets();
         if spelled == *octets { Some(pdu) } else { None }
     }
 
-    /// Whether two PDUs are the same, as `==` says; here with a contract.
+    /// Returns whether two PDUs are equal, as `==` does, but with a contract.
     pub fn is(&self, other: &Pdu) -> bool
         ensures { IsTrue result ↔ (self.now ≡ other.now) }
     {

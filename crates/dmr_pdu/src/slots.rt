@@ -28,7 +28,7 @@ impl Model for CarrierNo {
 }
 
 impl CarrierNo {
-    /// The carrier of a number from 0 to 15.
+    /// Returns the carrier with this number, which must be from 0 to 15.
     pub fn new(number: u32) -> Self
         requires { number < 16 }
         ensures { result ≡ number }
@@ -36,7 +36,7 @@ impl CarrierNo {
         CarrierNo { number }
     }
 
-    /// The carrier of a number, where the number is 0 to 15.
+    /// Returns the carrier with this number, or `None` if the number is above 15.
     pub fn try_new(number: u32) -> Option<Self>
         ensures { SomeIff result (number < 16) number }
     {
@@ -47,7 +47,7 @@ impl CarrierNo {
         }
     }
 
-    /// The carrier's number as an integer.
+    /// Returns the carrier's number as an integer.
     pub fn get(&self) -> u32
         ensures value { result ≡ self.now }
         ensures range { result < 16 }
@@ -56,7 +56,7 @@ impl CarrierNo {
     }
 }
 
-/// The decimal number.
+/// Writes the decimal number.
 impl fmt::Display for CarrierNo {
     ghost use Rattle.std.specs.Prelude.{Some, decimal};
 
@@ -95,7 +95,7 @@ impl Model for SlotNo {
 }
 
 impl SlotNo {
-    /// The slot of a number that is 0 or 1.
+    /// Returns the slot with this number, which must be 0 or 1.
     pub fn new(number: u32) -> Self
         requires { number < 2 }
         ensures { result ≡ number }
@@ -103,7 +103,7 @@ impl SlotNo {
         SlotNo { index: number }
     }
 
-    /// The slot of a number, where the number is 0 or 1.
+    /// Returns the slot with this number, or `None` if the number is neither 0 nor 1.
     pub fn try_new(number: u32) -> Option<Self>
         ensures { SomeIff result (number < 2) number }
     {
@@ -114,7 +114,7 @@ impl SlotNo {
         }
     }
 
-    /// The slot's number as an integer.
+    /// Returns the slot's number as an integer.
     pub fn get(&self) -> u32
         ensures value { result ≡ self.now }
         ensures range { result < 2 }
@@ -123,7 +123,7 @@ impl SlotNo {
     }
 }
 
-/// The decimal number.
+/// Writes the decimal number.
 impl fmt::Display for SlotNo {
     ghost use Rattle.std.specs.Prelude.{Some, decimal};
 
@@ -143,24 +143,24 @@ impl Blank for SlotNo {
     }
 }
 
-/// One slot of the site: a carrier, and which of its two slots. Ordered by carrier, then slot.
+/// A slot of the site: a carrier, and one of its two slots. The order is by carrier, then by slot.
 #[derive(Clone, Copy, Debug, PartialEq, Eq, PartialOrd, Ord, Hash)]
 pub struct Slot {
     /// The carrier.
     pub carrier: CarrierNo,
-    /// Which of the carrier's slots.
+    /// The slot of the carrier.
     pub slot: SlotNo,
 }
 
 impl Slot {
-    /// A slot of a carrier.
+    /// Returns a slot of a carrier.
     pub fn new(carrier: CarrierNo, slot: SlotNo) -> Slot
         ensures { result ≡ record { carrier = carrier; slot = slot } }
     {
         Slot { carrier, slot }
     }
 
-    /// The place of the slot among the 32 of all carriers, by carrier, then slot: 0 to 31.
+    /// Returns the place of the slot among the 32 slots of all carriers, by carrier, then by slot: 0 to 31.
     pub fn index(&self) -> usize
         ensures value { result ≡ place self.now }
         ensures range { result < 32 }
@@ -169,7 +169,7 @@ impl Slot {
         2 * self.carrier.get() as usize + self.slot.get() as usize
     }
 
-    /// The slot at a place from 0 to 31.
+    /// Returns the slot at this place, which must be from 0 to 31.
     pub fn at(index: usize) -> Slot
         requires { index < 32 }
         ensures { result ≡ slot_at index }
@@ -190,8 +190,8 @@ impl Blank for Slot {
     }
 }
 
-/// A logical physical channel number, which radios tune to: 1 to 4094 (TS 102 361-4, clause 7.2). 0 and 4095 name no
-/// channel.
+/// A logical physical channel number, which radios tune to: 1 to 4094 (TS 102 361-4, clause 7.2). The numbers 0 and
+/// 4095 name no channel.
 #[derive(Clone, Copy, Debug, PartialEq, Eq, PartialOrd, Ord, Hash)]
 pub struct Lpcn {
     channel: u32,
@@ -211,7 +211,7 @@ impl Model for Lpcn {
 }
 
 impl Lpcn {
-    /// The channel of a number from 1 to 4094.
+    /// Returns the channel with this number, which must be from 1 to 4094.
     pub fn new(number: u32) -> Self
         requires { IsChannel number }
         ensures { result ≡ number }
@@ -219,7 +219,7 @@ impl Lpcn {
         Lpcn { channel: number }
     }
 
-    /// The channel of a number, where the number is 1 to 4094.
+    /// Returns the channel with this number, or `None` if the number is not from 1 to 4094.
     pub fn try_new(number: u32) -> Option<Self>
         ensures { SomeIff result (IsChannel number) number }
     {
@@ -230,7 +230,7 @@ impl Lpcn {
         }
     }
 
-    /// The channel's number as an integer.
+    /// Returns the channel's number as an integer.
     pub fn get(&self) -> u32
         ensures value { result ≡ self.now }
         ensures range { IsChannel result }
@@ -239,7 +239,7 @@ impl Lpcn {
     }
 }
 
-/// The decimal number.
+/// Writes the decimal number.
 impl fmt::Display for Lpcn {
     ghost use Rattle.std.specs.Prelude.{Some, decimal};
 

@@ -1,4 +1,4 @@
--- One more carrier that is apart from those before it.
+-- One more carrier that differs from those before it.
 use Rattle.std.proofs.Common.{◌≡◌, ℕ, false, ◌==◌, List, [], ◌∷◌, ◌++◌, map, refl, sym, ◌∙◌, ap}
 use Rattle.std.proofs.lemmas.Bool.{or_parts, or_from, eqb-false, ne_eqb}
 use Rattle.std.specs.List.{list_any}
@@ -7,18 +7,18 @@ use Rattle.dmr_plan.specs.Lists.{has_repeat}
 use Rattle.dmr_plan.specs.Carriers.{has_number_in, has_lpcn_in, has_port_in}
 use Rattle.dmr_plan.specs.Kept.{AreApart}
 
--- a test that fails does so the other way round
+-- a test of equality that fails also fails with its sides exchanged
 other_way : (m n : ℕ) → (m == n) ≡ false → (n == m) ≡ false
 other_way m n h = ne_eqb n m (λ e. eqb-false m n h (sym e))
 
--- what no element has, and the new one has not
+-- no element has the number, and the new one does not either
 any-push : {A : Type 0} (f : A → ℕ) (n : ℕ) (xs : List A) (x : A) → list_any (λ m. m == n) (map f xs) ≡ false → (f x == n) ≡ false → list_any (λ m. m == n) (map f (xs ++ x ∷ [])) ≡ false
 any-push f n [] x h e = or_from _ _ e refl
 any-push f n (y ∷ ys) x h e =
     let p = or_parts _ _ h in
     or_from _ _ p.0 (any-push f n ys x p.1 e)
 
--- no number stands twice, and the new one's is new
+-- no number is there twice, and the number of the new element is new
 pub has_repeat-push : {A : Type 0} (f : A → ℕ) (xs : List A) (x : A) → has_repeat (map f xs) ≡ false → list_any (λ y. f y == f x) xs ≡ false → has_repeat (map f (xs ++ x ∷ [])) ≡ false
 has_repeat-push f [] x h e = refl
 has_repeat-push f (y ∷ ys) x h e =
@@ -26,14 +26,14 @@ has_repeat-push f (y ∷ ys) x h e =
     let q = or_parts _ _ e in
     or_from _ _ (any-push f (f y) ys x p.0 (other_way (f y) (f x) q.0)) (has_repeat-push f ys x p.1 q.1)
 
--- a port that no carrier has, and the new one has not
+-- no carrier has the port, and the new one does not either
 port-push : (n : ℕ) (rows : List CarrierRow) (row : CarrierRow) → has_port_in rows n ≡ false → (row.port == n) ≡ false → has_port_in (rows ++ row ∷ []) n ≡ false
 port-push n [] row h e = or_from _ _ e refl
 port-push n (y ∷ ys) row h e =
     let p = or_parts _ _ h in
     or_from _ _ p.0 (port-push n ys row p.1 e)
 
--- carriers that are apart, and a new one that is apart from them
+-- carriers that differ from one another, and a new one that differs from them
 pub AreApart-push : (console_port : ℕ) (rows : List CarrierRow) (row : CarrierRow) → AreApart console_port rows
     → has_number_in rows row.number ≡ false → has_lpcn_in rows row.lpcn ≡ false → has_port_in rows row.port ≡ false → (row.port == console_port) ≡ false
     → AreApart console_port (rows ++ row ∷ [])
@@ -44,7 +44,7 @@ AreApart-push console_port rows row h number lpcn port console = record {
   console = port-push console_port rows row h.console console;
 }
 
--- the same, of what a slice shows and of the list as it is afterwards
+-- the same for the list that a slice shows, and the list after the push
 pub AreApart-grown : (console_port : ℕ) (rows seen grown : List CarrierRow) (row : CarrierRow) → seen ≡ rows → grown ≡ rows ++ row ∷ [] → AreApart console_port rows
     → has_number_in seen row.number ≡ false → has_lpcn_in seen row.lpcn ≡ false → has_port_in seen row.port ≡ false → (row.port == console_port) ≡ false
     → AreApart console_port grown

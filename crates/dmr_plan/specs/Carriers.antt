@@ -1,4 +1,4 @@
--- What the key carrier gives.
+-- The values of the key carrier.
 use Rattle.std.specs.Prelude.{ℕ, List, [], Option, Result, Ok, Err, ◌||◌, Bool, if◌then◌else◌, ◌==◌}
 use Rattle.std.specs.List.{list_any, find}
 use Rattle.toml.specs.Data.{Data, table, Items, Members}
@@ -10,7 +10,7 @@ use Rattle.dmr_plan.specs.Steps.{◌>>=◌}
 use Rattle.dmr_plan.specs.Numbers.{number_at_key}
 use Rattle.dmr_plan.specs.Arrays.{array_in, is_count, in_turn}
 
--- the row of an unused cell
+-- the row of an unused cell of a list
 abbrev pub no_row : CarrierRow
 no_row = record { number = 0; lpcn = 1; port = 0 }
 
@@ -18,7 +18,7 @@ no_row = record { number = 0; lpcn = 1; port = 0 }
 abbrev pub has_number_in : List CarrierRow → ℕ → Bool
 has_number_in rows n = list_any (λ (row : CarrierRow). row.number == n) rows
 
--- the carrier of a number
+-- the first carrier with this number, if there is one
 abbrev pub row_with : List CarrierRow → ℕ → Option CarrierRow
 row_with rows n = find (λ (row : CarrierRow). row.number == n) rows
 
@@ -30,7 +30,7 @@ has_lpcn_in rows n = list_any (λ (row : CarrierRow). row.lpcn == n) rows
 abbrev pub has_port_in : List CarrierRow → ℕ → Bool
 has_port_in rows n = list_any (λ (row : CarrierRow). row.port == n) rows
 
--- the carrier of a table, beside the console's port and the carriers before it
+-- the carrier that a table describes: an error if an earlier carrier has its number, channel or port, or the console has its port
 unfoldable pub carrier_of_table : ℕ → List CarrierRow → Members → Result CarrierRow PlanFault
 carrier_of_table console_port earlier ms = do
   number ← number_at_key ms Number
@@ -38,16 +38,16 @@ carrier_of_table console_port earlier ms = do
   port ← (if has_lpcn_in earlier lpcn then Err (Repeated Lpcn) else number_at_key ms Port)
   if (port == console_port) || has_port_in earlier port then Err (Repeated Port) else Ok (record { number = number; lpcn = lpcn; port = port })
 
--- the carrier that an item spells
+-- the carrier that an item describes: an error if the item is not a table
 abbrev pub carrier_of_item : ℕ → List CarrierRow → Data → Result CarrierRow PlanFault
 carrier_of_item console_port earlier (table ms) = carrier_of_table console_port earlier ms
 carrier_of_item console_port earlier _ = Err (WrongType Carrier)
 
--- as many carriers as there may be
+-- the carriers that the items describe: an error if there are fewer or more than a site may have
 abbrev pub carriers_of_items : ℕ → Items → Result (List CarrierRow) PlanFault
 carriers_of_items console_port ds = if is_count Carrier ds then in_turn (carrier_of_item console_port) [] ds else Err (OutOfRange Carrier)
 
--- the carriers, table by table, beside the console's port
+-- the carriers of the site file, read in order
 unfoldable pub carriers_of : Members → Result (List CarrierRow) PlanFault
 carriers_of ms = do
   console_port ← number_at_key ms ConsolePort

@@ -1,4 +1,4 @@
--- Lemmas alone, which no definition rests on: the derived `==` of settings is equality.
+-- Lemmas only: the derived `==` of settings is equality. No definition depends on them.
 use Rattle.std.proofs.Common.{◌≡◌, rules, ℕ, Bool, true, false, Option, Some, None, List, [], ◌∷◌, refl, sym, ap, ◌∙◌, eqb}
 use Rattle.std.specs.Prelude.{◌&&◌}
 use Rattle.std.specs.Bool.{Decides, beq}
@@ -14,7 +14,7 @@ use Rattle.dmr_plan.specs.contracts.carriers.CarrierRowPartialEq.TheImpl as row_
 use Rattle.dmr_plan.specs.contracts.settings.SettingsPartialEq.TheImpl as settings_eq
 use Rattle.dmr_plan.specs.contracts.settings.SettingsEq.TheImpl.Laws as laws
 
--- tests, joined
+-- the conjunction of tests
 abbrev all_tests : List Bool → Bool
 all_tests [] = true
 all_tests (b ∷ []) = b
@@ -60,7 +60,7 @@ row_eq-Decides a b = search rules
 same_rows : (a b : List CarrierRow) → pointwise (row_eq.ghosts).eq a b ≡ true → a ≡ b
 same_rows a b = (pointwise_decides row_eq-Decides a b).0
 
--- the tests of two settings, key by key
+-- the tests of two settings, one for each key
 abbrev tests : Settings → Settings → List Bool
 tests a b = eqb a.system b.system ∷ eqb a.regi b.regi ∷ eqb a.tsi b.tsi ∷ option_eq eqb a.leave_bit b.leave_bit ∷ beq a.aloha_sync b.aloha_sync ∷ eqb a.aloha_version b.aloha_version ∷ beq a.aloha_offset b.aloha_offset ∷ beq a.aloha_active b.aloha_active ∷ eqb a.nrand_wait b.nrand_wait ∷ eqb a.hang b.hang ∷ eqb a.maximum b.maximum ∷ eqb a.ahoy_wait b.ahoy_wait ∷ eqb a.ahoy_tries b.ahoy_tries ∷ eqb a.grant_copies b.grant_copies ∷ eqb a.clear_copies b.clear_copies ∷ eqb a.backoff_low b.backoff_low ∷ eqb a.backoff_high b.backoff_high ∷ eqb a.tick_ms b.tick_ms ∷ eqb a.silence b.silence ∷ eqb a.term_entries b.term_entries ∷ eqb a.link_version b.link_version ∷ pointwise eqb a.address b.address ∷ eqb a.console_port b.console_port ∷ pointwise (range_eq.ghosts).eq a.radios b.radios ∷ pointwise eqb a.groups b.groups ∷ pointwise (row_eq.ghosts).eq a.carriers b.carriers ∷ eqb a.control b.control ∷ []
 

@@ -1,4 +1,4 @@
--- What every accepted plan keeps.
+-- The invariant of every accepted plan.
 use Rattle.std.specs.Prelude.{◌≡◌, ◌≢◌, ◌≤◌, true, IfSome}
 use Rattle.dmr_plan.specs.declared.key.Key.TheVariants as key
 use Rattle.dmr_plan.specs.declared.settings.Settings.{Settings}
@@ -6,7 +6,7 @@ use Rattle.dmr_plan.specs.Keys.{IsNumberOf, limits_of}
 use Rattle.dmr_plan.specs.Kept.{IsAddress, AreRadios, AreGroups, AreCarriers}
 use Rattle.dmr_plan.specs.Carriers.{has_number_in}
 
--- what every accepted plan keeps: each setting is within the range of its key, and what must differ differs
+-- the invariant of every accepted plan: each setting is within the range of its key, and those that must differ do
 pub record IsPlan (s : Settings) : Type 0 where
   pub system : IsNumberOf key.System s.system
   pub regi : IsNumberOf key.Regi s.regi

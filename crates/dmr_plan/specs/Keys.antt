@@ -10,23 +10,24 @@ use Rattle.dmr_plan.specs.declared.key.Bounds.{Bounds}
 use Rattle.dmr_plan.specs.declared.key.Count.{Count}
 use Rattle.dmr_plan.specs.declared.key.Limits.{Limits}
 
--- what one number may be: from the least to the most, and what holds where the key is missing
+-- the limits of one number: the least, the greatest, and the value if the key is missing
 abbrev pub number_limits : ℕ → ℕ → Fallback → Limits
 number_limits least most fallback = record { content = OneNumber; count = record { fewest = 1; most = 1 }; range = record { least = least; most = most }; fallback = fallback }
 
--- what an array may be: its items, how many of them, the numbers in them, and what holds where the key is missing
+-- the limits of an array: the type of its items, their number, the range of the numbers in them, and the value if the key is missing
 abbrev pub array_limits : Content → Count → Bounds → Fallback → Limits
 array_limits content count range fallback = record { content = content; count = count; range = range; fallback = fallback }
 
--- the row of a key with one number: how it is spelled, and what the file may say there
+-- the row of a key with one number: its name, the least and the greatest number, and the value if the key is missing
 abbrev pub number_row : List ℕ → ℕ → ℕ → Fallback → List ℕ × Limits
 number_row name least most fallback = (name, number_limits least most fallback)
 
--- the row of a key with an array: its items, the fewest and the most of them, and the least and the greatest number in them
+-- the row of a key with an array. The parameters are its name, the type of the items, the fewest and the most items, the least and the
+-- greatest number in them, and the value if missing.
 abbrev pub array_row : List ℕ → Content → ℕ → ℕ → ℕ → ℕ → Fallback → List ℕ × Limits
 array_row name content fewest many least most fallback = (name, array_limits content (record { fewest = fewest; most = many }) (record { least = least; most = most }) fallback)
 
--- the key table
+-- the key table: the name of each key, and its limits
 abbrev pub key_row : Key → List ℕ × Limits
 key_row System = number_row (codes "system") 0 65535 Fault
 key_row Regi = number_row (codes "regi") 16776416 16777215 Fault
@@ -59,7 +60,7 @@ key_row Number = number_row (codes "number") 0 15 Fault
 key_row Lpcn = number_row (codes "lpcn") 1 4094 Fault
 key_row Port = number_row (codes "port") 1 65535 Fault
 
--- how a key is spelled
+-- the name of a key in the site file
 abbrev pub name_of : Key → List ℕ
 name_of key = (key_row key).0
 
@@ -67,11 +68,11 @@ name_of key = (key_row key).0
 abbrev pub limits_of : Key → Limits
 limits_of key = (key_row key).1
 
--- where a number stands in for a missing key it lies within the bounds
+-- a number that replaces a missing key is within the bounds
 abbrev pub FallbackIsWithin : Bounds → Fallback → Type 0
 FallbackIsWithin range (Value n) = (range.least ≤ n) × (n ≤ range.most)
 FallbackIsWithin range _ = Unit {0}
 
--- a number of the key's range
+-- a number within the key's range
 abbrev pub IsNumberOf : Key → ℕ → Type 0
 IsNumberOf key n = ((limits_of key).range.least ≤ n) × (n ≤ (limits_of key).range.most)

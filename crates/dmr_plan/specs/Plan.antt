@@ -13,7 +13,7 @@ use Rattle.dmr_plan.specs.Numbers.{number_at_key, bit_in, optional_in, number_fr
 use Rattle.dmr_plan.specs.Lists.{address_of, radios_of, is_within, groups_of}
 use Rattle.dmr_plan.specs.Carriers.{has_number_in, carriers_of}
 
--- what a table says at each key, or its first fault in the order of the keys; the control carrier is one of the carriers
+-- the settings of a table, or its first fault in the order of the keys; the control carrier is one of the carriers
 unfoldable pub plan_of : Members → Result Settings PlanFault
 plan_of ms = do
   system ← number_at_key ms key.System
@@ -47,16 +47,16 @@ plan_of ms = do
       then Ok (record { system = system; regi = regi; tsi = tsi; leave_bit = leave_bit; aloha_sync = aloha_sync; aloha_version = aloha_version; aloha_offset = aloha_offset; aloha_active = aloha_active; nrand_wait = nrand_wait; hang = hang; maximum = maximum; ahoy_wait = ahoy_wait; ahoy_tries = ahoy_tries; grant_copies = grant_copies; clear_copies = clear_copies; backoff_low = backoff_low; backoff_high = backoff_high; tick_ms = tick_ms; silence = silence; term_entries = term_entries; link_version = link_version; address = address; console_port = console_port; radios = radios; groups = groups; carriers = carriers; control = control })
       else Err (OutOfRange key.Control)
 
--- the same of a document, which has a table only where it is TOML
+-- the settings of a document, or the fault that the text is not TOML
 abbrev pub plan_of_document : Option Members → Result Settings PlanFault
 plan_of_document None = Err NotToml
 plan_of_document (Some ms) = plan_of ms
 
--- the same of a text
+-- the settings of a text, or its first fault
 abbrev pub plan_of_text : List ℕ → Result Settings PlanFault
 plan_of_text text = plan_of_document (parse_document text)
 
--- whether a radio lies in one of the ranges
+-- whether one of the ranges has this radio
 abbrev pub lists_radio : Settings → ℕ → Bool
 lists_radio s radio = list_any (λ (range : RadioRange). is_within range radio) s.radios
 

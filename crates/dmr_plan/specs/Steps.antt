@@ -1,4 +1,4 @@
--- One step after another, up to the first fault.
+-- Steps in order, up to the first fault.
 use Rattle.std.specs.Prelude.{◌≡◌, Result, Ok, Err}
 use Rattle.dmr_plan.specs.declared.fault.PlanFault.{PlanFault}
 use Rattle.dmr_plan.specs.declared.fault.PlanFault.TheVariants.{NotToml, OutOfMemory}
@@ -9,12 +9,12 @@ abbrev pub ◌>>=◌ : {A B : Type 0} → Result A PlanFault → (A → Result B
 (Ok x) >>= f = f x
 (Err e) >>= f = Err e
 
--- what a function returned, seen by view, is what the definition gives
+-- the result of a function, seen by view, is that of the definition
 abbrev pub Gives : {X Y : Type 0} → (X → Y) → Result X PlanFault → Result Y PlanFault → Type 0
 Gives view (Ok x) read = read ≡ Ok (view x)
 Gives view (Err e) read = read ≡ Err e
 
--- a fault of a key, and not of the text as a whole
+-- the fault is that of a key, and not of the text as a whole
 abbrev pub IsOfKey : PlanFault → Type 0
 IsOfKey NotToml = ⊥
 IsOfKey OutOfMemory = ⊥

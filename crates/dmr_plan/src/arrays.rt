@@ -15,7 +15,7 @@ use toml::value::Array;
 use toml::{Table, Value};
 
 impl Content {
-    /// Whether a value may be an item.
+    /// Returns whether a value may be an item.
     fn admits(self, value: &Value) -> bool
         ensures { result ≡ is_item self (view value.now) }
     {
@@ -28,7 +28,7 @@ impl Content {
     }
 }
 
-/// Whether a value is an array of two whole numbers.
+/// Returns whether a value is an array of two whole numbers.
 fn admits_pair(value: &Value) -> bool
     ensures { result ≡ is_pair (view value.now) }
 {
@@ -41,7 +41,7 @@ fn admits_pair(value: &Value) -> bool
     }
 }
 
-/// The two values, where there are two.
+/// Returns the two values, or `None` if there are more or fewer.
 pub fn two_in(values: &[Value]) -> Option<(&Value, &Value)>
     ensures { option_map (λ p. (view p.0.now, view p.1.now)) result ≡ two_of (items_view values.now) }
 {
@@ -51,7 +51,7 @@ pub fn two_in(values: &[Value]) -> Option<(&Value, &Value)>
     Some((&values[0], &values[1]))
 }
 
-/// Whether each value may be an item.
+/// Returns whether each value may be an item.
 fn admits_all(values: &[Value], content: Content) -> bool
     ensures { result ≡ all_items (is_item content) (items_view values.now) }
 {
@@ -63,7 +63,8 @@ fn admits_all(values: &[Value], content: Content) -> bool
     true
 }
 
-/// The array that a value is, where each of its items is what the key's array has.
+/// Returns the array that a value is. The error is `WrongType` if the value is not an array, or an item is not of the
+/// key's content.
 pub fn array_from(value: &Value, key: Key) -> Result<&Array, PlanFault>
     ensures gives { Gives (λ a. array_view a.now) result (array_of key (view value.now)) }
     ensures of_key { IfErr result IsOfKey }
@@ -80,7 +81,7 @@ pub fn array_from(value: &Value, key: Key) -> Result<&Array, PlanFault>
     }
 }
 
-/// The array at a key that must stand there.
+/// Returns the array at a required key. The error is `Missing` or `WrongType`.
 #[tactic(auto, unfolding(crate::specs::Arrays::array_in))]
 pub fn array_at(table: &Table, key: Key) -> Result<&Array, PlanFault>
     ensures gives { Gives (λ a. array_view a.now) result (array_in (table_view table.now) key) }
@@ -92,7 +93,7 @@ pub fn array_at(table: &Table, key: Key) -> Result<&Array, PlanFault>
     }
 }
 
-/// How many values there are.
+/// Returns the number of values.
 fn count(values: &[Value]) -> usize
     ensures same { result ≡ count_of (items_view values.now) }
     ensures len { result ≡ length values.now }
@@ -100,7 +101,7 @@ fn count(values: &[Value]) -> usize
     values.len()
 }
 
-/// Whether there are as many values as the key may have.
+/// Returns whether the number of values is within the key's count.
 pub fn has_count(values: &[Value], key: Key) -> bool
     ensures gives { result ≡ is_count key (items_view values.now) }
     ensures few { OnTrue result ((limits_of key).count.fewest ≤ length values.now) }

@@ -19,11 +19,11 @@ use toml::{Table, Value};
 /// One carrier of the site.
 #[derive(Clone, Copy, PartialEq, Eq, Debug)]
 pub struct CarrierRow {
-    /// The carrier's number, unlike that of each other carrier.
+    /// The carrier's number. No other carrier has it.
     pub number: CarrierNo,
-    /// The logical physical channel number of both of its slots, unlike that of each other carrier.
+    /// The logical physical channel number of both of its slots. No other carrier has it.
     pub lpcn: Lpcn,
-    /// The TCP port of its connection, 1 to 65535, unlike that of each other carrier and the console's.
+    /// The TCP port of its connection, 1 to 65535. Neither another carrier nor the console has it.
     pub port: u16,
 }
 
@@ -41,28 +41,28 @@ impl Blank for CarrierRow {
     }
 }
 
-/// Whether a row has this number.
+/// Returns whether a row has this number.
 pub fn has_number(rows: &[CarrierRow], number: CarrierNo) -> bool
     ensures { result ≡ has_number_in rows.now number }
 {
     rows.iter().any(|row| row.number == number)
 }
 
-/// Whether a row has this channel.
+/// Returns whether a row has this channel.
 fn has_lpcn(rows: &[CarrierRow], lpcn: Lpcn) -> bool
     ensures { result ≡ has_lpcn_in rows.now lpcn }
 {
     rows.iter().any(|row| row.lpcn == lpcn)
 }
 
-/// Whether a row has this port.
+/// Returns whether a row has this port.
 fn has_port(rows: &[CarrierRow], port: u16) -> bool
     ensures { result ≡ has_port_in rows.now port }
 {
     rows.iter().any(|row| row.port == port)
 }
 
-/// The carrier of a number, if there is one.
+/// Returns the carrier with this number, if there is one.
 pub fn row_numbered(rows: &[CarrierRow], number: CarrierNo) -> Option<CarrierRow>
     ensures gives { result ≡ row_with rows.now number }
     ensures row { IfSome result (λ row. (row.number ≡ number) × Contains rows.now row) }
@@ -70,7 +70,8 @@ pub fn row_numbered(rows: &[CarrierRow], number: CarrierNo) -> Option<CarrierRow
     rows.iter().copied().find(|row| row.number == number)
 }
 
-/// The carrier of a table, beside those before it.
+/// Reads a carrier from its table. The error is `Repeated` if an earlier carrier has its number, channel or port, or
+/// its port is the console's.
 #[tactic(auto, unfolding(crate::specs::Carriers::carrier_of_table))]
 fn row_in(console_port: u16, earlier: &[CarrierRow], table: &Table) -> Result<CarrierRow, PlanFault>
     ensures gives { result ≡ carrier_of_table console_port earlier.now (table_view table.now) }
@@ -99,7 +100,7 @@ fn row_in(console_port: u16, earlier: &[CarrierRow], table: &Table) -> Result<Ca
     Ok(CarrierRow { number, lpcn, port })
 }
 
-/// The carrier that a value spells, beside those before it.
+/// Reads a carrier from its value. The error is `WrongType` if the value is not a table, else as in `row_in`.
 fn row_from(
     console_port: u16,
     earlier: &[CarrierRow],
@@ -119,7 +120,7 @@ fn row_from(
     }
 }
 
-/// The carriers, one by one.
+/// Reads the carriers in order, each checked against those before it.
 fn row_list(
     console_port: u16,
     values: &[Value],
@@ -139,7 +140,8 @@ fn row_list(
     Ok(rows)
 }
 
-/// The carriers that an array spells.
+/// Reads the carriers from an array. The error is `OutOfRange` if there are fewer or more than a site may have, else as
+/// in `row_list`.
 fn carriers_from(
     console_port: u16,
     values: &[Value],
@@ -154,7 +156,7 @@ fn carriers_from(
     row_list(console_port, values)
 }
 
-/// The carriers in the file's order, none at the console's port.
+/// Reads the carriers, in the file's order. None of them has the console's port.
 #[tactic(auto, unfolding(crate::specs::Carriers::carriers_of))]
 pub fn carriers_in(table: &Table) -> Result<BoundedList<CarrierRow, MOST_CARRIERS>, PlanFault>
     ensures gives { result ≡ carriers_of (table_view table.now) }

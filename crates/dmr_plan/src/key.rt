@@ -1,79 +1,77 @@
-//! The keys of a site file, and the table of what it may say at each. The keys and their ranges are this project's
-//! profile; the fields that they fill are those of TS 102 361-4.
+//! The keys of a site file, and the key table: what the file may say at each key. The keys and their ranges are this
+//! project's profile. The fields that they fill are those of TS 102 361-4.
 
 ghost use Rattle.std.specs.Prelude.{◌≡◌};
 ghost use Rattle.dmr_plan.specs.Keys.{name_of, limits_of, number_limits, array_limits, FallbackIsWithin};
 
 use std::fmt;
 
-/// A key of the site file, or of one of its carriers, in the order in which they are checked. The range that each names is
-/// this project's profile.
+/// A key of the site file or of one of its carriers, in the order in which keys are checked. The ranges are this
+/// project's profile.
 #[derive(Clone, Copy, PartialEq, Eq, Debug)]
 pub enum Key {
-    /// The system identity code that C_ALOHA announces. A whole number, 0 to 65535; it must stand there.
+    /// The system identity code that C_ALOHA announces: 0 to 65535. Required.
     System,
-    /// The address of the registration service: 16776416 to 16777215, above those of radios and talkgroups; it must
-    /// stand there.
+    /// The address of the registration service: 16776416 to 16777215, above those of radios and talkgroups. Required.
     Regi,
-    /// The address that the site itself speaks from: 16776416 to 16777215 and not that of `regi`; it must stand there.
+    /// The address of the site itself, the source of a P_CLEAR: 16776416 to 16777215, and not that of `regi`. Required.
     Tsi,
-    /// Which option bit of a registration request, counted from the last, is 0 where the radio leaves: 0 to 6. Where the
-    /// key is missing every registration request registers.
+    /// The option bit of a registration request, counted from the last, that is 0 if the radio leaves: 0 to 6. If the
+    /// key is missing, every registration request registers.
     LeaveBit,
-    /// The field sync of C_ALOHA: 0 to 1; 0 where it is missing.
+    /// The field sync of C_ALOHA: 0 to 1; 0 if missing.
     AlohaSync,
-    /// The field version of C_ALOHA: 0 to 7; 0 where it is missing.
+    /// The field version of C_ALOHA: 0 to 7; 0 if missing.
     AlohaVersion,
-    /// The field offset of C_ALOHA: 0 to 1; 0 where it is missing.
+    /// The field offset of C_ALOHA: 0 to 1; 0 if missing.
     AlohaOffset,
-    /// The field active of C_ALOHA: 0 to 1; 0 where it is missing.
+    /// The field active of C_ALOHA: 0 to 1; 0 if missing.
     AlohaActive,
-    /// The field nrand_wait of C_ALOHA: 0 to 15; 0 where it is missing.
+    /// The field nrand_wait of C_ALOHA: 0 to 15; 0 if missing.
     NrandWait,
-    /// After how many ticks without activity a call ends: 1 to 65535; it must stand there.
+    /// After how many ticks without activity a call ends: 1 to 65535. Required.
     Hang,
-    /// After how many ticks from its beginning a call ends: 1 to 65535; it must stand there.
+    /// After how many ticks from its beginning a call ends: 1 to 65535. Required.
     Maximum,
-    /// How many ticks pass between two C_AHOY to one radio: 1 to 65535; it must stand there.
+    /// How many ticks pass between two C_AHOY to one radio: 1 to 65535. Required.
     AhoyWait,
-    /// How many C_AHOY a radio is sent before it counts as away: 1 to 8; it must stand there.
+    /// How many C_AHOY a radio is sent before it counts as away: 1 to 8. Required.
     AhoyTries,
-    /// How many times a channel grant is queued: 1 to 4; it must stand there.
+    /// How many copies of a channel grant are queued: 1 to 4. Required.
     GrantCopies,
-    /// How many times P_CLEAR is queued where a call ends: 1 to 4; it must stand there.
+    /// How many copies of P_CLEAR are queued when a call ends: 1 to 4. Required.
     ClearCopies,
-    /// The backoff of a quiet control slot: 1 to 15; it must stand there.
+    /// The backoff of a quiet control slot: 1 to 15. Required.
     BackoffLow,
-    /// The backoff that noise on the control slot raises it to at most: `backoff_low` to 15; it must stand there.
+    /// The greatest backoff, which noise on the control slot leads to: `backoff_low` to 15. Required.
     BackoffHigh,
-    /// How many milliseconds a tick lasts: 10 to 1000; it must stand there.
+    /// How many milliseconds a tick lasts: 10 to 1000. Required.
     TickMs,
-    /// After how many waits of 100 ms in a row without an octet a connection is cut: 1 to 65535; it must stand there.
+    /// After how many waits of 100 ms in a row without an octet a connection is cut: 1 to 65535. Required.
     Silence,
-    /// How many entries the journal of a term takes: 1 to 100000; 10000 where it is missing.
+    /// How many entries the journal of a term takes: 1 to 100000; 10000 if missing.
     TermEntries,
-    /// The greatest version of the link format that carriers are served: 1 to 2; 1 where it is missing.
+    /// The greatest version of the link format that carriers are served: 1 to 2; 1 if missing.
     LinkVersion,
-    /// The IPv4 address to listen at: an array of four numbers 0 to 255; [127, 0, 0, 1] where it is missing.
+    /// The IPv4 address to listen at: an array of four numbers 0 to 255; [127, 0, 0, 1] if missing.
     Address,
-    /// The TCP port of the console: 1 to 65535; it must stand there.
+    /// The TCP port of the console: 1 to 65535. Required.
     ConsolePort,
     /// The ranges of the radios that may register: an array of 1 to 16 arrays [first, last] of addresses 1 to 16776415,
-    /// first at most last. Ranges may overlap. It must stand there.
+    /// first at most last. Ranges may overlap. Required.
     Radios,
-    /// The talkgroups: an array of 0 to 64 addresses 1 to 16776415, none twice; it must stand there.
+    /// The talkgroups: an array of 0 to 64 addresses 1 to 16776415, none twice. Required.
     Groups,
-    /// The carriers: an array of 1 to 16 tables, each with `number`, `lpcn` and `port`; it must stand there.
+    /// The carriers: an array of 1 to 16 tables, each with `number`, `lpcn` and `port`. Required.
     Carrier,
-    /// The number of the control carrier: 0 to 15, the number of one of the carriers; it must stand there.
+    /// The number of the control carrier: 0 to 15, and one of the carriers has it. Required.
     Control,
-    /// Within a carrier: its number, 0 to 15, not that of an earlier carrier; it must stand there.
+    /// Within a carrier: its number, 0 to 15, not that of an earlier carrier. Required.
     Number,
-    /// Within a carrier: its logical physical channel number, 1 to 4094, not that of an earlier carrier; it must stand
-    /// there.
+    /// Within a carrier: its logical physical channel number, 1 to 4094, not that of an earlier carrier. Required.
     Lpcn,
-    /// Within a carrier: the TCP port of its connection, 1 to 65535, neither that of an earlier carrier nor the console's; it
-    /// must stand there.
+    /// Within a carrier: the TCP port of its connection, 1 to 65535, neither that of an earlier carrier nor the
+    /// console's. Required.
     Port,
 }
 
@@ -86,10 +84,10 @@ pub const MOST_GROUPS: usize = 64;
 /// The most carriers of a site (this project's profile).
 pub const MOST_CARRIERS: usize = 16;
 
-/// What stands at a key.
+/// The type of the value at a key.
 #[derive(Clone, Copy)]
 pub enum Content {
-    /// One whole number, which counts as its own one item.
+    /// One whole number, which counts as one item.
     OneNumber,
     /// An array of whole numbers.
     Numbers,
@@ -99,12 +97,12 @@ pub enum Content {
     Tables,
 }
 
-/// What holds where a key is missing.
+/// The value that a missing key has.
 #[derive(Clone, Copy)]
 pub enum Fallback {
-    /// The key must stand there: a fault.
+    /// None: the key is required, and it is a fault if it is missing.
     Fault,
-    /// Nothing: what the key would ask for isn't done.
+    /// Nothing: the site does not do what the key is for.
     Nothing,
     /// This number.
     Value(u32),
@@ -129,13 +127,13 @@ pub struct Count {
 /// What the file may say at a key.
 #[derive(Clone, Copy)]
 pub struct Limits {
-    /// What stands at the key.
+    /// The type of the value.
     pub content: Content,
-    /// How many items there are.
+    /// How many items there may be.
     pub count: Count,
-    /// Which whole numbers may stand there, alone or in the array.
+    /// The least and the greatest number, alone or in the array.
     pub range: Bounds,
-    /// What holds where the key is missing.
+    /// The value if the key is missing.
     pub fallback: Fallback,
 }
 
@@ -144,11 +142,11 @@ pub struct Limits {
 pub struct KeyRow {
     /// How the site file spells the key.
     pub name: &'static str,
-    /// What it may say there.
+    /// What the site file may say at the key.
     pub limits: Limits,
 }
 
-/// The row of a key with one number.
+/// Returns the row of a key with one number.
 fn number(name: &'static str, least: u32, most: u32, fallback: Fallback) -> KeyRow
     ensures name { result.name.now ≡ name.now }
     ensures limits { result.limits ≡ number_limits least most fallback }
@@ -162,7 +160,7 @@ fn number(name: &'static str, least: u32, most: u32, fallback: Fallback) -> KeyR
     KeyRow { name, limits }
 }
 
-/// The row of a key with an array.
+/// Returns the row of a key with an array.
 fn array(
     name: &'static str,
     content: Content,
@@ -183,7 +181,7 @@ fn array(
 }
 
 impl Key {
-    /// The key's row of the key table: its name, its range, and what holds where it is missing.
+    /// Returns the key's row of the key table.
     fn row(self) -> KeyRow
         ensures name { result.name.now ≡ name_of self }
         ensures limits { result.limits ≡ limits_of self }
@@ -265,7 +263,7 @@ impl Key {
         }
     }
 
-    /// How the site file spells the key.
+    /// The key's name in the site file.
     pub fn name(self) -> &'static str
         ensures { result.now ≡ name_of self }
     {
@@ -281,7 +279,7 @@ impl Key {
     }
 }
 
-/// As the site file spells it.
+/// Writes the key's name in the site file.
 impl fmt::Display for Key {
     ghost use Rattle.std.specs.Prelude.{Some};
     ghost use Rattle.dmr_plan.specs.Keys.{name_of};

@@ -1,8 +1,8 @@
-//! The plan of a site: what its site file says, read and checked.
+//! The plan of a site: the contents of its site file, read and checked.
 //!
-//! A site file is TOML. [`Plan::read`] gives the plan that the key table ([`Key`]) makes of the text, or the first fault
-//! in the table's order; keys that the table doesn't have are ignored. A [`Plan`] is `Copy` and takes no memory; its
-//! numbers are within the ranges that the table names. The site file is this project's profile.
+//! A site file is TOML. [`Plan::read`] returns the plan that the text makes by the key table ([`Key`]), or the first
+//! fault in the table's order. Keys that are not in the table are ignored. A [`Plan`] is `Copy` and takes no memory;
+//! its numbers are within the ranges of the table. The site file is this project's profile.
 #![tactic(auto)]
 
 mod arrays;

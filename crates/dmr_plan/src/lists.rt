@@ -27,7 +27,7 @@ pub struct RadioRange {
 }
 
 impl RadioRange {
-    /// Whether a radio lies in the range.
+    /// Returns whether a radio is in the range.
     pub fn contains(&self, radio: Address) -> bool
         ensures gives { result ≡ is_within self.now radio }
         ensures within { IsTrue result ↔ ((self.now.first ≤ radio) × (radio ≤ self.now.last)) }
@@ -49,7 +49,7 @@ impl Blank for RadioRange {
     }
 }
 
-/// One octet of an address.
+/// Reads one octet of an address.
 fn octet(value: &Value) -> Result<u8, PlanFault>
     ensures gives { result ≡ number_of Key.Address (view value.now) }
     ensures within { IfOk result (IsNumberOf Key.Address) }
@@ -59,7 +59,7 @@ fn octet(value: &Value) -> Result<u8, PlanFault>
     Ok(number_between(value, Key::Address, range.least, range.most)? as u8)
 }
 
-/// Four octets.
+/// Reads the four octets of an address.
 fn octets(values: &[Value]) -> Result<[u8; 4], PlanFault>
     requires { length values.now ≡ 4 }
     ensures gives { result ≡ in_turn (λ _ d. number_of Key.Address d) [] (items_view values.now) }
@@ -73,7 +73,7 @@ fn octets(values: &[Value]) -> Result<[u8; 4], PlanFault>
     Ok([first, second, third, fourth])
 }
 
-/// The address that an array spells.
+/// Reads the address from an array. The error is `WrongType` if the array does not have four items.
 fn address_from(values: &[Value]) -> Result<[u8; 4], PlanFault>
     ensures gives { result ≡ address_of_items (items_view values.now) }
     ensures limits { IfOk result IsAddress }
@@ -85,7 +85,7 @@ fn address_from(values: &[Value]) -> Result<[u8; 4], PlanFault>
     octets(values)
 }
 
-/// The address that holds where the key is missing.
+/// Returns the address to listen at if the key is missing.
 fn address_for_missing() -> Result<[u8; 4], PlanFault>
     ensures gives { result ≡ address_if_missing }
     ensures limits { IfOk result IsAddress }
@@ -97,7 +97,7 @@ fn address_for_missing() -> Result<[u8; 4], PlanFault>
     }
 }
 
-/// The IPv4 address to listen at.
+/// Reads the IPv4 address to listen at.
 #[tactic(auto, unfolding(crate::specs::Lists::address_of))]
 pub fn address_in(table: &Table) -> Result<[u8; 4], PlanFault>
     ensures gives { result ≡ address_of (table_view table.now) }
@@ -113,7 +113,7 @@ pub fn address_in(table: &Table) -> Result<[u8; 4], PlanFault>
     }
 }
 
-/// The range that a pair of numbers spells.
+/// Reads a range from a pair of numbers. The error is `OutOfRange` if the first is above the last.
 fn range_from(value: &Value) -> Result<RadioRange, PlanFault>
     ensures gives { result ≡ range_of (view value.now) }
     ensures limits { IfOk result IsRange }
@@ -137,7 +137,7 @@ fn range_from(value: &Value) -> Result<RadioRange, PlanFault>
     })
 }
 
-/// The ranges, one by one.
+/// Reads the ranges in order.
 fn radio_list(values: &[Value]) -> Result<BoundedList<RadioRange, MOST_RANGES>, PlanFault>
     requires { length values.now ≤ MOST_RANGES }
     ensures gives { result ≡ in_turn (λ _ d. range_of d) [] (items_view values.now) }
@@ -153,7 +153,7 @@ fn radio_list(values: &[Value]) -> Result<BoundedList<RadioRange, MOST_RANGES>, 
     Ok(ranges)
 }
 
-/// The ranges that an array spells.
+/// Reads the ranges from an array. The error is `OutOfRange` if there are fewer or more than a site file may have.
 fn radios_from(values: &[Value]) -> Result<BoundedList<RadioRange, MOST_RANGES>, PlanFault>
     ensures gives { result ≡ radios_of_items (items_view values.now) }
     ensures limits { IfOk result AreRadios }
@@ -165,7 +165,7 @@ fn radios_from(values: &[Value]) -> Result<BoundedList<RadioRange, MOST_RANGES>,
     radio_list(values)
 }
 
-/// The ranges of the radios that may register.
+/// Reads the ranges of the radios that may register.
 #[tactic(auto, unfolding(crate::specs::Lists::radios_of))]
 pub fn radios_in(table: &Table) -> Result<BoundedList<RadioRange, MOST_RANGES>, PlanFault>
     ensures gives { result ≡ radios_of (table_view table.now) }
@@ -176,7 +176,7 @@ pub fn radios_in(table: &Table) -> Result<BoundedList<RadioRange, MOST_RANGES>, 
     radios_from(array.as_slice())
 }
 
-/// Whether an address stands twice.
+/// Returns whether an address is there twice.
 fn has_repeat(addresses: &[Address]) -> bool
     ensures { result ≡ repeats addresses.now }
 {
@@ -186,7 +186,7 @@ fn has_repeat(addresses: &[Address]) -> bool
     }
 }
 
-/// The talkgroups, one by one.
+/// Reads the talkgroups in order.
 fn group_list(values: &[Value]) -> Result<BoundedList<Address, MOST_GROUPS>, PlanFault>
     requires { length values.now ≤ MOST_GROUPS }
     ensures gives { result ≡ in_turn (λ _ d. number_of Key.Groups d) [] (items_view values.now) }
@@ -203,7 +203,7 @@ fn group_list(values: &[Value]) -> Result<BoundedList<Address, MOST_GROUPS>, Pla
     Ok(groups)
 }
 
-/// The talkgroups, where none stands twice.
+/// Returns the talkgroups, or the error `Repeated` if one is there twice.
 fn distinct_groups(
     groups: BoundedList<Address, MOST_GROUPS>,
 ) -> Result<BoundedList<Address, MOST_GROUPS>, PlanFault>
@@ -218,7 +218,7 @@ fn distinct_groups(
     Ok(groups)
 }
 
-/// The talkgroups that an array spells.
+/// Reads the talkgroups from an array. The error is `OutOfRange` if there are more than a site may have.
 fn groups_from(values: &[Value]) -> Result<BoundedList<Address, MOST_GROUPS>, PlanFault>
     ensures gives { result ≡ groups_of_items (items_view values.now) }
     ensures limits { IfOk result AreGroups }
@@ -231,7 +231,7 @@ fn groups_from(values: &[Value]) -> Result<BoundedList<Address, MOST_GROUPS>, Pl
     distinct_groups(groups)
 }
 
-/// The talkgroups.
+/// Reads the talkgroups.
 #[tactic(auto, unfolding(crate::specs::Lists::groups_of))]
 pub fn groups_in(table: &Table) -> Result<BoundedList<Address, MOST_GROUPS>, PlanFault>
     ensures gives { result ≡ groups_of (table_view table.now) }

@@ -12,14 +12,15 @@ use crate::key::{Fallback, Key};
 use dmr_pdu::{Address, Number};
 use toml::{Table, Value};
 
-/// What stands at a key.
+/// Returns the value at a key, if there is one.
 pub fn member(table: &Table, key: Key) -> Option<&Value>
     ensures { option_map (λ v. view v.now) result ≡ get_member (name_of key) (table_view table.now) }
 {
     table.get(key.name())
 }
 
-/// The whole number that a value is, where it is from `least` to `most`.
+/// Returns the whole number that a value is. The error is `WrongType` if the value is not a whole number, and
+/// `OutOfRange` if it is not from `least` to `most`.
 pub fn number_between(value: &Value, key: Key, least: u32, most: u32) -> Result<u32, PlanFault>
     ensures gives { result ≡ number_within key least most (view value.now) }
     ensures low { IfOk result (λ n. least ≤ n) }
@@ -35,7 +36,7 @@ pub fn number_between(value: &Value, key: Key, least: u32, most: u32) -> Result<
     Ok(n as u32)
 }
 
-/// The number that holds where a key is missing.
+/// Returns the number that a missing key has. The error is `Missing` if the key has no such number.
 fn number_for_missing(key: Key) -> Result<u32, PlanFault>
     ensures gives { result ≡ number_if_missing key (limits_of key).fallback }
     ensures within { IfOk result (IsNumberOf key) }
@@ -47,7 +48,7 @@ fn number_for_missing(key: Key) -> Result<u32, PlanFault>
     }
 }
 
-/// The number at a key, or what holds where the key is missing.
+/// Reads the number at a key, or the number that the key has if it is missing.
 #[tactic(auto, unfolding(crate::specs::Numbers::number_at_key))]
 pub fn number(table: &Table, key: Key) -> Result<u32, PlanFault>
     ensures gives { result ≡ number_at_key (table_view table.now) key }
@@ -61,7 +62,7 @@ pub fn number(table: &Table, key: Key) -> Result<u32, PlanFault>
     }
 }
 
-/// The bit at a key, 0 or 1: whether it is 1.
+/// Reads the bit at a key: whether its number is 1.
 #[tactic(auto, unfolding(crate::specs::Numbers::bit_in))]
 pub fn bit(table: &Table, key: Key) -> Result<bool, PlanFault>
     ensures gives { result ≡ bit_in (table_view table.now) key }
@@ -70,7 +71,7 @@ pub fn bit(table: &Table, key: Key) -> Result<bool, PlanFault>
     Ok(number(table, key)? == 1)
 }
 
-/// Nothing, where that is what holds for the missing key.
+/// Returns `None` if that is the value of the missing key, else the error `Missing`.
 fn nothing_for_missing(key: Key) -> Result<Option<u32>, PlanFault>
     ensures gives { result ≡ optional_if_missing key (limits_of key).fallback }
     ensures nothing { IfOk result (λ o. o ≡ None) }
@@ -82,7 +83,7 @@ fn nothing_for_missing(key: Key) -> Result<Option<u32>, PlanFault>
     }
 }
 
-/// The number at a key, or nothing where the key is missing.
+/// Reads the number at a key, or returns `None` if the key is missing and may be.
 #[tactic(auto, unfolding(crate::specs::Numbers::optional_in))]
 pub fn optional_number(table: &Table, key: Key) -> Result<Option<u32>, PlanFault>
     ensures gives { result ≡ optional_in (table_view table.now) key }
@@ -96,7 +97,7 @@ pub fn optional_number(table: &Table, key: Key) -> Result<Option<u32>, PlanFault
     }
 }
 
-/// The number at a key, in a field that holds each number of the key's range.
+/// Reads the number at a key. `WIDTH` bits hold each number of the key's range.
 pub fn field<const WIDTH: u32>(table: &Table, key: Key) -> Result<Number<WIDTH>, PlanFault>
     requires { (limits_of key).range.most < 2 ^ WIDTH }
     ensures gives { result ≡ number_at_key (table_view table.now) key }
@@ -106,7 +107,7 @@ pub fn field<const WIDTH: u32>(table: &Table, key: Key) -> Result<Number<WIDTH>,
     Ok(Number::new(number(table, key)?))
 }
 
-/// The address at a key whose range is one of addresses.
+/// Reads the address at a key. Each number of the key's range is an address.
 pub fn address(table: &Table, key: Key) -> Result<Address, PlanFault>
     requires { (limits_of key).range.most < 2 ^ 24 }
     ensures gives { result ≡ number_at_key (table_view table.now) key }
@@ -116,7 +117,7 @@ pub fn address(table: &Table, key: Key) -> Result<Address, PlanFault>
     Ok(Address::new(number(table, key)?))
 }
 
-/// The address at a key that must not be that at another key.
+/// Reads the address at a key. The error is `Repeated` if it equals the number at another key.
 #[tactic(auto, unfolding(crate::specs::Numbers::number_unlike_in))]
 pub fn address_unlike(table: &Table, key: Key, other: Key) -> Result<Address, PlanFault>
     requires { (limits_of key).range.most < 2 ^ 24 }
@@ -132,7 +133,7 @@ pub fn address_unlike(table: &Table, key: Key, other: Key) -> Result<Address, Pl
     Ok(Address::new(found))
 }
 
-/// The number at a key whose least is the number at another key.
+/// Reads the number at a key. The error is `OutOfRange` if it is below the number at another key.
 #[tactic(auto, unfolding(crate::specs::Numbers::number_from_in))]
 pub fn number_from(table: &Table, key: Key, other: Key) -> Result<u32, PlanFault>
     ensures gives { result ≡ number_from_in (table_view table.now) key other }

@@ -1,4 +1,4 @@
-//! The plan that a site file makes.
+//! The plan of a site file.
 
 ghost use Rattle.std.specs.Prelude.{◌≡◌, ◌⊎◌, ◌↔◌, ◌≤◌, length, IsTrue, Err, None, IfSome, IsSome, is_some};
 ghost use Rattle.std.specs.List.{Any, Contains};
@@ -16,8 +16,8 @@ use dmr_pdu::{Address, CarrierNo, Number};
 use std::alloc::Global;
 use std::marker::Model;
 
-/// What an accepted site file says. `Copy`, and without memory of its own. Contracts see it as the settings, a field for
-/// each key; what they all keep is `IsPlan`, which [`Plan::keeps`] tells.
+/// The contents of an accepted site file. A `Plan` is `Copy` and has no memory of its own. In contracts it is the
+/// settings, a field for each key. Every plan satisfies `IsPlan`; [`Plan::keeps`] is the law for it.
 #[derive(Clone, Copy, Debug)]
 pub struct Plan {
     settings: Settings,
@@ -37,7 +37,7 @@ impl Model for Plan {
     ghost inverse = { λ settings. record { settings = settings } };
 }
 
-/// Two plans are equal where they say the same at each key.
+/// Two plans are equal if they have the same value at each key.
 impl PartialEq for Plan {
     ghost use Rattle.std.specs.Cmp.{partial_equiv_from_equiv};
     ghost use Rattle.dmr_plan.specs.Same.{are_same, are_same-equivalence};
@@ -61,16 +61,18 @@ impl Eq for Plan {
 }
 
 impl Plan {
-    /// Reads the text of a site file. `Ok` is exactly the plan that the key table gives. A text that isn't TOML is
-    /// `NotToml`; a TOML text that spells no plan is its first fault, key by key in the table's order, within a key
-    /// `Missing`, `WrongType`, `OutOfRange` and `Repeated` in this order. `OutOfMemory` comes only where an allocation was
-    /// refused while the text was parsed. The plan keeps nothing of the text.
+    /// Reads the text of a site file.
+    ///
+    /// `Ok` is the plan that the key table assigns to the text. `NotToml` means that the text is not TOML. Other errors
+    /// are the first fault, key by key in the table's order; within a key the order is `Missing`, `WrongType`,
+    /// `OutOfRange`, `Repeated`. `OutOfMemory` means that an allocation was refused while the text was parsed. The plan
+    /// does not refer to the text.
     pub fn read(alloc: Global, text: &str) -> Result<Plan, PlanFault>
-        // The one plan of the text or its one fault, unless memory runs out.
+        // The result is the one plan of the text or its one fault, unless memory runs out.
         ensures exact { (result ≡ plan_of_text text.now) ⊎ (result ≡ Err PlanFault.OutOfMemory) }
-        // A text that is TOML is never told to be none.
+        // A TOML text is never reported as `NotToml`.
         ensures not_toml { result ≡ Err PlanFault.NotToml → parse_document text.now ≡ None }
-        // A blank text takes no memory.
+        // A blank text is never reported as `OutOfMemory`.
         ensures memory { result ≡ Err PlanFault.OutOfMemory → ¬ IsBlank text.now }
     {
         match toml::table_from_str(alloc, text) {
@@ -102,7 +104,7 @@ impl Plan {
         self.settings.regi
     }
 
-    /// The address that the site itself speaks from, as in P_CLEAR: 16776416 to 16777215, and not that of
+    /// The address of the site itself, the source of a P_CLEAR: 16776416 to 16777215, and not that of
     /// [`regi`](Plan::regi) (TS 102 361-4, annex A).
     pub fn tsi(&self) -> Address
         ensures { result ≡ self.now.tsi }
@@ -110,44 +112,44 @@ impl Plan {
         self.settings.tsi
     }
 
-    /// Which option bit of a registration request, counted from the last, is 0 where the radio leaves: 0 to 6. `None`
-    /// where each registration request registers.
+    /// The option bit of a registration request, counted from the last, that is 0 if the radio leaves: 0 to 6. `None`
+    /// if every registration request registers.
     pub fn leave_bit(&self) -> Option<u8>
         ensures { result ≡ self.now.leave_bit }
     {
         self.settings.leave_bit
     }
 
-    /// The field sync of C_ALOHA: 0 to 1; 0 where the file doesn't say.
+    /// The field sync of C_ALOHA: 0 to 1; 0 if the key is missing.
     pub fn aloha_sync(&self) -> bool
         ensures { result ≡ self.now.aloha_sync }
     {
         self.settings.aloha_sync
     }
 
-    /// The field version of C_ALOHA: 0 to 7; 0 where the file doesn't say.
+    /// The field version of C_ALOHA: 0 to 7; 0 if the key is missing.
     pub fn aloha_version(&self) -> Number<3>
         ensures { result ≡ self.now.aloha_version }
     {
         self.settings.aloha_version
     }
 
-    /// The field offset of C_ALOHA: 0 to 1; 0 where the file doesn't say.
+    /// The field offset of C_ALOHA: 0 to 1; 0 if the key is missing.
     pub fn aloha_offset(&self) -> bool
         ensures { result ≡ self.now.aloha_offset }
     {
         self.settings.aloha_offset
     }
 
-    /// The field active of C_ALOHA: 0 to 1; 0 where the file doesn't say.
+    /// The field active of C_ALOHA: 0 to 1; 0 if the key is missing.
     pub fn aloha_active(&self) -> bool
         ensures { result ≡ self.now.aloha_active }
     {
         self.settings.aloha_active
     }
 
-    /// The field nrand_wait of C_ALOHA, which sets how long radios wait for an answer to their random access: 0 to 15; 0
-    /// where the file doesn't say.
+    /// The field nrand_wait of C_ALOHA: 0 to 15; 0 if the key is missing. It sets how long radios wait for an answer to
+    /// their random access.
     pub fn nrand_wait(&self) -> Number<4>
         ensures { result ≡ self.now.nrand_wait }
     {
@@ -182,28 +184,28 @@ impl Plan {
         self.settings.ahoy_tries
     }
 
-    /// How many times a channel grant is queued: 1 to 4.
+    /// How many copies of a channel grant are queued: 1 to 4.
     pub fn grant_copies(&self) -> u8
         ensures { result ≡ self.now.grant_copies }
     {
         self.settings.grant_copies
     }
 
-    /// How many times P_CLEAR is queued where a call ends: 1 to 4.
+    /// How many copies of P_CLEAR are queued when a call ends: 1 to 4.
     pub fn clear_copies(&self) -> u8
         ensures { result ≡ self.now.clear_copies }
     {
         self.settings.clear_copies
     }
 
-    /// The backoff that a quiet control slot sends: 1 to 15.
+    /// The backoff of a quiet control slot: 1 to 15.
     pub fn backoff_low(&self) -> u8
         ensures { result ≡ self.now.backoff_low }
     {
         self.settings.backoff_low
     }
 
-    /// The most that noise on the control slot raises the backoff to: [`backoff_low`](Plan::backoff_low) to 15.
+    /// The greatest backoff, which noise on the control slot leads to: [`backoff_low`](Plan::backoff_low) to 15.
     pub fn backoff_high(&self) -> u8
         ensures { result ≡ self.now.backoff_high }
     {
@@ -224,14 +226,14 @@ impl Plan {
         self.settings.silence
     }
 
-    /// How many entries the journal of a term takes: 1 to 100000; 10000 where the file doesn't say.
+    /// How many entries the journal of a term takes: 1 to 100000; 10000 if the key is missing.
     pub fn term_entries(&self) -> u32
         ensures { result ≡ self.now.term_entries }
     {
         self.settings.term_entries
     }
 
-    /// The greatest version of the link format that carriers are served: 1 to 2; 1 where the file doesn't say (this
+    /// The greatest version of the link format that carriers are served: 1 to 2; 1 if the key is missing (this
     /// project's profile).
     pub fn link_version(&self) -> u8
         ensures { result ≡ self.now.link_version }
@@ -239,7 +241,7 @@ impl Plan {
         self.settings.link_version
     }
 
-    /// The IPv4 address to listen at: four octets, the first of the address in front. 127.0.0.1 if the file does not say.
+    /// The IPv4 address to listen at: four octets, as a dotted address has them. 127.0.0.1 if the key is missing.
     pub fn address(&self) -> &[u8]
         ensures value { result.now ≡ self.now.address }
         ensures four { length result.now ≡ 4 }
@@ -254,38 +256,38 @@ impl Plan {
         self.settings.console_port
     }
 
-    /// The ranges of the radios that may register, in the file's order: 1 to 16, of addresses 1 to 16776415, first at most
-    /// last. They may overlap.
+    /// The ranges of the radios that may register, in the file's order: 1 to 16 ranges of addresses 1 to 16776415,
+    /// first at most last. They may overlap.
     pub fn radios(&self) -> &[RadioRange]
         ensures { result.now ≡ self.now.radios }
     {
         self.settings.radios.as_slice()
     }
 
-    /// The talkgroups in the file's order: 0 to 64, of addresses 1 to 16776415, none twice.
+    /// The talkgroups in the file's order: 0 to 64 addresses from 1 to 16776415, none twice.
     pub fn groups(&self) -> &[Address]
         ensures { result.now ≡ self.now.groups }
     {
         self.settings.groups.as_slice()
     }
 
-    /// The carriers in the file's order, which need not be that of their numbers: 1 to 16. No number, channel or port stands
-    /// twice.
+    /// The carriers in the file's order, which may differ from that of their numbers: 1 to 16. No two have the same
+    /// number, channel or port.
     pub fn carrier(&self) -> &[CarrierRow]
         ensures { result.now ≡ self.now.carriers }
     {
         self.settings.carriers.as_slice()
     }
 
-    /// The number of the control carrier, which is one of the carriers. Its slot 0 is the control slot; its slot 1 and the
-    /// slots of the others carry calls.
+    /// The number of the control carrier, which is one of the carriers. Its slot 0 is the control slot. Its slot 1 and
+    /// the slots of the other carriers carry calls.
     pub fn control(&self) -> CarrierNo
         ensures { result ≡ self.now.control }
     {
         self.settings.control
     }
 
-    /// Whether a radio may register: it lies in one of the ranges.
+    /// Returns whether a radio may register: whether one of the ranges has it.
     pub fn lists_radio(&self, radio: Address) -> bool
         ensures gives { result ≡ lists_radio self.now radio }
         ensures member { IsTrue result ↔ Any (λ range. (range.first ≤ radio) × (radio ≤ range.last)) self.now.radios }
@@ -293,7 +295,7 @@ impl Plan {
         self.radios().iter().any(|range| range.contains(radio))
     }
 
-    /// Whether a talkgroup is one of the site's.
+    /// Returns whether a talkgroup is one of the site's.
     pub fn lists_group(&self, group: Address) -> bool
         ensures gives { result ≡ lists_group self.now group }
         ensures member { IsTrue result ↔ Contains self.now.groups group }
@@ -301,18 +303,18 @@ impl Plan {
         self.groups().contains(&group)
     }
 
-    /// The carrier of a number, or `None` where no carrier has it.
+    /// Returns the carrier with this number, or `None` if no carrier has it.
     pub fn carrier_with(&self, number: CarrierNo) -> Option<CarrierRow>
         ensures gives { result ≡ row_with self.now.carriers number }
         ensures row { IfSome result (λ row. (row.number ≡ number) × Contains self.now.carriers row) }
         ensures found { is_some result ≡ has_number_in self.now.carriers number }
-        // The plan has its control carrier.
+        // The control carrier is one of the carriers.
         ensures control { number ≡ self.now.control → IsSome result }
     {
         row_numbered(self.settings.carriers.as_slice(), number)
     }
 
-    /// Does nothing. A proof learns from it what every accepted plan keeps.
+    /// Does nothing. A proof learns from it that the plan satisfies `IsPlan`.
     pub fn keeps(&self)
         ensures { IsPlan self.now }
     {

@@ -1,4 +1,4 @@
-//! Everything that a site file says.
+//! The settings: the contents of a site file.
 
 ghost use Rattle.std.specs.Prelude.{◌≡◌, IfOk, IfErr, IfSome};
 ghost use Rattle.toml.specs.View.{table_view};
@@ -16,16 +16,16 @@ use crate::numbers::{address, address_unlike, bit, field, number, number_from, o
 use dmr_pdu::{Address, BoundedList, CarrierNo, Number};
 use toml::Table;
 
-/// Everything that a site file says, a field for each key. It is what contracts see of a plan.
+/// The contents of a site file, a field for each key. Contracts see a plan as its settings.
 #[derive(Clone, Copy, Debug, PartialEq, Eq)]
 pub struct Settings {
     /// The system identity code.
     pub system: Number<16>,
     /// The address of the registration service.
     pub regi: Address,
-    /// The address that the site speaks from.
+    /// The address of the site itself.
     pub tsi: Address,
-    /// The option bit of a registration request that leaves, if any.
+    /// The option bit of a registration request that is 0 if the radio leaves, if there is one.
     pub leave_bit: Option<u8>,
     /// The field sync of C_ALOHA.
     pub aloha_sync: bool,
@@ -45,19 +45,19 @@ pub struct Settings {
     pub ahoy_wait: u16,
     /// How many C_AHOY a radio is sent.
     pub ahoy_tries: u8,
-    /// How many times a channel grant is queued.
+    /// How many copies of a channel grant are queued.
     pub grant_copies: u8,
-    /// How many times P_CLEAR is queued.
+    /// How many copies of P_CLEAR are queued.
     pub clear_copies: u8,
     /// The backoff of a quiet control slot.
     pub backoff_low: u8,
-    /// The most that noise raises the backoff to.
+    /// The greatest backoff, which noise leads to.
     pub backoff_high: u8,
     /// The milliseconds of a tick.
     pub tick_ms: u16,
-    /// The waits without an octet after which a connection is cut.
+    /// After how many waits of 100 ms without an octet a connection is cut.
     pub silence: u16,
-    /// The entries of a term's journal.
+    /// How many entries the journal of a term takes.
     pub term_entries: u32,
     /// The greatest version of the link format that carriers are served.
     pub link_version: u8,
@@ -75,7 +75,7 @@ pub struct Settings {
     pub control: CarrierNo,
 }
 
-/// The option bit of a registration request that leaves, if the table says one.
+/// Reads the option bit that is 0 in a registration request that leaves, if the table has the key.
 fn leave_bit_in(table: &Table) -> Result<Option<u8>, PlanFault>
     ensures gives { result ≡ optional_in (table_view table.now) Key.LeaveBit }
     ensures within { IfOk result (λ bit. IfSome bit (IsNumberOf Key.LeaveBit)) }
@@ -87,7 +87,7 @@ fn leave_bit_in(table: &Table) -> Result<Option<u8>, PlanFault>
     }
 }
 
-/// What a table says at each key, or its first fault: the fields are read in the order of the keys.
+/// Reads the settings from a table, or its first fault. The fields are read in the order of the keys.
 #[tactic(auto, unfolding(crate::specs::Plan::plan_of))]
 pub fn settings_in(table: &Table) -> Result<Settings, PlanFault>
     ensures gives { result ≡ plan_of (table_view table.now) }

@@ -6,7 +6,7 @@ use Rattle.std.proofs.lemmas.Nat.Bits.{bit_at_set_same, bit_at_set_other, bit_at
 use Rattle.dmr_pool.specs.Slots.{place, slot_at}
 use Rattle.dmr_pool.specs.Marks.{has_bit, IsLowestBit, IsPut}
 
--- the bit of a place, as a number's power
+-- the bit of a place, as a power of two
 pub set_put : (bits k at : ℕ) (is_in : Bool) → k ≡ at → k < 32 → is_in ≡ true → IsPut bits (bit_or bits (1 * 2 ^ k % 2 ^ 32)) at is_in
 set_put bits k at is_in same within set = record {
   there = subst (λ n. has_bit (bit_or bits (1 * 2 ^ k % 2 ^ 32)) n ≡ is_in) same (ap (λ n. n == 1) (bit_at_set_same w32 bits k within) ∙ sym set);

@@ -19,7 +19,7 @@ record IsFirst (passes : Slot → Bool) (from to : ℕ) (slot : Slot) : Type 0 w
   pub passing : passes slot ≡ true
   pub before : NonePass passes from at
 
--- where the slot a place earlier doesn't pass either, none passes from there on
+-- if the slot one place earlier does not pass either, none passes from there on
 none_more : (passes : Slot → Bool) (from to : ℕ) → passes (slot_at from) ≡ false → NonePass passes (from + 1) to → NonePass passes from to
 none_more passes from to here after k reached below = either (cases_lt from k)
   where
@@ -27,7 +27,7 @@ none_more passes from to here after k reached below = either (cases_lt from k)
     either (inl behind) = after k (omega arith) below
     either (inr there) = let same : from ≡ k = omega arith in subst (λ n. passes (slot_at n) ≡ false) same here
 
--- the same of what is found
+-- the same about the slot that is found
 one_more : (passes : Slot → Bool) (from to : ℕ) (found : Option Slot) → passes (slot_at from) ≡ false → MatchOption found (NonePass passes (from + 1) to) (IsFirst passes (from + 1) to) → MatchOption found (NonePass passes from to) (IsFirst passes from to)
 one_more passes from to None here after = none_more passes from to here after
 one_more passes from to (Some slot) here after = record {
@@ -38,7 +38,7 @@ one_more passes from to (Some slot) here after = record {
   before = none_more passes from after.at here after.before;
 }
 
--- what is found among the slots of so many places is the first that passes, if any does
+-- the slot found among those of `n` places is the first that passes, if any does
 found_first : (passes : Slot → Bool) (from n to : ℕ) → from + n ≡ to → MatchOption (find passes (map slot_at (range_with_len from n))) (NonePass passes from to) (IsFirst passes from to)
 found_first passes from zero to all = λ k reached below. absurd (omega arith)
 found_first passes from (suc n) to all = either (passes (slot_at from)) refl (found_first passes (from + 1) n to (omega arith))

@@ -1,4 +1,4 @@
--- The counts stay those of the grants that wait.
+-- The counts remain those of the waiting grants.
 use Rattle.std.proofs.Common.{arith, ◌≡◌, ◌≢◌, ℕ, zero, suc, ◌+◌, ◌-◌, ◌*◌, ◌<◌, ◌≤◌, ◌⊎◌, inl, inr, Bool, true, false, refl, sym, ap, ◌∙◌, subst, List, [], ◌∷◌, ◌++◌, map, drop, replicate, length, slice_set, eqb-true, zero-add, length-append, length-drop, length-set}
 use Rattle.std.specs.Prelude.{cond, ◌&&◌, ◌||◌, ◌==◌, ◌/◌, ◌%◌, if◌then◌else◌, nat_lt, Option, Some, None, option_map, slice_get, slice_index_or}
 use Rattle.std.specs.List.{All, list_any, find, count_by}
@@ -21,7 +21,7 @@ use Rattle.dmr_pool.specs.Free.{control_slot, is_control, is_granted, names}
 use Rattle.dmr_pool.specs.Grants.{AreCounted, AreOutboxes, grants_of, slot_counted, slot_granted, slot_tuned}
 use Rattle.dmr_pool.proofs.FreeLemmas.{slot_at-place}
 
--- no carrier of a list has a number, so what is found among them has it not
+-- if no carrier of a list has a number, one that is found among them does not have it
 none_has : (f : CarrierRow → ℕ) (p : CarrierRow → Bool) (n : ℕ) (rows : List CarrierRow) → list_any (λ m. m == n) (map f rows) ≡ false → option_map_or (λ (r : CarrierRow). f r == n) (find p rows) false ≡ false
 none_has f p n [] h = refl
 none_has f p n (row ∷ rows) h = either (p row) parts.0 (none_has f p n rows parts.1)
@@ -36,7 +36,7 @@ none_has f p n (row ∷ rows) h = either (p row) parts.0 (none_has f p n rows pa
 turned : (m n : ℕ) → (m == n) ≡ (n == m)
 turned m n = grind (arith, nat_tests)
 
--- the carrier of a number has a channel exactly where the carrier of the channel has the number
+-- the carrier with a number has a channel exactly if the carrier with that channel has the number
 pub tuned : (rows : List CarrierRow) (c channel : ℕ) → has_repeat (map (λ (r : CarrierRow). r.number) rows) ≡ false → has_repeat (map (λ (r : CarrierRow). r.lpcn) rows) ≡ false
     → option_map_or (λ (r : CarrierRow). channel == r.lpcn) (row_with rows c) false ≡ option_map_or (λ (r : CarrierRow). r.number == c) (find (λ (r : CarrierRow). channel == r.lpcn) rows) false
 tuned [] c channel h k = refl
@@ -84,7 +84,7 @@ no_and : (a : Bool) → (a && false) ≡ false
 no_and true = refl
 no_and false = refl
 
--- what is asked of the carrier and of the slot's number, one by one
+-- a test of the carrier and one of the slot's number, one by one
 parted : (test : CarrierRow → Bool) (b : Bool) (found : Option CarrierRow) → option_map_or (λ (r : CarrierRow). test r && b) found false ≡ (option_map_or test found false && b)
 parted test b None = refl
 parted test b (Some r) = refl
@@ -109,7 +109,7 @@ named_granted plan slot (PvGrant channel number target source) is = named_tuned 
 named_granted plan slot (TvGrant channel number late target source) is = named_tuned plan slot channel number is
 named_granted plan slot _ is = never (row_with plan.carriers slot.carrier)
 
--- whether a grant waits, told by how many do
+-- a grant waits exactly if the number of those that wait is not 0
 some_count : (p : Pdu → Bool) (xs : List Pdu) → list_any p xs ≡ nat_lt 0 (count_by p xs)
 some_count p [] = refl
 some_count p (x ∷ xs) = either (p x) refl (some_count p xs)
@@ -129,7 +129,7 @@ granted_count plan outboxes slot = either (row_with plan.carriers slot.carrier)
     either None = refl
     either (Some row) = some_count (names row.lpcn slot.slot) (box outboxes (control_slot plan))
 
--- how many more grants of a slot wait once a PDU is put into the control slot's outbox
+-- the number of waiting grants of a slot after a PDU is added to the control slot's outbox
 counted_more : (p : Pdu → Bool) (xs : List Pdu) (x : Pdu) → count_by p (xs ++ x ∷ []) ≡ count_by p xs + cond (p x) 1 0
 counted_more p xs x = sum_by_push (λ y. cond (p y) 1 0) xs x
 
@@ -137,7 +137,7 @@ counted_less : (p : Pdu → Bool) (xs : List Pdu) (x : Pdu) → slice_get xs 0 �
 counted_less p [] x h = cc
 counted_less p (y ∷ ys) x h = let same : y ≡ x = cc in sum_by-cons (λ z. cond (p z) 1 0) y ys ∙ (rw same (omega arith))
 
--- how many grants of a slot are among PDUs
+-- the number of grants of a slot among PDUs
 abbrev pub grants_in : Settings → List Pdu → Slot → ℕ
 grants_in plan xs slot = option_map_or (λ (row : CarrierRow). count_by (names row.lpcn slot.slot) xs) (row_with plan.carriers slot.carrier) 0
 
@@ -187,7 +187,7 @@ control_apart plan slot small h = λ same. absurd (apart slot.carrier plan.contr
     apart : (c d s : ℕ) → s < 2 → c ≡ d → s ≡ 0 → ((c == d) && (s == 0)) ≡ false → ⊥
     apart c d s small e k h = grind (arith, nat_tests)
 
--- the control slot's outbox once that of a slot is another
+-- the control slot's outbox after a slot's outbox was changed
 control_box : (plan : Settings) (outboxes : List (List Pdu)) (slot : Slot) (xs : List Pdu) → is_control plan slot ≡ true → place slot < length outboxes → box (slice_set outboxes (place slot) xs) (control_slot plan) ≡ xs
 control_box plan outboxes slot xs h within =
     subst (λ (s : Slot). box (slice_set outboxes (place slot) xs) s ≡ xs) (control_is plan slot h) (get_or-set_same outboxes (place slot) xs [] within)
@@ -203,7 +203,7 @@ named_counted plan slot s pdu is = either (is_control plan slot)
     either true = named_granted plan s pdu is
     either false = refl
 
--- how many grants of each slot wait once a PDU is put into an outbox
+-- the number of waiting grants of each slot after a PDU is added to an outbox
 pub grants_queued : (plan : Settings) (outboxes : List (List Pdu)) (slot s : Slot) (pdu : Pdu) → IsPlan plan → IsSlot slot → place slot < length outboxes
     → grants_of plan (outboxes_with_pdu outboxes slot pdu) s ≡ grants_of plan outboxes s + cond (is_this (slot_counted plan slot pdu) s) 1 0
 grants_queued plan outboxes slot s pdu is_plan is within = either (is_control plan slot) refl ∙ ap (λ b. grants_of plan outboxes s + cond b 1 0) (named_counted plan slot s pdu is_plan)
@@ -214,7 +214,7 @@ grants_queued plan outboxes slot s pdu is_plan is within = either (is_control pl
         ∙ in_more plan (box outboxes (control_slot plan)) pdu s
     either false e = ap (λ (xs : List Pdu). grants_in plan xs s) (other_box plan outboxes slot (box outboxes slot ++ pdu ∷ []) is.1 e) ∙ omega arith
 
--- the same once one is taken out
+-- the same after one is removed
 pub grants_sent : (plan : Settings) (outboxes : List (List Pdu)) (slot s : Slot) (pdu : Pdu) → IsPlan plan → IsSlot slot → place slot < length outboxes → slice_get (box outboxes slot) 0 ≡ Some pdu
     → grants_of plan outboxes s ≡ grants_of plan (outboxes_after_send outboxes slot) s + cond (is_this (slot_counted plan slot pdu) s) 1 0
 grants_sent plan outboxes slot s pdu is_plan is within first = either (is_control plan slot) refl ∙ ap (λ b. grants_of plan (outboxes_after_send outboxes slot) s + cond b 1 0) (named_counted plan slot s pdu is_plan)
@@ -227,7 +227,7 @@ grants_sent plan outboxes slot s pdu is_plan is within first = either (is_contro
         ∙ ap (λ (xs : List Pdu). grants_in plan xs s + cond (names_slot plan s pdu) 1 0) (sym there)
     either false e = ap (λ (xs : List Pdu). grants_in plan xs s) (sym (other_box plan outboxes slot (drop 1 (box outboxes slot)) is.1 e)) ∙ omega arith
 
--- a slot at a place is another's exactly where the place is
+-- a slot is the one at a place exactly if the place is its own
 pub this_at : (s : Slot) (k : ℕ) → s.slot < 2 → is_this (Some s) (slot_at k) ≡ (k == place s)
 this_at s k small = at s.carrier s.slot k small
   where
@@ -259,13 +259,13 @@ lowered counts at k within some = either (k == at) refl
         subst (λ n. slice_index_or counts n 0 ≡ slice_index_or (slice_set counts at (slice_index_or counts at 0 - 1)) n 0 + 1) same (omega (arith, get_or-set_same counts at (slice_index_or counts at 0 - 1) 0 within))
     either false e = sym (get_or-set_other counts at k (slice_index_or counts at 0 - 1) 0 (eqb-false k at e)) ∙ omega arith
 
--- the counts where no grant of the site's is put
+-- the counts after a PDU is added that is not a grant of the site's slots
 pub queued_uncounted : (plan : Settings) (outboxes : List (List Pdu)) (counts : List ℕ) (slot : Slot) (pdu : Pdu) → IsPlan plan → IsSlot slot → place slot < length outboxes → slot_counted plan slot pdu ≡ None
     → AreCounted plan outboxes counts → AreCounted plan (outboxes_with_pdu outboxes slot pdu) counts
 queued_uncounted plan outboxes counts slot pdu is_plan is within none counted k below =
     counted k below ∙ sym (grants_queued plan outboxes slot (slot_at k) pdu is_plan is within ∙ ap (λ (t : Option Slot). grants_of plan outboxes (slot_at k) + cond (is_this t (slot_at k)) 1 0) none ∙ omega arith)
 
--- where one is
+-- the counts after a grant is added
 pub queued_counted : (plan : Settings) (outboxes : List (List Pdu)) (counts : List ℕ) (slot granted : Slot) (pdu : Pdu) → IsPlan plan → IsSlot slot → place slot < length outboxes → slot_counted plan slot pdu ≡ Some granted → IsSlot granted → length counts ≡ 32
     → AreCounted plan outboxes counts → AreCounted plan (outboxes_with_pdu outboxes slot pdu) (slice_set counts (place granted) (slice_index_or counts (place granted) 0 + 1))
 queued_counted plan outboxes counts slot granted pdu is_plan is within one is_granted size counted k below =
@@ -275,13 +275,13 @@ queued_counted plan outboxes counts slot granted pdu is_plan is within one is_gr
     ∙ ap (λ (t : Option Slot). grants_of plan outboxes (slot_at k) + cond (is_this t (slot_at k)) 1 0) (sym one)
     ∙ sym (grants_queued plan outboxes slot (slot_at k) pdu is_plan is within)
 
--- where none is taken out
+-- the counts after a PDU is removed that is not a grant of the site's slots
 pub sent_uncounted : (plan : Settings) (outboxes : List (List Pdu)) (counts : List ℕ) (slot : Slot) (pdu : Pdu) → IsPlan plan → IsSlot slot → place slot < length outboxes → slice_get (box outboxes slot) 0 ≡ Some pdu → slot_counted plan slot pdu ≡ None
     → AreCounted plan outboxes counts → AreCounted plan (outboxes_after_send outboxes slot) counts
 sent_uncounted plan outboxes counts slot pdu is_plan is within first none counted k below =
     counted k below ∙ grants_sent plan outboxes slot (slot_at k) pdu is_plan is within first ∙ ap (λ (t : Option Slot). grants_of plan (outboxes_after_send outboxes slot) (slot_at k) + cond (is_this t (slot_at k)) 1 0) none ∙ omega arith
 
--- where one is, at least one waited
+-- the counts after a grant is removed: at least one waited
 pub some_waited : (plan : Settings) (outboxes : List (List Pdu)) (counts : List ℕ) (slot granted : Slot) (pdu : Pdu) → IsPlan plan → IsSlot slot → place slot < length outboxes → slice_get (box outboxes slot) 0 ≡ Some pdu → slot_counted plan slot pdu ≡ Some granted → IsSlot granted
     → AreCounted plan outboxes counts → 1 ≤ slice_index_or counts (place granted) 0
 some_waited plan outboxes counts slot granted pdu is_plan is within first one is_granted counted =
@@ -312,7 +312,7 @@ sent_counted plan outboxes counts slot granted pdu is_plan is within first one i
     cancelled : (m n d : ℕ) → m + d ≡ n + d → m ≡ n
     cancelled m n d e = omega arith
 
--- what the count of a slot tells
+-- the count of a slot is not 0 exactly if a grant of it waits
 pub counted_granted : (plan : Settings) (outboxes : List (List Pdu)) (counts : List ℕ) (slot : Slot) (k : ℕ) → IsSlot slot → k ≡ place slot → AreCounted plan outboxes counts → nat_lt 0 (slice_index_or counts k 0) ≡ is_granted plan outboxes slot
 counted_granted plan outboxes counts slot k is at counted =
     ap (nat_lt 0) (counted k (omega (arith, is.0, is.1)) ∙ ap (grants_of plan outboxes) (ap slot_at at ∙ slot_at-place slot is)) ∙ sym (granted_count plan outboxes slot)
@@ -329,7 +329,7 @@ few_there outboxes k few = either (cases_lt k (length outboxes))
     either (inl within) = All-get_or (λ (box : List Pdu). length box ≤ 64) outboxes k [] within few
     either (inr beyond) = past outboxes k beyond
 
--- a count is no more than what waits for the control slot
+-- a count is at most the number of PDUs that wait for the control slot
 pub few_counted : (plan : Settings) (outboxes : List (List Pdu)) (counts : List ℕ) (k : ℕ) → k < 32 → All (λ box. length box ≤ 64) outboxes → AreCounted plan outboxes counts → slice_index_or counts k 0 ≤ 64
 few_counted plan outboxes counts k below few counted = omega (arith, counted k below, in_few plan (box outboxes (control_slot plan)) (slot_at k), few_there outboxes (place (control_slot plan)) few)
 
@@ -362,20 +362,20 @@ emptied_other plan outboxes counts c apart counted k below = counted k below ∙
         get_or-set_other (slice_set outboxes (2 * c) []) (2 * c + 1) (place (control_slot plan)) [] [] (λ same. absurd (omega (arith, same)))
         ∙ get_or-set_other outboxes (2 * c) (place (control_slot plan)) [] [] (λ same. apart (omega (arith, same)))
 
--- an element that is there, whatever stands for one that isn't
+-- an element that exists, for any default value
 read_there : {X : Type 0} (xs : List X) (i : ℕ) (x d : X) → i < length xs → x ≡ slice_index_or xs i x → x ≡ slice_index_or xs i d
 read_there [] i x d h e = absurd (omega arith)
 read_there (y ∷ ys) zero x d h e = e
 read_there (y ∷ ys) (suc i) x d h e = read_there ys i x d (omega arith) e
 
--- outboxes of which one is another
+-- outboxes of which one was changed
 pub outboxes-set : (outboxes : List (List Pdu)) (i : ℕ) (xs : List Pdu) → length xs ≤ 64 → AreOutboxes outboxes → AreOutboxes (slice_set outboxes i xs)
 outboxes-set outboxes i xs few h = record { size = length-set outboxes i xs ∙ h.size; few = All-set (λ (box : List Pdu). length box ≤ 64) outboxes i xs few h.few }
 
 within_outboxes : (outboxes : List (List Pdu)) (slot : Slot) → IsSlot slot → AreOutboxes outboxes → place slot < length outboxes
 within_outboxes outboxes slot is h = omega (arith, h.size, is.0, is.1)
 
--- what stands once a PDU was put, by the places and the outbox that the code names
+-- the outboxes and counts after a PDU was added, by the places and the outbox that the code names
 module _ (plan : Settings) (outboxes : List (List Pdu)) (counts : List ℕ) (slot : Slot) (pdu : Pdu) (i : ℕ) (now : List Pdu) (is_plan : IsPlan plan) (is : IsSlot slot) (at : i ≡ place slot) (there : now ≡ slice_index_or outboxes i now) (kept : AreOutboxes outboxes) (counted : AreCounted plan outboxes counts) where
   box_is : now ≡ box outboxes slot
   box_is =
@@ -432,7 +432,7 @@ module _ (plan : Settings) (outboxes : List (List Pdu)) (counts : List ℕ) (i c
   pub cleared_other : c ≢ plan.control → AreCounted plan outboxes counts → AreCounted plan (slice_set (slice_set outboxes (2 * i) first) (2 * i + 1) second) counts
   cleared_other apart counted = subst (λ (bs : List (List Pdu)). AreCounted plan bs counts) (sym emptied_as) (emptied_other plan outboxes counts c apart counted)
 
--- nothing is taken where nothing waits
+-- nothing changes if no PDU waits
 pub sent_nothing : (outboxes : List (List Pdu)) (slot : Slot) → slice_get (box outboxes slot) 0 ≡ None → outboxes_after_send outboxes slot ≡ outboxes
 sent_nothing outboxes slot none = ap (λ (xs : List Pdu). slice_set outboxes (place slot) xs) (dropped (box outboxes slot) none) ∙ set-get_or outboxes (place slot) []
   where
@@ -440,7 +440,7 @@ sent_nothing outboxes slot none = ap (λ (xs : List Pdu). slice_set outboxes (pl
     dropped [] h = refl
     dropped (x ∷ xs) h = cc
 
--- nothing waits at first
+-- no PDU waits at first
 nothing_waits : (n k : ℕ) → slice_index_or {A = List Pdu} (replicate n []) k [] ≡ []
 nothing_waits zero k = refl
 nothing_waits (suc n) zero = refl

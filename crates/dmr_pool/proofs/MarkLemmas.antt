@@ -1,4 +1,4 @@
--- The bits stay those of the free slots.
+-- The bits remain those of the free slots.
 use Rattle.std.proofs.Common.{arith, ◌≡◌, ◌≢◌, ℕ, zero, suc, ◌+◌, ◌<◌, ◌≤◌, ◌⊎◌, inl, inr, Bool, true, false, refl, sym, ap, ◌∙◌, subst, List, [], ◌∷◌, ◌++◌, replicate, length, slice_set, eqb-true}
 use Rattle.std.specs.Prelude.{not, cond, ◌&&◌, ◌==◌, nat_lt, slice_get, Option, Some, None, MatchOption, slice_index_or}
 use Rattle.std.proofs.lemmas.Bool.{cases_lt, eqb-false, ne_eqb}
@@ -27,11 +27,11 @@ marked_lowest bits slots (Some slot) marked lowest = record {
   lowest = λ other is below. subst (λ (s : Slot). is_free slots s ≡ false) (slot_at-place other is) (sym (marked (place other) (omega (arith, is.0, is.1))) ∙ lowest.lowest (place other) below);
 }
 
--- a slot is free where its bit is set
+-- a slot is free exactly if its bit is set
 pub marked_free : (bits : ℕ) (slots : Slots) (slot : Slot) → IsSlot slot → AreMarked bits slots → has_bit bits (place slot) ≡ is_free slots slot
 marked_free bits slots slot is marked = marked (place slot) (omega (arith, is.0, is.1)) ∙ ap (is_free slots) (slot_at-place slot is)
 
--- one bit is put anew, and the others tell what they told
+-- one bit is written, and the others are unchanged
 pub one_put : (before after : ℕ) (old new : Slots) (slot : Slot) (b : Bool) → IsSlot slot → AreMarked before old → IsPut before after (place slot) b → b ≡ is_free new slot
     → ((k : ℕ) → k < 32 → k ≢ place slot → is_free old (slot_at k) ≡ is_free new (slot_at k)) → AreMarked after new
 one_put before after old new slot b is marked put told others k below = either (k == place slot) refl
@@ -44,7 +44,7 @@ one_put before after old new slot b is marked put told others k below = either (
         let apart : k ≢ place slot = eqb-false k (place slot) e in
         put.others k below apart ∙ marked k below ∙ others k below apart
 
--- two bits are put anew
+-- two bits are written
 pub two_puts : (before between after : ℕ) (old new : Slots) (a b : Slot) (u v : Bool) → IsSlot a → IsSlot b → AreMarked before old → IsPut before between (place a) u → IsPut between after (place b) v
     → u ≡ is_free new a → v ≡ is_free new b
     → ((k : ℕ) → k < 32 → k ≢ place a → k ≢ place b → is_free old (slot_at k) ≡ is_free new (slot_at k)) → AreMarked after new
@@ -65,7 +65,7 @@ and_no : (a : Bool) → (a && false) ≡ false
 and_no true = refl
 and_no false = refl
 
--- what keeps a slot from being free
+-- a slot is not free in each of these cases
 pub down_not_free : (plan : Settings) (up : List Bool) (outboxes : List (List Pdu)) (holds : Slot → Bool) (slot : Slot) → is_up up slot.carrier ≡ false → is_free_by plan up outboxes holds slot ≡ false
 down_not_free plan up outboxes holds slot h = rw (h, and_no (has_number_in plan.carriers slot.carrier)) refl
 
@@ -80,7 +80,7 @@ pub granted_not_free : (plan : Settings) (up : List Bool) (outboxes : List (List
 granted_not_free plan up outboxes holds slot h =
     rw (h, and_no (has_number_in plan.carriers slot.carrier && is_up up slot.carrier && not (is_control plan slot) && not (holds slot) && is_empty (box outboxes slot))) refl
 
--- a slot is as free as it was where no call held it anew, nothing was put there or taken, and no grant of it was
+-- a slot is as free as before if its call, its outbox and its waiting grants are as before
 pub free_as_before : (plan : Settings) (up : List Bool) (old new : List (List Pdu)) (holds holding : Slot → Bool) (slot : Slot) → holds slot ≡ holding slot → box old slot ≡ box new slot → is_granted plan old slot ≡ is_granted plan new slot
     → is_free_by plan up old holds slot ≡ is_free_by plan up new holding slot
 free_as_before plan up old new holds holding slot held boxes granted =
@@ -93,7 +93,7 @@ held_there held slot b is size = get_or-set_same held (place slot) b false (omeg
 pub held_beside : (held : List Bool) (slot : Slot) (b : Bool) (k : ℕ) → k ≢ place slot → is_slot_held held (slot_at k) ≡ is_slot_held (slice_set held (place slot) b) (slot_at k)
 held_beside held slot b k apart = sym (get_or-set_other held (place slot) (place (slot_at k)) b false (λ e. apart (omega (arith, e))))
 
--- nothing is up at first
+-- no carrier is up at first
 down : (n c : ℕ) → slice_index_or (replicate n false) c false ≡ false
 down zero c = refl
 down (suc n) zero = refl
@@ -102,7 +102,7 @@ down (suc n) (suc c) = down n c
 pub none_free : (bits : ℕ) (plan : Settings) (held : List Bool) (outboxes : List (List Pdu)) → HasNoBit bits → AreMarked bits (record { plan = plan; up = replicate 16 false; held = held; outboxes = outboxes })
 none_free bits plan held outboxes none k below = none k below ∙ sym (down_not_free plan (replicate 16 false) outboxes (is_slot_held held) (slot_at k) (down 16 ((slot_at k).carrier)))
 
--- one place more is as it must be
+-- the bit of one more place is right
 pub one_more : (before after : ℕ) (slots : Slots) (slot : Slot) (b : Bool) (n : ℕ) → slot ≡ slot_at n → n < 32 → IsPut before after (place slot) b → b ≡ is_free slots slot
     → ((k : ℕ) → k < n → has_bit before k ≡ is_free slots (slot_at k)) → (k : ℕ) → k < n + 1 → has_bit after k ≡ is_free slots (slot_at k)
 one_more before after slots slot b n at within put told marked k below = either (cases_lt k n)
@@ -129,7 +129,7 @@ pub now_held : (plan : Settings) (up held : List Bool) (outboxes : List (List Pd
 now_held plan up held outboxes slot i at is size =
     sym (held_not_free plan up outboxes (is_slot_held (slice_set held i true)) slot (subst (λ n. is_slot_held (slice_set held n true) slot ≡ true) (sym at) (held_there held slot true is size)))
 
--- a grant waits as one did, where as many do
+-- a grant waits as before if as many do
 granted_same : (plan : Settings) (old new : List (List Pdu)) (slot : Slot) → grants_of plan old slot ≡ grants_of plan new slot → is_granted plan old slot ≡ is_granted plan new slot
 granted_same plan old new slot e = granted_count plan old slot ∙ ap (nat_lt 0) e ∙ sym (granted_count plan new slot)
 
@@ -137,7 +137,7 @@ more_wait : (xs : List Pdu) (x : Pdu) → is_empty (xs ++ x ∷ []) ≡ false
 more_wait [] x = refl
 more_wait (y ∷ ys) x = refl
 
--- what stands once a PDU was put, or taken
+-- the bits after a PDU was added, or removed
 module _ (plan : Settings) (up held : List Bool) (old : List (List Pdu)) (slot : Slot) (pdu : Pdu) (is_plan : IsPlan plan) (kept : AreOutboxes old) (is : IsSlot slot) where
   abbrev pub stands : List (List Pdu) → Slots
   stands outboxes = record { plan = plan; up = up; held = held; outboxes = outboxes }

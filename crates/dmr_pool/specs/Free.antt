@@ -1,4 +1,4 @@
--- Which slots are free for a call.
+-- The slots that are free for a call.
 use Rattle.std.specs.Prelude.{◌≡◌, ℕ, ◌<◌, List, [], ◌∷◌, map, Bool, true, false, not, ◌==◌, ◌&&◌, Option}
 use Rattle.std.specs.List.{list_any, find, range_with_len}
 use Rattle.std.specs.Option.{option_map_or}
@@ -19,41 +19,42 @@ control_slot plan = record { carrier = plan.control; slot = 0 }
 abbrev pub is_control : Settings → Slot → Bool
 is_control plan slot = (slot.carrier == plan.control) && (slot.slot == 0)
 
--- no entry
+-- the list has no element
 abbrev pub is_empty : {X : Type 0} → List X → Bool
 is_empty [] = true
 is_empty (x ∷ xs) = false
 
--- a grant that names the channel and the slot number
+-- the PDU is a grant that names this channel and slot number
 abbrev pub names : ℕ → ℕ → Pdu → Bool
 names lpcn number (PvGrant channel slot target source) = (channel == lpcn) && (slot == number)
 names lpcn number (TvGrant channel slot late target source) = (channel == lpcn) && (slot == number)
 names lpcn number _ = false
 
--- a grant that names a slot by its carrier's channel waits for the control slot
+-- a grant that names the slot, by its carrier's channel, waits for the control slot
 abbrev pub is_granted : Settings → List (List Pdu) → Slot → Bool
 is_granted plan outboxes slot =
     option_map_or (λ (row : CarrierRow). list_any (names row.lpcn slot.slot) (box outboxes (control_slot plan))) (row_with plan.carriers slot.carrier) false
 
--- the carrier is in the plan and up, the slot is not the control slot, no call holds it, nothing waits for it, and no grant of it waits
+-- the carrier is in the plan and up, the slot is not the control slot, no call holds it, no PDU waits for it, and no grant of it
+-- waits
 abbrev pub is_free_by : Settings → List Bool → List (List Pdu) → (Slot → Bool) → Slot → Bool
 is_free_by plan up outboxes holds slot =
     has_number_in plan.carriers slot.carrier && is_up up slot.carrier && not (is_control plan slot)
     && not (holds slot) && is_empty (box outboxes slot) && not (is_granted plan outboxes slot)
 
--- the same of the slots that are held
+-- a slot is free, given the pool's held slots
 abbrev pub is_free : Slots → Slot → Bool
 is_free slots slot = is_free_by slots.plan slots.up slots.outboxes (is_slot_held slots.held) slot
 
--- by carrier, then by slot
+-- all slots of the site, by carrier, then by slot
 abbrev pub all_slots : List Slot
 all_slots = map slot_at (range_with_len 0 slots_of_site)
 
--- the first of all slots that is free
+-- the first of all slots that is free, for a test of held slots
 unfoldable pub lowest_free_by : Settings → List Bool → List (List Pdu) → (Slot → Bool) → Option Slot
 lowest_free_by plan up outboxes holds = find (is_free_by plan up outboxes holds) all_slots
 
--- the same of the slots that are held
+-- the first of all slots that is free, given the pool's held slots
 abbrev pub lowest_free : Slots → Option Slot
 lowest_free slots = lowest_free_by slots.plan slots.up slots.outboxes (is_slot_held slots.held)
 

@@ -1,4 +1,4 @@
--- The grants that wait for the control slot, counted for each slot, as the pool keeps them. Nothing above rests on these definitions.
+-- The numbers of waiting grants of each slot: an invariant of the pool. No crate above uses these definitions.
 use Rattle.std.specs.Prelude.{◌≡◌, ℕ, ◌<◌, ◌≤◌, List, length, ◌==◌, if◌then◌else◌, Option, None, option_map, slice_index_or}
 use Rattle.std.specs.List.{All, count_by, find}
 use Rattle.std.specs.Option.{option_map_or}
@@ -13,26 +13,26 @@ use Rattle.dmr_pool.specs.Limits.{most_pdus_of_a_slot}
 use Rattle.dmr_pool.specs.Slots.{box, slot_at}
 use Rattle.dmr_pool.specs.Free.{control_slot, is_control, names}
 
--- the plan, and what waits for each slot, at its place, the oldest first
+-- the plan, and the PDUs that wait for each slot, at its place, oldest first
 pub record WaitingPdus : Type 0 where
   pub plan : Settings
   pub outboxes : List (List Pdu)
 
--- how many grants of a slot wait for the control slot
+-- the number of grants of a slot that wait for the control slot
 abbrev pub grants_of : Settings → List (List Pdu) → Slot → ℕ
 grants_of plan outboxes slot =
     option_map_or (λ (row : CarrierRow). count_by (names row.lpcn slot.slot) (box outboxes (control_slot plan))) (row_with plan.carriers slot.carrier) 0
 
--- there are 32 outboxes, and in each at most 64 PDUs wait
+-- there are 32 outboxes, and at most 64 PDUs wait in each
 pub record AreOutboxes (outboxes : List (List Pdu)) : Type 0 where
   pub size : length outboxes ≡ slots_of_site
   pub few : All (λ box. length box ≤ most_pdus_of_a_slot) outboxes
 
--- the counts are those of the slots at their places
+-- each count is that of the slot at its place
 abbrev pub AreCounted : Settings → List (List Pdu) → List ℕ → Type 0
 AreCounted plan outboxes counts = (place : ℕ) → place < slots_of_site → slice_index_or counts place 0 ≡ grants_of plan outboxes (slot_at place)
 
--- the slot of a number on the plan's carrier of a channel
+-- the slot with this number on the plan's carrier with this channel
 abbrev pub slot_tuned : Settings → ℕ → ℕ → Option Slot
 slot_tuned plan channel number =
     option_map (λ (row : CarrierRow). record { carrier = row.number; slot = number }) (find (λ (row : CarrierRow). channel == row.lpcn) plan.carriers)
@@ -43,6 +43,6 @@ slot_granted plan (PvGrant channel slot target source) = slot_tuned plan channel
 slot_granted plan (TvGrant channel slot late target source) = slot_tuned plan channel slot
 slot_granted plan _ = None
 
--- the slot whose count changes where a PDU is put into a slot's outbox, or taken out
+-- the slot whose count changes when a PDU is added to a slot's outbox or removed from it
 abbrev pub slot_counted : Settings → Slot → Pdu → Option Slot
 slot_counted plan slot pdu = if is_control plan slot then slot_granted plan pdu else None

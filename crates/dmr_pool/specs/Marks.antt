@@ -1,4 +1,4 @@
--- Sets of slots as bits, by which the pool keeps which slots are free. Nothing above rests on these definitions.
+-- Sets of slots as bits, for the pool's free slots. No crate above uses these definitions.
 use Rattle.std.specs.Prelude.{◌≡◌, ◌≢◌, ℕ, ◌<◌, ◌==◌, Bool, true, false}
 use Rattle.std.specs.Int.{bit_at}
 use Rattle.dmr_pdu.specs.declared.slots.Slot.{Slot}
@@ -14,17 +14,17 @@ has_bit bits place = bit_at bits place == 1
 abbrev pub HasNoBit : ℕ → Type 0
 HasNoBit bits = (place : ℕ) → place < slots_of_site → has_bit bits place ≡ false
 
--- a slot's bit is set, and none below it
+-- the slot's bit is set, and no lower one
 pub record IsLowestBit (bits : ℕ) (slot : Slot) : Type 0 where
   pub within : IsSlot slot
   pub set : has_bit bits (place slot) ≡ true
   pub lowest : (below : ℕ) → below < place slot → has_bit bits below ≡ false
 
--- the bit of a place is as said, and the others are as they were
+-- the bit of a place has this value, and the others are unchanged
 pub record IsPut (before after at : ℕ) (set : Bool) : Type 0 where
   pub there : has_bit after at ≡ set
   pub others : (place : ℕ) → place < slots_of_site → place ≢ at → has_bit after place ≡ has_bit before place
 
--- the bits of the slots that are free, and no others, are set
+-- exactly the bits of the free slots are set
 abbrev pub AreMarked : ℕ → Slots → Type 0
 AreMarked bits slots = (place : ℕ) → place < slots_of_site → has_bit bits place ≡ is_free slots (slot_at place)

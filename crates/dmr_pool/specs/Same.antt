@@ -1,4 +1,4 @@
--- Whether the slots of two sites are the same, as a test.
+-- The test whether the slots of two sites are the same.
 use Rattle.std.specs.Prelude.{◌≡◌, ◌&&◌, Bool, List}
 use Rattle.std.specs.Bool.{Decides, beq}
 use Rattle.std.specs.Cmp.{decided, IsEquivalence}
@@ -11,15 +11,15 @@ use Rattle.dmr_pdu.proofs.Laws.{pdu_eq-Decides}
 use Rattle.dmr_plan.specs.Same.{are_same as are_same_plans, are_same-Decides as are_same_plans-Decides}
 use Rattle.dmr_pool.specs.Slots.{Slots}
 
--- whether the PDUs are the same, one by one
+-- the PDUs are the same, one by one
 abbrev pub are_same_pdus : List Pdu → List Pdu → Bool
 are_same_pdus a b = pointwise (pdu_eq.ghosts).eq a b
 
--- the test decides it
+-- the test decides equality
 pub are_same_pdus-Decides : (a b : List Pdu) → Decides (are_same_pdus a b) (a ≡ b)
 are_same_pdus-Decides a b = pointwise_decides pdu_eq-Decides a b
 
--- so it is an equivalence
+-- the test is an equivalence
 pub are_same_pdus-equivalence : IsEquivalence are_same_pdus
 are_same_pdus-equivalence = decided are_same_pdus are_same_pdus-Decides
 
@@ -30,20 +30,20 @@ beq-Decides false false = (λ e. refl, λ e. refl)
 beq-Decides true false = (λ e. cc, λ e. cc)
 beq-Decides false true = (λ e. cc, λ e. cc)
 
--- whether the same carriers are up and the same waits
+-- the same carriers are up, and the same PDUs wait
 abbrev pub are_alike : Slots → Slots → Bool
 are_alike a b = pointwise beq a.up b.up && pointwise are_same_pdus a.outboxes b.outboxes
 
--- whether the plans say the same and the same stands on the slots
+-- the plans are the same, and so are carriers up, held slots and waiting PDUs
 abbrev pub are_same : Slots → Slots → Bool
 are_same a b =
     are_same_plans a.plan b.plan && pointwise beq a.up b.up && pointwise beq a.held b.held && pointwise are_same_pdus a.outboxes b.outboxes
 
--- slots, field by field
+-- two values are the same if their fields are
 same_parts : (a b : Slots) → a.plan ≡ b.plan → a.up ≡ b.up → a.held ≡ b.held → a.outboxes ≡ b.outboxes → a ≡ b
 same_parts a b plan up held outboxes = λ i. record { plan = plan i; up = up i; held = held i; outboxes = outboxes i }
 
--- the test decides whether they are the same
+-- the test decides equality
 pub are_same-Decides : (a b : Slots) → Decides (are_same a b) (a ≡ b)
 are_same-Decides a b =
     let plan = are_same_plans-Decides a.plan b.plan in
@@ -55,6 +55,6 @@ are_same-Decides a b =
       λ e. d.1 (((ap (λ (s : Slots). s.plan) e, ap (λ (s : Slots). s.up) e), ap (λ (s : Slots). s.held) e), ap (λ (s : Slots). s.outboxes) e),
     )
 
--- so it is an equivalence
+-- the test is an equivalence
 pub are_same-equivalence : IsEquivalence are_same
 are_same-equivalence = decided are_same are_same-Decides

@@ -1,10 +1,15 @@
-//! The slots of a trunked site: which carriers are up, which slots calls hold, what waits to be sent on each slot, and
-//! which slot is free for the next call.
+//! The slots of a trunked site: which carriers are up, which slots calls hold, which PDUs wait, and which slots are free.
 //!
-//! A carrier has two slots (TS 102 361-1, clause 4.2). Slot 0 of the plan's control carrier is the control slot; each
-//! other slot can carry a call. When a slot is free is this project's profile: its carrier is in the plan and up, no call
-//! holds it, nothing waits for it, and no grant of it waits for the control slot. All the room that a [`Pool`] ever needs
-//! is taken when it is made.
+//! A carrier has two slots (TS 102 361-1, clause 4.2). Slot 0 of the plan's control carrier is the control slot; each other slot
+//! can carry a call. By this project's profile, a slot is free for a call if all of these hold:
+//!
+//! - its carrier is in the plan and up;
+//! - it is not the control slot;
+//! - no call holds it;
+//! - no PDU waits for it;
+//! - no grant of it waits for the control slot.
+//!
+//! A [`Pool`] allocates its memory when it is made, and none later. The calls themselves are in `dmr_calls`.
 #![tactic(auto)]
 
 mod limits;

@@ -1,4 +1,4 @@
-//! The crate's constant is the number of its definitions.
+//! The law that the crate's constant is the number of its definitions.
 
 ghost use Rattle.std.specs.Prelude.{◌≡◌};
 ghost use Rattle.dmr_pool.specs.Limits.{most_pdus_of_a_slot};

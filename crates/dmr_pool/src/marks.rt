@@ -6,21 +6,21 @@ ghost use Rattle.dmr_pool.specs.Marks.{HasNoBit, IsLowestBit, IsPut, has_bit};
 
 use dmr_pdu::Slot;
 
-/// A set of slots: the bit of a slot's place is 1 where the set has the slot.
+/// A set of slots: the bit at a slot's place is 1 if the slot is in the set.
 #[derive(Clone, Copy, Debug, PartialEq, Eq)]
 pub struct Marks {
     bits: u32,
 }
 
 impl Marks {
-    /// No slot.
+    /// The empty set.
     pub fn none() -> Marks
         ensures { HasNoBit result.bits }
     {
         Marks { bits: 0 }
     }
 
-    /// Whether the set has a slot.
+    /// Reports whether a slot is in the set.
     pub fn has(&self, slot: &Slot) -> bool
         ensures value { result ≡ has_bit self.now.bits (place slot.now) }
         ensures numbers { IsSlot slot.now }
@@ -28,7 +28,7 @@ impl Marks {
         self.bits >> slot.index() & 1 == 1
     }
 
-    /// From now on the set has a slot, or has it not.
+    /// Adds a slot to the set or removes it.
     pub fn put(&mut self, slot: &Slot, is_in: bool)
         ensures bits { IsPut self.old.bits self.new.bits (place slot.now) is_in }
         ensures numbers { IsSlot slot.now }
@@ -41,7 +41,7 @@ impl Marks {
         }
     }
 
-    /// The slot of the lowest bit; `None` where the set is empty.
+    /// The slot of the lowest bit; `None` if the set is empty.
     pub fn lowest(&self) -> Option<Slot>
         ensures { MatchOption result (HasNoBit self.now.bits) (IsLowestBit self.now.bits) }
     {

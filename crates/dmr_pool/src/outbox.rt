@@ -1,4 +1,4 @@
-//! What waits to be sent on a slot.
+//! The outbox of a slot: the PDUs that wait for it.
 
 ghost use Rattle.std.specs.Prelude.{◌≡◌, ◌≤◌, ◌<◌, ◌+◌, ◌∷◌, ◌++◌, ◌&&◌, [], length, drop, slice_get, IfOk};
 ghost use Rattle.dmr_pool.specs.declared.outbox.TheConstants.{MOST_PDUS_OF_A_SLOT};
@@ -12,7 +12,7 @@ use std::marker::Model;
 /// The most PDUs that wait for a slot: 64, by this project's profile.
 pub const MOST_PDUS_OF_A_SLOT: usize = 64;
 
-/// The PDUs that wait for a slot, at most 64. Contracts see it as the list of them, the oldest first.
+/// The PDUs that wait for a slot, at most `MOST_PDUS_OF_A_SLOT`. Contracts see a list, oldest first.
 #[derive(Drop)]
 pub struct Outbox {
     waiting: HeapCircularBuffer<Pdu>,
@@ -31,7 +31,7 @@ impl Model for Outbox {
 }
 
 impl Outbox {
-    /// An outbox in which nothing waits, with room for 64 PDUs. `Err` where there is no memory for that.
+    /// Makes an empty outbox, and allocates its memory. Returns `OutOfMemory` if the allocation fails.
     pub fn new(alloc: Global) -> Result<Outbox, OutOfMemory>
         ensures { IfOk result (λ outbox. outbox ≡ []) }
     {
@@ -40,7 +40,7 @@ impl Outbox {
         })
     }
 
-    /// The same PDUs, with room of their own for 64. `Err` where there is no memory for that.
+    /// Makes a copy with memory of its own. Returns `OutOfMemory` if the allocation fails.
     pub fn try_clone(&self, alloc: Global) -> Result<Outbox, OutOfMemory>
         ensures { IfOk result (λ copy. copy ≡ self.now) }
     {
@@ -51,7 +51,7 @@ impl Outbox {
         Ok(Outbox { waiting })
     }
 
-    /// How many PDUs wait: 0 to 64.
+    /// The number of PDUs that wait: 0 to `MOST_PDUS_OF_A_SLOT`.
     pub fn len(&self) -> usize
         ensures value { result ≡ length self.now }
         ensures few { result ≤ MOST_PDUS_OF_A_SLOT }
@@ -66,7 +66,7 @@ impl Outbox {
         self.waiting.front().copied()
     }
 
-    /// Whether two have the same PDU at a place that both have.
+    /// Reports whether two outboxes have the same PDU at a place that both have.
     fn is_same_at(&self, other: &Outbox, index: usize) -> bool
         requires own { index < length self.now }
         requires other { index < length other.now }
@@ -78,7 +78,7 @@ impl Outbox {
         }
     }
 
-    /// Puts a PDU behind those that wait. There must be a place for it.
+    /// Adds a PDU after those that wait. There must be a place for it.
     pub fn push(&mut self, pdu: Pdu)
         requires { length self.old < MOST_PDUS_OF_A_SLOT }
         ensures { self.new ≡ self.old ++ pdu ∷ [] }
@@ -86,7 +86,7 @@ impl Outbox {
         self.waiting.try_push_back(pdu).unwrap();
     }
 
-    /// Takes out the PDU that has waited longest. One must wait.
+    /// Removes the PDU that has waited longest, and returns it. There must be one.
     pub fn take(&mut self) -> Pdu
         requires { 0 < length self.old }
         ensures first { slice_get self.old 0 ≡ Some result }
@@ -95,7 +95,7 @@ impl Outbox {
         self.waiting.pop_front().unwrap()
     }
 
-    /// Takes out all PDUs.
+    /// Removes all PDUs.
     pub fn clear(&mut self)
         ensures { self.new ≡ [] }
     {
@@ -103,7 +103,7 @@ impl Outbox {
     }
 }
 
-/// Equal where the same PDUs wait in the same order.
+/// Two outboxes are equal if the same PDUs wait in the same order.
 impl PartialEq for Outbox {
     ghost use Rattle.std.specs.Cmp.{partial_equiv_from_equiv};
     ghost use Rattle.dmr_pool.specs.Same.{are_same_pdus, are_same_pdus-equivalence};

@@ -1,4 +1,4 @@
-//! What waits to be sent on each slot of a site, and how many grants of each slot wait.
+//! The outboxes of all slots of a site, and the numbers of waiting grants of each slot.
 
 ghost use Rattle.std.specs.Prelude.{◌≡◌, ◌<◌, [], ◌≤◌, length, replicate, slice_get, IfOk};
 ghost use Rattle.std.specs.Cmp.Lexicographic.{pointwise};
@@ -15,11 +15,12 @@ use dmr_plan::Plan;
 use std::alloc::Global;
 use std::marker::Model;
 
-/// How many outboxes a site has: one for each slot of each carrier number.
+/// The outboxes of a site: one for each slot of each carrier number.
 const OUTBOXES: usize = 32;
 
-/// The outboxes of a plan's site. Contracts see it as the plan, and what waits for each slot. For each slot it counts the
-/// grants of it that wait for the control slot.
+/// The outboxes of a plan's site. Contracts see the plan and the PDUs that wait for each slot.
+///
+/// For each slot it counts the grants that name the slot and wait for the control slot.
 #[derive(Drop)]
 pub struct Outboxes {
     plan: Plan,
@@ -37,7 +38,7 @@ impl Model for Outboxes {
     ghost invariant = { λ o. AreOutboxes o.outboxes.items × AreCounted o.plan o.outboxes.items o.grants };
 }
 
-/// Empty outboxes. `Err` where there is no memory for them.
+/// Makes empty outboxes. Returns `OutOfMemory` if they cannot be allocated.
 fn empty_outboxes(alloc: Global) -> Result<Vec<Outbox>, OutOfMemory>
     ensures { IfOk result (λ outboxes. outboxes.items ≡ replicate 32 []) }
 {
@@ -48,7 +49,7 @@ fn empty_outboxes(alloc: Global) -> Result<Vec<Outbox>, OutOfMemory>
     Ok(outboxes)
 }
 
-/// The same outboxes with room of their own. `Err` where there is no memory for that.
+/// Makes copies of outboxes with memory of their own. Returns `OutOfMemory` if they cannot be allocated.
 fn copied_outboxes(alloc: Global, outboxes: &[Outbox]) -> Result<Vec<Outbox>, OutOfMemory>
     ensures { IfOk result (λ copies. copies.items ≡ outboxes.now) }
 {
@@ -60,7 +61,7 @@ fn copied_outboxes(alloc: Global, outboxes: &[Outbox]) -> Result<Vec<Outbox>, Ou
 }
 
 impl Outboxes {
-    /// The outboxes of a plan's site, in which nothing waits. `Err` where there is no memory for them.
+    /// Makes the outboxes of a plan's site, all empty. Returns `OutOfMemory` if they cannot be allocated.
     pub fn new(alloc: Global, plan: &Plan) -> Result<Outboxes, OutOfMemory>
         ensures { IfOk result (λ o. o ≡ record { plan = plan.now; outboxes = replicate 32 [] }) }
     {
@@ -71,7 +72,7 @@ impl Outboxes {
         })
     }
 
-    /// The same plan and waiting PDUs, with room of their own. `Err` where there is no memory for that.
+    /// Makes a copy with memory of its own. Returns `OutOfMemory` if the allocation fails.
     pub fn try_clone(&self, alloc: Global) -> Result<Outboxes, OutOfMemory>
         ensures { IfOk result (λ copy. copy ≡ self.now) }
     {
@@ -96,21 +97,21 @@ impl Outboxes {
         Slot::new(self.plan.control(), SlotNo::new(0))
     }
 
-    /// Whether a slot is the control slot.
+    /// Reports whether a slot is the control slot.
     pub fn is_control(&self, slot: &Slot) -> bool
         ensures { result ≡ is_control self.now.plan slot.now }
     {
         slot.carrier == self.plan.control() && slot.slot.get() == 0
     }
 
-    /// Whether a grant of a slot waits for the control slot.
+    /// Reports whether a grant of a slot waits for the control slot.
     pub fn is_granted(&self, slot: &Slot) -> bool
         ensures { result ≡ is_granted self.now.plan self.now.outboxes slot.now }
     {
         self.grants[slot.index()] > 0
     }
 
-    /// The slot of a number on the plan's carrier of a channel.
+    /// The slot with this number on the plan's carrier with this channel.
     fn slot_tuned(&self, channel: Lpcn, number: SlotNo) -> Option<Slot>
         ensures { result ≡ slot_tuned self.now.plan channel number }
     {
@@ -131,8 +132,8 @@ impl Outboxes {
         }
     }
 
-    /// The slot whose grants are counted anew where a PDU is put into a slot's outbox, or is taken out of it: grants wait for
-    /// the control slot alone.
+    /// The slot whose grant count changes when a PDU is added to a slot's outbox or removed from it. Only grants that wait for the
+    /// control slot count.
     pub fn slot_counted(&self, slot: &Slot, pdu: &Pdu) -> Option<Slot>
         ensures { result ≡ slot_counted self.now.plan slot.now pdu.now }
     {
@@ -143,7 +144,7 @@ impl Outboxes {
         }
     }
 
-    /// Puts a PDU behind those that wait for a slot. There must be a place for it.
+    /// Adds a PDU after those that wait for a slot. There must be a place for it.
     pub fn push(&mut self, slot: &Slot, pdu: &Pdu)
         requires { length (box self.old.outboxes slot.now) < MOST_PDUS_OF_A_SLOT }
         ensures { self.new ≡ record { plan = self.old.plan; outboxes = outboxes_with_pdu self.old.outboxes slot.now pdu.now } }
@@ -156,7 +157,7 @@ impl Outboxes {
         }
     }
 
-    /// Takes out the PDU that has waited longest for a slot.
+    /// Removes the PDU that has waited longest for a slot, which must be `pdu`.
     pub fn take(&mut self, slot: &Slot, pdu: &Pdu)
         requires { slice_get (box self.old.outboxes slot.now) 0 ≡ Some pdu.now }
         ensures { self.new ≡ record { plan = self.old.plan; outboxes = outboxes_after_send self.old.outboxes slot.now } }
@@ -169,7 +170,7 @@ impl Outboxes {
         }
     }
 
-    /// Takes out all PDUs that wait for the slots of a carrier.
+    /// Removes all PDUs that wait for the slots of a carrier.
     pub fn clear(&mut self, carrier: CarrierNo)
         ensures { self.new ≡ record { plan = self.old.plan; outboxes = outboxes_without_carrier self.old.outboxes carrier } }
     {
@@ -188,7 +189,7 @@ impl Outboxes {
         self.outboxes[slot.index()].first()
     }
 
-    /// How many PDUs wait for a slot: 0 to 64.
+    /// The number of PDUs that wait for a slot: 0 to `MOST_PDUS_OF_A_SLOT`.
     pub fn waiting(&self, slot: &Slot) -> usize
         ensures value { result ≡ length (box self.now.outboxes slot.now) }
         ensures few { result ≤ MOST_PDUS_OF_A_SLOT }
@@ -196,14 +197,14 @@ impl Outboxes {
         self.outboxes[slot.index()].len()
     }
 
-    /// Whether the same PDUs wait for each slot.
+    /// Reports whether the same PDUs wait for each slot.
     pub fn is_as(&self, other: &Outboxes) -> bool
         ensures { result ≡ pointwise are_same_pdus self.now.outboxes other.now.outboxes }
     {
         self.outboxes == other.outboxes
     }
 
-    /// Does nothing. A proof learns from it what the outboxes of every site keep.
+    /// Does nothing. A proof calls it to use the invariant of the outboxes of every site.
     pub fn keeps(&self)
         ensures outboxes { AreOutboxes self.now.outboxes }
         ensures plan { IsPlan self.now.plan }

@@ -1,4 +1,4 @@
-//! The carriers that are up, the slots that calls hold, and what waits to be sent on each slot.
+//! The pool: carriers that are up, slots that calls hold, outboxes, and free slots.
 
 ghost use Rattle.std.specs.Prelude.{◌≡◌, ◌<◌, ◌≤◌, ◌↔◌, length, filter, slice_get, slice_set, true, false, IsTrue, IsErr, IfOk, OnOk, OnErr, MatchOption};
 ghost use Rattle.dmr_plan.specs.Carriers.{has_number_in};
@@ -17,12 +17,14 @@ use dmr_plan::Plan;
 use std::alloc::Global;
 use std::marker::Model;
 
-/// There is no place for another PDU: 64 wait for the slot.
+/// No place is left for another PDU: `MOST_PDUS_OF_A_SLOT` wait for the slot.
 #[derive(Clone, Copy, Debug, PartialEq, Eq)]
 pub struct Full;
 
-/// The slots of a plan's site. Contracts see it as the plan, which carriers are up, which slots calls hold, and what waits
-/// for each slot; what they all keep is `AreSlotsOfSite`, which [`Pool::keeps`] tells.
+/// The slots of a plan's site.
+///
+/// Contracts see the plan, the carriers that are up, the slots that calls hold, and the PDUs that wait for each slot. Their
+/// invariant is `AreSlotsOfSite`; a proof gets it from [`Pool::keeps`].
 #[derive(Drop)]
 pub struct Pool {
     up: [bool; 16],
@@ -52,7 +54,7 @@ impl Model for Pool {
     }) };
 }
 
-/// Does nothing. A proof learns from it how many carriers and slots there are.
+/// Does nothing. A proof calls it to use the numbers of carriers and slots.
 fn are_sized(up: &[bool; 16], held: &[bool; 32])
     ensures carriers { length up.now ≡ 16 }
     ensures slots { length held.now ≡ 32 }
@@ -60,8 +62,7 @@ fn are_sized(up: &[bool; 16], held: &[bool; 32])
     let _ = (up[0], held[0]);
 }
 
-/// Whether a slot is free for a call: its carrier is in the plan and up, it is not the control slot, no call holds it, nothing
-/// waits for it, and no grant of it waits for the control slot.
+/// Reports whether a slot is free for a call: the test that [`Pool::is_free`] describes.
 fn is_free(outboxes: &Outboxes, up: &[bool; 16], held: &[bool; 32], slot: &Slot) -> bool
     ensures { result ≡ is_free (record { plan = outboxes.now.plan; up = up.now; held = held.now; outboxes = outboxes.now.outboxes }) slot.now }
 {
@@ -74,7 +75,7 @@ fn is_free(outboxes: &Outboxes, up: &[bool; 16], held: &[bool; 32], slot: &Slot)
         && !outboxes.is_granted(slot)
 }
 
-/// The slots that are free.
+/// The set of the free slots.
 fn all_free(outboxes: &Outboxes, up: &[bool; 16], held: &[bool; 32]) -> Marks
     ensures { AreMarked result.bits (record { plan = outboxes.now.plan; up = up.now; held = held.now; outboxes = outboxes.now.outboxes }) }
 {
@@ -87,8 +88,9 @@ fn all_free(outboxes: &Outboxes, up: &[bool; 16], held: &[bool; 32]) -> Marks
 }
 
 impl Pool {
-    /// The slots of a plan's site on which nothing is up, held or waiting. It takes the room for 64 PDUs in each of the 32
-    /// outboxes; `Err` where there is no memory for that.
+    /// Makes the pool of a plan's site: no carrier is up, no slot is held, no PDU waits. It allocates all outboxes.
+    ///
+    /// Returns `OutOfMemory` if the allocation fails.
     pub fn new(alloc: Global, plan: &Plan) -> Result<Pool, OutOfMemory>
         ensures { IfOk result (λ pool. pool ≡ nothing_on plan.now) }
     {
@@ -100,8 +102,7 @@ impl Pool {
         })
     }
 
-    /// The same plan, carriers up, held slots and waiting PDUs, with room of their own. `Err` where there is no memory for
-    /// that.
+    /// Makes a copy with memory of its own. Returns `OutOfMemory` if the allocation fails.
     pub fn try_clone(&self, alloc: Global) -> Result<Pool, OutOfMemory>
         ensures { IfOk result (λ copy. copy ≡ self.now) }
     {
@@ -113,7 +114,7 @@ impl Pool {
         })
     }
 
-    /// Whether a carrier is up.
+    /// Reports whether a carrier is up.
     pub fn is_up(&self, carrier: CarrierNo) -> bool
         ensures { result ≡ is_up self.now.up carrier }
     {
@@ -121,14 +122,14 @@ impl Pool {
         self.up[number]
     }
 
-    /// How many carriers are up: 0 to 16.
+    /// The number of carriers that are up: 0 to 16.
     pub fn carriers_up(&self) -> usize
         ensures { result ≡ length (filter (λ up. up) self.now.up) }
     {
         self.up.iter().filter(|up| **up).count()
     }
 
-    /// A carrier of the plan comes up. Its slots are released, and what waited for them is gone.
+    /// Marks a carrier of the plan as up. Its slots are released, and its outboxes emptied.
     pub fn up(&mut self, carrier: CarrierNo)
         requires { IsTrue (has_number_in self.old.plan.carriers carrier) }
         ensures { self.new ≡ record self.old {
@@ -140,7 +141,7 @@ impl Pool {
         self.turn(carrier, true);
     }
 
-    /// A carrier is lost, or was not up. Its slots are released, and what waited for them is gone.
+    /// Marks a carrier as not up. Its slots are released, and its outboxes emptied.
     pub fn lost(&mut self, carrier: CarrierNo)
         ensures { self.new ≡ record self.old {
           up = slice_set self.old.up carrier false;
@@ -151,7 +152,7 @@ impl Pool {
         self.turn(carrier, false);
     }
 
-    /// Releases the slots of a carrier, and takes out all that waits for them. It stays up, or not, as it was.
+    /// Releases the slots of a carrier and empties its outboxes. Whether it is up does not change.
     pub fn empty(&mut self, carrier: CarrierNo)
         ensures { self.new ≡ record self.old {
           held = held_without_carrier self.old.held carrier;
@@ -162,7 +163,7 @@ impl Pool {
         self.turn(carrier, is_up);
     }
 
-    /// A carrier is up from now on, or not. Its slots are released, and what waited for them is gone.
+    /// Marks a carrier as up or not. Its slots are released, and its outboxes emptied.
     fn turn(&mut self, carrier: CarrierNo, is_up: bool)
         ensures { self.new ≡ record self.old {
           up = slice_set self.old.up carrier is_up;
@@ -178,17 +179,19 @@ impl Pool {
         self.free = all_free(&self.outboxes, &self.up, &self.held);
     }
 
-    /// The free slot of the lowest carrier number, and of that carrier the lowest slot number; `None` where no slot is free.
+    /// The lowest free slot, by carrier number, then slot number; `None` if no slot is free.
     pub fn free_slot(&self) -> Option<Slot>
         ensures gives { result ≡ lowest_free self.now }
-        // It is free, and none before it is; without one, none is.
+        // If there is one, no slot before it is free; without one, none is.
         ensures lowest { MatchOption result (HasNoFreeSlot self.now) (IsLowestFree self.now) }
     {
         self.free.lowest()
     }
 
-    /// Whether a slot is free for a call: its carrier is in the plan and up, it is not the control slot, no call holds it,
-    /// nothing waits for it, and no grant of it waits for the control slot.
+    /// Reports whether a slot is free for a call.
+    ///
+    /// The slot's carrier must be in the plan and up, and the slot must not be the control slot. No call holds it, no PDU waits for
+    /// it, and no grant of it waits for the control slot.
     pub fn is_free(&self, slot: Slot) -> bool
         ensures { result ≡ is_free self.now slot }
     {
@@ -202,14 +205,14 @@ impl Pool {
         self.outboxes.control_slot()
     }
 
-    /// Whether a slot is the control slot.
+    /// Reports whether a slot is the control slot.
     pub fn is_control(&self, slot: Slot) -> bool
         ensures { result ≡ is_control self.now.plan slot }
     {
         self.outboxes.is_control(&slot)
     }
 
-    /// A call takes a slot, which must be free: it is held from now on.
+    /// Marks a slot as held by a call. It must be free.
     pub fn hold(&mut self, slot: Slot)
         requires { IsTrue (is_free self.old slot) }
         ensures { self.new ≡ record self.old { held = slice_set self.old.held (place slot) true } }
@@ -218,7 +221,7 @@ impl Pool {
         self.free.put(&slot, false);
     }
 
-    /// No call holds a slot any longer. One that none holds stays as it is.
+    /// Marks a slot as not held. If no call held it, nothing changes.
     pub fn release(&mut self, slot: Slot)
         ensures { self.new ≡ record self.old { held = slice_set self.old.held (place slot) false } }
     {
@@ -227,8 +230,9 @@ impl Pool {
         self.free.put(&slot, is_idle);
     }
 
-    /// Puts a PDU behind those that wait for a slot, whose carrier must be up. `Err` says that 64 wait, and then nothing is
-    /// changed.
+    /// Adds a PDU after those that wait for a slot, whose carrier must be up.
+    ///
+    /// If `MOST_PDUS_OF_A_SLOT` PDUs wait, returns `Full` and changes nothing.
     pub fn push(&mut self, slot: Slot, pdu: Pdu) -> Result<(), Full>
         requires { IsTrue (is_up self.old.up slot.carrier) }
         ensures full { IsErr result ↔ (length (box self.old.outboxes slot) ≡ MOST_PDUS_OF_A_SLOT) }
@@ -242,7 +246,7 @@ impl Pool {
         Ok(())
     }
 
-    /// Puts a PDU behind those that wait for a slot. There must be a place for it.
+    /// Adds a PDU after those that wait for a slot. There must be a place for it.
     pub fn put(&mut self, slot: &Slot, pdu: &Pdu)
         requires { length (box self.old.outboxes slot.now) < MOST_PDUS_OF_A_SLOT }
         ensures { self.new ≡ record self.old { outboxes = outboxes_with_pdu self.old.outboxes slot.now pdu.now } }
@@ -255,7 +259,7 @@ impl Pool {
         }
     }
 
-    /// Takes out the PDU that has waited longest for a slot, if one waits.
+    /// Removes the PDU that has waited longest for a slot, if there is one, and returns it.
     pub fn take(&mut self, slot: Slot) -> Option<Pdu>
         ensures first { result ≡ slice_get (box self.old.outboxes slot) 0 }
         ensures rest { self.new ≡ record self.old { outboxes = outboxes_after_send self.old.outboxes slot } }
@@ -265,7 +269,7 @@ impl Pool {
         Some(pdu)
     }
 
-    /// Takes out the PDU that has waited longest for a slot, which must be this one.
+    /// Removes the PDU that has waited longest for a slot, which must be `pdu`.
     pub fn take_first(&mut self, slot: &Slot, pdu: &Pdu)
         requires { slice_get (box self.old.outboxes slot.now) 0 ≡ Some pdu.now }
         ensures { self.new ≡ record self.old { outboxes = outboxes_after_send self.old.outboxes slot.now } }
@@ -287,7 +291,7 @@ impl Pool {
         self.outboxes.first(&slot)
     }
 
-    /// How many PDUs wait for a slot: 0 to 64.
+    /// The number of PDUs that wait for a slot: 0 to `MOST_PDUS_OF_A_SLOT`.
     pub fn waiting(&self, slot: Slot) -> usize
         ensures value { result ≡ length (box self.now.outboxes slot) }
         ensures few { result ≤ MOST_PDUS_OF_A_SLOT }
@@ -295,7 +299,7 @@ impl Pool {
         self.outboxes.waiting(&slot)
     }
 
-    /// Whether two have the same plan, and the same stands on their slots.
+    /// Reports whether two pools have the same plan, carriers up, held slots and waiting PDUs.
     fn is(&self, other: &Pool) -> bool
         ensures { result ≡ are_same self.now other.now }
     {
@@ -305,14 +309,14 @@ impl Pool {
             && self.outboxes.is_as(&other.outboxes)
     }
 
-    /// Whether the same carriers are up, and the same PDUs wait for each slot, whatever calls hold.
+    /// Reports whether the same carriers are up and the same PDUs wait for each slot. Held slots are not compared.
     pub fn is_as(&self, other: &Pool) -> bool
         ensures { result ≡ are_alike self.now other.now }
     {
         self.up == other.up && self.outboxes.is_as(&other.outboxes)
     }
 
-    /// Does nothing. A proof learns from it what the slots of every site keep.
+    /// Does nothing. A proof calls it to use the invariant of the slots of every site.
     pub fn keeps(&self)
         ensures { AreSlotsOfSite self.now }
     {
@@ -321,8 +325,8 @@ impl Pool {
     }
 }
 
-/// Two are equal where they have the same plan, the same carriers up, the same slots held, and the same PDUs waiting for
-/// each slot in the same order.
+/// Two pools are equal if they have the same plan, the same carriers up, the same slots held, and the same PDUs waiting for each
+/// slot in the same order.
 impl PartialEq for Pool {
     ghost use Rattle.std.specs.Cmp.{partial_equiv_from_equiv};
     ghost use Rattle.dmr_pool.specs.Same.{are_same, are_same-equivalence};

@@ -1,4 +1,4 @@
-//! Calls of the plan, the site and what it stands on, and of the port in memory.
+//! Calls of the plan, of the site and its parts, and of the port in memory.
 
 use crate::verdict::{Verdict, is_made, verdict_if, verdict_of_copy};
 use dmr_access::Access;
@@ -15,12 +15,12 @@ use std::alloc::Global;
 const SITE: &str =
     "system = 0x1234\nregi = 0xFFFEC6\ntsi = 0xFFFECA\nleave_bit = 0\nhang = 100\nmaximum = 3000\nahoy_wait = 8\nahoy_tries = 3\ngrant_copies = 1\nclear_copies = 1\nbackoff_low = 1\nbackoff_high = 8\ntick_ms = 60\nsilence = 100\nconsole_port = 7100\nradios = [[1000, 1999]]\ngroups = [91, 92, 93, 94]\ncontrol = 0\n[[carrier]]\nnumber = 0\nlpcn = 1\nport = 7101\n[[carrier]]\nnumber = 1\nlpcn = 2\nport = 7102\n";
 
-/// The plan of that site.
+/// Returns the plan of that site.
 pub fn plan(alloc: Global) -> Option<Plan> {
     Plan::read(alloc, SITE).ok()
 }
 
-/// The control slot.
+/// Returns the control slot.
 fn control_slot() -> Slot {
     Slot {
         carrier: CarrierNo::new(0),
@@ -28,13 +28,13 @@ fn control_slot() -> Slot {
     }
 }
 
-/// The registration of radio 1001, and its call of talkgroup 91.
+/// The registration of radio 1001, and its call to talkgroup 91.
 const REQUESTS: [[u8; 10]; 2] = [
     *b"\x9F\x00\x02\x0E\xFF\xFE\xC6\x00\x03\xE9",
     *b"\x9F\x00\x00\x01\x00\x00\x5B\x00\x03\xE9",
 ];
 
-/// A site on which radio 1001 is registered and calls.
+/// Returns a site on which radio 1001 is registered and calls.
 pub fn busy_site(alloc: Global) -> Option<Site> {
     let mut site = Site::new(alloc, plan(alloc)?).ok()?;
     site.apply(Event::Up(CarrierNo::new(0)));
@@ -44,7 +44,7 @@ pub fn busy_site(alloc: Global) -> Option<Site> {
     Some(site)
 }
 
-/// Whether two sites are equal, answer some events alike, and are equal then. They go then.
+/// Returns whether two sites are equal, answer some events in the same way, and are equal afterwards. Drops both.
 pub fn go_on_alike(mut site: Site, mut other: Site) -> bool {
     let mut alike = site == other;
     let carrier = CarrierNo::new(0);
@@ -78,7 +78,7 @@ pub fn new_site(alloc: Global) -> Verdict {
     verdict_if(is_made(Site::new(alloc, plan)), Verdict::Refused)
 }
 
-/// Two registered radios.
+/// Returns a registry with two radios.
 fn registry(alloc: Global) -> Option<Registry> {
     let mut registry = Registry::new(alloc).ok()?;
     registry.join(Address::new(1002)).ok()?;
@@ -86,7 +86,7 @@ fn registry(alloc: Global) -> Option<Registry> {
     Some(registry)
 }
 
-/// Copies registered radios.
+/// Copies a registry.
 pub fn clone_registry(alloc: Global) -> Verdict {
     let Some((registry, other)) = registry(alloc).zip(registry(alloc)) else {
         return Verdict::NotTried;
@@ -94,7 +94,7 @@ pub fn clone_registry(alloc: Global) -> Verdict {
     verdict_of_copy(registry.try_clone(alloc), registry, other)
 }
 
-/// A disturbed control slot.
+/// Returns the access of a site after noise on the control slot.
 fn access(alloc: Global) -> Option<Access> {
     let mut access = Access::new(alloc, &plan(alloc)?).ok()?;
     access.reset();
@@ -103,7 +103,7 @@ fn access(alloc: Global) -> Option<Access> {
     Some(access)
 }
 
-/// Copies the noise window.
+/// Copies the access with its noise window.
 pub fn clone_access(alloc: Global) -> Verdict {
     let Some((access, other)) = access(alloc).zip(access(alloc)) else {
         return Verdict::NotTried;
@@ -111,7 +111,7 @@ pub fn clone_access(alloc: Global) -> Verdict {
     verdict_of_copy(access.try_clone(alloc), access, other)
 }
 
-/// The slots of a site whose carrier 0 is up, and for which a PDU waits.
+/// Returns the slots of a site whose carrier 0 is up, with a PDU that waits.
 fn pool(alloc: Global) -> Option<Pool> {
     let plan = plan(alloc)?;
     let mut pool = Pool::new(alloc, &plan).ok()?;
@@ -133,7 +133,7 @@ pub fn clone_pool(alloc: Global) -> Verdict {
     verdict_of_copy(pool.try_clone(alloc), pool, other)
 }
 
-/// A line.
+/// Returns lists with one line.
 fn calls(alloc: Global) -> Option<Calls> {
     let mut calls = Calls::new(alloc).ok()?;
     let line = Line {
@@ -167,7 +167,7 @@ pub fn clone_site(alloc: Global) -> Verdict {
     }
 }
 
-/// The steps of a port.
+/// Returns the steps of a port.
 fn steps(alloc: Global) -> Option<Vec<Step>> {
     let octets = b"\x03\x00".to_vec(alloc).ok()?;
     let mut steps = Vec::with_capacity(alloc, 3).ok()?;
@@ -177,7 +177,7 @@ fn steps(alloc: Global) -> Option<Vec<Step>> {
     Some(steps)
 }
 
-/// Makes a port in memory, which hands its steps back where it is refused.
+/// Makes a port in memory. It returns its steps if memory is refused.
 pub fn new_port(alloc: Global) -> Verdict {
     let Some((given, other)) = steps(alloc).zip(steps(alloc)) else {
         return Verdict::NotTried;

@@ -1,4 +1,4 @@
-//! Calls of the book and the shared desk, which hand their site back where they are refused.
+//! Calls of the book and the shared desk. Both return their site if memory is refused.
 
 ghost use Rattle.std.specs.Prelude.{◌≡◌};
 
@@ -46,7 +46,7 @@ pub fn open_desk(alloc: Global) -> Verdict {
     }
 }
 
-/// Why a desk is not opened, and its site.
+/// Returns why a desk is not opened, and its site.
 fn refused<L: DeskLedger>(alloc: Global, blank: Blank, site: Site) -> Option<(OpenFault, Site)>
     requires name { blank.name ≡ L.name }
     requires parts { blank.parts ≡ L.parts }

@@ -1,9 +1,9 @@
-//! Makes each public call of the controller's libraries that takes memory once, and says what it answered: `done`, `refused`, or
-//! `not tried` where there was no memory to get so far.
+//! Makes each public call of the controller's libraries that takes memory once, and prints its verdict: `done`,
+//! `refused`, or `not tried` if there was no memory for its preparation.
 //!
-//! `trials/refuse-memory` runs it again and again and refuses another allocation each time. A call that is refused has to answer so by
-//! the name that it has for it, and to leave what it promises: what it was handed, or what it was called on, goes on as before. Where
-//! it does not, `wrong` is said, and the exit status is 1.
+//! `trials/refuse-memory` runs the program again and again, and refuses another allocation each time. A refused call
+//! has to return its error for that, and to keep its promise: the values that it was given or called on work as before.
+//! If it does not, the program prints `wrong` and its exit status is 1.
 #![tactic(auto)]
 
 mod calls;

@@ -1,4 +1,4 @@
-//! Calls of the engine: a story of two carriers and an operator.
+//! Calls of the engine, with a story of two carriers and an operator.
 
 use crate::calls::plan;
 use crate::verdict::{Verdict, is_made, verdict_if};
@@ -30,8 +30,8 @@ const SECOND_CALLS: &[u8] = &[
     0x03, 0x2E, 0x04, 0x3C, 0x84, 0xD2, 0x00, 0x49, 0x02, 0x10, 0x11, 0x30, 0x03, 0x00,
 ];
 
-/// What is put out for carrier 0: WELCOME; then a TX and DONE for each POLL: two acknowledgements A00000C4, the grant B1000018 and the late
-/// grant B100001C.
+/// The octets for carrier 0: WELCOME, then a TX and DONE for each POLL. The TX have two acknowledgements A00000C4, the
+/// grant B1000018 and the late grant B100001C.
 const PUT_OUT: &[u8] = &[
     0x81, 0x01, 0x01, 0x82, 0x1A, 0x00, 0x41, 0xC3, 0x02, 0x8A, 0x48, 0xFC, 0x8F, 0x40, 0x3D, 0xC0,
     0x6F, 0x00, 0xED, 0xA0, 0xF7, 0x83, 0xE4, 0x97, 0x54, 0x2E, 0x40, 0x5C, 0xB8, 0x3C, 0xB0, 0x83,
@@ -43,10 +43,11 @@ const PUT_OUT: &[u8] = &[
     0x26, 0x84, 0xB6, 0x20, 0x54, 0x42, 0xCA, 0x92, 0xE0, 0x83, 0x00,
 ];
 
-/// What the operator is told.
+/// The octets for the operator.
 const TOLD: &[u8] = b"status carriers 2 radios 2 asks 0 lines 0 calls 1 fill aloha\n";
 
-/// Both carriers come up, radios 1001 and 1002 are registered and call talkgroup 91, each polled, and an operator asks.
+/// Returns the story. Both carriers come up. Radios 1001 and 1002 register and call talkgroup 91, with a poll after
+/// each request. Then an operator asks for the status.
 fn story() -> [Input<'static>; 9] {
     let carrier = CarrierNo::new(0);
     let other = CarrierNo::new(1);
@@ -63,7 +64,7 @@ fn story() -> [Input<'static>; 9] {
     ]
 }
 
-/// An engine that has just begun.
+/// Returns a new engine.
 fn engine(alloc: Global) -> Option<Engine> {
     Engine::new(alloc, plan(alloc)?).ok()
 }
@@ -79,8 +80,8 @@ pub fn new_engine(alloc: Global) -> Verdict {
     verdict_if(is_made(Engine::new(alloc, plan)), Verdict::Refused)
 }
 
-/// Runs an engine over the story. Where it is refused, it has put out what the inputs that it took put out, and the others on the
-/// same engine give the rest.
+/// Runs an engine over the story. If memory is refused, the outputs are those of the inputs that the engine took, and
+/// the remaining inputs on the same engine yield the rest.
 pub fn run_engine(alloc: Global) -> Verdict {
     let Some((mut engine, other)) = engine(alloc).zip(engine(alloc)) else {
         return Verdict::NotTried;
@@ -102,14 +103,14 @@ pub fn run_engine(alloc: Global) -> Verdict {
     }
 }
 
-/// What an engine puts out that takes these inputs and goes then; None where it is refused.
+/// Returns the outputs of an engine for these inputs, and drops the engine. Returns `None` if memory is refused.
 fn run_to_end(alloc: Global, mut engine: Engine, inputs: &[Input<'_>]) -> Option<Outputs> {
     let run = engine.run(alloc, inputs);
     drop(engine);
     run.ok()
 }
 
-/// Whether an engine that takes these inputs puts out the same.
+/// Returns whether an engine writes the same outputs for these inputs.
 fn puts_out(alloc: Global, engine: Engine, inputs: &[Input<'_>], outputs: &Outputs) -> bool {
     match run_to_end(alloc, engine, inputs) {
         Some(others) => {
@@ -122,7 +123,7 @@ fn puts_out(alloc: Global, engine: Engine, inputs: &[Input<'_>], outputs: &Outpu
     }
 }
 
-/// Whether an engine that takes these inputs puts out what these outputs lack.
+/// Returns whether an engine writes the rest of these outputs for these inputs.
 fn gives_the_rest(alloc: Global, engine: Engine, inputs: &[Input<'_>], outputs: &Outputs) -> bool {
     match run_to_end(alloc, engine, inputs) {
         Some(rest) => are_whole(outputs, &rest),
@@ -130,7 +131,7 @@ fn gives_the_rest(alloc: Global, engine: Engine, inputs: &[Input<'_>], outputs: 
     }
 }
 
-/// Whether outputs and others behind them are all that is to be put out.
+/// Returns whether outputs and later ones are together the outputs of the whole story.
 fn are_whole(first: &Outputs, rest: &Outputs) -> bool {
     let (carrier, other) = (CarrierNo::new(0), CarrierNo::new(1));
     joins(first.carrier(carrier), rest.carrier(carrier), PUT_OUT)
@@ -138,7 +139,7 @@ fn are_whole(first: &Outputs, rest: &Outputs) -> bool {
         && joins(first.console(), rest.console(), TOLD)
 }
 
-/// Whether octets and others behind them are a whole.
+/// Returns whether octets and later ones are together a whole.
 fn joins(first: &[u8], rest: &[u8], whole: &[u8]) -> bool {
     whole.starts_with(first) && whole.get(first.len()..) == Some(rest)
 }

@@ -1,22 +1,22 @@
-//! What a call answered.
+//! Verdicts on calls.
 
 use dmr_pdu::OutOfMemory;
 
-/// What a call answered.
+/// The verdict on a call.
 #[derive(Clone, Copy, Debug, PartialEq, Eq)]
 pub enum Verdict {
-    /// It did what it is for.
+    /// The call did its work.
     Done,
-    /// It was refused memory, said so by its name, and left what it promises.
+    /// Memory was refused; the call returned its error for that and kept its promise.
     Refused,
-    /// There was no memory to make what it is called on.
+    /// There was no memory to make the value that it is called on.
     NotTried,
-    /// Something else.
+    /// Anything else.
     Wrong,
 }
 
 impl Verdict {
-    /// Its words.
+    /// Returns the words for the verdict.
     pub fn words(self) -> &'static str {
         match self {
             Verdict::Done => "done",
@@ -27,17 +27,18 @@ impl Verdict {
     }
 }
 
-/// This verdict where all is as it should be.
+/// Returns this verdict if everything is right, otherwise `Wrong`.
 pub fn verdict_if(right: bool, verdict: Verdict) -> Verdict {
     if right { verdict } else { Verdict::Wrong }
 }
 
-/// Whether something was made. It goes then.
+/// Returns whether something was made, and drops it.
 pub fn is_made<T: Drop>(made: Result<T, OutOfMemory>) -> bool {
     made.is_ok()
 }
 
-/// What comes of copying something: the copy equals what was made alike; where it is refused, what was to be copied still does.
+/// Returns the verdict on a copy. The copy has to equal `alike`, which was made in the same way; if the copy was
+/// refused, the original still has to equal it.
 pub fn verdict_of_copy<T: PartialEq + Drop>(
     copy: Result<T, OutOfMemory>,
     copied: T,

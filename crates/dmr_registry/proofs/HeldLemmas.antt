@@ -1,4 +1,4 @@
--- What a table of radios says of those that are registered.
+-- A table of radios, and the radios that are registered.
 use Rattle.std.proofs.Common.{arith, ◌≡◌, ℕ, zero, suc, ◌<◌, ◌≤◌, List, [], ◌∷◌, length, Bool, true, false, Option, Some, None, refl, ap, eqb-true, eq-eqb}
 use Rattle.std.specs.Prelude.{◌==◌, ◌||◌, MatchOption}
 use mathlib.Core.Bool.{false≢true}
@@ -18,7 +18,7 @@ held_contains (r ∷ radios) radio held = by_first (r == radio) refl (held_conta
     by_first true same more held = (0, omega arith, eqb-true r radio same)
     by_first false other more held = let there = more held in (suc there.0, omega (arith, there.1), there.2)
 
--- and the other way round
+-- a radio among the radios is registered
 pub contains_held : (radios : List ℕ) (radio : ℕ) → Contains radios radio → is_registered_in radios radio ≡ true
 contains_held [] radio there = absurd (omega (arith, there.1))
 contains_held (r ∷ radios) radio (zero, within, same) = ap (λ b. b || is_registered_in radios radio) (eq-eqb r radio same)
@@ -28,7 +28,7 @@ contains_held (r ∷ radios) radio (suc k, within, same) = either (r == radio) (
     either true held = refl
     either false held = held
 
--- a list in which there is nothing is empty
+-- a list without elements is empty
 nothing_in : (radios : List ℕ) → ((radio : ℕ) → ¬ Contains radios radio) → length radios ≡ 0
 nothing_in [] none = refl
 nothing_in (r ∷ radios) none = absurd (none r (0, omega arith, refl))

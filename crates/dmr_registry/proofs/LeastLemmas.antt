@@ -1,4 +1,4 @@
--- How the least registered radios are found, one after the other.
+-- The search for the least registered radios, one after the other.
 use Rattle.std.proofs.Common.{arith, ◌≡◌, ℕ, ◌+◌, ◌<◌, ◌≤◌, List, [], ◌∷◌, ◌++◌, length, ◌⊎◌, inl, inr, subst, sym, ◌∙◌, true, nat_eq, nat_le, eqb-true, leb-true}
 use Rattle.std.proofs.lemmas.List.Elements.{All-nil, All-push, All-weaker, All-contains, Contains-push, Contains-append_left, filter_passes}
 use Rattle.std.proofs.lemmas.Bool.{cases_lt, le-leb}
@@ -16,7 +16,7 @@ pub record AreAllBelow (radios : List ℕ) (from next : ℕ) (found : List ℕ) 
   pub below : All (λ r. r < next) found
   pub others : (radio : ℕ) → IsHeldFrom radios from radio → radio < next → Contains found radio
 
--- at first there are none
+-- at first none is found
 pub none_below : (radios : List ℕ) (from : ℕ) → AreAllBelow radios from from []
 none_below radios from = record {
   reached = omega arith;
@@ -33,7 +33,7 @@ with_next radios found from next least radio all is_least held below (inr after)
     let same : least ≡ radio = omega (arith, is_least radio (held.0, after)) in
     subst (λ r. Contains (found ++ least ∷ []) r) same (Contains-push found least)
 
--- with the least from there on, they are all up to behind it
+-- with the least from there on, those found are all up to the number after it
 pub one_more : (radios found : List ℕ) (from next least : ℕ) → AreAllBelow radios from next found → IsHeldFrom radios next least → ((r : ℕ) → IsHeldFrom radios next r → least ≤ r) → AreAllBelow radios from (least + 1) (found ++ least ∷ [])
 one_more radios found from next least all held is_least = record {
   reached = omega (arith, held.1, all.reached);
@@ -43,7 +43,7 @@ one_more radios found from next least all held is_least = record {
   others = λ radio from_there below. with_next radios found from next least radio all is_least from_there below (cases_lt radio next);
 }
 
--- where no radio is left, they are all
+-- if no radio is left, those found are all
 pub all_found : (radios found : List ℕ) (from next : ℕ) → AreAllBelow radios from next found → length found ≤ 16 → ((r : ℕ) → ¬ IsHeldFrom radios next r) → AreLeast radios from found
 all_found radios found from next all few none = record {
   ascending = all.ascending;
@@ -74,17 +74,17 @@ pub held_from-contains : (radios : List ℕ) (from radio : ℕ) → IsHeldFrom r
 held_from-contains radios from radio held =
     Contains-from_any eqb-true radio (held_from radios from) (found_among radios from radio held.1 ∙ list_any-from_Contains nat_eq_equiv radio radios held.0)
 
--- and each of those is
+-- each of those is a registered radio from the number on
 pub held_from-held : (radios : List ℕ) (from radio : ℕ) → Contains (held_from radios from) radio → IsHeldFrom radios from radio
 held_from-held radios from radio held =
     let passes : nat_le from radio ≡ true = All-contains (λ r. nat_le from r ≡ true) (held_from radios from) radio (filter_passes (λ r. nat_le from r) radios) held in
     let from_there : from ≤ radio = leb-true from radio passes in
     (Contains-from_any eqb-true radio radios (sym (found_among radios from radio from_there) ∙ list_any-from_Contains nat_eq_equiv radio (held_from radios from) held), from_there)
 
--- where none is left from there on, they are all
+-- if none is left from there on, those found are all
 pub none_left : (radios found : List ℕ) (from next : ℕ) → AreAllBelow radios from next found → length found ≤ 16 → length (held_from radios next) ≡ 0 → AreLeast radios from found
 none_left radios found from next all few none = all_found radios found from next all few (λ r held. absurd (omega (arith, none, (held_from-contains radios next r held).1)))
 
--- with the least of those that are left they are all up to behind it
+-- with the least of those left, those found are all up to the number after it
 pub one_more_found : (radios found : List ℕ) (from next least : ℕ) → AreAllBelow radios from next found → Contains (held_from radios next) least → All (λ radio. least ≤ radio) (held_from radios next) → AreAllBelow radios from (least + 1) (found ++ least ∷ [])
 one_more_found radios found from next least all held is_least = one_more radios found from next least all (held_from-held radios next least held) (λ r there. All-contains (λ radio. least ≤ radio) (held_from radios next) r is_least (held_from-contains radios next r there))

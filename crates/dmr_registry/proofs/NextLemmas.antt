@@ -29,7 +29,7 @@ is_least n (k ∷ ns) =
     let m : ℕ = option_map_or (λ (j : ℕ). min k j) (least_of ns) k in
     lesser n m (k ∷ ns) (is_least k ns) (cases_lt m n)
 
--- what is one of the numbers and above none is the least of them
+-- a number of the list that is above none of it is the least
 pub least_found : (numbers : List ℕ) (found : Option ℕ) → MatchOption found (length numbers ≡ 0) (λ least. Contains numbers least × All (λ n. least ≤ n) numbers) → found ≡ least_of numbers
 least_found [] None h = refl
 least_found (n ∷ ns) None h = absurd (omega (arith, h))
@@ -53,11 +53,11 @@ pub none_next : (radios listed : List ℕ) (next left : ℕ) → None ≡ least_
 none_next radios listed next zero none = sym (append-nil listed)
 none_next radios listed next (suc left) none = sym (append-nil listed) ∙ ap (λ (o : Option ℕ). listed ++ option_map_or (λ (r : ℕ). r ∷ next_from left radios (r + 1)) o []) none
 
--- at first there are none, and 16 may come
+-- at first none is found, and 16 may follow
 pub at_first : (radios listed : List ℕ) (from : ℕ) → listed ≡ [] → listed ++ next_from (16 - length listed) radios from ≡ least_from radios from
 unfolding least_from
 at_first radios listed from none = ap (λ (ns : List ℕ). ns ++ next_from (16 - length ns) radios from) none
 
--- none is left to come
+-- none is left to follow
 pub enough : (radios listed : List ℕ) (next left : ℕ) → left ≡ 0 → listed ≡ listed ++ next_from left radios next
 enough radios listed next left none = sym (append-nil listed) ∙ ap (λ (k : ℕ). listed ++ next_from k radios next) (sym none)

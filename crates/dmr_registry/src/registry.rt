@@ -1,4 +1,4 @@
-//! The set of registered radios, in the order of joining.
+//! The set of registered radios, in the order in which they joined.
 
 ghost use Rattle.std.specs.Prelude.{◌≡◌, ℕ, ◌≤◌, ◌<◌, ◌↔◌, [], ◌∷◌, ◌++◌, length, false, IsTrue, IfOk, MatchOption, nat_eq};
 ghost use Rattle.std.specs.List.{All, Contains};
@@ -15,12 +15,12 @@ use std::marker::Model;
 /// The most radios that can be registered at a time: 4,096, by this project's profile.
 pub const MOST_RADIOS: usize = 4096;
 
-/// There is no place for another radio: 4,096 others are registered.
+/// No place is left for another radio: `MOST_RADIOS` others are registered.
 #[derive(Clone, Copy, Debug, PartialEq, Eq)]
 pub struct Full;
 
-/// The registered radios: at most 4,096, none of them twice, in the order in which they joined. Contracts see it as the
-/// list of their addresses, the one that joined first in front.
+/// The registered radios: at most `MOST_RADIOS`, none of them twice. Contracts see a list of addresses, in the order in which they
+/// joined.
 #[derive(Drop)]
 pub struct Registry {
     radios: KeyedTable<Address, MOST_RADIOS>,
@@ -39,7 +39,7 @@ impl Model for Registry {
 }
 
 impl Registry {
-    /// A registry without radios. It takes the room for 4,096 of them; `Err` where there is no memory for that.
+    /// Makes an empty registry, and allocates the memory for `MOST_RADIOS`. Returns `OutOfMemory` if the allocation fails.
     pub fn new(alloc: Global) -> Result<Registry, OutOfMemory>
         ensures { IfOk result (λ registry. registry ≡ []) }
     {
@@ -48,7 +48,7 @@ impl Registry {
         })
     }
 
-    /// The same radios in the same order, with room of their own for 4,096. `Err` where there is no memory for that.
+    /// Makes a copy with memory of its own. Returns `OutOfMemory` if the allocation fails.
     pub fn try_clone(&self, alloc: Global) -> Result<Registry, OutOfMemory>
         ensures { IfOk result (λ copy. copy ≡ self.now) }
     {
@@ -57,7 +57,7 @@ impl Registry {
         })
     }
 
-    /// How many radios are registered: 0 to 4,096.
+    /// The number of registered radios: 0 to `MOST_RADIOS`.
     pub fn len(&self) -> usize
         ensures value { result ≡ length self.now }
         ensures few { result ≤ MOST_RADIOS }
@@ -65,14 +65,14 @@ impl Registry {
         self.radios.len()
     }
 
-    /// Whether no radio is registered.
+    /// Reports whether no radio is registered.
     pub fn is_empty(&self) -> bool
         ensures { IsTrue result ↔ (self.now ≡ []) }
     {
         self.radios.is_empty()
     }
 
-    /// The registered radios, the one that joined first in front. There are at most 4,096, and none stands twice.
+    /// The registered radios, in the order in which they joined: at most `MOST_RADIOS`, none of them twice.
     pub fn as_slice(&self) -> &[Address]
         ensures value { result.now ≡ self.now }
         ensures few { length self.now ≤ MOST_RADIOS }
@@ -81,7 +81,7 @@ impl Registry {
         self.radios.as_slice()
     }
 
-    /// Whether a radio is registered.
+    /// Reports whether a radio is registered.
     pub fn has(&self, radio: Address) -> bool
         ensures gives { result ≡ is_registered_in self.now radio }
         ensures member { IsTrue result ↔ Contains self.now radio }
@@ -89,8 +89,10 @@ impl Registry {
         self.radios.has(radio.get())
     }
 
-    /// Registers a radio, behind those that are registered: `Ok(true)`. A radio that is registered already keeps its
-    /// place: `Ok(false)`. `Err` says that it isn't, and that 4,096 others are. Only `Ok(true)` changes anything.
+    /// Registers a radio, after those that are registered, and returns `Ok(true)`.
+    ///
+    /// If the radio is registered already, it keeps its place, and the answer is `Ok(false)`. If it is not, and `MOST_RADIOS`
+    /// others are, returns `Full`. Only `Ok(true)` changes anything.
     pub fn join(&mut self, radio: Address) -> Result<bool, Full>
         ensures answer { result ≡ answer_to_join self.old radio }
         ensures radios { self.new ≡ radios_after_join self.old radio }
@@ -105,7 +107,7 @@ impl Registry {
         Ok(true)
     }
 
-    /// Registers a radio that isn't registered, behind those that are. There must be a place for it.
+    /// Registers a radio that is not registered, after those that are. There must be a place for it.
     pub fn add(&mut self, radio: Address)
         requires fresh { is_registered_in self.old radio ≡ false }
         requires room { length self.old < MOST_RADIOS }
@@ -114,7 +116,7 @@ impl Registry {
         self.radios.push(radio);
     }
 
-    /// Takes a radio out, and answers whether it was registered. The others keep their order.
+    /// Removes a radio, and reports whether it was registered. The others keep their order.
     pub fn leave(&mut self, radio: Address) -> bool
         ensures answer { result ≡ is_registered_in self.old radio }
         ensures radios { self.new ≡ without self.old radio }
@@ -124,14 +126,14 @@ impl Registry {
         was_held
     }
 
-    /// Takes a radio out, if it is registered. The others keep their order.
+    /// Removes a radio, if it is registered. The others keep their order.
     pub fn remove(&mut self, radio: Address)
         ensures { self.new ≡ without self.old radio }
     {
         self.radios.remove(radio.get());
     }
 
-    /// The 16 least registered radios from a number on, in ascending order; all of them where there are fewer.
+    /// The 16 least registered radios from a number on, in ascending order; all of them if there are fewer.
     pub fn from_number(&self, from: Address) -> ArrayVec<Address, 16>
         ensures gives { result.items ≡ least_from self.now from }
         ensures least { AreLeast self.now from result.items }
@@ -156,7 +158,7 @@ impl Registry {
     }
 }
 
-/// Two registries are equal where the same radios joined in the same order.
+/// Two registries are equal if the same radios joined in the same order.
 impl PartialEq for Registry {
     ghost use Rattle.std.specs.Prelude.{nat_eq};
     ghost use Rattle.std.specs.Cmp.Lexicographic.{pointwise, nat_list_eq_equiv};

@@ -1,4 +1,4 @@
--- What a run puts out on a site on which nothing stands is what the one legal journal says.
+-- The output of a run on a new site is that of the one legal journal.
 use Rattle.std.proofs.Common.{◌≡◌, ℕ, List, [], ◌∷◌, None, reverse, slice_index_or, refl, ap, ◌∙◌}
 use Rattle.std.proofs.lemmas.List.{reverse-reverse}
 use Rattle.dmr_plan.specs.declared.settings.Settings.{Settings}
@@ -15,12 +15,12 @@ use Rattle.dmr_link.specs.State.{State, next_of}
 use Rattle.dmr_link.specs.Texts.{Texts}
 use Rattle.dmr_replay.specs.Inputs.{put_out, operators_text}
 
--- the journal of some events has these events
+-- the journal of these events has these events
 its_events : (plan : Settings) (facts : Facts) (events : List Event) → events_of (journal_of plan facts events) ≡ events
 its_events plan facts [] = refl
 its_events plan facts (event ∷ earlier) = ap (λ (es : List Event). event ∷ es) (its_events plan facts earlier)
 
--- the events of what inputs mean, the newest first
+-- the events of the inputs' meaning, the newest first
 abbrev events : Settings → List Input → List Event
 events plan inputs = reverse (events_in (all_mean plan no_past inputs))
 

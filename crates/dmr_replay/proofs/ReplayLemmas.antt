@@ -1,4 +1,4 @@
--- What a replay prints, one carrier number more; site files that are texts; and the faults that are told.
+-- The printed text with one more carrier number, site files that are UTF-8, and the reported faults.
 use Rattle.std.proofs.Common.{◌≡◌, ℕ, ◌+◌, List, [], ◌∷◌, ◌++◌, Bool, true, false, map, arith, refl, sym, subst, ap, ◌∙◌, ◌⊎◌, inl, inr}
 use Rattle.std.specs.Prelude.{flat_map, IsErrAnd, Option, Result, Ok, Err, if◌then◌else◌}
 use Rattle.std.specs.List.{range_with_len}
@@ -28,25 +28,25 @@ lines_more plan put_out number =
     ∙ ap (λ (after : List ℕ). lines_to plan put_out number ++ after) (append-nil (line number))
 
 module _ (plan : Settings) (put_out : ℕ → List ℕ) (number : ℕ) (before : List ℕ) (before_is : before ≡ lines_to plan put_out number) where
-  -- a number that the plan has
+  -- the plan has the number
   pub shown_more : (after line : List ℕ) → has_number_in plan.carriers number ≡ true → after ≡ before ++ line → line ≡ carrier_line number (put_out number) → after ≡ lines_to plan put_out (number + 1)
   shown_more after line there after_is line_is =
       after_is ∙ (λ k. before_is k ++ line_is k)
       ∙ ap (λ (b : Bool). lines_to plan put_out number ++ (if b then carrier_line number (put_out number) else [])) (sym there)
       ∙ sym (lines_more plan put_out number)
 
-  -- a number that it doesn't have
+  -- the plan does not have the number
   pub passed_over : (after : List ℕ) → has_number_in plan.carriers number ≡ false → after ≡ before → after ≡ lines_to plan put_out (number + 1)
   passed_over after missing after_is =
       after_is ∙ before_is ∙ sym (append-nil (lines_to plan put_out number))
       ∙ ap (λ (b : Bool). lines_to plan put_out number ++ (if b then carrier_line number (put_out number) else [])) (sym missing)
       ∙ sym (lines_more plan put_out number)
 
--- a site file that is a text
+-- a site file that is UTF-8
 pub plan_in_text : (site : List ℕ) → IsUtf8 site → plan_in site ≡ plan_of_text site
 plan_in_text site is = ap (λ (b : Bool). if b then plan_of_text site else Err NotToml) (is_utf8-from_IsUtf8 site is)
 
--- and one that is none
+-- a site file that is not UTF-8
 pub plan_in_no_text : (site : List ℕ) → ¬ IsUtf8 site → plan_in site ≡ Err NotToml
 plan_in_no_text site isnt = either (is_utf8 site) (λ (told : is_utf8 site ≡ true). isnt (IsUtf8-from_is_utf8 site told))
   where
@@ -54,7 +54,7 @@ plan_in_no_text site isnt = either (is_utf8 site) (λ (told : is_utf8 site ≡ t
     either true none = absurd (none refl)
     either false none = refl
 
--- the faults that are told, one after the other
+-- the reported faults, one after the other
 module _ (site_name script_name : List ℕ) (fault : ReplayFault) where
   memory_told : (found : Outcome) → TellsFault site_name script_name found OutOfMemory
   memory_told SiteNotRead = tt

@@ -17,7 +17,7 @@ either_case : script_of (codes "bytes 3 aBFf") ≡ Ok (once (At 3 (Octets (171 �
 unfolding decode_pairs
 either_case = refl
 
--- empty lines and comments are counted, and give nothing; the last line may end with an LF or without
+-- empty lines and comments are counted, but have no input; the last line may end with an LF
 two_lines : script_of (codes "# first\nopen 1\n\nbytes 1 00\n") ≡ Ok (once (At 1 Opening) ∷ once (At 1 (Octets (0 ∷ []))) ∷ [])
 unfolding decode_pairs
 two_lines = refl
@@ -66,7 +66,7 @@ no_digit : script_of (codes "bytes 0 03G0") ≡ Err 1
 unfolding decode_pairs
 no_digit = refl
 
--- a cut, a tick, and many
+-- a cut, and ticks
 cuts_1 : script_of (codes "cut 1") ≡ Ok (once (At 1 Cutting) ∷ [])
 cuts_1 = refl
 
@@ -94,7 +94,7 @@ two_numbers = refl
 cut_of_no_carrier : script_of (codes "cut") ≡ Err 1
 cut_of_no_carrier = refl
 
--- an operator's line: all that stands behind the one space, and an LF
+-- an operator's line: everything after the one space, and an LF
 says_stay : script_of (codes "say stay") ≡ Ok (once (Saying (codes "stay\n")) ∷ [])
 says_stay = refl
 
@@ -110,7 +110,7 @@ no_space = refl
 another_say : script_of (codes "says stay") ≡ Err 1
 another_say = refl
 
--- an operator's octets as they are
+-- an operator's octets, unchanged
 tells_octets : script_of (codes "text 73746179") ≡ Ok (once (Saying (codes "stay")) ∷ [])
 unfolding decode_pairs
 tells_octets = refl

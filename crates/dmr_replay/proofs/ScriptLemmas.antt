@@ -1,4 +1,4 @@
--- What is still to be read of a script: one line more.
+-- Reading one more line of a script.
 use Rattle.std.proofs.Common.{◌≡◌, ℕ, ◌+◌, ◌<◌, ◌≤◌, true, false, List, [], ◌∷◌, ◌++◌, Some, None, Result, Ok, Err, length, drop, slice_index_or, refl, sym, ap, ◌∙◌, append_assoc, zero-add, arith}
 use Rattle.std.specs.Prelude.{find}
 use Rattle.std.specs.List.{enumerate_from, filter_map}
@@ -6,7 +6,7 @@ use Rattle.std.proofs.lemmas.List.FromFn.{length-enumerate_from, get_or-enumerat
 use Rattle.std.proofs.lemmas.List.{append-nil, drop_more, drop_all}
 use Rattle.dmr_replay.specs.Script.{Given, given_at, given_by_line, is_faulty_line, is_skipped, unless_fault}
 
--- what a script gives of which the last lines, from number n on, are still to be read, and the earlier ones gave these
+-- the result of a script of which these lines, from number n on, are not read yet, and the earlier ones have these inputs
 abbrev pub answer : List Given → ℕ → List (List ℕ) → Result (List Given) ℕ
 answer given n lines =
     unless_fault (find (λ line. is_faulty_line line.1) (enumerate_from n lines)) (given ++ filter_map given_at (enumerate_from n lines))
@@ -28,12 +28,12 @@ module _ (given : List Given) (k : ℕ) (line : List ℕ) (lines : List (List �
   same : answer given (k + 1) (line ∷ drop (k + 1) lines) ≡ whole
   same = ap (answer given (k + 1)) (sym next) ∙ before
 
-  -- a line that gives nothing
+  -- a line that is skipped
   pub skips : (more : ℕ) → more ≡ k + 1 → is_skipped line ≡ true → answer given (more + 1) (drop more lines) ≡ whole
   skips more is skipped =
       ap (λ (m : ℕ). answer given (m + 1) (drop m lines)) is ∙ sym (skipped-cons given (k + 1) line (drop (k + 1) lines) skipped) ∙ same
 
-  -- a line that gives an input
+  -- a line with an input
   pub gives : (more : ℕ) → more ≡ k + 1 → (input : Given) (given_more : List Given) → given_more ≡ given ++ input ∷ []
       → is_skipped line ≡ false → given_by_line line ≡ Some input → answer given_more (more + 1) (drop more lines) ≡ whole
   gives more is input given_more given_is skipped some =

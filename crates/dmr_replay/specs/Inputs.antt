@@ -1,4 +1,4 @@
--- What the inputs of a script put out.
+-- The output for the inputs of a script.
 use Rattle.std.specs.Prelude.{ℕ, List, None, reverse}
 use Rattle.dmr_plan.specs.declared.settings.Settings.{Settings}
 use Rattle.dmr_core.specs.declared.entry.Entry.{Entry}
@@ -10,18 +10,18 @@ use Rattle.dmr_link.specs.Console.{console_text}
 use Rattle.dmr_link.specs.Records.{all_mean, no_past}
 use Rattle.dmr_link.specs.Session.{events_in, session_text}
 
--- what inputs mean where nothing came before them
+-- the meaning of inputs if nothing came before them
 abbrev pub meaning_of_inputs : Settings → List Input → List Notice
 meaning_of_inputs plan inputs = all_mean plan no_past inputs
 
--- the one legal journal, from a site on which nothing stands, of the events among what the inputs mean; the newest entry first
+-- the one legal journal of the inputs' events, from a new site; the newest entry first
 abbrev pub journal : Settings → List Input → List Entry
 journal plan inputs = journal_of plan no_facts (reverse (events_in (meaning_of_inputs plan inputs)))
 
--- what is put out for a carrier: its session text
+-- the octets written for a carrier: its session text
 unfoldable pub put_out : Settings → List Input → ℕ → List ℕ
 put_out plan inputs carrier = session_text None carrier (meaning_of_inputs plan inputs) (reverse (journal plan inputs))
 
--- what is put out for operators: the console text
+-- the octets written for operators: the console text
 unfoldable pub operators_text : Settings → List Input → List ℕ
 operators_text plan inputs = console_text (meaning_of_inputs plan inputs) (reverse (journal plan inputs))

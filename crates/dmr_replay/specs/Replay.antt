@@ -1,4 +1,4 @@
--- What a replay prints, or why it prints nothing.
+-- The text that a replay prints, or the reason why it prints nothing.
 use Rattle.std.specs.Prelude.{◌≡◌, ⊤, ℕ, Bool, true, false, List, [], ◌∷◌, ◌++◌, Option, Some, None, Result, Ok, Err, if◌then◌else◌, codes, flat_map}
 use Rattle.std.specs.List.{range_with_len}
 use Rattle.std.specs.Fmt.{decimal}
@@ -18,30 +18,30 @@ use Rattle.dmr_replay.specs.Script.{Given, inputs_of_script, script_of}
 
 -- ---- the text
 
--- octets in upper case hexadecimal digits; `-` where there are none
+-- octets in upper case hexadecimal digits; `-` if there are none
 abbrev pub digits_or_dash : List ℕ → List ℕ
 digits_or_dash [] = codes "-"
 digits_or_dash (octet ∷ octets) = encode_upper (octet ∷ octets)
 
--- the line of a carrier, for the octets that were put out for it
+-- the line of a carrier: its number, and the octets written for it
 abbrev pub carrier_line : ℕ → List ℕ → List ℕ
 carrier_line number octets = codes "carrier " ++ decimal number ++ codes " " ++ digits_or_dash octets ++ codes "\n"
 
--- the line of a carrier that the plan has; nothing for a number that it doesn't have
+-- the line of a carrier of the plan; empty if the plan does not have the number
 abbrev pub line_of_number : Settings → (ℕ → List ℕ) → ℕ → List ℕ
 line_of_number plan put_out number = if has_number_in plan.carriers number then carrier_line number (put_out number) else []
 
--- a line per carrier of the plan, by number
+-- a line for each carrier of the plan, by number
 abbrev pub lines_to : Settings → (ℕ → List ℕ) → ℕ → List ℕ
 lines_to plan put_out numbers = flat_map (line_of_number plan put_out) (range_with_len 0 numbers)
 
--- behind them the operators' text as it is
+-- the whole text: the carriers' lines, and then the operators' text unchanged
 abbrev pub printed_text : Settings → (ℕ → List ℕ) → List ℕ → List ℕ
 printed_text plan put_out console = lines_to plan put_out carriers_of_site ++ console
 
--- ---- what the files give
+-- ---- the outcome for two files
 
--- a text that is printed, or the first fault, the site file's before the script's
+-- the outcome of a replay: a text to print, or the first fault, the site file's before the script's
 pub data Outcome : Type 0 where
   Prints : (text : List ℕ) → Outcome
   SiteNotRead : Outcome
@@ -49,42 +49,44 @@ pub data Outcome : Type 0 where
   ScriptNotRead : Outcome
   NoLine : (number : ℕ) → Outcome
 
--- the plan of a site file, or its first fault; octets that aren't UTF-8 are no TOML
+-- the plan of a site file, or its first fault; octets that are not UTF-8 are not TOML
 abbrev pub plan_in : List ℕ → Result Settings PlanFault
 plan_in site = if is_utf8 site then plan_of_text site else Err NotToml
 
--- what the lines of a script put out, or the number of the one that is none
+-- the outcome for the lines of a script: the output for their inputs, or the number of the first line at fault
 abbrev pub of_lines : Settings → Result (List Given) ℕ → Outcome
 of_lines plan (Err number) = NoLine number
 of_lines plan (Ok given) = Prints (printed_text plan (put_out plan (inputs_of_script given)) (operators_text plan (inputs_of_script given)))
 
--- what a script gives, if it could be read
+-- the outcome for a script: a fault if it could not be read
 abbrev pub of_script : Settings → Option (List ℕ) → Outcome
 of_script plan None = ScriptNotRead
 of_script plan (Some script) = of_lines plan (script_of script)
 
--- what a plan and a script give, or the fault of the site file
+-- the outcome for a plan and a script, or the fault of the site file
 abbrev pub of_plan : Result Settings PlanFault → Option (List ℕ) → Outcome
 of_plan (Err fault) script = NoPlan fault
 of_plan (Ok plan) script = of_script plan script
 
--- the octets of the two files, or none where one could not be read
+-- the outcome for the octets of the two files, with none for a file that could not be read
 abbrev pub outcome : Option (List ℕ) → Option (List ℕ) → Outcome
 outcome None script = SiteNotRead
 outcome (Some site) script = of_plan (plan_in site) script
 
--- ---- what is told of it
+-- ---- the report of the outcome
 
+-- whether there is a text to print
 abbrev pub is_printed : Outcome → Bool
 is_printed (Prints text) = true
 is_printed other = false
 
--- the writer got the text whole, and there is one
+-- there is a text to print, and the writer received the whole of it
 abbrev pub IsPrinted : Outcome → Option (List ℕ) → Option (List ℕ) → Type 0
 IsPrinted (Prints text) old new = Appends old new text
 IsPrinted other old new = ⊥
 
--- the fault that is told is the first one, with the name of the file that could not be read; want of memory may be told always
+-- the reported fault is the first one, with the name of a file that could not be read; running out of memory may always be reported
+-- instead
 abbrev pub TellsFault : List ℕ → List ℕ → Outcome → ReplayFault → Type 0
 TellsFault site script SiteNotRead (fault.CannotRead name) = name.now ≡ site
 TellsFault site script ScriptNotRead (fault.CannotRead name) = name.now ≡ script
@@ -93,7 +95,7 @@ TellsFault site script (NoLine line) (fault.ScriptLine told) = told ≡ line
 TellsFault site script outcome fault.OutOfMemory = ⊤
 TellsFault site script outcome fault = ⊥
 
--- the exit status of a fault: 4 for want of memory, else 1
+-- the exit status of a fault: 4 if memory ran out, else 1
 abbrev pub status_of : ReplayFault → ℕ
 status_of fault.OutOfMemory = 4
 status_of fault = 1

@@ -1,8 +1,8 @@
 //! Replays of scripts over a site, without sockets and without a clock.
 //!
-//! [`replay`] takes the octets of a site file and of a script, runs what the script gives through the engine of `dmr_link`, and
-//! prints what the engine wrote for each carrier and for operators. `script` reads the lines of a script; `replaying` runs
-//! them and prints; `status` has the exit statuses.
+//! [`replay`] takes the octets of a site file and of a script. It runs the script's inputs through the engine of
+//! `dmr_link`, and prints the octets that the engine writes for each carrier and for operators. `script` reads the
+//! lines of a script; `replaying` runs them and prints; `status` has the exit statuses.
 #![tactic(auto)]
 
 mod replaying;

@@ -1,4 +1,4 @@
-//! Replays a script over the site of a site file, and prints what was put out for carriers and operators.
+//! Replays a script over the site of a site file, and prints the octets written for carriers and operators.
 
 ghost use Rattle.std.specs.Prelude.{◌≡◌, ◌⊎◌, ℕ, [], IfErr, IfOk, IsErrAnd, MatchResult, Ok, OnOk, false, map, option_map, slice_index_or, string_bytes};
 ghost use Rattle.std.specs.Io.KnownBytes.{Appends};
@@ -20,16 +20,16 @@ use thiserror::Error;
 /// Why a replay stopped.
 #[derive(Clone, Copy, Debug, Error)]
 pub enum ReplayFault<'a> {
-    /// The file of this path could not be read.
+    /// The file with this path could not be read.
     #[error("cannot read {0}")]
     CannotRead(&'a str),
-    /// The site file is no plan.
+    /// The site file is not accepted.
     #[error("site file: {0}")]
     SiteFile(PlanFault),
-    /// The line of this number, counted from 1, is no line of a script.
+    /// The line with this number, counted from 1, is not a line of a script.
     #[error("script line {0}")]
     ScriptLine(usize),
-    /// Standard output took not all of what was put out.
+    /// Standard output did not take all of the text.
     #[error("cannot write")]
     CannotWrite,
     /// Memory ran out.
@@ -38,7 +38,7 @@ pub enum ReplayFault<'a> {
 }
 
 impl ReplayFault<'_> {
-    /// The exit status.
+    /// Returns the exit status for the fault.
     pub fn status(&self) -> u8
         ensures { result ≡ status_of self.now }
     {
@@ -49,12 +49,13 @@ impl ReplayFault<'_> {
     }
 }
 
-/// Runs a script over the site of a site file, prints to `out` what was put out for each carrier of the plan and behind it
-/// what operators were told, and answers the exit status.
+/// Replays a script over the site of a site file, and returns the exit status.
 ///
-/// The two files come as their octets, or None where one could not be read, beside the names that faults call them by.
-/// Faults are found in this order: the site file, then the script; nothing is printed to `out` then. A fault goes to `err`
-/// as one line; that it could not be written there is passed over.
+/// `site` and `script` are the octets of the two files, or `None` if a file could not be read; faults call the files
+/// `site_name` and `script_name`. The function prints to `out` a line for each carrier of the plan, with the octets
+/// written for it, and then the operators' text. A fault of the site file is reported before one of the script, and in
+/// both cases nothing is printed to `out`. A fault is written to `err` as one line. If that fails, the failure is
+/// ignored.
 pub fn replay<'a, W: Write, E: Write>(
     alloc: Global,
     site_name: &'a str,
@@ -64,11 +65,11 @@ pub fn replay<'a, W: Write, E: Write>(
     out: &mut W,
     err: &mut E,
 ) -> u8
-    // At status 0 the files give a text, and `out` got the whole of it.
+    // If the status is 0, there is a text to print, and `out` received the whole of it.
     ensures ok { result ≡ OK → IsPrinted (outcome (option_map (λ o. o.now) site.entry) (option_map (λ o. o.now) script.entry)) (W.contents out.old) (W.contents out.new) }
-    // Where they give none, `out` is left as it was, and the status says so.
+    // If there is no text to print, `out` is unchanged, and by `ok` the status is not 0.
     ensures quiet { is_printed (outcome (option_map (λ o. o.now) site.entry) (option_map (λ o. o.now) script.entry)) ≡ false → out.new ≡ out.old }
-    // At want of memory nothing was printed, and at status 0 no fault was told.
+    // If memory runs out, `out` is unchanged. If the status is 0, no fault was written to `err`.
     ensures memory { result ≡ MEMORY → out.new ≡ out.old }
     ensures silent { result ≡ OK → err.new ≡ err.old }
     ensures status { (result ≡ OK) ⊎ (result ≡ FAULT) ⊎ (result ≡ MEMORY) }
@@ -86,7 +87,7 @@ pub fn replay<'a, W: Write, E: Write>(
     }
 }
 
-/// Writes a text whole.
+/// Writes the whole text, and flushes the writer.
 fn print<'a, W: Write>(text: &[u8], out: &mut W) -> Result<(), ReplayFault<'a>>
     ensures whole { OnOk result (Appends (W.contents out.old) (W.contents out.new) text.now) }
     ensures fault { IfErr result (λ fault. fault ≡ ReplayFault.CannotWrite) }
@@ -97,7 +98,7 @@ fn print<'a, W: Write>(text: &[u8], out: &mut W) -> Result<(), ReplayFault<'a>>
     Ok(())
 }
 
-/// What is to be printed.
+/// Returns the text to print, or the first fault.
 #[tactic(auto, using(crate::proofs::ReplayLemmas::no_plan, crate::proofs::ReplayLemmas::no_lines, crate::proofs::ReplayLemmas::no_memory))]
 fn text_of_replay<'a>(
     alloc: Global,
@@ -118,7 +119,7 @@ fn text_of_replay<'a>(
     }
 }
 
-/// The plan of a site file.
+/// Returns the plan of a site file. A file that is not UTF-8 is reported as `NotToml`.
 #[tactic(auto, using(crate::proofs::ReplayLemmas::plan_in_text, crate::proofs::ReplayLemmas::plan_in_no_text))]
 pub fn plan_of<'a>(alloc: Global, site: &[u8]) -> Result<Plan, ReplayFault<'a>>
     ensures { MatchResult result
@@ -135,7 +136,7 @@ pub fn plan_of<'a>(alloc: Global, site: &[u8]) -> Result<Plan, ReplayFault<'a>>
     }
 }
 
-/// What the lines of a script give.
+/// Returns the inputs of a script's lines. The error is the number of the first line at fault, or `OutOfMemory`.
 fn given_by<'a>(alloc: Global, script: &[u8]) -> Result<Vec<ScriptInput>, ReplayFault<'a>>
     ensures { MatchResult result
         (λ given. script_of script.now ≡ Ok (map given_as given.items))
@@ -148,7 +149,7 @@ fn given_by<'a>(alloc: Global, script: &[u8]) -> Result<Vec<ScriptInput>, Replay
     }
 }
 
-/// How many inputs lines give; None where that is more than can be counted.
+/// Returns the number of inputs of these lines, or `None` if a `usize` cannot hold it.
 fn inputs_in(given: &[ScriptInput]) -> Option<usize> {
     let mut count = 0usize;
     for line in given {
@@ -157,8 +158,8 @@ fn inputs_in(given: &[ScriptInput]) -> Option<usize> {
     Some(count)
 }
 
-/// The inputs that lines give. Their room is taken at once, so that a script of more ticks than memory holds is refused
-/// before the first of them is stored.
+/// Returns the inputs of these lines. Their memory is allocated at once, so a script with more ticks than fit is
+/// refused before the first input is stored.
 fn inputs_of<'a>(alloc: Global, given: &'a [ScriptInput]) -> Result<Vec<Input<'a>>, OutOfMemory>
     ensures { IfOk result (λ inputs. map input_of inputs.items ≡ inputs_of_script (map given_as given.entry.now)) }
 {
@@ -174,7 +175,7 @@ fn inputs_of<'a>(alloc: Global, given: &'a [ScriptInput]) -> Result<Vec<Input<'a
     Ok(inputs)
 }
 
-/// What inputs put out, from a site on which nothing stands and with no connection open.
+/// Returns the output for these inputs, from a new site without connections.
 #[tactic(auto, using(crate::proofs::EngineLemmas::run_text, crate::proofs::EngineLemmas::run_told))]
 fn outputs_of(alloc: Global, plan: &Plan, inputs: &[Input<'_>]) -> Result<Outputs, OutOfMemory>
     ensures carriers { IfOk result (λ outputs. (c : ℕ) → slice_index_or outputs.carriers c [] ≡ put_out plan.now (map input_of inputs.now) c) }
@@ -190,7 +191,7 @@ fn outputs_of(alloc: Global, plan: &Plan, inputs: &[Input<'_>]) -> Result<Output
     }
 }
 
-/// What is printed for what lines give.
+/// Returns the text that is printed for these lines.
 fn text_of_inputs(alloc: Global, plan: &Plan, given: &[ScriptInput]) -> Result<Vec<u8>, OutOfMemory>
     ensures { IfOk result (λ text. text.items ≡ printed_text plan.now (put_out plan.now (inputs_of_script (map given_as given.now))) (operators_text plan.now (inputs_of_script (map given_as given.now)))) }
 {
@@ -199,7 +200,7 @@ fn text_of_inputs(alloc: Global, plan: &Plan, given: &[ScriptInput]) -> Result<V
     outputs_text(alloc, plan, &outputs)
 }
 
-/// A line per carrier of the plan, by number, and what operators were told.
+/// Returns a line for each carrier of the plan, by number, and then the operators' text.
 fn outputs_text(alloc: Global, plan: &Plan, outputs: &Outputs) -> Result<Vec<u8>, OutOfMemory>
     ensures { IfOk result (λ text. text.items ≡ printed_text plan.now (λ c. slice_index_or outputs.now.carriers c []) outputs.now.console) }
 {
@@ -215,7 +216,7 @@ fn outputs_text(alloc: Global, plan: &Plan, outputs: &Outputs) -> Result<Vec<u8>
     Ok(text)
 }
 
-/// The line of a carrier: its number, and the octets that were put out for it.
+/// Returns the line of a carrier: its number, and the octets written for it.
 fn carrier_line(alloc: Global, number: u32, octets: &[u8]) -> Result<String, OutOfMemory>
     ensures { IfOk result (λ line. string_bytes line ≡ carrier_line number octets.now) }
 {
@@ -223,7 +224,7 @@ fn carrier_line(alloc: Global, number: u32, octets: &[u8]) -> Result<String, Out
     format!(in alloc; "carrier {number} {digits}\n")
 }
 
-/// Octets in upper case hexadecimal digits, or `-` where there are none.
+/// Returns octets in upper case hexadecimal digits, or `-` if there are none.
 fn digits_or_dash(alloc: Global, octets: &[u8]) -> Result<String, OutOfMemory>
     ensures { IfOk result (λ text. string_bytes text ≡ digits_or_dash octets.now) }
 {

@@ -1,8 +1,8 @@
-//! Scripts: what comes to a site, line by line.
+//! Scripts: the inputs of a site, line by line.
 //!
-//! A script is octets. Its lines are what stands between its LFs, so the last line may end with an LF or without; empty
-//! lines and lines that begin with `#` are skipped. The words of a line are separated by one space, but a line that begins
-//! with `say ` has all that stands behind that space as its text.
+//! A script is octets. Its lines are separated by LFs, and the last line may end with an LF. Empty lines and lines that
+//! begin with `#` are skipped. The words of a line are separated by one space. In a line that begins with `say `,
+//! everything after that space is the text.
 
 ghost use Rattle.std.specs.Prelude.{◌≡◌, ◌≤◌, ◌++◌, ◌∷◌, [], ℕ, Ok, Err, IfOk, IfSome, map, option_map};
 ghost use Rattle.dmr_link.specs.Input.{input_of};
@@ -13,35 +13,35 @@ use dmr_link::Input;
 use dmr_pdu::{CarrierNo, OutOfMemory};
 use std::alloc::Global;
 
-/// The most ticks that a line gives.
+/// The most ticks of one line.
 const MOST_TICKS: u32 = 100_000;
 
-/// What a line of a script gives.
+/// The input of a script's line.
 #[derive(Drop)]
 pub enum ScriptInput {
     /// `open C`: the connection of carrier C begins.
     Open(CarrierNo),
-    /// `bytes C HEX`: octets, at least one, that came from carrier C.
+    /// `bytes C HEX`: octets, at least one, from carrier C.
     Bytes(CarrierNo, Vec<u8>),
     /// `cut C`: the connection of carrier C is cut.
     Cut(CarrierNo),
-    /// `tick` and `tick N`: so many ticks of the site's clock, 1 to 100,000.
+    /// `tick` and `tick N`: this number of ticks of the site's clock, 1 to 100,000.
     Tick(u32),
-    /// `say TEXT` and `text HEX`: octets that came from an operator; those of TEXT end with an LF.
+    /// `say TEXT` and `text HEX`: octets from an operator; those of TEXT end with an LF.
     Text(Vec<u8>),
 }
 
-/// Why a script was not read.
+/// Why a script could not be read.
 #[derive(Clone, Copy, Debug, PartialEq, Eq)]
 pub enum ScriptFault {
-    /// The line of this number, counted from 1 over all lines, is no line of a script.
+    /// The line with this number, counted from 1 over all lines, is not a line of a script.
     Line(usize),
     /// Memory ran out.
     OutOfMemory,
 }
 
 impl ScriptInput {
-    /// The input that the line gives.
+    /// Returns the engine's input for the line.
     pub fn as_input(&self) -> Input<'_>
         ensures { input_of result ≡ (given_as self.entry.now).input }
     {
@@ -54,7 +54,7 @@ impl ScriptInput {
         }
     }
 
-    /// How often it gives it.
+    /// Returns how often the input is repeated: the number of ticks, or 1.
     pub fn times(&self) -> u32
         ensures { result ≡ (given_as self.now).times }
     {
@@ -65,11 +65,11 @@ impl ScriptInput {
     }
 }
 
-/// What the lines of a script give, in their order, or the number of the first line that is at fault.
+/// Reads the lines of a script, in their order. The error is the number of the first line at fault, or `OutOfMemory`.
 pub fn read_script(alloc: Global, script: &[u8]) -> Result<Vec<ScriptInput>, ScriptFault>
-    // That is what all lines give, and none is at fault.
+    // The result is the inputs of all lines, and no line is at fault.
     ensures lines { IfOk result (λ given. script_of script.now ≡ Ok (map given_as given.items)) }
-    // A script is refused by the number of its first line that is at fault, unless memory runs out.
+    // If a line number is returned, it is that of the first line at fault.
     ensures fault { (number : ℕ) → result ≡ Err (ScriptFault.Line number) → script_of script.now ≡ Err number }
 {
     let mut given = Vec::new(alloc);
@@ -89,7 +89,7 @@ pub fn read_script(alloc: Global, script: &[u8]) -> Result<Vec<ScriptInput>, Scr
     Ok(given)
 }
 
-/// Whether a line gives nothing and is no fault: an empty line or a comment.
+/// Returns whether a line is skipped: an empty line or a comment.
 fn is_skipped(line: &[u8]) -> bool
     ensures { result ≡ is_skipped line.now }
 {
@@ -99,7 +99,7 @@ fn is_skipped(line: &[u8]) -> bool
     }
 }
 
-/// What a line that is not skipped gives; None where it is no line of a script.
+/// Reads a line that is not skipped. `None` if it is not a line of a script.
 fn given_in(alloc: Global, line: &[u8]) -> Result<Option<ScriptInput>, OutOfMemory>
     ensures { IfOk result (λ input. option_map given_as input ≡ given_by_line line.now) }
 {
@@ -112,7 +112,7 @@ fn given_in(alloc: Global, line: &[u8]) -> Result<Option<ScriptInput>, OutOfMemo
     }
 }
 
-/// A text and an LF.
+/// Returns a text and an LF.
 fn ended(alloc: Global, text: &[u8]) -> Result<Vec<u8>, OutOfMemory>
     ensures { IfOk result (λ line. line.items ≡ text.now ++ 10 ∷ []) }
 {
@@ -122,14 +122,14 @@ fn ended(alloc: Global, text: &[u8]) -> Result<Vec<u8>, OutOfMemory>
     Ok(line)
 }
 
-/// The words of a line.
+/// Returns the words of a line.
 fn words_of(alloc: Global, line: &[u8]) -> Result<Vec<&[u8]>, OutOfMemory>
     ensures { IfOk result (λ words. map (λ word. word.now) words.items ≡ words_of_script_line line.now) }
 {
     line.split(|octet| *octet == b' ').collect(alloc)
 }
 
-/// What words give; None where they are no words of a script.
+/// Reads the words of a line. `None` if they are not those of a line of a script.
 fn given_by(alloc: Global, words: &[&[u8]]) -> Result<Option<ScriptInput>, OutOfMemory>
     ensures { IfOk result (λ input. option_map given_as input ≡ given_by (map (λ word. word.now) words.now)) }
 {
@@ -151,7 +151,7 @@ fn given_by(alloc: Global, words: &[&[u8]]) -> Result<Option<ScriptInput>, OutOf
     }
 }
 
-/// What the words behind `open` give: one word, C.
+/// Reads the words after `open`: one word, C.
 fn opening(words: &[&[u8]]) -> Option<ScriptInput>
     ensures { option_map given_as result ≡ input_of_open (map (λ word. word.now) words.now) }
 {
@@ -161,7 +161,7 @@ fn opening(words: &[&[u8]]) -> Option<ScriptInput>
     }
 }
 
-/// What the words behind `cut` give: one word, C.
+/// Reads the words after `cut`: one word, C.
 fn cutting(words: &[&[u8]]) -> Option<ScriptInput>
     ensures { option_map given_as result ≡ input_of_cut (map (λ word. word.now) words.now) }
 {
@@ -171,7 +171,7 @@ fn cutting(words: &[&[u8]]) -> Option<ScriptInput>
     }
 }
 
-/// What the words behind `tick` give: none, or one, N.
+/// Reads the words after `tick`: none, or one, N.
 fn ticking(words: &[&[u8]]) -> Option<ScriptInput>
     ensures { option_map given_as result ≡ input_of_tick (map (λ word. word.now) words.now) }
 {
@@ -182,7 +182,7 @@ fn ticking(words: &[&[u8]]) -> Option<ScriptInput>
     }
 }
 
-/// What the words behind `bytes` give: two words, C and HEX.
+/// Reads the words after `bytes`: two words, C and HEX.
 fn arrival(alloc: Global, words: &[&[u8]]) -> Result<Option<ScriptInput>, OutOfMemory>
     ensures { IfOk result (λ input. option_map given_as input ≡ arrival (map (λ word. word.now) words.now)) }
 {
@@ -196,7 +196,7 @@ fn arrival(alloc: Global, words: &[&[u8]]) -> Result<Option<ScriptInput>, OutOfM
     Ok(octets.map(|octets| ScriptInput::Bytes(carrier, octets)))
 }
 
-/// What the words behind `text` give: one word, HEX.
+/// Reads the words after `text`: one word, HEX.
 fn telling(alloc: Global, words: &[&[u8]]) -> Result<Option<ScriptInput>, OutOfMemory>
     ensures { IfOk result (λ input. option_map given_as input ≡ input_of_text (map (λ word. word.now) words.now)) }
 {
@@ -207,7 +207,7 @@ fn telling(alloc: Global, words: &[&[u8]]) -> Result<Option<ScriptInput>, OutOfM
     Ok(octets.map(|octets| ScriptInput::Text(octets)))
 }
 
-/// A number from `least` to `most` in decimal digits, with no leading zero.
+/// Reads a number from `least` to `most` in decimal digits, without a leading zero.
 fn number_of(least: u32, most: u32, word: &[u8]) -> Option<u32>
     ensures value { result ≡ number_of_word least most word.now }
     ensures most { IfSome result (λ number. number ≤ most) }
@@ -218,7 +218,7 @@ fn number_of(least: u32, most: u32, word: &[u8]) -> Option<u32>
     }
 }
 
-/// A carrier's number: 0 to 15.
+/// Reads a carrier's number: 0 to 15.
 fn carrier_of(word: &[u8]) -> Option<CarrierNo>
     ensures { result ≡ carrier_of_word word.now }
 {
@@ -226,14 +226,14 @@ fn carrier_of(word: &[u8]) -> Option<CarrierNo>
     Some(CarrierNo::new(number))
 }
 
-/// A number of ticks: 1 to 100,000.
+/// Reads a number of ticks: 1 to 100,000.
 fn times_of(word: &[u8]) -> Option<u32>
     ensures { result ≡ times_of_word word.now }
 {
     number_of(1, MOST_TICKS, word)
 }
 
-/// Octets in hexadecimal digits of either case, at least one octet.
+/// Reads octets in hexadecimal digits of either case, at least one octet.
 fn octets_of(alloc: Global, word: &[u8]) -> Result<Option<Vec<u8>>, OutOfMemory>
     ensures { IfOk result (λ octets. option_map (λ o. o.items) octets ≡ octets_of_word word.now) }
 {

@@ -1,9 +1,9 @@
-//! The exit statuses of a replay.
+//! The exit statuses of a replay and of a served site.
 
-/// All went through.
+/// Success.
 pub const OK: u8 = 0;
 
-/// A file, a plan or a script is at fault, or the output.
+/// A file, the plan, the script or the output is at fault.
 pub const FAULT: u8 = 1;
 
 /// Memory ran out, or a thread could not be started.

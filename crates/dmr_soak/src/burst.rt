@@ -1,4 +1,4 @@
-//! Ten octets of a PDU, and the burst that carries them, by the tables of the formats.
+//! The ten octets of a PDU and their burst, by the tables of the formats.
 
 /// The octets of a PDU.
 pub type Pdu = [u8; 10];
@@ -6,7 +6,7 @@ pub type Pdu = [u8; 10];
 /// The octets of a burst: 196 places, and four bits that are 0.
 pub type Burst = [u8; 25];
 
-/// The columns that each of a row's columns 11 to 14 is the sum of.
+/// For each of the columns 11 to 14 of a row, the columns of which it is the sum.
 static ROW_SUMS: [[u32; 7]; 4] = [
     [0, 1, 2, 3, 5, 7, 8],
     [1, 2, 3, 4, 6, 8, 9],
@@ -14,7 +14,7 @@ static ROW_SUMS: [[u32; 7]; 4] = [
     [0, 1, 2, 4, 6, 7, 10],
 ];
 
-/// The rows 9 to 12, and those that each is the sum of.
+/// The rows 9 to 12, each with the rows of which it is the sum.
 static COLUMN_SUMS: [(usize, &[usize]); 4] = [
     (9, &[0, 1, 3, 5, 6]),
     (10, &[0, 1, 2, 4, 6, 7]),
@@ -22,7 +22,7 @@ static COLUMN_SUMS: [(usize, &[usize]); 4] = [
     (12, &[0, 2, 4, 5, 8]),
 ];
 
-/// The octets of a PDU: its first octet, no feature set, 16 bits, and two numbers of 24 bits.
+/// Returns the octets of a PDU: its first octet, feature set 0, 16 bits, and two numbers of 24 bits.
 pub fn pdu_of(first: u8, half: u16, upper: u32, lower: u32) -> Pdu {
     let [high, low] = half.to_be_bytes();
     let [_, a, b, c] = upper.to_be_bytes();
@@ -30,7 +30,7 @@ pub fn pdu_of(first: u8, half: u16, upper: u32, lower: u32) -> Pdu {
     [first, 0, high, low, a, b, c, d, e, f]
 }
 
-/// The check of ten octets: the remainder of their polynomial, bit by bit, complemented and masked.
+/// Returns the check of ten octets: the remainder of their polynomial, bit by bit, complemented and masked.
 pub fn check_of(pdu: &Pdu) -> u16 {
     let mut remainder = 0u16;
     for octet in pdu {
@@ -58,7 +58,8 @@ fn summed(row: u16) -> u16 {
     row ^ sums
 }
 
-/// The 13 rows of a codeword: eight information bits in row 0 from column 3 on, eleven in each of the rows 1 to 8.
+/// Returns the 13 rows of a codeword: eight information bits in row 0 from column 3 on, and eleven in each of the rows
+/// 1 to 8.
 fn rows_of(information: &[u8; 12]) -> [u16; 13] {
     let mut rows = [0u16; 13];
     let mut read = 3usize;
@@ -85,14 +86,15 @@ fn rows_of(information: &[u8; 12]) -> [u16; 13] {
     rows
 }
 
-/// Turns over the bit at a place of a burst.
+/// Flips the bit at a place of a burst.
 pub fn flip(burst: &mut Burst, place: usize) {
     if let Some(octet) = burst.get_mut(place / 8) {
         *octet ^= 0x80u8 >> (place % 8);
     }
 }
 
-/// The burst of a PDU: the cells of its rows, row by row from index 1 on, each 181 places behind the one before it.
+/// Returns the burst of a PDU: the cells of its rows, row by row from index 1 on, each 181 places after the previous
+/// one.
 pub fn burst_of(pdu: &Pdu) -> Burst {
     let [a, b, c, d, e, f, g, h, i, j] = *pdu;
     let [high, low] = check_of(pdu).to_be_bytes();

@@ -1,4 +1,4 @@
-//! Random numbers, and how often each sort of deed comes by them in what goes on for a while on a site.
+//! Random numbers, and how often each sort of action occurs in each mode of a site.
 
 ghost use Rattle.std.specs.Prelude.{◌<◌};
 
@@ -6,62 +6,62 @@ use crate::model::{Model, Request, Stage};
 use rand_core::utils::NextWord;
 use rand_pcg::Pcg32;
 
-/// Draws random numbers. Below a bound of 0 comes 0.
+/// Draws random numbers. A bound of 0 is treated as 1, so the draw is 0.
 #[derive(Drop)]
 pub struct Draws {
     random: Pcg32,
 }
 
 impl Draws {
-    /// The numbers of a seed.
+    /// Returns the generator of a seed.
     pub fn new(seed: u64) -> Draws {
         let random = Pcg32::new(seed, 54);
         Draws { random }
     }
 
-    /// A random number below a bound.
+    /// Draws a number below a bound.
     pub fn below(&mut self, bound: u32) -> u32
         ensures { 0 < bound → result < bound }
     {
         self.random.next_word() % bound.max(1)
     }
 
-    /// A random place below a bound.
+    /// Draws a place below a bound.
     pub fn place(&mut self, bound: usize) -> usize
         ensures { 0 < bound → result < bound }
     {
         self.random.next_word() as usize % bound.max(1)
     }
 
-    /// Any octet.
+    /// Draws any octet.
     pub fn octet(&mut self) -> u8 {
         (self.random.next_word() & 0xFF) as u8
     }
 
-    /// A random octet below a bound.
+    /// Draws an octet below a bound.
     pub fn small(&mut self, bound: u8) -> u8
         ensures { 0 < bound → result < bound }
     {
         self.octet() % bound.max(1)
     }
 
-    /// One time of so many.
+    /// Returns `true` once in `times` draws, on average.
     pub fn chance(&mut self, times: u32) -> bool {
         self.below(times) == 0
     }
 
-    /// One of some things, if there are any.
+    /// Draws one of some things, if there are any.
     pub fn pick<T: Copy>(&mut self, things: &[T]) -> Option<T> {
         things.get(self.place(things.len())).copied()
     }
 
-    /// A request that stands at a stage, if any.
+    /// Draws a request at a stage, if there is one.
     pub fn request(&mut self, model: &Model, stage: Stage) -> Option<Request> {
         model.nth(stage, self.place(model.number(stage)))
     }
 }
 
-/// What a deed is about.
+/// The sort of an action.
 #[derive(Clone, Copy)]
 pub enum Sort {
     Register,
@@ -81,25 +81,25 @@ pub enum Sort {
     Poll,
 }
 
-/// What goes on for a while.
+/// A mode: what a site is busy with for a while.
 #[derive(Clone, Copy, PartialEq, Eq)]
 pub enum Mode {
     Everyday,
-    /// Many radios ask for calls, and time hardly goes on.
+    /// Many radios request calls, and the clock hardly ticks.
     Crowd,
-    /// Many radios ask for each other, and none answers.
+    /// Many radios call each other, and none answers.
     Asking,
-    /// Little is polled, so that room runs out.
+    /// Carriers poll rarely, so that room runs out.
     Unpolled,
-    /// Time goes on: calls hang, and asks are not answered.
+    /// The clock ticks often: calls hang, and asks are not answered.
     Passing,
-    /// Time goes on, and calls are kept active until they are as old as calls may be.
+    /// The clock ticks often, and calls are kept active until they reach the longest time of a call.
     Lasting,
     /// More radios register than there is room for.
     Joining,
 }
 
-/// How many deeds of each sort come in each mode, of 200. The rest are polls.
+/// The number of actions of each sort in each mode, of 200. The rest are polls.
 static WEIGHTS: [(Sort, [u32; 7]); 14] = [
     (Sort::Register, [8, 10, 8, 10, 2, 1, 96]),
     (Sort::Leave, [3, 0, 0, 4, 1, 0, 0]),
@@ -118,7 +118,7 @@ static WEIGHTS: [(Sort, [u32; 7]); 14] = [
 ];
 
 impl Mode {
-    /// What a deed is about.
+    /// Draws the sort of an action.
     pub fn sort(self, draws: &mut Draws) -> Sort {
         let mut draw = draws.below(200);
         for (sort, weights) in &WEIGHTS {

@@ -1,41 +1,43 @@
-//! A soak run of the engine: random octets on two sites, and a reference model that says what should be put out.
+//! A soak test of the engine: random octets on two sites, compared with a reference model.
 //!
-//! What radios, carriers and operators do is written as octets, with flipped bits, faults and nonsense, and comes to the engine in
-//! pieces that are cut at random (`traffic`, `radios`). The model (`model`, `requests`, `burst`) was written from the rules as the
-//! documents tell them, apart from the definitions and the product's code: it says octet by octet what should be put out. A burst
-//! with at most three flipped bits must mean what the clean burst means; what one with more means is read by the product. The program
-//! first tries the model itself on examples that the formats give (`vectors`).
+//! The program writes the actions of radios, carriers and operators as octets, with flipped bits, faults and nonsense,
+//! and hands them to the engine in random pieces (`traffic`, `radios`). The model (`model`, `requests`, `burst`) was
+//! written from the rules in the documents, apart from the definitions and the product's code. It computes each octet
+//! that the engine should write. A burst with at most three flipped bits must have the meaning of the clean burst. The
+//! meaning of a burst with more flips is taken from the product's decoder. The program first checks the model itself
+//! against examples in the formats (`vectors`).
 //!
-//! Each site is run twice: where version 1 of the link alone is served, and where versions 1 and 2 are. `--inputs N` runs so many inputs
-//! each time, `--seed N` draws others, and `--counts` prints how often things happened.
+//! Each site is run twice: with only version 1 of the link, and with versions 1 and 2. `--inputs N` sets the number of
+//! inputs of each run, `--seed N` sets the seed, and `--counts` prints how often things happened.
 //!
-//! Each of these wrong rules, written into the model or the traffic, was tried with the usual seed. The run in version 1 stopped at this
-//! input:
+//! Each of these wrong rules was written into the model or the traffic and tried with the default seed. The run in
+//! version 1 stopped at this input:
 //!
 //! | wrong rule | two carriers | sixteen carriers |
 //! |---|---|---|
 //! | the hang time counts from the beginning, not from the last activity | 12159 | 3285 |
-//! | a lost carrier's calls stay | 192 | 1902 |
+//! | the calls of a lost carrier go on | 192 | 1902 |
 //! | a slot is free while its P_CLEAR waits | 2018 | 1312 |
 //! | a slot is free while its grant waits | 8634 | 5028 |
-//! | the newest line goes before the first | 1825 | 7846 |
+//! | the newest line is served before the oldest | 1825 | 7846 |
 //! | a late grant names the radio that asked second | 605 | 382 |
-//! | a radio that leaves leaves its call standing | 748 | 1341 |
+//! | the call of a radio that leaves goes on | 748 | 1341 |
 //! | the backoff counts one poll more | 1121 | 242 |
 //! | four flipped bits are mended | 1040 | 624 |
 //! | a CR counts twice in a line's length | 4216 | 335 |
 //! | `drop` is done without room | 12879 | 9745 |
-//! | a second HELLO is passed over | 95 | 204 |
+//! | a second HELLO is ignored | 95 | 204 |
 //!
-//! Each of these, written into `dmr_link`, was tried with that seed too. The run in versions 1 and 2 stopped at this input:
+//! Each of these was written into `dmr_link` and also tried with that seed. The run in versions 1 and 2 stopped at this
+//! input:
 //!
 //! | wrong rule of version 2 | two carriers | sixteen carriers |
 //! |---|---|---|
-//! | an RX that comes once more is heard again | 46 | 97 |
-//! | it is heard again behind a POLL or an ACTIVE | 46 | 97 |
-//! | it is heard again on the other slot | 966 | 327 |
-//! | it is heard again with another word | 46 | 97 |
-//! | an RX whose number is one before that of the last is dropped | 321 | 229 |
+//! | an RX that is sent again is processed again | 46 | 97 |
+//! | it is processed again after a POLL or an ACTIVE | 46 | 97 |
+//! | it is processed again on the other slot | 966 | 327 |
+//! | it is processed again with another word | 46 | 97 |
+//! | an RX with the number before that of the last RX is dropped | 321 | 229 |
 //! | the number of the last RX is kept over a new connection | 1391 | 269 |
 //! | the numbers of TX are kept over a new connection | 405 | 130 |
 //! | the numbers of TX stop at 255 | 4395 | 1508 |
@@ -62,7 +64,7 @@ use std::alloc::Global;
 use std::process::ExitCode;
 use std::{env, io};
 
-/// Things by name, and how often each happened.
+/// Counts of events with names.
 #[derive(Clone, Copy)]
 pub struct Counts {
     names: &'static str,
@@ -70,13 +72,13 @@ pub struct Counts {
 }
 
 impl Counts {
-    /// None of the named things happened; the names stand between commas.
+    /// Returns zero counts for these names, which commas separate.
     pub fn new(names: &'static str) -> Counts {
         let counts = [0; 30];
         Counts { names, counts }
     }
 
-    /// A thing happened.
+    /// Counts an event.
     pub fn add(&mut self, name: &str) {
         let place = self.names.split(", ").position(|other| other == name);
         if let Some(count) = place.and_then(|place| self.counts.get_mut(place)) {
@@ -84,7 +86,7 @@ impl Counts {
         }
     }
 
-    /// Prints all counts in a line.
+    /// Prints all counts in one line.
     pub fn print<R: Print>(&self, rt: &R) -> io::Result<()> {
         for (place, name) in self.names.split(", ").enumerate() {
             let count = self.counts.get(place).copied().unwrap_or(0);
@@ -94,7 +96,7 @@ impl Counts {
     }
 }
 
-/// An engine, the model, and what comes to both.
+/// An engine, the model, and the traffic for both.
 #[derive(Drop)]
 struct Run {
     alloc: Global,
@@ -104,7 +106,8 @@ struct Run {
 }
 
 impl Run {
-    /// The engine and the model of a site on which nothing stands, and what a seed draws for both. None where the site file is refused.
+    /// Returns the engine and the model of a new site, with the traffic that a seed draws. Returns `None` if the site
+    /// file is refused.
     fn new(alloc: Global, site: &Scene, seed: u64) -> Result<Option<Run>, OutOfMemory> {
         let text = format!(in alloc; "{}{}", site.key, site.text)?;
         let Ok(plan) = Plan::read(alloc, text.as_str()) else {
@@ -133,7 +136,8 @@ impl Run {
         }
     }
 
-    /// The engine and the model take what comes next: what is to be put out for the party that wrote octets.
+    /// Hands the next input to the engine and the model. Returns the octets that the party that wrote octets should
+    /// receive.
     fn step(&mut self, step: &Step, outputs: &mut Outputs) -> Result<Vec<u8>, OutOfMemory> {
         let mut text = Vec::new(self.alloc);
         match step {
@@ -171,7 +175,8 @@ impl Run {
         Ok(text)
     }
 
-    /// An input comes: the carrier, or the operators by their number 16, for whom something else is put out than should be.
+    /// Runs the next input. Returns the first party that receives other octets than it should: a carrier, or 16 for the
+    /// operators.
     fn test(&mut self) -> Result<Option<u8>, OutOfMemory> {
         let step = self.traffic.next(&self.model)?;
         let mut outputs = Outputs::new(self.alloc);
@@ -180,7 +185,8 @@ impl Run {
     }
 }
 
-/// Whether something else is put out for a party than what should be: this text for the one that wrote octets.
+/// Returns whether a party receives other octets than it should: `text` for the party that wrote octets, otherwise
+/// nothing.
 fn is_other(outputs: &Outputs, party: u8, step: &Step, text: &[u8]) -> bool {
     let is_writer = matches!(step, Step::Piece(writer, _) if *writer == party);
     let wanted = if is_writer { text } else { &[] };
@@ -190,8 +196,8 @@ fn is_other(outputs: &Outputs, party: u8, step: &Step, text: &[u8]) -> bool {
     }
 }
 
-/// How many inputs come to each engine, from 1 on, what they are drawn by, and whether counts are printed, by the words behind the
-/// program's own name: `--inputs N`, `--seed N` and `--counts`, in any order.
+/// Reads the words after the program's name: `--inputs N`, `--seed N` and `--counts`, in any order. Returns the number
+/// of inputs of each engine, at least 1, the seed, and whether to print counts.
 fn wishes_of(words: &[String]) -> Option<(u32, u64, bool)> {
     let (mut inputs, mut seed, mut counts) = (300, 42, false);
     let mut awaited = "";
@@ -213,7 +219,7 @@ fn wishes_of(words: &[String]) -> Option<(u32, u64, bool)> {
     Some((inputs, seed, counts))
 }
 
-/// Runs a site, prints how it went, and answers whether all was put out as it should be.
+/// Runs a site and prints the result. Returns whether all octets were as they should be.
 fn show<R: Print + AllocGlobal>(rt: &R, site: &Scene, wish: (u32, u64, bool)) -> io::Result<bool> {
     print!(rt;
         "{} carriers, link_version {}: ",
@@ -228,7 +234,7 @@ fn show<R: Print + AllocGlobal>(rt: &R, site: &Scene, wish: (u32, u64, bool)) ->
     shown
 }
 
-/// As many inputs come as are wished for: prints how that went, and answers whether all was put out as it should be.
+/// Runs the requested number of inputs and prints the result. Returns whether all octets were as they should be.
 fn show_run<R: Print>(rt: &R, run: &mut Run, wish: (u32, u64, bool)) -> io::Result<bool> {
     let (inputs, _, counts) = wish;
     for input in 1..=inputs {

@@ -1,4 +1,5 @@
-//! The reference model: what stands on a site, and what is put out, by the rules as they are told in words, without the product.
+//! The reference model: the state of a site and the octets that it writes, by the rules in the documents, without the
+//! product.
 
 use crate::Counts;
 use crate::burst::{Pdu, burst_of, pdu_of};
@@ -8,10 +9,10 @@ use dmr_pdu::OutOfMemory;
 use std::alloc::Global;
 use std::collections::VecDeque;
 
-/// The address that calls are cleared from.
+/// The source address of P_CLEAR.
 const TSI: u32 = 0xFF_FECA;
 
-/// What is counted, by name: at first the reasons of acknowledgements.
+/// The names of the counts. The first of them are the reasons of acknowledgements.
 static NAMES: &str =
     "Not_Supported, Perm_User_Refused, Transient_Sys_Refused, NoReg_MS_Away, SysBusy_Refused, \
     Call_Cancel_Refused, Reg_Refused, Reg_Denied, MS_Not_Registered, Called_Party_Busy, Group_Not_Allowed, \
@@ -24,24 +25,24 @@ static REASONS: [u16; 15] = [
     0x20, 0x21, 0x23, 0x24, 0x27, 0x29, 0x2A, 0x2B, 0x2D, 0x2E, 0x2F, 0x60, 0x62, 0xA0, 0xE0,
 ];
 
-/// How a carrier's connection stands.
+/// The state of a carrier's connection.
 #[derive(Clone, Copy, PartialEq, Eq)]
 pub enum Link {
-    /// None is open, or it ended: octets mean nothing.
+    /// No connection is open, or it has ended: octets have no effect.
     Closed,
-    /// It is open, and HELLO must come.
+    /// It is open, and HELLO has to follow.
     Open,
     Up,
 }
 
-/// The numbers on a carrier's connection: that of its last RX, and that of the next TX that goes to it, where they have one.
+/// The numbers on a carrier's connection: of its last RX and of the next TX to it, if they have numbers.
 #[derive(Clone, Copy)]
 struct Numbers {
     heard: Option<u8>,
     next: Option<u8>,
 }
 
-/// How far a request has come.
+/// The stage of a request.
 #[derive(Clone, Copy, PartialEq, Eq)]
 pub enum Stage {
     /// The called radio was asked, and its answer is awaited.
@@ -50,25 +51,25 @@ pub enum Stage {
     Call,
 }
 
-/// A request that stands.
+/// An active request.
 #[derive(Clone, Copy)]
 pub struct Request {
     pub stage: Stage,
     pub source: u32,
-    /// A radio, or a talkgroup.
+    /// A radio or a talkgroup.
     pub target: u32,
     pub group: bool,
     pub options: u16,
-    /// How often the called radio was asked.
+    /// The number of times that the called radio was asked.
     pub attempt: u32,
-    /// The ticks since it came to its stage, or was asked last.
+    /// The ticks since the request reached its stage, or since the called radio was last asked.
     pub age: u32,
-    /// Of a call, the ticks since it began or was last active, and its slot.
+    /// The ticks since a call began or was last active, and its slot.
     pub quiet: u32,
     pub slot: Slot,
 }
 
-/// What stands on a site.
+/// The state of a site.
 #[derive(Drop)]
 pub struct Model {
     pub scene: Scene,
@@ -76,40 +77,40 @@ pub struct Model {
     links: [Link; 16],
     numbers: [Numbers; 16],
     pub registered: Vec<u32>,
-    /// The requests, that which has been at its stage for longest first.
+    /// The requests. The one that has been at its stage for longest is first.
     pub requests: Vec<Request>,
-    /// What waits for each slot.
+    /// The PDUs that wait for each slot.
     outboxes: Vec<VecDeque<Pdu>>,
-    /// For each noise on the control slot, how often its carrier had polled before.
+    /// For each noise on the control slot, the number of polls of the control carrier before it.
     noises: VecDeque<u64>,
-    /// How often the control carrier polled since it came up.
+    /// The number of polls of the control carrier since it came up.
     polls: u64,
-    /// The channel that the control channel is to be moved to.
+    /// The channel to which the control channel is moved.
     pub moving: Option<u32>,
-    /// How often the control slot was filled since its carrier came up, and the slot of the last late entry since then.
+    /// The number of Fills since the control carrier came up, and the slot of the last late entry since then.
     fills: u64,
     last_entry: Option<Slot>,
 }
 
-/// The grant of a call.
+/// Returns the grant of a call.
 fn grant_of(call: &Request, is_late: bool) -> Pdu {
     let half = named(call.slot) | u16::from(is_late) << 2;
     pdu_of(0xB0 + u8::from(call.group), half, call.target, call.source)
 }
 
-/// The numbers behind a HELLO of a version.
+/// Returns the numbers after a HELLO of a version.
 fn first_numbers(version: u8) -> Numbers {
     let next = if version == 2 { Some(0) } else { None };
     Numbers { heard: None, next }
 }
 
-/// A slot as grants name it: its carrier's channel in 12 bits, and its side behind them.
+/// Returns a slot as grants name it: the carrier's channel in 12 bits, and then the side.
 fn named(slot: Slot) -> u16 {
     (u16::from(slot.carrier) + 1) << 4 | u16::from(slot.side) << 3
 }
 
 impl Model {
-    /// Nothing stands.
+    /// Returns the model of a site on which nothing has happened.
     pub fn new(alloc: Global, scene: &Scene) -> Result<Model, OutOfMemory> {
         let mut outboxes = Vec::new(alloc);
         for _ in 0..32 {
@@ -131,54 +132,55 @@ impl Model {
         })
     }
 
-    /// Whether a carrier is up.
+    /// Returns whether a carrier is up.
     pub fn is_up(&self, carrier: u8) -> bool {
         self.links.get(usize::from(carrier)) == Some(&Link::Up)
     }
 
-    /// How many PDUs wait for a slot.
+    /// Returns the number of PDUs that wait for a slot.
     pub fn waiting(&self, slot: Slot) -> usize {
         let outbox = self.outboxes.get(slot.place());
         outbox.map_or(0, |outbox| outbox.len())
     }
 
-    /// Whether there is room for what the control slot is to send.
+    /// Returns whether there is room for PDUs on the control slot.
     pub fn has_room(&self) -> bool {
         self.waiting(self.scene.control_slot()) <= 56
     }
 
-    /// Whether a radio is registered.
+    /// Returns whether a radio is registered.
     pub fn is_registered(&self, radio: u32) -> bool {
         self.registered.binary_search(&radio).is_ok()
     }
 
-    /// The request that a radio is engaged by: that of which it is the source, or the called radio.
+    /// Returns the request that engages a radio: one with this source, or with this called radio.
     pub fn engaging(&self, radio: u32) -> Option<Request> {
         let is_of = |other: &&Request| radio == other.source
             || !other.group && radio == other.target;
         self.requests.iter().find(is_of).copied()
     }
 
-    /// The request at a stage before which there are so many others.
+    /// Returns the request at a stage that has `before` requests before it.
     pub fn nth(&self, stage: Stage, before: usize) -> Option<Request> {
         let requests = self.requests.iter();
         let mut requests = requests.filter(|request| request.stage == stage);
         requests.nth(before).copied()
     }
 
-    /// How many requests are at a stage.
+    /// Returns the number of requests at a stage.
     pub fn number(&self, stage: Stage) -> usize {
         let requests = self.requests.iter();
         requests.filter(|request| request.stage == stage).count()
     }
 
-    /// The call on a slot.
+    /// Returns the call on a slot.
     pub fn call_on(&self, slot: Slot) -> Option<Request> {
         let is_on = |call: &&Request| call.stage == Stage::Call && call.slot == slot;
         self.requests.iter().find(is_on).copied()
     }
 
-    /// Whether a slot can be given to a call: nothing stands on it, waits for it, or is granted it by what waits.
+    /// Returns whether a call can take a slot. The slot's carrier is up, and it is not the control slot. It has no
+    /// call, nothing waits for it, and no waiting grant names it.
     pub fn is_free(&self, slot: Slot) -> bool {
         let control = self.scene.control_slot();
         let mut queued = self.outboxes.get(control.place()).into_iter().flatten();
@@ -190,7 +192,7 @@ impl Model {
         self.is_up(slot.carrier) && slot != control && !is_taken
     }
 
-    /// The lowest slot that is free.
+    /// Returns the lowest free slot.
     pub fn free_slot(&self) -> Option<Slot> {
         for carrier in 0..self.scene.carriers {
             for side in 0..2 {
@@ -212,7 +214,7 @@ impl Model {
         Ok(())
     }
 
-    /// A radio is told how its request goes on.
+    /// Queues the acknowledgement of a request, with the reason of this name.
     pub fn acknowledge(&mut self, request: &Request, name: &str) -> Result<(), OutOfMemory> {
         self.counts.add(name);
         let place = NAMES.split(", ").position(|other| other == name);
@@ -222,7 +224,7 @@ impl Model {
         self.queue(control, 1, pdu)
     }
 
-    /// A call's radios are sent to its slot.
+    /// Queues the grant of a call.
     pub fn grant(&mut self, call: &Request, is_late: bool) -> Result<(), OutOfMemory> {
         self.counts
             .add(if is_late { "late grants" } else { "grants" });
@@ -230,7 +232,7 @@ impl Model {
         self.queue(control, self.scene.copies, grant_of(call, is_late))
     }
 
-    /// The called radio is asked.
+    /// Asks the called radio.
     pub fn ask(&mut self, ask: &Request) -> Result<(), OutOfMemory> {
         self.counts.add("C_AHOY");
         self.requests.push(*ask)?;
@@ -239,7 +241,7 @@ impl Model {
         self.queue(control, 1, pdu)
     }
 
-    /// A call begins on a slot.
+    /// Begins a call on a slot.
     pub fn begin(&mut self, slot: Slot, request: &Request) -> Result<(), OutOfMemory> {
         let mut call = *request;
         (call.stage, call.slot) = (Stage::Call, slot);
@@ -248,13 +250,13 @@ impl Model {
         self.grant(&call, false)
     }
 
-    /// A request stands no more.
+    /// Removes a request.
     pub fn remove(&mut self, request: &Request) {
         let source = request.source;
         self.requests.retain(|other| other.source != source);
     }
 
-    /// A call ends, and its radios are sent back to the control channel.
+    /// Ends a call and queues its P_CLEAR.
     pub fn clear(&mut self, call: &Request) -> Result<(), OutOfMemory> {
         self.counts.add("P_CLEAR");
         self.remove(call);
@@ -282,7 +284,7 @@ impl Model {
         }
     }
 
-    /// A connection stands in another way. A carrier that was up is lost.
+    /// Sets the state of a connection. A carrier that was up is lost.
     pub fn turn(&mut self, carrier: u8, link: Link) {
         if self.is_up(carrier) {
             self.empty(carrier);
@@ -293,7 +295,7 @@ impl Model {
         }
     }
 
-    /// Whether an RX that comes with this number, if it has one, is the last one once more. It is the last one from then on.
+    /// Returns whether an RX with this number repeats the last one, and remembers the number.
     fn repeats(&mut self, carrier: u8, number: Option<u8>) -> bool {
         let Some(numbers) = self.numbers.get_mut(usize::from(carrier)) else {
             return false;
@@ -303,7 +305,8 @@ impl Model {
         is_repeat
     }
 
-    /// An RX comes, with a PDU or noise. That means nothing where it is the last one once more, or not on the control slot.
+    /// Processes an RX with a PDU or noise. A repeat has no effect, nor has an RX on another slot than the control
+    /// slot.
     fn receive(
         &mut self,
         number: Option<u8>,
@@ -322,7 +325,7 @@ impl Model {
         Ok(())
     }
 
-    /// A carrier comes up by a HELLO of a version.
+    /// Marks a carrier as up after a HELLO of a version, and adds the WELCOME to the end of `text`.
     fn welcome(&mut self, carrier: u8, version: u8, text: &mut Vec<u8>) -> Result<(), OutOfMemory> {
         self.turn(carrier, Link::Up);
         if let Some(numbers) = self.numbers.get_mut(usize::from(carrier)) {
@@ -331,7 +334,7 @@ impl Model {
         text.extend_from_slice(&[0x81, 0x01, version])
     }
 
-    /// Octets come from a carrier: what is put out for them comes to the end of the text.
+    /// Processes octets of a carrier, and adds the answer to the end of `text`.
     pub fn take(
         &mut self,
         carrier: u8,
@@ -360,7 +363,8 @@ impl Model {
         Ok(())
     }
 
-    /// The talkgroup call that a late entry names: from the slot of the last one on it is the nearest going round.
+    /// Returns the talkgroup call for the next late entry: the first one after the slot of the last late entry, going
+    /// round.
     fn next_entry(&self) -> Option<Request> {
         let behind = self
             .last_entry
@@ -371,8 +375,9 @@ impl Model {
         calls.min_by_key(|call| call.slot.place().saturating_add(32).saturating_sub(behind) % 32)
     }
 
-    /// What the control slot sends where nothing waits: each fourth time the next talkgroup call's grant. The backoff is higher
-    /// for each noise since the 32nd last poll.
+    /// Returns the Fill of the control slot. Each fourth Fill is the grant of the next talkgroup call, if there is one
+    /// and the control channel is not moved. The backoff rises by one for each noise within the last 32 polls, up to
+    /// its largest value.
     fn fill(&mut self) -> Pdu {
         self.fills = self.fills.saturating_add(1);
         if self.fills % 4 == 0 && self.moving.is_none() {
@@ -396,7 +401,7 @@ impl Model {
         pdu
     }
 
-    /// The number of the next TX that goes to a carrier, if it has one. It is counted up.
+    /// Returns the number of the next TX to a carrier, if it has one, and counts it up.
     fn next_number(&mut self, carrier: u8) -> Option<u8> {
         let numbers = self.numbers.get_mut(usize::from(carrier))?;
         let number = numbers.next?;

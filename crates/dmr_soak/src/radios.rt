@@ -1,4 +1,4 @@
-//! What radios and operators write, drawn so that radios meet one another.
+//! The PDUs of radios and the lines of operators, drawn so that radios meet one another.
 
 use crate::burst::{Pdu, pdu_of};
 use crate::draws::{Draws, Mode, Sort};
@@ -9,10 +9,10 @@ use crate::traffic::Traffic;
 use dmr_pdu::OutOfMemory;
 use std::alloc::Global;
 
-/// The address that registrations are sent to.
+/// The address to which registrations are sent.
 const REGI: u32 = 0xFF_FEC6;
 
-/// Lines that are no commands, each for a reason of its own.
+/// Lines that are not commands, each for another reason.
 static NONSENSE: &str =
     "|   |Status|status 1|status\t|radios|radios 16777216|radios 000000001|radios -1|calls 16|lines 0|\
     lines 33|drop 0|end 1|end 0 2|move 4095|stay 1 2 3|help";
@@ -50,7 +50,8 @@ impl Traffic {
         }
     }
 
-    /// A request with any options, of a kind: 0 calls a radio, 1 a talkgroup, 14 registers, 15 cancels.
+    /// Returns a request with random options. Its kind is 0 (calls a radio), 1 (calls a talkgroup), 14 (registers) or
+    /// 15 (cancels).
     fn request(&mut self, kind: u32, source: u32, target: u32) -> Pdu {
         let half = self.draws.below(128) << 9 | kind & 0x0F;
         pdu_of(0x9F, (half & 0xFFFF) as u16, target, source)
@@ -107,7 +108,7 @@ impl Traffic {
         pdu
     }
 
-    /// What a radio sends.
+    /// Returns a PDU of a radio.
     pub fn pdu(&mut self, sort: Sort, model: &Model) -> Pdu {
         let (source, target, group) = self.engaged(model);
         match sort {
@@ -126,7 +127,7 @@ impl Traffic {
     }
 }
 
-/// A command, by what stands.
+/// Returns a command that fits the state of the site.
 pub fn command(draws: &mut Draws, model: &Model) -> Said {
     let carrier = draws.small(16);
     let side = draws.small(2);
@@ -165,7 +166,8 @@ fn words(alloc: Global, draws: &mut Draws, said: &Said) -> Result<String, OutOfM
     }
 }
 
-/// A line of an operator: now and then with spaces up to the 80 octets that it may have with its end, or of too many.
+/// Returns a line of an operator. Sometimes spaces fill it to 78, 79 or 80 octets before its LF. `TooLong` has more
+/// than 80.
 pub fn line(alloc: Global, draws: &mut Draws, said: &Said) -> Result<String, OutOfMemory> {
     let mut line = words(alloc, draws, said)?;
     let end = if draws.chance(4) { "\r\n" } else { "\n" };

@@ -1,4 +1,4 @@
-//! What radios ask for on the control slot, what time does, and what operators are told.
+//! The rules for requests on the control slot, for ticks, and for operators' commands.
 
 use crate::burst::Pdu;
 use crate::model::{Model, Request, Stage};
@@ -16,11 +16,11 @@ pub enum Said {
     Slots,
     Drop(u32),
     End(Slot),
-    /// To a channel, or back.
+    /// Moves the control channel to this channel, or back if there is none.
     Move(Option<u32>),
-    /// No command.
+    /// A line that is not a command.
     Unknown,
-    /// More than 80 octets.
+    /// A line of more than 80 octets.
     TooLong,
 }
 
@@ -31,7 +31,7 @@ fn write_parties(text: &mut String, request: &Request) -> Result<(), OutOfMemory
 }
 
 impl Model {
-    /// A PDU comes on the control slot. It is heard only with room.
+    /// Processes a PDU on the control slot. Without room it has no effect.
     pub fn heard(&mut self, pdu: &Pdu) -> Result<(), OutOfMemory> {
         if !self.has_room() {
             self.counts.add("requests without room");
@@ -57,7 +57,7 @@ impl Model {
         }
     }
 
-    /// A radio asks for something: seven bits of options, five flags, and the kind in four.
+    /// Processes a radio's request: seven bits of options, five flags, and the kind in four bits.
     fn request(&mut self, request: &Request, half: u16) -> Result<(), OutOfMemory> {
         let radio = request.source;
         let reason = match half & 0x0F {
@@ -100,7 +100,7 @@ impl Model {
         Ok("Reg_Accepted")
     }
 
-    /// A radio leaves, and what it is engaged in ends. Who called it is told.
+    /// Removes a radio, and ends what engages it. Its caller is informed.
     pub fn leave(&mut self, radio: u32) -> Result<(), OutOfMemory> {
         self.registered.retain(|other| *other != radio);
         let Some(request) = self.engaging(radio) else {
@@ -182,7 +182,7 @@ impl Model {
         }
     }
 
-    /// The clock goes on by one. Room and the free slot are those that it finds.
+    /// Processes a tick. Room and the free slot are those at the beginning of the tick.
     pub fn tick(&mut self) -> Result<(), OutOfMemory> {
         for request in self.requests.iter_mut() {
             request.age = request.age.saturating_add(1);
@@ -228,7 +228,7 @@ impl Model {
         }
     }
 
-    /// An operator's line ends: the reply.
+    /// Processes an operator's line and returns the reply.
     pub fn say(&mut self, alloc: Global, said: &Said) -> Result<String, OutOfMemory> {
         let mut text = String::new(alloc);
         match said {
@@ -283,7 +283,7 @@ impl Model {
         text.push_str("end\n")
     }
 
-    /// The lines from a place on, which is counted from 1.
+    /// Writes the lines from a place on. The places count from 1.
     fn write_lines(&self, text: &mut String, from: u32) -> Result<(), OutOfMemory> {
         for place in from..from.saturating_add(16) {
             if let Some(line) = self.nth(Stage::Line, place.saturating_sub(1) as usize) {

@@ -1,4 +1,4 @@
-//! The octets of a site's carriers and operators: each deed as they would write it, in pieces that are cut at random.
+//! The octets of a site's carriers and operators: each action as they write it, in pieces that are cut at random.
 
 use crate::Counts;
 use crate::burst::{Burst, Pdu, burst_of, flip};
@@ -13,14 +13,14 @@ use dmr_pdu::OutOfMemory;
 use std::alloc::Global;
 use std::collections::VecDeque;
 
-/// The number of the operators among those who write octets; those below it are the carriers.
+/// The party number of the operators. Lower numbers are carriers.
 pub const OPERATORS: u8 = 16;
 
 static NAMES: &str =
     "HELLO, HELLO of version 2, wrong HELLO, bursts, bursts of nothing, ACTIVE, POLL, BYE or no frame, commands, \
     no commands, lines too long, broken but read, broken and lost";
 
-/// Octets from which no frame can follow in either version: of no type, with a wrong length, or with a wrong slot.
+/// Octets that begin no frame of either version: an unknown type, a wrong length or a wrong slot.
 static FAULTS: [&[u8]; 6] = [
     &[0x00],
     &[0x06],
@@ -30,41 +30,41 @@ static FAULTS: [&[u8]; 6] = [
     &[0x04, 0x01, 0x80],
 ];
 
-/// What octets of a carrier or of an operator are, at the last of them.
+/// The meaning of a party's octets, at the last of them.
 #[derive(Clone, Copy)]
 pub enum Meaning {
-    /// HELLO of a version that is served.
+    /// HELLO with a version that the site serves.
     Hello(u8),
-    /// Another HELLO, and what it is refused by.
+    /// Another HELLO, with the reason of its REFUSE.
     WrongHello(u8),
-    /// A burst with its number, if it has one, and the PDU that it means, if any.
+    /// A burst with its number, if it has one, and its PDU, if any.
     Burst(Option<u8>, Slot, Option<Pdu>),
     Active(Slot),
     Poll,
-    /// BYE, or octets from which no frame can follow.
+    /// BYE, or octets that begin no frame.
     End,
     Said(Said),
 }
 
-/// What comes to the engine next.
+/// The next input of the engine.
 #[derive(Clone, Copy)]
 pub enum Step {
     /// A carrier's connection begins, or is cut.
     Turn(u8, Link),
-    /// So many of the octets of a carrier, or of the operators.
+    /// This number of octets of a carrier or of the operators.
     Piece(u8, usize),
     Tick,
 }
 
-/// Who writes octets, what they have written, and what goes on.
+/// The octets that parties have written, and the mode of the site.
 #[derive(Drop)]
 pub struct Traffic {
     alloc: Global,
     pub scene: Scene,
     pub draws: Draws,
-    /// The octets that are to come from each party, and what each means beyond those before it.
+    /// The octets of each party that have not arrived yet, each with the meaning that it adds to those before it.
     streams: Vec<VecDeque<(u8, Option<Meaning>)>>,
-    /// The version that each carrier's frames have, and the number of its last RX in version 2, on whichever connection.
+    /// The version of each carrier's frames, and the number of its last RX in version 2, on any connection.
     versions: [u8; 16],
     numbers: [u8; 16],
     pub mode: Mode,
@@ -78,7 +78,7 @@ fn read_in(burst: &Burst) -> Option<Pdu> {
 }
 
 impl Traffic {
-    /// Nothing is written.
+    /// Returns traffic without any octets.
     pub fn new(alloc: Global, scene: &Scene, seed: u64) -> Result<Traffic, OutOfMemory> {
         let mut streams = Vec::new(alloc);
         for _ in 0..=OPERATORS {
@@ -97,7 +97,7 @@ impl Traffic {
         })
     }
 
-    /// Octets of a party come: what they are, and what they mean.
+    /// Takes octets that a party has written. Returns them and their meanings.
     pub fn come(
         &mut self,
         party: u8,
@@ -144,7 +144,7 @@ impl Traffic {
         Step::Piece(party, count)
     }
 
-    /// A party writes octets, which mean nothing before their last.
+    /// Writes octets of a party. Only the last of them has a meaning.
     fn put(
         &mut self,
         party: u8,
@@ -171,7 +171,7 @@ impl Traffic {
         Step::Turn(carrier, link)
     }
 
-    /// The HELLO of a carrier, with a version that is served: the frames behind it have that.
+    /// Returns a HELLO of a carrier with a version that the site serves. The frames after it have that version.
     fn any_hello(&mut self, carrier: u8) -> [u8; 6] {
         let mut version = 1;
         if self.scene.version == 2 && !self.draws.chance(4) {
@@ -183,7 +183,7 @@ impl Traffic {
         [0x01, 0x04, version, carrier, 0x00, carrier.wrapping_add(1)]
     }
 
-    /// HELLO comes. The first RX behind it mostly has the number of the last one before it.
+    /// Writes a HELLO. The first RX after it mostly has the number of the last RX before it.
     fn hello(&mut self, carrier: u8) -> Result<Step, OutOfMemory> {
         let octets = self.any_hello(carrier);
         if let Some(number) = self.numbers.get_mut(usize::from(carrier)) {
@@ -192,7 +192,8 @@ impl Traffic {
         self.put(carrier, &octets, Some(Meaning::Hello(octets[2])))
     }
 
-    /// HELLO comes that is refused: by 1 for its version, and where that is served, by 2 for its carrier or its channel.
+    /// Writes a HELLO that is refused: with 1 for its version, or, if that is served, with 2 for its carrier or its
+    /// channel.
     fn wrong_hello(&mut self, carrier: u8) -> Result<Step, OutOfMemory> {
         let mut octets = self.any_hello(carrier);
         let refusal = 1 + self.draws.small(2);
@@ -216,8 +217,8 @@ impl Traffic {
         self.versions.get(usize::from(carrier)) == Some(&2)
     }
 
-    /// The number of a carrier's next RX, if it has one: mostly that behind the last, now and then the last once more, that before
-    /// it, or any.
+    /// Returns the number of a carrier's next RX, if it has one. Mostly it follows the last number. Sometimes it is the
+    /// last number again, the one before that, or any number.
     fn number(&mut self, carrier: u8) -> Option<u8> {
         if !self.is_numbered(carrier) {
             return None;
@@ -233,7 +234,7 @@ impl Traffic {
         Some(*number)
     }
 
-    /// What comes of an RX before its word.
+    /// Writes the octets of an RX before its word.
     fn head(
         &mut self,
         slot: Slot,
@@ -247,7 +248,7 @@ impl Traffic {
         }
     }
 
-    /// A burst comes on a slot, in an RX with this number, if it has one.
+    /// Writes a burst on a slot, in an RX with this number, if there is one.
     pub fn receive(
         &mut self,
         slot: Slot,
@@ -260,7 +261,7 @@ impl Traffic {
         self.put(slot.carrier, burst, Some(meaning))
     }
 
-    /// An RX comes with a wrong pad, with a wrong slot, or of the other version; or another fault.
+    /// Writes an RX with a wrong pad, a wrong slot or of the other version, or another fault.
     fn fault(&mut self, carrier: u8) -> Result<Step, OutOfMemory> {
         let mut burst = self.any_burst();
         match self.draws.below(6) {
@@ -320,8 +321,8 @@ impl Traffic {
         burst
     }
 
-    /// A burst comes on a slot. In version 2 it comes before that too now and then, by the same number, on either slot, and a POLL or
-    /// an ACTIVE may stand between the two.
+    /// Writes a burst on a slot. In version 2 it sometimes writes the burst before that too, with the same number on
+    /// either slot, and sometimes a POLL or an ACTIVE between the two.
     fn hear(&mut self, slot: Slot, burst: Burst, pdu: Option<Pdu>) -> Result<Step, OutOfMemory> {
         let number = self.number(slot.carrier);
         if number.is_some() && self.draws.chance(12) {
@@ -350,7 +351,7 @@ impl Traffic {
         for _ in 0..flips {
             flip(&mut burst, 1 + self.draws.place(195));
         }
-        // Place 0 is outside the code, which mends three flips.
+        // Place 0 is not part of the code, which mends three flips.
         if self.draws.chance(8) {
             flip(&mut burst, 0);
         }
@@ -386,7 +387,7 @@ impl Traffic {
         self.active_on(slot)
     }
 
-    /// A carrier polls.
+    /// Writes a POLL.
     pub fn poll_of(&mut self, carrier: u8) -> Result<Step, OutOfMemory> {
         self.put(carrier, &[0x03, 0x00], Some(Meaning::Poll))
     }
@@ -422,7 +423,8 @@ impl Traffic {
         };
     }
 
-    /// What comes to the engine next, by what stands: more of what was begun, a carrier that comes up, or a deed.
+    /// Returns the next input of the engine, by the state of the site: more octets of a party, a carrier that comes up,
+    /// or a new action.
     pub fn next(&mut self, model: &Model) -> Result<Step, OutOfMemory> {
         let first = self.draws.small(17);
         for more in 0..17u8 {

@@ -1,4 +1,5 @@
-//! The model and the traffic against what was made apart from them. The program asks this before it draws anything.
+//! Checks of the model and the traffic against values from other sources. The program runs them before it draws
+//! anything.
 
 use crate::burst::{Pdu, burst_of, check_of};
 use crate::model::{Link, Model};
@@ -7,7 +8,7 @@ use crate::traffic::{Meaning, Traffic};
 use dmr_pdu::OutOfMemory;
 use std::alloc::Global;
 
-/// Radio 1001 registers, and is told that it is registered.
+/// Radio 1001 registers, and the acknowledgement accepts it.
 const REQUEST: Pdu = [0x9F, 0x00, 0x02, 0x0E, 0xFF, 0xFE, 0xC6, 0x00, 0x03, 0xE9];
 
 const ACCEPTED: Pdu = [0xA0, 0x00, 0x00, 0xC4, 0x00, 0x03, 0xE9, 0xFF, 0xFE, 0xC6];
@@ -22,7 +23,7 @@ static ACCEPTED_BURST: [u8; 25] = [
     0xE4, 0x97, 0x54, 0x2E, 0x40, 0x5C, 0xB8, 0x3C, 0xB0,
 ];
 
-/// What is sent where nothing waits.
+/// The PDU that is sent when nothing waits.
 const ALOHA: Pdu = [0x99, 0x00, 0x00, 0x00, 0x11, 0x12, 0x34, 0x00, 0x00, 0x00];
 
 static ALOHA_BURST: [u8; 25] = [
@@ -30,7 +31,7 @@ static ALOHA_BURST: [u8; 25] = [
     0x22, 0x80, 0x42, 0x10, 0x79, 0x00, 0x5A, 0x23, 0x10,
 ];
 
-/// PDUs, and the check that the formats give of each.
+/// PDUs, each with its check according to the formats.
 static CHECKS: [(Pdu, u16); 5] = [
     ([0; 10], 0x5A5A),
     (REQUEST, 0xC84F),
@@ -42,7 +43,7 @@ static CHECKS: [(Pdu, u16); 5] = [
     (ALOHA, 0xF613),
 ];
 
-/// Whether the checks of five PDUs, and the bursts of three, are those that the formats give.
+/// Returns whether the checks of five PDUs and the bursts of three equal those in the formats.
 pub fn codes_as_the_formats() -> bool {
     CHECKS.iter().all(|(pdu, check)| check_of(pdu) == *check)
         && burst_of(&REQUEST) == REQUEST_BURST
@@ -50,8 +51,9 @@ pub fn codes_as_the_formats() -> bool {
         && burst_of(&ALOHA) == ALOHA_BURST
 }
 
-/// What a carrier writes behind its HELLO that hears a registration, by an RX with this number, if it has one, so many times over, and
-/// polls as often; and what is put out for all that.
+/// Returns the octets that a carrier sends after its HELLO, and the octets that it should receive.
+///
+/// The carrier sends a registration `times` times, in an RX with this number if there is one, and then polls as often.
 fn registration(
     alloc: Global,
     number: Option<u8>,
@@ -77,7 +79,7 @@ fn registration(
     Ok((octets, text))
 }
 
-/// Whether a registration is spelled as the formats say, and answered as the README shows it.
+/// Returns whether a registration is encoded as in the formats, and answered as in the README.
 pub fn registers_as_shown(alloc: Global) -> Result<bool, OutOfMemory> {
     let (octets, text) = registration(alloc, None, 1)?;
     let mut spelled = [0x02, 0x1A, 0x00].to_vec(alloc)?;
@@ -89,7 +91,7 @@ pub fn registers_as_shown(alloc: Global) -> Result<bool, OutOfMemory> {
     Ok(octets.as_slice() == spelled.as_slice() && text.as_slice() == wanted.as_slice())
 }
 
-/// Whether one in version 2 whose RX comes twice is spelled and answered as the formats say.
+/// Returns whether a registration in version 2 whose RX is sent twice is encoded and answered as in the formats.
 pub fn registers_once(alloc: Global) -> Result<bool, OutOfMemory> {
     let (octets, text) = registration(alloc, Some(5), 2)?;
     let mut spelled = [0x02, 0x1B, 0x05, 0x00].to_vec(alloc)?;

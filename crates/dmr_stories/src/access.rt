@@ -1,11 +1,11 @@
-//! Access to the common site that is told what comes, and what it answers.
+//! Access to the common site as a listener of stories.
 //!
-//! Its control carrier is up when a story begins. It is told and asked by the names of the methods of [`Access`]: as
-//! `noise`, or `number 31`. Behind `fill` and `next_fill` stand a channel to which radios are moved, and the PDU of a late
-//! entry, each as `-` where there is none: as `fill 7 -`. `copy` puts a copy of it in the place of the one that there is,
-//! and `same` asks whether it is equal to it.
+//! The control carrier is up when a story begins. An input is the name of a method of [`Access`]: `noise`, or
+//! `number 31`. Two arguments follow `fill` and `next_fill`: the channel to which radios are moved, and the PDU of a
+//! late entry. Each is `-` if there is none: `fill 7 -`. `copy` replaces the copy by a copy of the access. `same` asks
+//! whether the two are equal.
 //!
-//! An answer is a PDU, a number, or `yes` or `no`; nothing where there is none.
+//! An answer is a PDU, a number, `yes` or `no`, or nothing if there is no such number.
 
 mod stories;
 
@@ -26,7 +26,7 @@ pub struct Fills {
 }
 
 impl Fills {
-    /// Access to the common site, with its control carrier up.
+    /// Returns the access of the common site, with its control carrier up.
     pub fn new(alloc: Global) -> Result<Fills, Fail> {
         let plan = plan_of(alloc, SMALL)?;
         let mut access = Access::new(alloc, &plan)?;
@@ -57,7 +57,7 @@ impl Listener for Fills {
 }
 
 impl Fills {
-    /// Tells access what came.
+    /// Applies an event.
     fn tell_event(&mut self, word: &str, said: &mut String) -> Result<(), OutOfMemory> {
         match word {
             "noise" => self.access.noise(),
@@ -71,7 +71,7 @@ impl Fills {
     }
 }
 
-/// Writes the noise number of so many Polls ago, where there is one.
+/// Writes the noise number of `polls` Polls ago, if there is one.
 fn write_number(said: &mut String, access: &Access, polls: &str) -> Result<(), OutOfMemory> {
     let Ok(polls) = polls.parse::<usize>() else {
         return said.push_str("?");
@@ -82,7 +82,7 @@ fn write_number(said: &mut String, access: &Access, polls: &str) -> Result<(), O
     }
 }
 
-/// Writes what fills the control slot, or fills it next.
+/// Writes what fills the control slot now, or fills it next.
 fn fill(access: &mut Access, word: &str, rest: &str, said: &mut String) -> Result<(), OutOfMemory> {
     let (channel, digits) = cut(rest);
     let moving = channel_of(channel);
@@ -95,7 +95,7 @@ fn fill(access: &mut Access, word: &str, rest: &str, said: &mut String) -> Resul
     write_pdu(said, &pdu)
 }
 
-/// The channel of a number.
+/// Returns the channel with this number.
 fn channel_of(digits: &str) -> Option<Lpcn> {
     Lpcn::try_new(digits.parse::<u32>().ok()?)
 }

@@ -1,4 +1,4 @@
-//! Engines that take inputs, over the common site, and what they put out.
+//! Tests of engines over the common site: inputs, and the octets that the engine writes.
 
 pub mod frames;
 mod runs;
@@ -13,26 +13,25 @@ use std::test::Fail;
 /// Octets, in pieces that are joined.
 pub type Pieces = &'static [&'static [u8]];
 
-/// What comes to an engine.
+/// An input of an engine, with constant octets.
 #[derive(Clone, Copy)]
 pub enum Step {
     /// A carrier's connection begins.
     Open(u32),
-    /// Octets come on a carrier's connection, all at once.
+    /// Octets arrive on a carrier's connection, all at once.
     Bytes(u32, Pieces),
     /// A carrier's connection is cut.
     Cut(u32),
-    /// An operator's octets come, all at once.
+    /// An operator's octets arrive, all at once.
     Text(Pieces),
     /// The clock ticks.
     Tick,
 }
 
-/// What comes to an engine, and what it puts out then: for the carrier on whose connection it came, or for the
-/// operator.
+/// A step, and the octets that the engine writes for it: to the carrier of the connection, or to the operator.
 pub type Told = (Step, Pieces);
 
-/// What comes to an engine, with octets of its own.
+/// An input of an engine, with octets on the heap.
 #[derive(Drop)]
 enum Came {
     Open(CarrierNo),
@@ -43,7 +42,7 @@ enum Came {
 }
 
 impl Came {
-    /// The input that it is.
+    /// Returns the input for the engine.
     fn as_input(&self) -> Input<'_> {
         match self {
             Came::Open(carrier) => Input::Open(*carrier),
@@ -55,8 +54,9 @@ impl Came {
     }
 }
 
-/// Wants an engine that has just begun to put this out, and nothing else: step by step, after each of them; in one run;
-/// and in one run where each piece of octets comes in two, cut at each place, with a tick between them.
+/// Checks that a new engine writes exactly these octets. First it runs the inputs step by step, for each number of
+/// steps. Then it runs all of them at once, and again with each piece of octets cut in two, at each place, with a tick
+/// between the halves.
 pub fn puts_out(rt: &(impl Abort + AllocGlobal), name: &str, told: &[Told]) -> Result<(), Fail> {
     for count in 0..=told.len() {
         takes_steps(rt, name, &told[..count])?;
@@ -68,12 +68,12 @@ pub fn puts_out(rt: &(impl Abort + AllocGlobal), name: &str, told: &[Told]) -> R
     Ok(())
 }
 
-/// An engine that has just begun.
+/// Returns a new engine.
 fn engine(alloc: Global) -> Result<Engine, Fail> {
     Ok(Engine::new(alloc, plan_of(alloc, SMALL)?)?)
 }
 
-/// Wants this to be put out by an engine that takes steps.
+/// Checks the octets that an engine writes if it takes the inputs in steps.
 fn takes_steps(rt: &(impl Abort + AllocGlobal), name: &str, told: &[Told]) -> Result<(), Fail> {
     let came = all_that_came(rt.alloc(), told, None)?;
     let mut engine = engine(rt.alloc())?;
@@ -83,7 +83,7 @@ fn takes_steps(rt: &(impl Abort + AllocGlobal), name: &str, told: &[Told]) -> Re
     Ok(())
 }
 
-/// What an engine puts out that takes what came in steps.
+/// Returns the octets that an engine writes if it takes the inputs in steps.
 fn put_out_by_steps(
     alloc: Global,
     engine: &mut Engine,
@@ -96,7 +96,8 @@ fn put_out_by_steps(
     Ok(outputs)
 }
 
-/// Wants this to be put out by an engine that takes all in one run, each piece cut in two where a place is given.
+/// Checks the octets that an engine writes if it takes all inputs in one run. If `place` is given, each piece is cut in
+/// two.
 fn takes_in_one_run(
     rt: &(impl Abort + AllocGlobal),
     name: &str,
@@ -112,7 +113,7 @@ fn takes_in_one_run(
     Ok(())
 }
 
-/// All that comes, each piece of octets in two where a place is given.
+/// Returns all inputs. If `place` is given, each piece of octets is cut in two.
 fn all_that_came(
     alloc: Global,
     told: &[Told],
@@ -134,7 +135,7 @@ fn all_that_came(
     Ok(came)
 }
 
-/// The octets of a step, in one piece.
+/// Returns the octets of a step, in one piece.
 fn octets_of(alloc: Global, step: &Step) -> Result<Vec<u8>, OutOfMemory> {
     match step {
         Step::Bytes(_, octets) | Step::Text(octets) => joined(alloc, octets),
@@ -142,12 +143,12 @@ fn octets_of(alloc: Global, step: &Step) -> Result<Vec<u8>, OutOfMemory> {
     }
 }
 
-/// Whether octets come with a step.
+/// Returns whether a step has octets.
 fn has_octets(step: &Step) -> bool {
     matches!(step, Step::Bytes(_, _) | Step::Text(_))
 }
 
-/// What comes with a step, with octets in the place of its own.
+/// Returns the input of a step, with `octets` instead of its own.
 fn came_of(alloc: Global, step: &Step, octets: &[u8]) -> Result<Came, OutOfMemory> {
     Ok(match step {
         Step::Open(number) => Came::Open(carrier(*number)),
@@ -158,7 +159,7 @@ fn came_of(alloc: Global, step: &Step, octets: &[u8]) -> Result<Came, OutOfMemor
     })
 }
 
-/// Octets, piece behind piece.
+/// Joins pieces of octets.
 pub fn joined(alloc: Global, pieces: &[&[u8]]) -> Result<Vec<u8>, OutOfMemory> {
     let mut octets = Vec::new(alloc);
     for piece in pieces {
@@ -167,12 +168,12 @@ pub fn joined(alloc: Global, pieces: &[&[u8]]) -> Result<Vec<u8>, OutOfMemory> {
     Ok(octets)
 }
 
-/// The carrier of a number; 0 where there is none.
+/// Returns the carrier with this number, or carrier 0 if there is none.
 fn carrier(number: u32) -> CarrierNo {
     CarrierNo::try_new(number).unwrap_or(CarrierNo::new(0))
 }
 
-/// The inputs that came.
+/// Returns the inputs for the engine.
 fn inputs_of<'a>(alloc: Global, came: &'a [Came]) -> Result<Vec<Input<'a>>, OutOfMemory> {
     let mut inputs = Vec::new(alloc);
     for came in came {
@@ -183,7 +184,7 @@ fn inputs_of<'a>(alloc: Global, came: &'a [Came]) -> Result<Vec<Input<'a>>, OutO
     Ok(inputs)
 }
 
-/// Wants just this to be put out, for each carrier and for operators.
+/// Checks that exactly these octets were written for each carrier and for operators.
 fn are_put_out(
     rt: &(impl Abort + AllocGlobal),
     name: &str,
@@ -200,7 +201,7 @@ fn are_put_out(
     Ok(())
 }
 
-/// What is to be put out for a carrier; for operators where there is none.
+/// Returns the octets that are expected for a carrier, or for operators if `carrier` is `None`.
 fn wanted_for(alloc: Global, told: &[Told], carrier: Option<u32>) -> Result<Vec<u8>, OutOfMemory> {
     let mut octets = Vec::new(alloc);
     for (step, pieces) in told {
@@ -213,7 +214,7 @@ fn wanted_for(alloc: Global, told: &[Told], carrier: Option<u32>) -> Result<Vec<
     Ok(octets)
 }
 
-/// The carrier for which a step has something put out; none where that is for operators.
+/// Returns the carrier to which a step's octets are written, or `None` if they are for operators.
 fn place_of(step: &Step) -> Option<u32> {
     match step {
         Step::Open(number) | Step::Bytes(number, _) | Step::Cut(number) => Some(*number),

@@ -1,6 +1,6 @@
-//! The language of the tests: stories that a listener is told line by line, with what answers each line.
+//! The language of the stories: lines of inputs, each with the expected answer.
 //!
-//! A line is what is told, ` =>`, and the answer:
+//! A line has the input, ` =>`, and the answer:
 //!
 //! ```text
 //! heard 0.0 9F00000100005B0003E9 => began 0.1 1001 g91; queue 0.0 B100001800005B0003E9
@@ -8,13 +8,14 @@
 //! 60 tick =>
 //! ```
 //!
-//! A number in front says how often it is told; each time it is answered so. Lines that begin with `#`, and empty ones,
-//! say nothing. What can be told, and what answers it, the listeners say.
+//! A number before the input is the count of its repetitions; each repetition has the same answer. Empty lines, and
+//! lines that begin with `#`, are ignored. Each listener documents its own inputs and answers.
 //!
-//! A part of a story that begins with a line `rounds A to B`, and ends with an empty line, is told once in each round
-//! from A to B. There a number with a `+` behind it, as `1000+`, is raised by the number of the round.
+//! If a part of a story begins with a line `rounds A to B` and ends with an empty line, it runs once for each round
+//! from A to B. In such a part, a number followed by `+`, as in `1000+`, is raised by the number of the round.
 //!
-//! A PDU is twenty hexadecimal digits, or eight of them and two addresses in decimal digits, as `B1000018.91.1001`.
+//! A PDU is written as twenty hexadecimal digits, or as eight of them and two decimal addresses, as in
+//! `B1000018.91.1001`.
 
 pub mod words;
 
@@ -22,13 +23,13 @@ use dmr_pdu::OutOfMemory;
 use std::alloc::Global;
 use std::process::Abort;
 
-/// What stories are told to.
+/// The thing under test: takes the inputs of a story, one at a time, and writes its answers.
 pub trait Listener {
-    /// Writes what answers words; `?` where it doesn't know them.
+    /// Applies the input `told` and writes the answer to `said`; writes `?` if the input is unknown.
     fn hear(&mut self, told: &str, said: &mut String) -> Result<(), OutOfMemory>;
 }
 
-/// Tells a listener a story of a name in these parts, and wants each line to be answered so. The listener goes then.
+/// Runs the parts of a story in order and checks the answer to each line. Drops the listener at the end.
 pub fn tell<L: Listener + Drop>(
     rt: &(impl Abort + AllocGlobal),
     mut listener: L,
@@ -41,7 +42,7 @@ pub fn tell<L: Listener + Drop>(
     Ok(())
 }
 
-/// Tells a listener a part of a story.
+/// Runs one part of a story.
 pub fn tell_part<L: Listener>(
     rt: &(impl Abort + AllocGlobal),
     listener: &mut L,
@@ -57,14 +58,14 @@ pub fn tell_part<L: Listener>(
     Ok(())
 }
 
-/// The first and the last round in which a part of a story is told, and its lines, where it says so.
+/// Returns the first and last round of a part and its lines, or `None` if the part has no line `rounds A to B`.
 fn rounds_of(part: &str) -> Option<(u32, u32, &str)> {
     let (rounds, lines) = part.strip_prefix("rounds ")?.split_once('\n')?;
     let (first, last) = rounds.split_once(" to ")?;
     Some((first.parse::<u32>().ok()?, last.parse::<u32>().ok()?, lines))
 }
 
-/// Tells a listener lines in a round of some number.
+/// Runs lines as those of round `round`.
 pub fn tell_in_round<L: Listener>(
     rt: &(impl Abort + AllocGlobal),
     listener: &mut L,
@@ -81,7 +82,7 @@ pub fn tell_in_round<L: Listener>(
     Ok(())
 }
 
-/// Tells a listener a line.
+/// Runs a line and checks the answer to each of its repetitions.
 fn tell_line<L: Listener>(
     rt: &(impl Abort + AllocGlobal),
     listener: &mut L,
@@ -99,7 +100,7 @@ fn tell_line<L: Listener>(
     Ok(())
 }
 
-/// How often something is told, and what is told.
+/// Splits an input into the count of its repetitions, 1 if the input has no count, and the rest.
 pub fn times_of(told: &str) -> (u32, &str) {
     let (first, rest) = words::cut(told);
     match first.parse::<u32>() {
@@ -108,7 +109,7 @@ pub fn times_of(told: &str) -> (u32, &str) {
     }
 }
 
-/// A line as it is told in a round: each PDU by its twenty digits, and numbers with a `+` raised.
+/// Returns a line as it is in a round: each PDU as twenty digits, and each number with a `+` raised.
 fn raised(alloc: Global, round: u32, line: &str) -> Result<String, OutOfMemory> {
     let mut text = String::new(alloc);
     for word in line.split(' ') {
@@ -125,7 +126,7 @@ fn raised(alloc: Global, round: u32, line: &str) -> Result<String, OutOfMemory> 
     Ok(text)
 }
 
-/// Writes a word as it is told in a round.
+/// Writes a word as it is in a round.
 fn write_raised(text: &mut String, round: u32, word: &str) -> Result<(), OutOfMemory> {
     if let Some((head, first, second)) = addressed(round, word) {
         write!(text, "{head:08X}{first:06X}{second:06X}")?;
@@ -142,7 +143,7 @@ fn write_raised(text: &mut String, round: u32, word: &str) -> Result<(), OutOfMe
     Ok(())
 }
 
-/// The first four octets of a PDU and its two addresses, where it is written so.
+/// Returns the first four octets and the two addresses of a PDU, or `None` if the word is not a PDU of that form.
 fn addressed(round: u32, word: &str) -> Option<(u32, u32, u32)> {
     let (head, addresses) = word.split_once('.')?;
     let (first, second) = addresses.split_once('.')?;
@@ -153,7 +154,7 @@ fn addressed(round: u32, word: &str) -> Option<(u32, u32, u32)> {
     ))
 }
 
-/// The number of digits, raised where a `+` stands behind them.
+/// Returns the number of these digits, raised by the round if a `+` follows them.
 fn number(round: u32, radix: u32, digits: &str) -> Option<u32> {
     let (digits, more) = match digits.strip_suffix('+') {
         Some(digits) => (digits, round),

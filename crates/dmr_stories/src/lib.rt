@@ -1,7 +1,7 @@
-//! Stories that the site's plan, lists, registry, slots, access, machine, engine and links are told, and how they answer.
+//! Tests in the form of stories: of the site file, lists, registry, slots, access, site machine, engine and links.
 //!
-//! The crate has tests alone, each a loop over a table. They stand here, above the crates that they try, since a crate
-//! that has tests is proved twice.
+//! A story has inputs and the expected answers, mostly as lines of text. The crate holds only tests, and most of them
+//! loop over a table. They are above the crates that they test, since a crate with tests is proved twice.
 #![tactic(auto)]
 
 #[cfg(test)]

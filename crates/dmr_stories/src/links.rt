@@ -1,4 +1,4 @@
-//! Links that are told stories, over ports that fail at any call.
+//! Stories of links, over ports that fail at any call.
 
 mod answers;
 mod carriers;
@@ -16,7 +16,7 @@ use self::peer::Peer;
 use self::stage::tell_all;
 use std::test::Fail;
 
-/// A story by its name.
+/// The name of a story, and its text.
 pub type Story = (&'static str, &'static str);
 
 #[test]

@@ -1,12 +1,16 @@
-//! Asks, lines and calls that are told what comes, and what they answer.
+//! The asks, lines and calls of a site as a listener of stories.
 //!
-//! They are told and asked by the names of the methods of [`Calls`], with calls, asks and lines, or numbers, behind
-//! them: as `begin 1.1 1001 g91`, `tick 10 100 8` or `line_of 1001`. `copy` puts a copy of them in the place of the one
-//! that there is; `same` asks whether they are equal to it, and `empty` whether they are equal to new ones.
+//! An input is the name of a method of [`Calls`], followed by calls, asks, lines or numbers: `begin 1.1 1001 g91`,
+//! `tick 10 100 8` or `line_of 1001`. `copy` replaces the copy by a copy of the lists; `same` asks whether the lists
+//! equal their copy, and `empty` whether they equal new ones.
 //!
-//! An answer is what was found, with `, ` between several, and nothing where nothing was: `call C.S R T`, `ask R T
-//! OPTIONS ATTEMPT` or `line R T`, and for what is due the slot of a call alone; or `ok` or `full`; or `yes` or `no`;
-//! or the numbers of asks, lines and calls.
+//! An answer is one of these:
+//!
+//! - what the method found, with `, ` between several: `call C.S R T`, `ask R T OPTIONS ATTEMPT` or `line R T`; a call that
+//!   is due has only its slot; nothing if the method found nothing
+//! - `ok` or `full`
+//! - `yes` or `no`
+//! - the numbers of asks, lines and calls
 
 mod answers;
 mod changes;
@@ -31,7 +35,7 @@ pub struct Lists {
 }
 
 impl Lists {
-    /// Nothing stands.
+    /// Returns empty lists with an empty copy.
     pub fn new(alloc: Global) -> Result<Lists, OutOfMemory> {
         Ok(Lists {
             calls: Calls::new(alloc)?,
@@ -54,7 +58,7 @@ impl Listener for Lists {
 }
 
 impl Lists {
-    /// Writes what answers the name of a method, and what stands behind it.
+    /// Calls the method that an input names, and writes its answer.
     fn answer(&mut self, told: &str, said: &mut String) -> Result<(), OutOfMemory> {
         let (word, rest) = cut(told);
         let calls = &mut self.calls;

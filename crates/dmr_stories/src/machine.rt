@@ -1,4 +1,4 @@
-//! Sites that are told stories, and their answers: all acts in order, each PDU by its octets.
+//! Stories of sites. An answer has all acts in order, each PDU by its octets.
 
 mod acts;
 mod carriers;

@@ -1,4 +1,4 @@
-//! Site files and their faults: worked cases, each the common site file with changes.
+//! Tests of site files and their faults. Each case is the common site file with changes.
 
 use crate::language::{Listener, tell};
 use crate::site_file::{SMALL, plan_of, reading_of};
@@ -8,10 +8,10 @@ use std::alloc::Global;
 use std::fmt::Display;
 use std::test::Fail;
 
-/// Changes of the site file, and what reading it tells then: `accepted`, or the text of the fault.
+/// Changes of the site file, each with the result of reading it: `accepted`, or the text of the fault.
 static STORIES: [&str; 7] = [
-    // What the TOML reader refuses, a key said twice and whole numbers beyond 64 bits among it, wherever they stand;
-    // and keys that must stand there.
+    // The TOML reader refuses bad TOML anywhere in the file, also a key given twice and a whole number beyond 64 bits.
+    // Required keys have to be there.
     "\
 SITE / system = | => not TOML
 hang = 100 / hang = => not TOML
@@ -25,7 +25,7 @@ CARRIERS / => missing carrier
 control = 0| / => missing control
 port = 7102| / => missing port
 ",
-    // Whole numbers alone are numbers; each is in its range; two services have two addresses.
+    // Only whole numbers are numbers; each is in its range; two services have two addresses.
     "\
 hang = 100 / hang = true => wrong type hang
 hang = 100 / hang = 100.0 => wrong type hang
@@ -58,8 +58,8 @@ control = 0 / control = 0|link_version = 3 => out of range link_version
 control = 0 / control = 0|link_version = 1 => accepted
 console_port = 7100 / console_port = 0 => out of range console_port
 ",
-    // The type of the whole array comes before its count and its numbers; an `address` of another count is of a wrong
-    // type.
+    // The type of the whole array is checked before its count and its numbers. An `address` with another count has a
+    // wrong type.
     "\
 control = 0 / control = 0|address = \"127.0.0.1\" => wrong type address
 control = 0 / control = 0|address = [127, 0, 0, 256] => out of range address
@@ -74,7 +74,7 @@ groups = [91, 92, 93, 94] / groups = [1, 2, 3, 4, 5, 6, 7, 8, 9, 10, 11, 12, 13,
 groups = [91, 92, 93, 94] / groups = [0] => out of range groups
 groups = [91, 92, 93, 94] / groups = [] => accepted
 ",
-    // The type of the whole array comes before its count, and that before each range; ranges may overlap.
+    // The type of the whole array is checked before its count, and its count before each range. Ranges may overlap.
     "\
 radios = [[1000, 1999]] / radios = [] => out of range radios
 radios = [[1000, 1999]] / radios = [[1, 1], [2, 2], [3, 3], [4, 4], [5, 5], [6, 6], [7, 7], [8, 8], [9, 9], \
@@ -89,8 +89,8 @@ radios = [[1000, 1999]] / radios = [[0, 1999]] => out of range radios
 radios = [[1000, 1999]] / radios = [[1, 16776416]] => out of range radios
 radios = [[1000, 1999]] / radios = [[1000, 1500], [1400, 1999]] => accepted
 ",
-    // What is no array of 1 to 16 tables; numbers of a carrier out of range, or had by an earlier carrier or the
-    // console; the control carrier is in the file.
+    // Values that are not an array of 1 to 16 tables. Numbers of a carrier that are out of range, or that an earlier
+    // carrier or the console has. A control carrier that is not in the file.
     "\
 CARRIERS / carrier = 3| => wrong type carrier
 CARRIERS / [carrier]|number = 0|lpcn = 1|port = 7101| => wrong type carrier
@@ -106,7 +106,7 @@ port = 7102 / port = 7100 => repeated port
 control = 0 / control = 2 => out of range control
 control = 0 / control = 16 => out of range control
 ",
-    // Of several faults the first in the order of the keys is told; the carriers are checked table by table.
+    // Of several faults, the first in the order of the keys is reported. The carriers are checked table by table.
     "\
 hang = 100 / hang = 0 & regi = 0xFFFEC6| / => missing regi
 control = 0 / control = 0|address = [1]|link_version = 3 => out of range link_version
@@ -116,7 +116,7 @@ control = 0 / control = 9 & port = 7102 / port = 0 => out of range port
 ",
 ];
 
-/// Is told changes of the site file, and says what reading it tells.
+/// A listener that reads the site file with the changes of each line, and answers with the result.
 #[derive(Drop)]
 struct Reader {
     alloc: Global,
@@ -147,7 +147,7 @@ fn tells_faults(rt: HostRuntime) -> Result<(), Fail> {
     Ok(())
 }
 
-/// Want of memory has a text of its own.
+/// An allocation failure has a text of its own.
 #[test]
 fn tells_want_of_memory(rt: HostRuntime) -> Result<(), Fail> {
     let mut told = String::new(rt.alloc());
@@ -156,23 +156,22 @@ fn tells_want_of_memory(rt: HostRuntime) -> Result<(), Fail> {
     Ok(())
 }
 
-/// The keys that may be missing, each with a value that isn't the one that stands for it, and one without which the
-/// site does as well.
+/// The optional keys: each has a value other than its default, but `leave_bit` is left out.
 const MORE_KEYS: &str = "\
 leave_bit = 0| / \
 aloha_sync = 1|aloha_version = 7|aloha_offset = 1|aloha_active = 1|\
 nrand_wait = 15|term_entries = 1|link_version = 2|address = [10, 0, 0, 255]|";
 
-/// Carriers as an array of tables in line, and keys that the table of keys doesn't have.
+/// Carriers as an array of inline tables, and keys that the table of keys doesn't have.
 const WRITTEN_OTHERWISE: &str = "\
 CARRIERS / carrier = [{ number = 0, lpcn = 1, port = 7101 }, { number = 1, lpcn = 2, port = 7102 }]|\
 name = \"north\"|[extra]|hang = \"x\"|";
 
-/// The numbers of the keys from `system` to `console_port`, but for `leave_bit` and `address`, in the order of the
+/// The numbers of the keys from `system` to `console_port`, without `leave_bit` and `address`, in the order of the
 /// keys.
 type Numbers = [u32; 21];
 
-/// Changes of the site file, and what its keys say then: their numbers, `leave_bit` and `address`.
+/// Changes of the site file, and the values of its keys: their numbers, `leave_bit` and `address`.
 static VALUES: [(&str, Numbers, Option<u8>, [u8; 4]); 2] = [
     (
         SMALL,
@@ -194,7 +193,7 @@ static VALUES: [(&str, Numbers, Option<u8>, [u8; 4]); 2] = [
     ),
 ];
 
-/// A plan's numbers.
+/// Returns the numbers of a plan.
 fn numbers_of(plan: &Plan) -> Numbers {
     [
         plan.system().get(),
@@ -221,7 +220,7 @@ fn numbers_of(plan: &Plan) -> Numbers {
     ]
 }
 
-/// Each key's value, and the defaults of the keys that may be missing.
+/// Checks each key's value, and the defaults of the optional keys.
 #[test]
 fn reads_each_value(rt: HostRuntime) -> Result<(), Fail> {
     for (changes, numbers, leave_bit, address) in &VALUES {
@@ -234,7 +233,7 @@ fn reads_each_value(rt: HostRuntime) -> Result<(), Fail> {
     Ok(())
 }
 
-/// Whether two plans are the same.
+/// Checks the equality of plans.
 #[test]
 fn same_plans(rt: HostRuntime) -> Result<(), Fail> {
     let plain = plan_of(rt.alloc(), SMALL)?;
@@ -243,7 +242,7 @@ fn same_plans(rt: HostRuntime) -> Result<(), Fail> {
     Ok(())
 }
 
-/// The carriers, the radios and the talkgroups that the site has, and those that it doesn't have.
+/// Checks which carriers, radios and talkgroups the site has, and which it doesn't have.
 #[test]
 fn finds_carriers_radios_and_groups(rt: HostRuntime) -> Result<(), Fail> {
     let plan = plan_of(rt.alloc(), SMALL)?;

@@ -1,12 +1,13 @@
-//! Slots of the common site that are told what comes, and what they answer.
+//! The slots of the common site as a listener of stories.
 //!
-//! Its carriers are up when a story begins. The slots are told and asked by the names of the methods of [`Pool`], with a
-//! carrier, a slot, or a slot and a PDU behind them: as `lost 1`, `hold 0.1` or `push 0.0 B1000020.91.1001`. `copy` puts a
-//! copy of them in the place of the one that there is; `same` asks whether they are equal to it, and `is_as` whether they
-//! are as it is, whatever calls hold.
+//! All carriers are up when a story begins. An input is the name of a method of [`Pool`], followed by a carrier, a
+//! slot, or a slot and a PDU: `lost 1`, `hold 0.1` or `push 0.0 B1000020.91.1001`. `copy` replaces the copy by a copy
+//! of the slots. `same` asks whether the slots equal their copy, and `is_as` whether they equal it apart from the slots
+//! that calls hold.
 //!
-//! An answer is a slot, a PDU or a number, `yes` or `no`, `ok` or `full`; nothing where there is none. What may not be
-//! asked of them then, as to hold a slot that is not free, is not asked, and answered `?`.
+//! An answer is a slot, a PDU, a number, `yes`, `no`, `ok` or `full`, or nothing if there is no such slot or PDU. An
+//! input that breaks a method's precondition, such as `hold` of a slot that is not free, is answered `?` without a call
+//! of the method.
 
 mod stories;
 
@@ -29,7 +30,7 @@ pub struct Slots {
 }
 
 impl Slots {
-    /// The slots of the common site, with its carriers up.
+    /// Returns the slots of the common site, with its carriers up.
     pub fn new(alloc: Global) -> Result<Slots, Fail> {
         let plan = plan_of(alloc, SMALL)?;
         let mut pool = Pool::new(alloc, &plan)?;
@@ -60,7 +61,7 @@ impl Listener for Slots {
     }
 }
 
-/// Writes a slot, where there is one.
+/// Writes a slot, if there is one.
 fn write_found_slot(said: &mut String, found: Option<Slot>) -> Result<(), OutOfMemory> {
     match &found {
         Some(slot) => write_slot(said, "", slot),
@@ -68,7 +69,7 @@ fn write_found_slot(said: &mut String, found: Option<Slot>) -> Result<(), OutOfM
     }
 }
 
-/// Writes a PDU, where there is one.
+/// Writes a PDU, if there is one.
 fn write_found_pdu(said: &mut String, found: Option<Pdu>) -> Result<(), OutOfMemory> {
     match &found {
         Some(pdu) => write_pdu(said, pdu),
@@ -76,7 +77,7 @@ fn write_found_pdu(said: &mut String, found: Option<Pdu>) -> Result<(), OutOfMem
     }
 }
 
-/// Tells slots what concerns a carrier or a slot.
+/// Applies an input that names a carrier or a slot.
 fn tell_place(pool: &mut Pool, told: &str, said: &mut String) -> Result<(), OutOfMemory> {
     let (word, rest) = cut(told);
     let (place, digits) = cut(rest);
@@ -92,7 +93,7 @@ fn tell_place(pool: &mut Pool, told: &str, said: &mut String) -> Result<(), OutO
     }
 }
 
-/// Tells slots what concerns a carrier.
+/// Applies an input that names a carrier.
 fn tell_carrier(
     pool: &mut Pool,
     word: &str,
@@ -113,7 +114,7 @@ fn tell_carrier(
     }
 }
 
-/// Tells slots what concerns one of them.
+/// Applies an input that names a slot.
 fn tell_slot(
     pool: &mut Pool,
     word: &str,
@@ -136,14 +137,14 @@ fn tell_slot(
     }
 }
 
-/// Takes out the PDU that has waited longest for a slot, if one waits.
+/// Removes the PDU that has waited longest for a slot, if one waits.
 fn take_first(pool: &mut Pool, slot: &Slot) -> Option<Pdu> {
     let pdu = pool.first(*slot)?;
     pool.take_first(slot, &pdu);
     Some(pdu)
 }
 
-/// A call takes a slot, where that is free.
+/// Holds a slot for a call; writes `?` if the slot is not free.
 fn hold(pool: &mut Pool, slot: &Slot, said: &mut String) -> Result<(), OutOfMemory> {
     if !pool.is_free(*slot) {
         return said.push_str("?");
@@ -152,7 +153,7 @@ fn hold(pool: &mut Pool, slot: &Slot, said: &mut String) -> Result<(), OutOfMemo
     Ok(())
 }
 
-/// Tells slots what concerns one of them and a PDU.
+/// Applies an input that names a slot and a PDU.
 fn tell_pdu(
     pool: &mut Pool,
     word: &str,
@@ -167,7 +168,7 @@ fn tell_pdu(
     }
 }
 
-/// Puts a PDU behind those that wait for a slot, where its carrier is up.
+/// Queues a PDU for a slot; writes `?` if the slot's carrier is not up.
 fn push(pool: &mut Pool, slot: &Slot, pdu: &Pdu, said: &mut String) -> Result<(), OutOfMemory> {
     if !pool.is_up(slot.carrier) {
         return said.push_str("?");
@@ -178,7 +179,7 @@ fn push(pool: &mut Pool, slot: &Slot, pdu: &Pdu, said: &mut String) -> Result<()
     }
 }
 
-/// Puts a PDU behind those that wait for a slot, where there is a place.
+/// Queues a PDU for a slot; writes `?` if there is no place.
 fn put(pool: &mut Pool, slot: &Slot, pdu: &Pdu, said: &mut String) -> Result<(), OutOfMemory> {
     if pool.waiting(*slot) >= MOST_PDUS_OF_A_SLOT {
         return said.push_str("?");

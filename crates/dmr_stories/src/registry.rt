@@ -1,11 +1,11 @@
-//! Registered radios that are told who comes, and what they answer.
+//! The registry as a listener of stories.
 //!
-//! They are told and asked by the names of the methods of [`Registry`], with a radio behind them: as `join 1001`. `copy`
-//! puts a copy of them in the place of the one that there is, and `same` asks whether they are equal to it.
+//! An input is the name of a method of [`Registry`] and a radio, if the method takes one: `join 1001`. `copy` replaces
+//! the copy by a copy of the registry, and `same` asks whether the registry equals its copy.
 //!
-//! An answer is `yes` or `no`, a number, or radios. A radio that joins is answered `ok`; `known` where it is registered
-//! already, and `full` where there is no place for it. What may not be asked of them then, as to add a radio that is
-//! registered, is not asked, and answered `?`.
+//! An answer is `yes` or `no`, a number, or radios. The answer to `join` is `ok`; `known` if the radio is registered
+//! already; `full` if there is no place for it. An input that breaks a method's precondition, such as `add` of a
+//! registered radio, is answered `?` without a call of the method.
 
 mod stories;
 
@@ -15,7 +15,7 @@ use dmr_pdu::{Address, OutOfMemory};
 use dmr_registry::{Full, MOST_RADIOS, Registry};
 use std::alloc::Global;
 
-/// The registered radios of a site, and a copy of them.
+/// A registry and a copy of it.
 #[derive(Drop)]
 pub struct Radios {
     registry: Registry,
@@ -24,7 +24,7 @@ pub struct Radios {
 }
 
 impl Radios {
-    /// No radio is registered.
+    /// Returns an empty registry with an empty copy.
     pub fn new(alloc: Global) -> Result<Radios, OutOfMemory> {
         Ok(Radios {
             registry: Registry::new(alloc)?,
@@ -48,7 +48,7 @@ impl Listener for Radios {
     }
 }
 
-/// Writes radios.
+/// Writes radios, with a space between them.
 fn write_radios(said: &mut String, radios: &[Address]) -> Result<(), OutOfMemory> {
     let mut mark = "";
     for radio in radios {
@@ -58,7 +58,7 @@ fn write_radios(said: &mut String, radios: &[Address]) -> Result<(), OutOfMemory
     Ok(())
 }
 
-/// Tells registered radios what concerns one radio.
+/// Applies an input that names one radio.
 fn tell_radio(registry: &mut Registry, told: &str, said: &mut String) -> Result<(), OutOfMemory> {
     let (word, digits) = cut(told);
     let Some(radio) = address_of(digits) else {
@@ -78,7 +78,7 @@ fn tell_radio(registry: &mut Registry, told: &str, said: &mut String) -> Result<
     }
 }
 
-/// Writes what comes of a radio that joins.
+/// Writes the result of `join`.
 fn write_joined(said: &mut String, joined: Result<bool, Full>) -> Result<(), OutOfMemory> {
     said.push_str(match joined {
         Ok(true) => "ok",
@@ -87,7 +87,7 @@ fn write_joined(said: &mut String, joined: Result<bool, Full>) -> Result<(), Out
     })
 }
 
-/// Registers a radio that isn't registered, where there is a place for it.
+/// Registers a radio; writes `?` if it is registered already or if there is no place for it.
 fn add(registry: &mut Registry, radio: Address, said: &mut String) -> Result<(), OutOfMemory> {
     if registry.has(radio) {
         return said.push_str("?");

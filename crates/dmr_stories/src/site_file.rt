@@ -1,15 +1,15 @@
-//! The one site file of the tests, and sites that differ from it in a few places.
+//! The common site file of the tests, and files that differ from it in a few places.
 //!
-//! How a site differs is written as what stands in the file, ` / `, and what stands there instead, with ` & ` between
-//! several such changes: `hang = 100 / hang = 0`. There `|` ends a line, `SITE` is the whole file, and `CARRIERS` all
-//! its carriers.
+//! A difference is written as the text in the file, ` / `, and the text that replaces it: `hang = 100 / hang = 0`. ` &
+//! ` separates several differences. In them, `|` is the end of a line, `SITE` is the whole file, and `CARRIERS` is the
+//! tables of all its carriers.
 
 use dmr_pdu::OutOfMemory;
 use dmr_plan::{Plan, PlanFault};
 use std::alloc::Global;
 use std::test::Fail;
 
-/// A site of carriers 0 and 1, with channels 1 and 2, and four talkgroups.
+/// The site file: carriers 0 and 1 with channels 1 and 2, and four talkgroups.
 const SITE: &str = "\
 system = 0x1234
 regi = 0xFFFEC6
@@ -39,7 +39,7 @@ lpcn = 2
 port = 7102
 ";
 
-/// Its carriers.
+/// The part of the site file with its carriers.
 const CARRIERS: &str = "\
 [[carrier]]
 number = 0
@@ -51,20 +51,20 @@ lpcn = 2
 port = 7102
 ";
 
-/// The site as it is: two carriers, four talkgroups, and no copies.
+/// No difference: two carriers, four talkgroups, and one copy of each grant and P_CLEAR.
 pub const SMALL: &str = "";
 
-/// The same, but for grants and P_CLEARs, each of which is sent four times.
+/// The common site, but each grant and each P_CLEAR is sent four times.
 pub const LOUD: &str = "grant_copies = 1 / grant_copies = 4 & clear_copies = 1 / clear_copies = 4";
 
-/// The same as the small one with 36 talkgroups.
+/// The common site with 36 talkgroups.
 pub const WIDE: &str = "\
 groups = [91, 92, 93, 94] / groups = [\
 91, 92, 93, 94, 95, 96, 97, 98, 99, 100, 101, 102, \
 103, 104, 105, 106, 107, 108, 109, 110, 111, 112, 113, 114, \
 115, 116, 117, 118, 119, 120, 121, 122, 123, 124, 125, 126]";
 
-/// Sixteen carriers, and 32 talkgroups.
+/// A site of sixteen carriers and 32 talkgroups.
 pub const LARGE: &str = "\
 groups = [91, 92, 93, 94] / groups = [\
 91, 92, 93, 94, 95, 96, 97, 98, 99, 100, 101, 102, 103, 104, 105, 106, \
@@ -88,10 +88,10 @@ CARRIERS / carrier = [
 { number = 15, lpcn = 16, port = 7116 },
 ]|";
 
-/// The same as the small one, but 5,000 radios are listed.
+/// The common site, but with 5,000 listed radios.
 pub const MANY: &str = "radios = [[1000, 1999]] / radios = [[1, 5000]]";
 
-/// The text of a site file with changes.
+/// Returns the text of the site file with changes.
 fn text_of(alloc: Global, changes: &str) -> Result<String, OutOfMemory> {
     let mut text = String::from_str(alloc, SITE)?;
     if !changes.is_empty() {
@@ -105,7 +105,7 @@ fn text_of(alloc: Global, changes: &str) -> Result<String, OutOfMemory> {
     Ok(text)
 }
 
-/// The lines that stand for words of a change.
+/// Returns the lines that the words of a change mean.
 fn lines_of(alloc: Global, words: &str) -> Result<String, OutOfMemory> {
     match words {
         "SITE" => String::from_str(alloc, SITE),
@@ -114,7 +114,7 @@ fn lines_of(alloc: Global, words: &str) -> Result<String, OutOfMemory> {
     }
 }
 
-/// What reading a site file with changes gives: its plan, or what is wrong with the file.
+/// Reads the site file with changes and returns its plan, or the file's fault.
 pub fn reading_of(alloc: Global, changes: &str) -> Result<Plan, PlanFault> {
     match text_of(alloc, changes) {
         Ok(text) => Plan::read(alloc, text.as_str()),
@@ -122,7 +122,7 @@ pub fn reading_of(alloc: Global, changes: &str) -> Result<Plan, PlanFault> {
     }
 }
 
-/// The plan of a site file with changes.
+/// Returns the plan of the site file with changes.
 pub fn plan_of(alloc: Global, changes: &str) -> Result<Plan, Fail> {
     match reading_of(alloc, changes) {
         Ok(plan) => Ok(plan),

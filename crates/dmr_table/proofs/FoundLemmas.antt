@@ -1,4 +1,4 @@
--- What a look-up among the places says of the entries.
+-- Look-ups among the places, and the entries that they find.
 use Rattle.std.proofs.Common.{arith, ◌≡◌, ◌≢◌, ℕ, ◌*◌, ◌<◌, ◌≤◌, List, length, sym, ap, subst, ◌∙◌, false, get_or}
 use Rattle.std.specs.Prelude.{◌==◌, Some, None, find}
 use Rattle.std.proofs.lemmas.Bool.Decides.{nat_tests}
@@ -9,16 +9,16 @@ use Rattle.dmr_table.specs.Entries.{without_first, IsLeastFrom}
 use Rattle.dmr_table.proofs.PlacesLemmas.{first_is, none_is, all_below, least_is}
 use Rattle.dmr_table.proofs.EntriesLemmas.{IsFirst, first_found, first_left_out, none_found, none_left_out}
 
--- a number below another is not the same
+-- a number below another differs from it
 below_is_other : (a b : ℕ) → a < b → (a == b) ≡ false
 below_is_other a b below = grind (arith, nat_tests)
 
--- what is found of the key, and what stands without the first of it, where none stands
+-- the entry found by the key, and the entries without it, if there is none
 pub record NoneHasKey {X : Type 0} (f : X → ℕ) (key : ℕ) (xs : List X) : Type 0 where
   pub found : find (λ x. f x == key) xs ≡ None
   pub left : without_first (λ x. f x == key) xs ≡ xs
 
--- the same, where x is the first of it, at n
+-- the same if x is the first of the key, at n
 pub record FirstHasKey {X : Type 0} (f : X → ℕ) (key : ℕ) (xs : List X) (n : ℕ) (x : X) : Type 0 where
   pub found : find (λ x. f x == key) xs ≡ Some x
   pub left : without_first (λ x. f x == key) xs ≡ remove xs n
@@ -28,15 +28,15 @@ none_has : {X : Type 0} (f : X → ℕ) (key : ℕ) (xs : List X) → All (λ x.
 none_has f key xs none = record { found = none_found (λ x. f x == key) xs none; left = none_left_out (λ x. f x == key) xs none }
 
 module _ {X : Type 0} (f : X → ℕ) (xs : List X) (ps : List Place) (key : ℕ) (are : ArePlaces f xs ps) where
-  -- where no place is from the key on
+  -- if no place is from the key on
   pub past_all : IsGap ps (key * 65536) (length ps) → length xs ≤ 65536 → NoneHasKey f key xs
   past_all gap few = none_has f key xs (λ k d within. below_is_other _ key (all_below f xs ps few are key gap k d within))
 
-  -- where the first from the key on is of another key
+  -- if the first place from the key on is of another key
   pub other_key : (i : ℕ) (p : Place) → HasFirst ps key i → p ≡ get_or ps i p → p.key ≢ key → length xs ≤ 65536 → NoneHasKey f key xs
   other_key i p first read other few = none_has f key xs (none_is f xs ps few are key i p first (λ same. other (ap (λ (q : Place). q.key) read ∙ same)))
 
-  -- where it is of the key
+  -- if it is of the key
   pub first_entry : (i : ℕ) (p : Place) (x : X) → HasFirst ps key i → p ≡ get_or ps i p → p.key ≡ key → x ≡ get_or xs p.index x → length xs ≤ 65536 → FirstHasKey f key xs p.index x
   first_entry i p x first read same entry few =
       let test = λ (y : X). f y == key in
@@ -47,6 +47,6 @@ module _ {X : Type 0} (f : X → ℕ) (xs : List X) (ps : List Place) (key : ℕ
   pub least_entry : (i : ℕ) (p : Place) (x : X) → HasFirst ps key i → p ≡ get_or ps i p → x ≡ get_or xs p.index x → length xs ≤ 65536 → IsLeastFrom f key xs x
   least_entry i p x first read entry few = least_is f xs ps few are key i p x first (entry ∙ ap (λ (q : Place). get_or xs q.index x) read)
 
-  -- where no place is from the key on
+  -- if no place is from the key on
   pub no_least : IsGap ps (key * 65536) (length ps) → length xs ≤ 65536 → All (λ x. f x < key) xs
   no_least gap few = all_below f xs ps few are key gap

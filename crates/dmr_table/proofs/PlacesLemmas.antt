@@ -1,4 +1,4 @@
--- What places say of the entries, and what becomes of them.
+-- Places, the entries that they show, and changes of both.
 use Rattle.std.proofs.Common.{arith, ◌≡◌, ◌≢◌, ℕ, ◌+◌, ◌-◌, ◌*◌, ◌<◌, ◌≤◌, List, [], ◌∷◌, ◌++◌, length, inl, inr, sym, ap, refl, ◌∙◌, true, false, get_or, take, drop, ltb, ltb-true, eq-eqb}
 use Rattle.std.specs.List.{All, AllPairs, insert}
 use Rattle.std.specs.List.Sorted.{IsNonDecreasingBy, IsPartitionPoint}
@@ -13,11 +13,11 @@ use Rattle.dmr_table.specs.Places.{rank_of, AreAscending, IsGap, HasFirst, IsPla
 use Rattle.dmr_table.specs.Entries.{IsLeastFrom}
 use Rattle.dmr_table.proofs.EntriesLemmas.{IsFirst}
 
--- two numbers that are not the same
+-- two numbers that differ
 not_same : (a b : ℕ) → a ≢ b → (a == b) ≡ false
 not_same a b other = grind (arith, nat_tests)
 
--- the ranks do not fall
+-- the ranks ascend
 pub non_decreasing : (ps : List Place) → AreAscending ps → IsNonDecreasingBy rank_of ps
 non_decreasing ps up i j d le within = elim (cases_lt i j) [
   | inl before ↦ omega (arith, up i j d before within)
@@ -35,7 +35,7 @@ gap_found ps rank gap within point = record {
   above = λ k d from in_range. let past = point.1 k d from in_range in grind (arith, nat_tests);
 }
 
--- pairs that rise still do with one more between those below it and those above
+-- ascending pairs remain so with one more between those below it and those above
 pub all_pairs_insert : {X : Type 0} (R : X → X → Type 0) (xs : List X) (i : ℕ) (y : X) → AllPairs R xs → i ≤ length xs → ((k : ℕ) (d : X) → k < i → R (get_or xs k d) y) → ((k : ℕ) (d : X) → i ≤ k → k < length xs → R y (get_or xs k d)) → AllPairs R (insert xs i y)
 all_pairs_insert {X} R xs i y all within below above a b d before in_range =
     let long = length-insert xs i y within in
@@ -65,18 +65,18 @@ all_pairs_insert {X} R xs i y all within below above a b d before in_range =
       ]
     ]
 
--- what holds of all and of one more, holds of all with it
+-- a statement about all elements, and about one more, holds of all with it
 pub all_insert : {X : Type 0} (P : X → Type 0) (xs : List X) (i : ℕ) (y : X) → i ≤ length xs → All P xs → P y → All P (insert xs i y)
 all_insert P xs i y within all here = All-append P (take i xs) (y ∷ drop i xs) (All-take P i xs all) (All-cons P y (drop i xs) here (All-drop P i xs all))
 
 module _ {X : Type 0} (f : X → ℕ) (xs : List X) (ps : List Place) (few : length xs ≤ 65536) (are : ArePlaces f xs ps) where
-  -- where the place of an entry stands
+  -- the index among the places of an entry's place
   pub place_of : (m : ℕ) (d : X) → m < length xs → (j : ℕ) × (j < length ps) × ((e : Place) → ((get_or ps j e).index ≡ m) × ((get_or ps j e).key ≡ f (get_or xs m d)))
   place_of m d within =
       let there = are.all m within in
       (there.0, there.1, λ e. (there.2 e, sym ((are.each there.0 e there.1).same d) ∙ ap (λ n. f (get_or xs n d)) (there.2 e)))
 
-  -- places of one index are one place
+  -- places of the same index are the same place
   pub one_place : (i j : ℕ) (d : Place) → i < length ps → j < length ps → (get_or ps i d).index ≡ (get_or ps j d).index → X → i ≡ j
   one_place i j d i_within j_within same x =
       let key_i = (are.each i d i_within).same x in
@@ -90,7 +90,7 @@ module _ {X : Type 0} (f : X → ℕ) (xs : List X) (ps : List Place) (few : len
         ]
       ]
 
-  -- the place of one entry more goes where all that are below it stand before
+  -- the place of a new entry goes after all places below it
   pub places_with : (y : X) (p : Place) (i : ℕ) → length xs < 65536 → p.key ≡ f y → p.index ≡ length xs → IsGap ps (rank_of p) i → ArePlaces f (xs ++ y ∷ []) (insert ps i p)
   places_with y p i room key index gap = record {
     as_many = length-insert ps i p gap.within ∙ sym (length_push xs y ∙ ap (λ n. n + 1) (sym are.as_many));
@@ -136,7 +136,7 @@ module _ {X : Type 0} (f : X → ℕ) (xs : List X) (ps : List Place) (few : len
         ]);
   }
 
-  -- where the first place from a key on is of another key, no entry has the key
+  -- if the first place from a key on is of another key, no entry has the key
   pub none_is : (key i : ℕ) (e : Place) → HasFirst ps key i → (get_or ps i e).key ≢ key → All (λ x. (f x == key) ≡ false) xs
   none_is key i e first other k d within = not_same (f (get_or xs k d)) key (λ same.
       let there = place_of k d within in
@@ -144,7 +144,7 @@ module _ {X : Type 0} (f : X → ℕ) (xs : List X) (ps : List Place) (few : len
       let ranks : rank_of (get_or ps i e) ≤ rank_of (get_or ps there.0 e) = non_decreasing ps are.ascending i there.0 e (elim (cases_lt there.0 i) [ inl below ↦ absurd (omega (arith, first.gap.below there.0 e below, is.0, is.1, same)) | inr from ↦ from ]) there.1 in
       other (omega (arith, ranks, first.gap.above i e (omega arith) first.within, is.0, is.1, same, within, few, (are.each i e first.within).within)))
 
-  -- where no place is from a key on, the keys of all entries are below it
+  -- if no place is from a key on, the keys of all entries are below it
   pub all_below : (key : ℕ) → IsGap ps (key * 65536) (length ps) → All (λ x. f x < key) xs
   all_below key gap k d within =
       let blank : Place = record { key = 0; index = 0 } in

@@ -1,4 +1,4 @@
--- What becomes of the places when an entry is taken out.
+-- The places after an entry was removed.
 use Rattle.std.proofs.Common.{arith, ◌≡◌, ◌≢◌, ℕ, zero, suc, ◌+◌, ◌-◌, ◌<◌, ◌≤◌, List, [], ◌∷◌, length, inl, inr, sym, ap, refl, ◌∙◌, get_or, map}
 use Rattle.std.specs.List.{All, AllPairs, remove}
 use Rattle.std.proofs.lemmas.Bool.{cases_lt}
@@ -11,11 +11,11 @@ use Rattle.dmr_table.specs.declared.places.Place.{Place}
 use Rattle.dmr_table.specs.Places.{rank_of, place_after_removal, IsPlaceIn, ArePlaces}
 use Rattle.dmr_table.proofs.PlacesLemmas.{one_place}
 
--- a place before the removed one stays
+-- a place before the removed one is unchanged
 lowered_before : (n : ℕ) (p : Place) → p.index < n → (place_after_removal n p).index ≡ p.index
 lowered_before n p before = grind (arith, nat_tests)
 
--- one behind it comes one to the front
+-- a place after it moves one to the front
 lowered_behind : (n : ℕ) (p : Place) → n < p.index → (place_after_removal n p).index + 1 ≡ p.index
 lowered_behind n p behind = grind (arith, nat_tests)
 
@@ -34,7 +34,7 @@ lowered_order n p q p_other q_other p_small q_small up = elim (cases_lt p.index 
       ]
 ]
 
--- what is read of a list after each element was changed
+-- an element of a list after each was changed
 read_mapped : {X Y : Type 0} (g : X → Y) (xs : List X) (k : ℕ) (d : X) (e : Y) → k < length xs → get_or (map g xs) k e ≡ g (get_or xs k d)
 read_mapped g [] k d e within = absurd (omega arith)
 read_mapped g (x ∷ xs) zero d e within = refl
@@ -50,24 +50,24 @@ module _ {X : Type 0} (f : X → ℕ) (xs : List X) (ps : List Place) (few : len
   removed_within : (d : Place) → n < length xs
   removed_within d = omega (arith, (are.each i d within).within, is d)
 
-  -- where a place stood that is left
+  -- the index of a place that remains, before the removal
   stood : (k : ℕ) → k < length (remove ps i) → (j : ℕ) × (j < length ps) × (j ≢ i) × ((d : Place) → get_or (remove ps i) k d ≡ get_or ps j d)
   stood k in_range = elim (cases_lt k i) [
     | inl before ↦ (k, omega (arith, before, within), λ same. omega (arith, same, before), λ d. get_or-remove_below ps i d k before within)
     | inr from ↦ (k + 1, omega (arith, in_range, length-remove ps i within), λ same. omega (arith, same, from), λ d. get_or-remove_above ps i d k from within)
   ]
 
-  -- the place of another entry, which stays
+  -- the place of another entry, which remains
   abbrev pub IsOther : Place → Type 0
   IsOther p = (p.index ≢ n) × IsPlaceIn f xs p
 
-  -- all places that are left are of other entries
+  -- all places that remain are of other entries
   others : All IsOther (remove ps i)
   others k d in_range =
       let old = stood k in_range in
       rw (old.3 d) (λ same. old.2 (one_place f xs ps few are old.0 i d old.1 within (same ∙ sym (is d)) some), are.each old.0 d old.1)
 
-  -- they are ascending still
+  -- the places are still ascending
   ascending_still : AllPairs (λ p q. rank_of p < rank_of q) (map (place_after_removal n) (remove ps i))
   ascending_still a b d before in_range =
       let long = length_mapped (place_after_removal n) (remove ps i) in
@@ -78,7 +78,7 @@ module _ {X : Type 0} (f : X → ℕ) (xs : List X) (ps : List Place) (few : len
       rw (read_mapped (place_after_removal n) (remove ps i) a d d a_in, read_mapped (place_after_removal n) (remove ps i) b d d b_in)
       (lowered_order n _ _ p.0 q.0 (omega (arith, p.1.within, few)) (omega (arith, q.1.within, few)) (all_pairs_remove (λ p q. rank_of p < rank_of q) ps i within are.ascending a b d before b_in))
 
-  -- the place of an entry that stays, among those that are left
+  -- the place of an entry that remains, among those that remain
   lowered_place : (p : Place) → IsOther p → IsPlaceIn f (remove xs n) (place_after_removal n p)
   lowered_place p other =
       let there : n < length xs = removed_within p in
@@ -92,7 +92,7 @@ module _ {X : Type 0} (f : X → ℕ) (xs : List X) (ps : List Place) (few : len
             record { within = omega (arith, moved, other.1.within, long); same = λ d. ap f (get_or-remove_above xs n d (place_after_removal n p).index (omega (arith, moved, from, other.0)) there) ∙ ap (λ m. f (get_or xs m d)) moved ∙ other.1.same d }
       ]
 
-  -- where the place of an entry stands that was at m before
+  -- the index of the place of an entry that was at m before
   left_at : (m : ℕ) → m < length xs → m ≢ n → (k : ℕ) × (k < length (remove ps i)) × ((d : Place) → (get_or (remove ps i) k d).index ≡ m)
   left_at m in_range other =
       let there = are.all m in_range in
@@ -114,7 +114,7 @@ module _ {X : Type 0} (f : X → ℕ) (xs : List X) (ps : List Place) (few : len
             absurd (other (sym (at_m blank) ∙ ap (λ k. (get_or ps k blank).index) same ∙ is blank))
       ]
 
-  -- what is left are the places of the entries that are left
+  -- the places that remain are those of the entries that remain
   pub places_without : ArePlaces f (remove xs n) (map (place_after_removal n) (remove ps i))
   places_without = record {
     as_many = omega (arith, length_mapped (place_after_removal n) (remove ps i), length-remove ps i within, length-remove xs n (removed_within blank), are.as_many);

@@ -1,8 +1,7 @@
-//! Tables: lists of entries in their order, in which an entry is found by its key.
+//! Tables: lists of entries in which an entry is found by its key.
 //!
-//! A [`KeyedTable`] keeps its entries in the order in which they came, and beside them their places in the order of the
-//! keys, so that a key is found by a binary search. All the room that it ever needs is taken when it is made, so that
-//! entries come and go without memory.
+//! A [`KeyedTable`] keeps its entries in the order in which they were added. It also keeps their places in the order of their keys,
+//! so a key is found by binary search. It allocates its memory when it is made, and none later.
 #![tactic(auto)]
 
 mod keyed;

@@ -14,14 +14,14 @@ pub struct Place {
 }
 
 impl Place {
-    /// A number that orders places by their keys, and those of one key by where they are.
+    /// A number that orders places by their keys, and those of one key by their index.
     fn rank(&self) -> u64
         ensures { result ≡ rank_of self.now }
     {
         u64::from(self.key) * 65_536 + u64::from(self.index)
     }
 
-    /// The place after the entry at another place was taken out.
+    /// The place after the entry at `removed` was removed.
     fn lowered(&self, removed: u16) -> Place
         ensures { result ≡ lowered_of removed self.now }
     {
@@ -36,7 +36,7 @@ impl Place {
     }
 }
 
-/// How many of the places come before one, which need not be among them.
+/// The number of places that come before one, which need not be among them.
 pub fn count_before(places: &[Place], place: Place) -> usize
     requires { AreAscending places.now }
     ensures { IsGap places.now (rank_of place) result }
@@ -45,7 +45,7 @@ pub fn count_before(places: &[Place], place: Place) -> usize
     places.partition_point(|other| other.rank() < rank)
 }
 
-/// Which of the places is the first from a key on, if any is.
+/// The first of the places from a key on; `None` if all keys are below it.
 pub fn first_from(places: &[Place], key: u32) -> Option<usize>
     requires { AreAscending places.now }
     ensures { MatchOption result (IsGap places.now (key * most_entries) (length places.now)) (HasFirst places.now key) }
@@ -58,7 +58,7 @@ pub fn first_from(places: &[Place], key: u32) -> Option<usize>
     }
 }
 
-/// Puts each place behind the removed one by one to the front.
+/// Lowers the index of each place after the removed one by 1.
 pub fn lower(places: &mut [Place], removed: u16)
     ensures { places.new ≡ map (lowered_of removed) places.old }
 {

@@ -11,7 +11,7 @@ use dmr_pdu::OutOfMemory;
 use std::alloc::Global;
 use std::marker::Model;
 
-/// At most `MOST` entries, in the order in which they came. Contracts see it as the list of them, the oldest in front.
+/// At most `MOST` entries, in the order in which they were added. Contracts see a list, oldest first.
 #[derive(Drop)]
 pub struct KeyedTable<V: Keyed, const MOST: usize> {
     entries: Vec<V>,
@@ -30,7 +30,7 @@ impl<V: Keyed, const MOST: usize> Model for KeyedTable<V, MOST> {
 }
 
 impl<V: Keyed, const MOST: usize> KeyedTable<V, MOST> {
-    /// A table without entries. It takes the room for `MOST` of them; `Err` where there is no memory for that.
+    /// Makes a table without entries, and allocates the memory for `MOST`. Returns `OutOfMemory` if the allocation fails.
     pub fn new(alloc: Global) -> Result<Self, OutOfMemory>
         requires { MOST ≤ most_entries }
         ensures { IfOk result (λ table. table ≡ []) }
@@ -40,7 +40,7 @@ impl<V: Keyed, const MOST: usize> KeyedTable<V, MOST> {
         Ok(KeyedTable { entries, places })
     }
 
-    /// The same entries in the same order, with room of their own for `MOST`. `Err` where there is no memory for that.
+    /// Makes a copy with memory of its own. Returns `OutOfMemory` if the allocation fails.
     pub fn try_clone(&self, alloc: Global) -> Result<Self, OutOfMemory>
         ensures { IfOk result (λ copy. copy ≡ self.now) }
     {
@@ -51,7 +51,7 @@ impl<V: Keyed, const MOST: usize> KeyedTable<V, MOST> {
         Ok(KeyedTable { entries, places })
     }
 
-    /// How many entries stand: 0 to `MOST`.
+    /// The number of entries: 0 to `MOST`.
     pub fn len(&self) -> usize
         ensures value { result ≡ length self.now }
         ensures few { result ≤ MOST }
@@ -59,7 +59,7 @@ impl<V: Keyed, const MOST: usize> KeyedTable<V, MOST> {
         self.entries.len()
     }
 
-    /// Whether no entry stands.
+    /// Reports whether there is no entry.
     pub fn is_empty(&self) -> bool
         ensures { IsTrue result ↔ (self.now ≡ []) }
     {
@@ -86,14 +86,14 @@ impl<V: Keyed, const MOST: usize> KeyedTable<V, MOST> {
         }
     }
 
-    /// Whether there is an entry with a key.
+    /// Reports whether there is an entry with a key.
     pub fn has(&self, key: u32) -> bool
         ensures { result ≡ list_any (λ v. V.key_of v == key) self.now }
     {
         self.find(key).is_some()
     }
 
-    /// An entry with the least key from a number on. `None` where all keys are below the number.
+    /// An entry with the least key from a number on; `None` if all keys are below the number.
     pub fn least_from(&self, key: u32) -> Option<V>
         ensures { MatchOption result (All (λ v. V.key_of v < key) self.now) (IsLeastFrom V.key_of key self.now) }
     {
@@ -101,7 +101,7 @@ impl<V: Keyed, const MOST: usize> KeyedTable<V, MOST> {
         Some(self.entries[usize::from(place.index)])
     }
 
-    /// Puts an entry behind the others. There must be room: fewer than `MOST` stand.
+    /// Adds an entry after the others. There must be a place for it: the table has fewer than `MOST` entries.
     pub fn push(&mut self, entry: V)
         requires { length self.old < MOST }
         ensures { self.new ≡ self.old ++ entry ∷ [] }
@@ -115,7 +115,7 @@ impl<V: Keyed, const MOST: usize> KeyedTable<V, MOST> {
         self.entries.push_reserved(entry);
     }
 
-    /// Puts an entry at a place, counted from 0, in place of one that has the same key.
+    /// Replaces the entry at a place, counted from 0, by one with the same key.
     pub fn replace(&mut self, place: usize, entry: V)
         requires within { place < length self.old }
         requires same { (d : V) → V.key_of (slice_index_or self.old place d) ≡ V.key_of entry }
@@ -124,7 +124,7 @@ impl<V: Keyed, const MOST: usize> KeyedTable<V, MOST> {
         self.entries[place] = entry;
     }
 
-    /// Takes out the first entry with a key, and gives it. The others keep their order.
+    /// Removes the first entry with a key, and returns it. The others keep their order.
     pub fn remove_first(&mut self, key: u32) -> Option<V>
         ensures first { result ≡ find (λ v. V.key_of v == key) self.old }
         ensures others { self.new ≡ without_first (λ v. V.key_of v == key) self.old }
@@ -139,14 +139,14 @@ impl<V: Keyed, const MOST: usize> KeyedTable<V, MOST> {
         Some(self.entries.remove(usize::from(place.index)))
     }
 
-    /// Takes out all entries with a key. The others keep their order.
+    /// Removes all entries with a key. The others keep their order.
     pub fn remove(&mut self, key: u32)
         ensures { self.new ≡ filter (λ v. not (V.key_of v == key)) self.old }
     {
         while self.remove_first(key).is_some() {}
     }
 
-    /// Takes out all entries.
+    /// Removes all entries.
     pub fn clear(&mut self)
         ensures { self.new ≡ [] }
     {

@@ -1,5 +1,5 @@
-//! What the words of a command line ask for, the texts and statuses of refused words and of faults, and a replay to a writer that takes
-//! nothing.
+//! Tests of the command line: the jobs of accepted words, the texts and statuses of refused words and of faults, and a
+//! replay to a writer that takes nothing.
 
 use crate::site::SITE;
 use dmr_command::{Job, ServeFault, choose};
@@ -10,10 +10,10 @@ use std::alloc::Global;
 use std::io;
 use std::io::Write;
 
-/// Command lines that are taken, each with the whole answer.
+/// Command lines that are accepted, each with the whole answer.
 const TAKEN: [(&str, &str); 5] = [
     ("dmr_trunk --site a --script=b", "script b over a\n"),
-    // How many terms is ignored if nothing is served.
+    // If nothing is served, `--terms` is ignored.
     (
         "dmr_trunk --terms 5 --script b --site a",
         "script b over a\n",
@@ -29,7 +29,8 @@ const TAKEN: [(&str, &str); 5] = [
 /// The answer if neither a script nor `--serve` is given, or both are.
 const EITHER: &str = "status 2\ndmr_trunk: give either --script or --serve\n";
 
-/// The answer if no site file is given. The word reader finds this fault before the program asks for a script or `--serve`.
+/// The answer if no site file is given. The word reader reports this fault before the program checks for a script or
+/// `--serve`.
 const NO_SITE: &str =
     "status 2\nerror: the following required arguments were not provided:\n  --site <FILE>\n";
 
@@ -105,7 +106,8 @@ impl Write for Refusing {
     }
 }
 
-/// The answer to a command line that has one space between its words: a line with the job or the status, then the text for standard error.
+/// Returns the answer to a command line with one space between its words. The answer is a line with the job or the
+/// status, and then the text for standard error.
 fn answer_to(alloc: Global, line: &str) -> Result<Vec<u8>, OutOfMemory> {
     let mut words = Vec::new(alloc);
     for word in line.split(' ') {

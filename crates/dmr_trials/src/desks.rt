@@ -1,4 +1,4 @@
-//! Desks that refuse, and what is left then.
+//! Desks that refuse, and the state afterwards.
 
 ghost use Rattle.std.specs.Prelude.{◌≡◌};
 
@@ -13,12 +13,12 @@ use std::sync::Wait;
 use std::sync::ledger::Blank;
 use std::test::Fail;
 
-/// Two events: carrier 0 comes up, and polls.
+/// Returns two events: carrier 0 comes up, and polls.
 fn two_events() -> [Event; 2] {
     [Event::Up(CarrierNo::new(0)), Event::Poll(CarrierNo::new(0))]
 }
 
-/// The fault of a desk that is not opened, and the site that is handed back.
+/// Returns the fault of a desk that is not opened, and the site that it returns.
 fn refused<L: DeskLedger>(
     alloc: Global,
     blank: Blank,
@@ -34,18 +34,18 @@ fn refused<L: DeskLedger>(
     SharedDesk::<L>::open(alloc, blank, site, limit, actors).err()
 }
 
-/// The same, in a ledger of its own.
+/// Calls `refused` with a ledger of its own.
 fn refusal_of(alloc: Global, site: Site, limit: usize, actors: u8) -> Option<(OpenFault, Site)> {
     refused::<Brand>(alloc, Blank::new(PARTS), site, limit, actors)
 }
 
-/// Whether two sites answer an event alike.
+/// Returns whether two sites answer an event in the same way.
 fn answer_alike(site: &mut Site, other: &mut Site, event: &Event) -> bool {
     site.apply(*event) == other.apply(*event)
 }
 
-/// Whether a desk for so many entries and actors is refused for this reason, and hands its site back as it was, which then answers a
-/// poll as before.
+/// Returns whether a desk with this limit and number of actors is refused for the reason `want`. It must return its
+/// site unchanged, so that the site answers a poll as before.
 fn is_handed_back(alloc: Global, limit: usize, actors: u8, want: OpenFault) -> Result<bool, Fail> {
     let mut site = quiet_site(alloc)?;
     site.apply(Event::Up(CarrierNo::new(0)));
@@ -67,7 +67,7 @@ fn is_handed_back(alloc: Global, limit: usize, actors: u8, want: OpenFault) -> R
     Ok(alike)
 }
 
-/// A desk that is not opened hands its site back, which answers all that follows as before.
+/// A desk that is not opened returns its site, which answers all later events as before.
 #[test]
 fn a_desk_that_is_not_opened(rt: HostRuntime) -> Result<(), Fail> {
     for (limit, actors, want) in [
@@ -83,8 +83,8 @@ fn a_desk_that_is_not_opened(rt: HostRuntime) -> Result<(), Fail> {
     Ok(())
 }
 
-/// Whether a desk with room for two events takes two, refuses the third with two entries, is over then and not before, and the seat
-/// keeps two.
+/// Returns whether a desk with room for two events takes two, refuses the third with two entries, is over then and not
+/// before, and the seat keeps two.
 fn refuses_third<L: DeskLedger, R: Wait>(rt: &R, desk: &SharedDesk<L>, seat: &mut Seat<L>) -> bool {
     let mut refused = !desk.over(rt);
     let events = two_events();
@@ -96,8 +96,8 @@ fn refuses_third<L: DeskLedger, R: Wait>(rt: &R, desk: &SharedDesk<L>, seat: &mu
     refused && seat.deposits().len() == 2
 }
 
-/// What becomes of a desk with room for two events and one actor: whether the third was refused with two entries, the term was
-/// over then and not before, and the seat kept two; and the site and how many entries the report has.
+/// Runs `refuses_third` at a desk with room for two events and for one actor. Returns its result, the site of the
+/// report, and the number of entries. Returns `None` if the desk cannot be opened or closed.
 fn third_of_two<L: DeskLedger, R: Wait>(
     rt: &R,
     alloc: Global,
@@ -119,7 +119,7 @@ fn third_of_two<L: DeskLedger, R: Wait>(
     Some((refused, report.site, entries))
 }
 
-/// The same, in a ledger of its own.
+/// Calls `third_of_two` with a ledger of its own.
 fn third_event<R: Wait>(rt: &R, alloc: Global, site: Site) -> Option<(bool, Site, usize)> {
     third_of_two::<Brand, R>(rt, alloc, Blank::new(PARTS), site)
 }

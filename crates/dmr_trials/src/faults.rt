@@ -1,9 +1,11 @@
-//! Terms whose ports fail at any call: what the peer's actor told the site, what its port took, how its last connection ended, and
-//! that the link owes nothing. What is to be written is known from the formats; the burst is one of the worked cases.
+//! Terms whose ports fail at any call. Each compares the events of the peer's actor, the octets that its port took, and
+//! how its last connection ended. It also checks that the link has nothing pending. The expected octets follow from the
+//! formats; the burst is one of the worked cases.
 //!
-//! A row is `A to B: STEPS => EVENTS; OCTETS; ENDED`, a term for each number N from A to B. The steps are what the peer's port answers
-//! (`steps`); the events are letters (`stage`), or `-`; the octets are so many first ones of the peer's answer, for each connection
-//! that has any. The link, once the term has ended, answers each further serve as its last connection ended, and touches nothing.
+//! A row is `A to B: STEPS => EVENTS; OCTETS; ENDED`, and is one term for each number N from A to B. STEPS are the
+//! answers of the peer's port (`steps`). EVENTS are letters (`stage`), or `-`. OCTETS has a count for each connection
+//! that receives octets: that many first octets of the peer's answer. After the term, each further serve of the link
+//! ends as its last connection did, and touches neither port nor desk.
 
 mod carriers;
 mod closed;
@@ -25,7 +27,7 @@ use std::sync::Wait;
 use std::test::Fail;
 use std::thread::Threads;
 
-/// What is to come of a term.
+/// The expected result of a term.
 #[derive(Clone, Copy)]
 struct Want<'a> {
     peer: Peer,
@@ -40,8 +42,9 @@ fn of_carriers(rt: HostRuntime) -> Result<(), Fail> {
     try_all(&rt, Peer::Carrier(Version::V2), &numbered::ROWS)
 }
 
-/// Each type of a frame with each other length, before a HELLO and behind one: two connections for each, in one term for each type and
-/// version of the link. The octet of the length is the last that comes, and nothing is read behind it.
+/// Each type of frame with each wrong length, before a HELLO and after one. Each length has two connections, and each
+/// type and version of the link has one term. The octet of the length is the last that arrives, and the link reads no
+/// further.
 #[test]
 fn lengths_of_frames(rt: HostRuntime) -> Result<(), Fail> {
     for (kind, first, later) in &carriers::TYPES {
@@ -56,7 +59,7 @@ fn of_operators(rt: HostRuntime) -> Result<(), Fail> {
     try_all(&rt, Peer::Operator, &operators::ROWS)
 }
 
-/// Tries each row.
+/// Runs the terms of each row.
 fn try_all<R: Abort + AllocGlobal + Wait + Threads + Sync>(
     rt: &R,
     peer: Peer,
@@ -76,8 +79,8 @@ fn try_all<R: Abort + AllocGlobal + Wait + Threads + Sync>(
     Ok(())
 }
 
-/// Runs the term of a type of frames in this version of the link, with each length but the right one: that of the first frame, which is
-/// of version 1, and that of a later one.
+/// Runs the term of a type of frames in this version of the link, with each length but the right one. `first` is the
+/// right length of the first frame, which is of version 1, and `later` that of a later frame.
 fn try_lengths<R: Abort + AllocGlobal + Wait + Threads + Sync>(
     rt: &R,
     version: Version,
@@ -111,12 +114,12 @@ fn try_lengths<R: Abort + AllocGlobal + Wait + Threads + Sync>(
         ended: Ended::BadFrame(Cause::BadLength),
     };
     let calls = try_term(rt, kind, steps, &want, later)?;
-    // Of each length: a connect and a read, a connect, a read and a write. Then the connect that is the last.
+    // For each length: a connect and a read, then a connect, a read and a write. Then the last connect.
     assert_eq!(rt; calls, Some(5 * 255 + 1), "{kind}, version {octet}");
     Ok(())
 }
 
-/// Runs the term of a row's round.
+/// Runs the term of a row in one round.
 fn try_row<R: Abort + AllocGlobal + Wait + Threads + Sync>(
     rt: &R,
     peer: Peer,
@@ -141,7 +144,7 @@ fn try_row<R: Abort + AllocGlobal + Wait + Threads + Sync>(
     Ok(())
 }
 
-/// Runs the term of these steps, and compares what comes of it. How many calls the peer's port answered.
+/// Runs the term of these steps and compares its result. Returns the number of calls that the peer's port answered.
 fn try_term<R: Abort + AllocGlobal + Wait + Threads + Sync>(
     rt: &R,
     name: &str,
@@ -160,7 +163,7 @@ fn try_term<R: Abort + AllocGlobal + Wait + Threads + Sync>(
     Ok(calls)
 }
 
-/// The ending of this name.
+/// Returns the ending with this name.
 fn ended_of(name: &str) -> Option<Ended> {
     match name {
         "closed" => Some(Ended::Closed),
@@ -173,7 +176,7 @@ fn ended_of(name: &str) -> Option<Ended> {
     }
 }
 
-/// Compares what came of a term with what was to come of it.
+/// Compares the result of a term with the expected one.
 fn compare(
     rt: &(impl Abort + AllocGlobal),
     name: &str,
@@ -195,7 +198,7 @@ fn compare(
     Ok(())
 }
 
-/// Serves the link, which has no connection, once more.
+/// Serves the link, which has no connection, again. Checks that this ends as before and touches neither port nor desk.
 fn serves_no_more(rt: &impl Abort, name: &str, outcome: &mut Outcome, wanted: Ended, round: usize) {
     let calls = outcome.calls();
     assert!(rt; calls.is_some(), "{name}, {round}");

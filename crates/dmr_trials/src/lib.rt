@@ -1,8 +1,8 @@
-//! Trials of whole terms: a thread for each worker round one locked site, over ports that fail at any call; of desks that
-//! refuse; and of the program's command line, with its texts and statuses.
+//! Tests with threads: whole terms with a thread for each worker, one locked site and ports that fail at any call. Also
+//! tests of desks that refuse, and of the program's command line with its texts and statuses.
 //!
-//! The crate has tests alone, each a loop over a table. They stand here, above the desk, since a crate that has tests is proved
-//! twice.
+//! The crate holds only tests, and most of them loop over a table. They are above the desk, since a crate with tests is
+//! proved twice.
 #![tactic(auto)]
 
 #[cfg(test)]

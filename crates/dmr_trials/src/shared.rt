@@ -16,18 +16,18 @@ use std::test::Fail;
 use std::thread;
 use std::thread::Threads;
 
-/// What became of a desk.
+/// The outcome of a desk.
 #[derive(Clone, Copy, Debug, PartialEq, Eq)]
 enum Outcome {
     /// It was not opened.
     NotOpened(OpenFault),
-    /// It gave no report.
+    /// It returned no report.
     NotClosed(CloseFault),
-    /// So many entries and views were reported.
+    /// The report has this number of entries and of views.
     Closed(usize, usize),
 }
 
-/// What becomes of a desk at which nothing is deposited, and to which only so many seats are handed back.
+/// Opens a desk, deposits nothing, returns the first `kept` seats to it, and closes it.
 fn open_and_close<L: DeskLedger, R: Wait>(
     rt: &R,
     alloc: Global,
@@ -60,7 +60,7 @@ fn open_and_close<L: DeskLedger, R: Wait>(
     }
 }
 
-/// The same, in a ledger of its own.
+/// Calls `open_and_close` with a ledger of its own.
 fn outcome_of<R: Wait>(
     rt: &R,
     alloc: Global,
@@ -72,7 +72,7 @@ fn outcome_of<R: Wait>(
     open_and_close::<Brand, R>(rt, alloc, Blank::new(PARTS), site, limit, actors, kept)
 }
 
-/// A desk opens for 1 to 100,000 entries and 1 to 18 actors, and closes with all its seats alone.
+/// A desk opens with a limit of 1 to 100,000 entries and 1 to 18 actors. It closes only with all its seats.
 #[test]
 fn opens_and_closes(rt: HostRuntime) -> Result<(), Fail> {
     for (limit, actors, kept, want) in [
@@ -115,7 +115,7 @@ fn book_of_one_entry(rt: HostRuntime) -> Result<(), Fail> {
     Ok(())
 }
 
-/// Deposits an event again and again from a seat, until the term is over, and gives the seat back.
+/// Deposits an event from a seat, `times` times or until the term is over, and returns the seat.
 fn deposit_all<L: DeskLedger, R: Wait>(
     rt: &R,
     desk: &SharedDesk<L>,
@@ -132,8 +132,8 @@ fn deposit_all<L: DeskLedger, R: Wait>(
     at.into_seat()
 }
 
-/// The report of a desk at which two threads deposit at once, each an event of its own a thousand times. Where memory is
-/// wanting there is none.
+/// Returns the report of a desk at which two threads deposit at the same time, each an event of its own, up to a
+/// thousand times. If memory is refused, it returns a fault in place of the report.
 fn at_once<L: DeskLedger + Send + Sync, R: Wait + Threads + Sync>(
     rt: &R,
     alloc: Global,
@@ -167,7 +167,7 @@ fn at_once<L: DeskLedger + Send + Sync, R: Wait + Threads + Sync>(
     desk.close(rt, seats)
 }
 
-/// The same, in a ledger of its own.
+/// Calls `at_once` with a ledger of its own.
 fn two_at_once<R: Wait + Threads + Sync>(
     rt: &R,
     alloc: Global,
@@ -177,7 +177,8 @@ fn two_at_once<R: Wait + Threads + Sync>(
     at_once::<Brand, R>(rt, alloc, Blank::new(PARTS), site, limit)
 }
 
-/// What two threads deposited is the journal; where the limit is too low for both, the journal has as many entries as it says.
+/// The journal has exactly the deposits of both threads. If the limit is too low for all of them, the journal is filled
+/// to the limit.
 #[test]
 fn two_threads(rt: HostRuntime) -> Result<(), Fail> {
     for (limit, want) in [(2000, 2000), (1500, 1500)] {
@@ -197,7 +198,7 @@ fn two_threads(rt: HostRuntime) -> Result<(), Fail> {
     Ok(())
 }
 
-/// Asks again and again from a seat whether the term is over, until it is, and gives the seat back.
+/// Asks from a seat until the term is over, and returns the seat.
 fn wait_until_over<L: DeskLedger, R: Wait>(rt: &R, desk: &SharedDesk<L>, seat: Seat<L>) -> Seat<L> {
     let mut at = SeatAt::new(rt, desk, seat);
     for _ in rt.forever() {
@@ -208,7 +209,8 @@ fn wait_until_over<L: DeskLedger, R: Wait>(rt: &R, desk: &SharedDesk<L>, seat: S
     at.into_seat()
 }
 
-/// A desk of ten entries that is abandoned behind its first, while another thread waits for the end: what it answers, and reports.
+/// Abandons a desk of ten entries after its first, while another thread waits for the end. Checks its answers and its
+/// report.
 fn abandon_behind_one<L: DeskLedger + Send + Sync, R: Abort + AllocGlobal + Wait + Threads + Sync>(
     rt: &R,
     blank: Blank,
@@ -241,12 +243,12 @@ fn abandon_behind_one<L: DeskLedger + Send + Sync, R: Abort + AllocGlobal + Wait
     drop(report);
 }
 
-/// The same, in a ledger of its own.
+/// Calls `abandon_behind_one` with a ledger of its own.
 fn abandon_one<R: Abort + AllocGlobal + Wait + Threads + Sync>(rt: &R, site: Site) {
     abandon_behind_one::<Brand, R>(rt, Blank::new(PARTS), site)
 }
 
-/// A desk that was abandoned takes no event and says that the term is over; what it took before is reported.
+/// An abandoned desk takes no event and reports that the term is over. Its report has the events that it took before.
 #[test]
 fn abandoned(rt: HostRuntime) -> Result<(), Fail> {
     abandon_one(&rt, quiet_site(rt.alloc())?);

@@ -1,7 +1,7 @@
 //! Terms of a site of two carriers, over ports in memory.
 //!
-//! Each ends by itself, whatever the schedule: a hold gives up after some seconds. What is to be written is known from the frames
-//! of the link profile and the texts of the console; an independent coder made the one burst.
+//! Each term ends by itself under every schedule, since a hold ends after some seconds. The expected octets follow from
+//! the frames of the link profile and the texts of the console. An independent coder computed the one burst.
 
 mod meeting;
 pub mod spelling;
@@ -15,7 +15,7 @@ use dmr_desk::{OpenFault, TermFault};
 use std::process::Abort;
 use std::test::Fail;
 
-/// Terms of which each actor's part is known, one after the other.
+/// Runs terms one after the other, each with the expected part of each actor.
 #[test]
 fn terms(rt: HostRuntime) -> Result<(), Fail> {
     for story in STORIES.iter() {
@@ -30,7 +30,7 @@ fn terms(rt: HostRuntime) -> Result<(), Fail> {
     Ok(())
 }
 
-/// Compares what came of a term with what it was to bring, and gives what the next begins with.
+/// Compares a term with the expected result, and returns the stage of the next term.
 fn compared<'a>(
     rt: &(impl Abort + AllocGlobal),
     name: &str,
@@ -46,7 +46,7 @@ fn compared<'a>(
     }
 }
 
-/// Writes what the first carrier told in a term, and gives what the next begins with.
+/// Writes the events of the first carrier in a term, and returns the stage of the next term.
 fn told_of_first<'a>(told: &mut String, outcome: Outcome<'a>) -> Result<Stage<'a>, Fail> {
     match write_letters(told, 0, &outcome.views) {
         Ok(()) => Ok(outcome.stage),
@@ -57,7 +57,7 @@ fn told_of_first<'a>(told: &mut String, outcome: Outcome<'a>) -> Result<Stage<'a
     }
 }
 
-/// Compares what came of a term with what it was to bring.
+/// Compares a term with the expected result.
 fn compare(
     rt: &(impl Abort + AllocGlobal),
     name: &str,
@@ -85,8 +85,8 @@ fn compare(
     Ok(())
 }
 
-/// Whatever the limit, carrier 0's link is served to its end, in as many terms as its 102 entries need, and it makes no
-/// difference to what was told and written.
+/// With every limit, carrier 0's link is served to its end in as many terms as its 102 entries need. The events and the
+/// octets are the same with every limit.
 #[test]
 fn every_limit(rt: HostRuntime) -> Result<(), Fail> {
     let events = spelled(rt.alloc(), &[(1, "U"), (100, "P"), (1, "L")])?;
@@ -112,7 +112,8 @@ fn every_limit(rt: HostRuntime) -> Result<(), Fail> {
     Ok(())
 }
 
-/// Stations that are not those of the plan's carriers, by number, are refused, and then limits.
+/// Stations that do not have the numbers of the plan's carriers are refused before the limit is checked; then bad
+/// limits are.
 #[test]
 fn refusals(rt: HostRuntime) -> Result<(), Fail> {
     for (numbers, limit) in [

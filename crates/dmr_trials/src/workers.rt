@@ -1,5 +1,5 @@
-//! The workers, each called by itself, one after the other in one thread: a carrier's, the ticker, the console's. Each has a seat at
-//! one desk.
+//! The workers of a carrier, the ticker and the console, called one after the other in one thread. Each has a seat at
+//! the same desk.
 
 ghost use Rattle.std.specs.Prelude.{◌≡◌, None};
 
@@ -20,17 +20,17 @@ use std::sync::Wait;
 use std::sync::ledger::Blank;
 use std::test::Fail;
 
-/// The room of a port's record: at most this many answers, and at most this many octets.
+/// The room of a port's record, in answers and in octets.
 const ROOM: usize = 4096;
 
-/// Actors in the order of their numbers: what each told the site, and what its port took. The ticker has no port.
+/// The events of each actor, by number, and the octets that its port took. The ticker has no port.
 const WANTED: [(Letters, Letters); 3] = [
     (&[(1, "UPPL")], &[(1, "WFDFD")]),
     (&[(3, "T")], &[]),
     (&[(1, "S")], &[(1, "S")]),
 ];
 
-/// A pacer that gives this many ticks, and then no more. It tells no record.
+/// A pacer with this number of ticks, and then no more. It states no record.
 #[derive(Drop)]
 struct Ticks {
     left: u8,
@@ -50,7 +50,7 @@ impl Pacer for Ticks {
     }
 }
 
-/// What the three workers serve.
+/// The station, pacer and console that the three workers serve.
 #[derive(Drop)]
 struct Served {
     station: Station<MemoryPort, OpenGate>,
@@ -58,7 +58,7 @@ struct Served {
     console: ConsoleStation<MemoryPort>,
 }
 
-/// A port of these steps.
+/// Returns a port of these steps.
 fn port_of(alloc: Global, steps: Vec<Step>) -> Result<MemoryPort, Fail> {
     match MemoryPort::new(alloc, steps, ROOM) {
         Ok(port) => Ok(port),
@@ -66,7 +66,7 @@ fn port_of(alloc: Global, steps: Vec<Step>) -> Result<MemoryPort, Fail> {
     }
 }
 
-/// The port of a connection on which these octets come, a piece with each read, and then its end.
+/// Returns the port of a connection with these octets, a piece with each read, and then its end.
 fn port_with(alloc: Global, pieces: &[&[u8]]) -> Result<MemoryPort, Fail> {
     let mut steps = Vec::new(alloc);
     steps.push(Step::Connect(Connect::Ready))?;
@@ -77,7 +77,7 @@ fn port_with(alloc: Global, pieces: &[&[u8]]) -> Result<MemoryPort, Fail> {
     port_of(alloc, steps)
 }
 
-/// A carrier that sends HELLO and two POLLs, three ticks, and an operator who asks for the status.
+/// Returns a carrier that sends HELLO and two POLLs, three ticks, and an operator who asks for the status.
 fn new_served(alloc: Global) -> Result<Served, Fail> {
     Ok(Served {
         station: Station {
@@ -146,13 +146,13 @@ fn work_over<L: DeskLedger, R: Wait>(
     })
 }
 
-/// Runs the three workers, over a ledger of their own.
+/// Runs the three workers, with a ledger of their own.
 fn work_all<R: Wait>(rt: &R, alloc: Global, site: Site, served: &mut Served) -> Option<Worked> {
     work_over::<Brand, R>(rt, alloc, Blank::new(PARTS), site, served)
 }
 
-/// Each worker ends as its port or its pacer has no more; the carrier's and the operator's events, and the ticks, are deposited; the
-/// answers are written.
+/// Each worker ends when its port or its pacer has no more. The events of the carrier and of the operator, and the
+/// ticks, are deposited, and the answers are written.
 #[test]
 fn workers(rt: HostRuntime) -> Result<(), Fail> {
     let mut served = new_served(rt.alloc())?;

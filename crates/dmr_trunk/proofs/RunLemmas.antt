@@ -1,4 +1,4 @@
--- What the words ask for is what was done.
+-- The job that was done is the one that the words ask for.
 use Rattle.std.proofs.Common.{◌≡◌, ℕ, List, Option, Result, Ok, Err, IfOk, ap, ◌∙◌, map, subst}
 use Rattle.std.specs.Borrow.{Bor}
 use Rattle.dmr_command.specs.declared.words.Job.{Job}

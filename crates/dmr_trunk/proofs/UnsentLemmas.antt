@@ -1,15 +1,15 @@
--- Octets on their way to a connection: none is lost, and none comes twice or out of turn.
+-- Octets on their way to a connection: none is lost, repeated or out of order.
 use Rattle.std.proofs.Common.{◌≡◌, ◌≤◌, ℕ, ◌-◌, List, [], ◌++◌, Option, Some, None, length, take, drop, arith, sym, ap, ◌∙◌}
 use Rattle.std.specs.Io.KnownBytes.{Appends, Keeps}
 use Rattle.std.proofs.lemmas.List.{append-nil, append_assoc, length-append, take-append-drop, take-append-le}
 use Rattle.dmr_trunk.specs.Unsent.{PassesOctets}
 
--- where nothing happens
+-- if nothing happens
 pub passes_nothing : (taken : Option (List ℕ)) (waiting : List ℕ) → PassesOctets taken waiting [] taken waiting
 passes_nothing None waiting = tt
 passes_nothing (Some taken) waiting = sym (append-nil (taken ++ waiting))
 
--- where a writer takes nothing
+-- if a writer takes nothing
 pub passes_kept : (taken taken' : Option (List ℕ)) (waiting : List ℕ) → Keeps taken taken' → PassesOctets taken waiting [] taken' waiting
 passes_kept None taken' waiting keeps = tt
 passes_kept (Some taken) None waiting keeps = absurd keeps
@@ -22,7 +22,7 @@ passes_on (Some first) None third one two three before after = absurd before
 passes_on (Some first) (Some second) None one two three before after = absurd after
 passes_on (Some first) (Some second) (Some third) one two three before after = after ∙ append-nil (second ++ two) ∙ before
 
--- where a writer takes the oldest that wait
+-- if a writer takes the oldest kept octets
 pub passes_sent : (taken taken' : Option (List ℕ)) (items oldest rest : List ℕ) (count : ℕ) → oldest ++ rest ≡ items → count ≤ length oldest
     → Appends taken taken' (take count oldest) → PassesOctets taken items [] taken' (drop (length items - (length items - count)) items)
 passes_sent None taken' items oldest rest count whole within appends = tt

@@ -10,17 +10,17 @@ use std::fmt;
 pub enum Cause {
     /// The other side ended its output.
     EndOfInput,
-    /// A read failed, as it does where the other side breaks the connection off.
+    /// A read failed, for example because the other side reset the connection.
     ReadFault,
     /// A write failed.
     WriteFault,
-    /// The other side read nothing, and no more octets could be written to it.
+    /// The other side did not read, and no more octets could be written to it.
     NotRead,
-    /// No octet came for as long as the site file bears.
+    /// No octet came for as long as the site file allows.
     Silence,
     /// The carrier said BYE.
     Bye,
-    /// The carrier sent what it may not send.
+    /// The carrier broke the link's rules.
     LinkFault(Fault),
     /// The carrier's HELLO, with these numbers, was refused on this port.
     Refused {
@@ -28,12 +28,12 @@ pub enum Cause {
         hello: Hello,
         whose: Whose,
     },
-    /// The controller could not serve it.
+    /// The controller could not serve the connection.
     Controller,
 }
 
 impl Cause {
-    /// The cause of which a link reported how it closed the connection to a port.
+    /// Returns the cause for a link's report of how it closed the connection to a port.
     pub fn of_closing(closing: Closing, whose: Whose) -> Cause {
         match closing {
             Closing::Over => Cause::Controller,
@@ -74,7 +74,7 @@ impl fmt::Display for Cause {
     }
 }
 
-/// Writes the numbers for which a HELLO was refused: its version; or its carrier and channel, and those that the port is for.
+/// Writes the numbers for which a HELLO was refused: its version; or its carrier and channel, and those of the port.
 fn write_numbers<W: fmt::Write>(
     fault: Fault,
     hello: Hello,

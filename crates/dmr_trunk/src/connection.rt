@@ -1,4 +1,4 @@
-//! A connection of a port: what is read from it and written to it, and how long it is waited for.
+//! A connection of a port: reads from it and writes to it, and how long the port waits for it.
 
 ghost use Rattle.std.specs.Prelude.{◌≡◌, ◌≢◌, ℕ, ◌+◌, ◌*◌, ◌-◌, ◌^◌, [], length, min, nat_le, true, Some};
 ghost use Rattle.std.specs.Option.{option_or};
@@ -12,31 +12,32 @@ use std::io;
 use std::io::{ErrorKind, Read, Write};
 use std::net::SocketAddr;
 
-/// How many parts a wait for octets or for a connection has. After each the worker asks whether its term is over, so that the others,
-/// who wait for the last worker when a term ends, do not wait long.
+/// The number of parts of a wait for octets or for a connection. After each part the worker asks whether its term is over. So at the end of
+/// a term the other workers do not wait long for the last one.
 pub const PARTS: u32 = 4;
 
-/// How many waits what was written may take to be sent.
+/// The most waits until kept octets have been sent.
 const SEND_WAITS: u32 = 50;
 
-/// A connection, and what is known of its other side. What is written to it and not taken at once waits in a list, and is sent before
-/// anything else is read; so whoever reads nothing is not listened to either, and no more than the answers to one read ever wait.
+/// A connection, and the state of its other side. Octets that the other side does not take at once are kept in a list, and sent before
+/// anything else is read. So the port does not read from a peer that does not read, and the list never has more than the answers to one
+/// read.
 #[derive(Drop)]
 pub struct Connection<S: Drop> {
-    /// What carries the octets. Its reads and writes do not wait.
+    /// The stream that carries the octets. Its reads and writes do not wait.
     pub stream: S,
     /// The other side's address.
     pub from: SocketAddr,
-    /// How many parts of waits in a row brought no octet.
+    /// The number of parts of waits in a row without an octet.
     silent: u32,
-    /// How many parts of waits have passed since octets last began to wait to be sent.
+    /// The number of parts of waits since octets were last kept to be sent.
     unread: u32,
-    /// Why it ended, once that is known.
+    /// Why the connection ended, once that is known.
     pub ended: Option<Cause>,
 }
 
 impl<S: Read + Write + Drop> Connection<S> {
-    /// A connection that has just come.
+    /// Makes a connection that has just come.
     pub fn new(stream: S, from: SocketAddr) -> Connection<S> {
         Connection {
             stream,
@@ -47,14 +48,14 @@ impl<S: Read + Write + Drop> Connection<S> {
         }
     }
 
-    /// Keeps why the link closed the connection, unless its end has been seen here.
+    /// Keeps why the link closed the connection, unless the connection has already noted its end.
     pub fn keep_cause(&mut self, cause: Cause)
         ensures { self.new ≡ record self.old { ended = option_or self.old.ended (Some cause) } }
     {
         self.ended = self.ended.or(Some(cause));
     }
 
-    /// Keeps what ended the connection, and answers whether the error is one that ends it.
+    /// Returns whether the error ends the connection, and if so keeps the cause.
     fn fails(&mut self, error: &io::Error, cause: Cause) -> bool
         ensures { self.new.stream ≡ self.old.stream }
     {
@@ -67,7 +68,7 @@ impl<S: Read + Write + Drop> Connection<S> {
         }
     }
 
-    /// Sends what waits, as much of it as the other side takes, without waiting. Whether the connection goes on.
+    /// Sends the kept octets, as many as the other side takes, without waiting. Returns whether the connection continues.
     #[tactic(auto, using(crate::proofs::UnsentLemmas::passes_nothing, crate::proofs::UnsentLemmas::passes_on))]
     pub fn send(&mut self, unsent: &mut Unsent) -> bool
         ensures { PassesOctets (S.contents self.old.stream) unsent.old [] (S.contents self.new.stream) unsent.new }
@@ -83,7 +84,7 @@ impl<S: Read + Write + Drop> Connection<S> {
         true
     }
 
-    /// Reads once, without waiting, behind what waits to be sent: while some of that is left, a read would block.
+    /// Reads once, without waiting, after sending the kept octets. If some of them are left, the read would block.
     pub fn read(&mut self, unsent: &mut Unsent, octets: &mut [u8]) -> Got
         ensures within { GotWithin result (length octets.new) }
         ensures behind { (count : ℕ) → result ≡ Got.Octets count → unsent.new ≡ [] }
@@ -115,7 +116,7 @@ impl<S: Read + Write + Drop> Connection<S> {
         }
     }
 
-    /// Writes once, without waiting. What is not taken at once waits, as far as there is room.
+    /// Writes once, without waiting. Octets that the other side does not take at once are kept, if there is room.
     pub fn write(&mut self, unsent: &mut Unsent, octets: &[u8]) -> Put
         ensures within { PutWithin result (length octets.now) }
         ensures passes { PassesOctets (S.contents self.old.stream) unsent.old (taken_by result octets.now) (S.contents self.new.stream) unsent.new }
@@ -136,8 +137,8 @@ impl<S: Read + Write + Drop> Connection<S> {
         }
     }
 
-    /// Counts a part of a wait that brought nothing: neither an octet, nor room for one that waits to be sent. Whether the connection
-    /// has had all the waits that it may have: so many in a row without an octet, or 50 since octets began to wait.
+    /// Counts a part of a wait in which nothing happened: no octet came, and no kept octet could be sent. Returns whether the connection
+    /// has had all its waits: `silence` in a row without an octet, or 50 since octets were kept.
     pub fn is_given_up(&mut self, unsent: &Unsent, silence: u16) -> bool
         ensures silent { unsent.now ≡ [] → (self.new.silent ≡ min (self.old.silent + 1) (2 ^ 32 - 1)) × (result ≡ nat_le (4 * silence) self.new.silent) × (result ≡ true → self.new.ended ≡ Some Cause.Silence) }
         ensures unread { unsent.now ≢ [] → (self.new.unread ≡ min (self.old.unread + 1) (2 ^ 32 - 1)) × (result ≡ nat_le 200 self.new.unread) × (result ≡ true → self.new.ended ≡ Some Cause.NotRead) }

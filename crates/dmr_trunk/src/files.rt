@@ -1,4 +1,4 @@
-//! Where the program's files come from.
+//! The source of the program's files.
 
 ghost use Rattle.std.specs.Prelude.{◌≡◌, List, Option, IfOk, option_map, ℕ, ⊤};
 
@@ -6,13 +6,13 @@ use dmr_pdu::OutOfMemory;
 use std::rt::Files;
 use std::{fs, io};
 
-/// What gives the octets of files by their paths. What it gave is a member of its own, so that a function over any source is
-/// proved to have used what this source gave for this path, and nothing else.
+/// A source of files by their paths. `gave` is a member of its own. So a function over any source is proved to have used the octets that
+/// this source gave for this path, and nothing else.
 pub trait FileSource {
-    // It may give this for this path: the octets of the file, or none where it cannot be read.
+    // The source may give this for this path: the octets of the file, or none if the file cannot be read.
     ghost gave: { Self → List ℕ → Option (List ℕ) → Type 0 };
 
-    /// The octets of the file of a path; None where it cannot be read. At want of memory nothing is known of the file.
+    /// Reads the octets of the file of a path; `None` if the file cannot be read. If memory is out, the result says nothing about the file.
     fn octets_of(&self, path: &str) -> Result<Option<Vec<u8>>, OutOfMemory>
         ensures { IfOk result (λ octets. gave self.now path.now (option_map (λ o. o.items) octets)) };
 }
@@ -27,7 +27,7 @@ pub fn slice_of(octets: &Option<Vec<u8>>) -> Option<&[u8]>
     }
 }
 
-/// The files of the system. What these hold no contract can say, so it may give anything.
+/// The files of the system. No contract can describe their contents, so this source may give anything.
 #[derive(Drop)]
 pub struct SystemFiles<'a, R> {
     rt: &'a R,

@@ -1,10 +1,11 @@
 //! The site controller of a DMR Tier III trunked radio site.
 //!
-//! `dmr_trunk --site FILE --script FILE` replays a script over the site of a site file and prints what was put out for
-//! each carrier. `dmr_trunk --site FILE --serve` serves the site over TCP. `dmr_command` reads the words, files come from
-//! `files`, and `dmr_replay` runs a script's inputs through the engine of `dmr_link`. `serve` opens a
-//! `port` for each carrier and for operators, has a `pacer` for the ticks, and runs terms of `dmr_desk` over them; what it does
-//! is said in `notes`, and why a connection ended by its `cause`.
+//! `dmr_trunk --site FILE --script FILE` replays a script over the site of a site file, and prints the octets written for each carrier.
+//! `dmr_trunk --site FILE --serve` serves the site over TCP.
+//!
+//! `dmr_command` reads the words, and `files` reads the files. `dmr_replay` runs a script's inputs through the engine of `dmr_link`.
+//! `serve` opens a `port` for each carrier and for operators, has a `pacer` for the ticks, and runs terms of `dmr_desk` over them. `notes`
+//! writes the log, and `cause` says why a connection ended.
 #![tactic(auto)]
 
 mod cause;
@@ -47,7 +48,7 @@ fn texts_of(alloc: Global, words: &[String]) -> Result<Vec<&str>, OutOfMemory>
     Ok(texts)
 }
 
-/// Replays the script of one path over the site file of another, and answers the exit status.
+/// Replays the script at one path over the site file at another, and returns the exit status.
 fn replay_files<S: FileSource, W: Write, E: Write>(
     alloc: Global,
     files: &S,
@@ -57,7 +58,7 @@ fn replay_files<S: FileSource, W: Write, E: Write>(
     err: &mut E,
 ) -> Result<u8, OutOfMemory>
     ensures status { IfOk result IsStatus }
-    // At status 0 the files of the two paths, as the source gave them, give a text, and `out` got the whole of it.
+    // At status 0 the files that the source gave for the two paths yield a text, and `out` received all of it.
     ensures ok { IfOk result (λ status. status ≡ 0 → AreReplayed (S.gave files.now) site.now script.now (W.contents out.old) (W.contents out.new)) }
 {
     let site_octets = files.octets_of(site)?;
@@ -73,7 +74,7 @@ fn replay_files<S: FileSource, W: Write, E: Write>(
     ))
 }
 
-/// Serves the site of the site file of a path, and answers the exit status. Nothing is printed to standard output.
+/// Serves the site of the site file at a path, and returns the exit status. It prints nothing to standard output.
 fn serve_path<R: Net + Log + Clock + Wait + Threads + Sync, S: FileSource, E: Write>(
     rt: &R,
     alloc: Global,
@@ -83,14 +84,14 @@ fn serve_path<R: Net + Log + Clock + Wait + Threads + Sync, S: FileSource, E: Wr
     err: &mut E,
 ) -> Result<u8, OutOfMemory>
     ensures status { IfOk result IsStatus }
-    // At status 0 the file of the path, as the source gave it, has a plan.
+    // At status 0 the file that the source gave for the path has a plan.
     ensures ok { IfOk result (λ status. status ≡ 0 → HasPlan (S.gave files.now) site.now) }
 {
     let site_octets = files.octets_of(site)?;
     Ok(serve_file(rt, alloc, site, slice_of(&site_octets), terms, err))
 }
 
-/// Does a job with the files of a source, and answers the exit status.
+/// Does a job with the files of a source, and returns the exit status.
 fn do_job<R: Net + Log + Clock + Wait + Threads + Sync, S: FileSource, W: Write, E: Write>(
     rt: &R,
     alloc: Global,
@@ -108,7 +109,7 @@ fn do_job<R: Net + Log + Clock + Wait + Threads + Sync, S: FileSource, W: Write,
     }
 }
 
-/// Does what the words ask for with the files of a source, and answers the exit status.
+/// Does the job that the words ask for, with the files of a source, and returns the exit status.
 fn run_words<R: Net + Log + Clock + Wait + Threads + Sync, S: FileSource, W: Write, E: Write>(
     rt: &R,
     alloc: Global,
@@ -118,7 +119,7 @@ fn run_words<R: Net + Log + Clock + Wait + Threads + Sync, S: FileSource, W: Wri
     err: &mut E,
 ) -> Result<u8, OutOfMemory>
     ensures status { IfOk result IsStatus }
-    // At status 0 the words name two files, and these were replayed.
+    // At status 0 the words ask for a job, and that job was done.
     ensures ok { IfOk result (λ status. status ≡ 0 → IsReplayed (S.gave files.now) (map string_bytes words.now) (W.contents out.old) (W.contents out.new)) }
 {
     let texts = texts_of(alloc, words)?;
@@ -128,7 +129,7 @@ fn run_words<R: Net + Log + Clock + Wait + Threads + Sync, S: FileSource, W: Wri
     }
 }
 
-/// Reads the words and does what they ask for; answers the exit status.
+/// Reads the words, does the job that they ask for, and returns the exit status.
 fn run_program<
     R: AllocGlobal + Env + Net + Log + Clock + Wait + Threads + Sync,
     S: FileSource,
@@ -136,7 +137,7 @@ fn run_program<
     E: Write,
 >(rt: &R, files: &S, out: &mut W, err: &mut E) -> u8
     ensures status { IsStatus result }
-    // At status 0 there were words that name two files, these gave a text, and `out` got the whole of it.
+    // At status 0 there were words that ask for a job, and that job was done.
     ensures ok { result ≡ 0 → IsReplayedBySome (S.gave files.now) (W.contents out.old) (W.contents out.new) }
 {
     let words = match env::args(rt) {

@@ -1,4 +1,4 @@
-//! Notes: what the serving program says of itself, on standard error.
+//! Notes: the serving program's log, on standard error.
 
 use crate::cause::Cause;
 use dmr_command::VERSION;
@@ -14,15 +14,15 @@ use std::{fmt, io};
 /// The descriptor of standard error.
 const STANDARD_ERROR: i32 = 2;
 
-/// The name that notes stand under.
+/// The target of the notes in the log.
 const TARGET: &str = "dmr_trunk";
 
-/// Whose port it is.
+/// The owner of a port.
 #[derive(Clone, Copy, Debug, PartialEq, Eq)]
 pub enum Whose {
-    /// The port of a carrier: its number within the site, and the channel number of its slots, as the site file has them.
+    /// A carrier: its number within the site, and the channel number of its slots, as the site file has them.
     Carrier { number: CarrierNo, lpcn: Lpcn },
-    /// The operators' port.
+    /// The operators.
     Console,
 }
 
@@ -35,19 +35,19 @@ impl fmt::Display for Whose {
     }
 }
 
-/// Where notes go: to standard error, by the runtime's log. A note is written only where standard error takes it at once, and is
-/// dropped otherwise, so that nobody who reads notes slowly, or not at all, holds up who makes them.
+/// Writes notes to standard error, by the runtime's log. A note is written only if standard error takes it at once; otherwise it is
+/// dropped. So a reader of notes that is slow, or does not read, does not delay the program.
 #[derive(Drop)]
 pub struct Notes<'a, R> {
     rt: &'a R,
     poll: Poll,
     events: Events,
-    // A file takes notes at once, and cannot be polled.
+    // Whether standard error can be polled. A file cannot; it takes notes at once.
     waits: bool,
 }
 
 impl<'a, R: Log> Notes<'a, R> {
-    /// Takes memory for the polling of standard error. `None` where there is no poll.
+    /// Allocates memory for the polling of standard error. `None` if there is no poll.
     pub fn new(rt: &'a R, alloc: Global) -> Result<Option<Notes<'a, R>>, OutOfMemory>
     where
         R: Net,
@@ -73,7 +73,7 @@ impl<'a, R: Log> Notes<'a, R> {
         if !self.waits {
             return true;
         }
-        // Registered anew, it is reported whenever it is ready now.
+        // After a new registration the poll reports standard error again if it is ready now.
         let asked = self.poll.registry().reregister(
             &mut SourceFd(&STANDARD_ERROR),
             Token(0),
@@ -92,7 +92,7 @@ impl<'a, R: Log> Notes<'a, R> {
         self.events.iter().any(|event| event.is_writable())
     }
 
-    /// The program begins to serve the site of a site file, which has so many carriers.
+    /// Notes that the program begins to serve the site of a site file with `carriers` carriers.
     pub fn starts(&mut self, site_file: &str, carriers: usize) {
         if self.is_ready() {
             let noun = if carriers == 1 { "carrier" } else { "carriers" };
@@ -100,42 +100,42 @@ impl<'a, R: Log> Notes<'a, R> {
         }
     }
 
-    /// A port is listened on.
+    /// Notes that the program listens at a port.
     pub fn listens(&mut self, whose: Whose, address: SocketAddr) {
         if self.is_ready() {
             info!(*self.rt; target: TARGET, "{whose}: listening on {address}");
         }
     }
 
-    /// A connection came.
+    /// Notes that a connection came.
     pub fn connected(&mut self, whose: Whose, from: SocketAddr) {
         if self.is_ready() {
             info!(*self.rt; target: TARGET, "{whose}: {from} connected");
         }
     }
 
-    /// A connection has ended, for this cause.
+    /// Notes that a connection has ended, for this cause.
     pub fn ended(&mut self, whose: Whose, from: SocketAddr, cause: Cause) {
         if self.is_ready() {
             info!(*self.rt; target: TARGET, "{whose}: {from} disconnected: {cause}");
         }
     }
 
-    /// Connections cannot be taken, for now.
+    /// Notes that connections cannot be accepted for now.
     pub fn cannot_accept(&mut self, whose: Whose, error: &io::Error) {
         if self.is_ready() {
             warn!(*self.rt; target: TARGET, "{whose}: cannot take connections: {error}");
         }
     }
 
-    /// Connections can be taken again.
+    /// Notes that connections can be accepted again.
     pub fn accepts_again(&mut self, whose: Whose) {
         if self.is_ready() {
             info!(*self.rt; target: TARGET, "{whose}: takes connections again");
         }
     }
 
-    /// A term was audited.
+    /// Notes that a term was audited.
     pub fn term_ended(&mut self, entries: usize) {
         if self.is_ready() {
             info!(*self.rt; target: TARGET, "term ended: {entries} entries");

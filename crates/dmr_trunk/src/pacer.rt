@@ -6,12 +6,11 @@ use dmr_desk::{Pace, Pacer};
 use std::thread;
 use std::time::{Clock, Duration, Instant};
 
-/// How many milliseconds it sleeps at most, so that the end of a term is not waited for much longer.
+/// The most milliseconds that the clock sleeps at once, so that a term's end does not wait much longer for it.
 const NAP: u64 = 25;
 
-/// Says that a tick is due whenever the time of one has passed by the system's clock that never goes back. Each tick is due one
-/// tick's time after the one before it was due, however late that one was asked for: no time is lost, and ticks that were missed
-/// come one right after another.
+/// Reports a tick each time that the time of one has passed, by the system's monotonic clock. Each tick is due one tick's time after the
+/// one before it was due, even if that one was asked for late. No time is lost, and missed ticks follow directly after one another.
 #[derive(Drop)]
 pub struct ClockPacer<'a, R> {
     rt: &'a R,
@@ -20,7 +19,7 @@ pub struct ClockPacer<'a, R> {
 }
 
 impl<'a, R: Clock> ClockPacer<'a, R> {
-    /// Ticks that last so many milliseconds. The first is due so long after it is first asked for.
+    /// Makes a pacer with ticks of `tick_ms` milliseconds. The first is due one tick after the first call.
     pub fn new(rt: &'a R, tick_ms: u16) -> ClockPacer<'a, R> {
         ClockPacer {
             rt,
@@ -29,12 +28,12 @@ impl<'a, R: Clock> ClockPacer<'a, R> {
         }
     }
 
-    /// Sleeps until a time that is still to come, or for a nap.
+    /// Sleeps for the time that is left, or for a nap if that is shorter.
     fn sleep(&self, left: Duration) {
         thread::sleep(self.rt, left.min(Duration::from_millis(NAP)));
     }
 
-    /// What is due at a time.
+    /// The pacer's answer at a time.
     fn pace_at(&mut self, now: Instant) -> Pace {
         let due = self.due.unwrap_or(now);
         if self.due.is_none() {
@@ -56,7 +55,7 @@ impl<R: Clock> Pacer for ClockPacer<'_, R> {
     fn next(&mut self) -> Pace {
         match Instant::now(self.rt) {
             Ok(now) => self.pace_at(now),
-            // A clock that cannot be read: the time of a tick is slept.
+            // If the clock cannot be read, the pacer sleeps for the time of a tick.
             Err(_) => {
                 thread::sleep(self.rt, self.tick);
                 Pace::Tick

@@ -1,4 +1,4 @@
-//! A TCP port: connections to a socket that listens, one after another.
+//! A TCP port: connections to a listening socket, one after another.
 
 ghost use Rattle.std.specs.Prelude.{None, length};
 ghost use Rattle.dmr_wire.specs.Told.{GotWithin, PutWithin};
@@ -18,14 +18,14 @@ use std::io::{ErrorKind, Read};
 use std::net::{Net, Shutdown, SocketAddr};
 use std::time::Duration;
 
-/// How many milliseconds a wait lasts at most.
+/// The most milliseconds of a wait.
 const WAIT: u64 = 100;
 
-/// How many reads are made of what comes after a connection's end.
+/// The most reads of octets that come after a connection's end.
 const LAST_READS: usize = 16;
 
-/// Ends the output, and reads what came and was not read. What is closed with octets unread breaks the connection off, and the other
-/// side may lose what was last written to it, as a REFUSED.
+/// Ends the output, and reads the octets that came and were not read. A close with unread octets resets the connection, and the other side
+/// may then lose the last octets written to it, such as a REFUSED.
 fn finish(stream: &mut TcpStream) {
     if stream.shutdown(Shutdown::Write).is_err() {
         return;
@@ -40,13 +40,12 @@ fn finish(stream: &mut TcpStream) {
     }
 }
 
-/// A socket that listens, and the connection to it that is served. Those that come meanwhile wait with the system until this one
-/// has ended.
+/// A listening socket, and the connection to it that is served. Further connections wait in the system until this one has ended.
 ///
-/// It polls the connection where there is one, and else the socket that listens, so nothing that others do ends a wait for the
-/// connection's octets. A wait lasts 100 ms, and is made in parts of 25 ms. A connection from which no octet came in a number of waits
-/// in a row is silent. Reads and writes never wait. What is written and not taken at once is kept, and sent before anything more is
-/// read; a connection on which that has not happened within 50 waits is silent too.
+/// The port polls the connection if there is one, and otherwise the listening socket, so other peers cannot end a wait for the connection's
+/// octets. A wait lasts 100 ms, and is made in parts of 25 ms. A connection from which no octet came in `silence` waits in a row is silent.
+/// Reads and writes never wait. Octets that cannot be sent at once are kept, and sent before anything more is read. A connection that does
+/// not take them within 50 waits is silent too.
 #[derive(Drop)]
 pub struct SocketPort<'a, R> {
     whose: Whose,
@@ -54,19 +53,19 @@ pub struct SocketPort<'a, R> {
     poll: Poll,
     events: Events,
     connection: Option<Connection<TcpStream>>,
-    // What was written to the connection and waits to be sent, and whether the connection is polled for that.
+    // The octets that were written to the connection and are not yet sent, and whether the connection is polled for sending.
     unsent: Unsent,
     sends: bool,
     silence: u16,
     notes: Notes<'a, R>,
-    // Connections cannot be taken, which has been noted.
+    // Connections cannot be accepted, and that has been noted.
     refuses: bool,
 }
 
 /// Why a port was not opened.
 #[derive(Clone, Copy, Debug, PartialEq, Eq)]
 pub enum PortFault {
-    /// The address could not be listened on.
+    /// The program cannot listen at the address.
     CannotListen,
     /// There was no poll.
     NoPoll,
@@ -74,7 +73,7 @@ pub enum PortFault {
     OutOfMemory,
 }
 
-/// Listens on an address, and the poll that tells of connections.
+/// Listens at an address, and makes the poll that reports connections.
 fn listen<R: Net>(rt: &R, address: SocketAddr) -> Result<(Poll, TcpListener), PortFault> {
     let Ok(poll) = Poll::new(rt) else {
         return Err(PortFault::NoPoll);
@@ -92,7 +91,7 @@ fn listen<R: Net>(rt: &R, address: SocketAddr) -> Result<(Poll, TcpListener), Po
 }
 
 impl<'a, R: Log> SocketPort<'a, R> {
-    /// Listens on an address. A connection is silent after as many waits in a row as `silence` says.
+    /// Listens at an address. A connection without an octet in `silence` waits in a row, of 100 ms each, is silent.
     pub fn open(
         rt: &'a R,
         alloc: Global,
@@ -129,14 +128,14 @@ impl<'a, R: Log> SocketPort<'a, R> {
         })
     }
 
-    /// Notes that it listens.
+    /// Notes that the port listens.
     pub fn note_listening(&mut self) {
         if let Ok(address) = self.listener.local_addr() {
             self.notes.listens(self.whose, address);
         }
     }
 
-    /// Waits until something happens to what is polled, so many milliseconds at most. Whether anything did.
+    /// Waits until the polled socket is ready, at most `milliseconds`. Returns whether it is.
     fn wait_once(&mut self, milliseconds: u64) -> bool {
         let most = Duration::from_millis(milliseconds);
         match self.poll.poll(&mut self.events, Some(most)) {
@@ -145,7 +144,7 @@ impl<'a, R: Log> SocketPort<'a, R> {
         }
     }
 
-    /// Lets the connection go, and polls the socket that listens. What waits to be sent and is not taken at once is lost.
+    /// Drops the connection, and polls the listening socket. Kept octets that cannot be sent at once are lost.
     fn let_go(&mut self) {
         let Some(mut connection) = self.connection.take() else {
             return;
@@ -155,21 +154,21 @@ impl<'a, R: Log> SocketPort<'a, R> {
         self.unsent.clear();
         finish(&mut connection.stream);
         self.notes.ended(self.whose, connection.from, cause);
-        // Should it not be polled, it is still asked after each wait.
+        // If this fails, the port still asks the socket after each wait.
         let _ = self
             .poll
             .registry()
             .register(&mut self.listener, Token(0), Interest::READABLE);
     }
 
-    /// Takes a connection, and polls it instead of the socket that listens. `false` where it cannot be polled, and is let go.
+    /// Accepts a connection, and polls it instead of the listening socket. If it cannot be polled, drops it and returns `false`.
     fn take(&mut self, mut stream: TcpStream, from: SocketAddr) -> bool {
         let _ = self.poll.registry().deregister(&mut self.listener);
         let polled = self
             .poll
             .registry()
             .register(&mut stream, Token(0), Interest::READABLE);
-        // An answer goes out when it is written, and does not wait for the one after it.
+        // An answer is sent when it is written, and does not wait for the one after it.
         let _ = stream.set_nodelay(true);
         self.connection = Some(Connection::new(stream, from));
         self.sends = false;
@@ -182,7 +181,7 @@ impl<'a, R: Log> SocketPort<'a, R> {
         true
     }
 
-    /// Notes, once in a row, that connections cannot be taken.
+    /// Notes that connections cannot be accepted, unless that has just been noted.
     fn note_refusal(&mut self, error: &io::Error) {
         if !self.refuses {
             self.refuses = true;
@@ -190,7 +189,7 @@ impl<'a, R: Log> SocketPort<'a, R> {
         }
     }
 
-    /// Notes that they can be taken again, where they could not.
+    /// Notes that connections can be accepted again, if they could not.
     fn note_no_refusal(&mut self) {
         if self.refuses {
             self.refuses = false;
@@ -198,8 +197,8 @@ impl<'a, R: Log> SocketPort<'a, R> {
         }
     }
 
-    /// Polls the connection for what it waits for: that octets can be sent, where some wait, or else that some have come. Should it not
-    /// be polled for that, it is still asked after each part of a wait.
+    /// Polls the connection for sending if octets are kept, and otherwise for octets that come. Even if it cannot be polled for that, the
+    /// port still asks it after each part of a wait.
     fn poll_connection(&mut self) {
         let sends = !self.unsent.is_empty();
         if sends == self.sends {

@@ -22,7 +22,7 @@ type CarrierAt<'a, R> = Station<SocketPort<'a, R>, OpenGate>;
 /// The console's station.
 type ConsoleAt<'a, R> = ConsoleStation<SocketPort<'a, R>>;
 
-/// What goes from term to term.
+/// The state that continues from term to term.
 #[derive(Drop)]
 struct Standing<'a, R> {
     site: Site,
@@ -48,7 +48,7 @@ fn open_port<'a, R: Net + Log>(
     }
 }
 
-/// The station of a carrier on its channel, which listens on its port.
+/// Opens the station of a carrier on its channel, which listens at its port.
 fn open_station<'a, R: Net + Log>(
     rt: &'a R,
     alloc: Global,
@@ -67,7 +67,7 @@ fn open_station<'a, R: Net + Log>(
     })
 }
 
-/// A station for each carrier of the plan, by number.
+/// Opens a station for each carrier of the plan, by number.
 fn open_stations<'a, R: Net + Log>(
     rt: &'a R,
     alloc: Global,
@@ -86,7 +86,7 @@ fn open_stations<'a, R: Net + Log>(
     Ok(stations)
 }
 
-/// Notes to standard error.
+/// Opens the notes to standard error.
 pub fn open_notes<R: Net + Log>(rt: &R, alloc: Global) -> Result<Notes<'_, R>, ServeFault> {
     match Notes::new(rt, alloc) {
         Ok(Some(notes)) => Ok(notes),
@@ -95,7 +95,7 @@ pub fn open_notes<R: Net + Log>(rt: &R, alloc: Global) -> Result<Notes<'_, R>, S
     }
 }
 
-/// The stations, the console and the notes that the first term begins with: ports with no connection.
+/// Opens the stations, the console and the notes for the first term. Their ports have no connection.
 fn open_ports<'a, R: Net + Log>(
     rt: &'a R,
     alloc: Global,
@@ -110,7 +110,7 @@ fn open_ports<'a, R: Net + Log>(
     Ok((stations, console, notes))
 }
 
-/// What the first term begins with: a site on which nothing stands, and ports with no connection.
+/// Makes the state for the first term: a site with nothing active, and ports without a connection.
 fn open_all<'a, R: Net + Log + Clock>(
     rt: &'a R,
     alloc: Global,
@@ -134,7 +134,7 @@ fn open_all<'a, R: Net + Log + Clock>(
     }
 }
 
-/// Notes what is listened on.
+/// Notes the addresses at which the ports listen.
 fn note_listening<R: Log>(standing: &mut Standing<'_, R>) {
     for station in standing.stations.iter_mut() {
         station.port.note_listening();
@@ -178,9 +178,9 @@ fn serve_term<'a, R: Log + Clock + Wait + Threads + Sync>(
     }
 }
 
-/// Serves the site of a plan over TCP: listens on each carrier's port, by number, and on the console's, and runs term after term,
-/// each of as many entries as the plan says: so many of them, or without end where `terms` is 0. Links, connections and the site
-/// go on from term to term; each term's journal is audited, and dropped.
+/// Serves the site of a plan over TCP. Listens at each carrier's port, by number, and at the console's, and runs `terms` terms, one after
+/// another; 0 means forever. Each term has at most the plan's number of entries. Links, connections and the site continue from term to
+/// term. Each term's journal is audited, then dropped.
 pub fn serve<R: Net + Log + Clock + Wait + Threads + Sync>(
     rt: &R,
     alloc: Global,

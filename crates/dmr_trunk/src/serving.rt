@@ -1,4 +1,4 @@
-//! Serving the site of a site file: the file, and the exit status of what may go wrong.
+//! Serving the site of a site file: the file, and the exit statuses of faults.
 
 ghost use Rattle.std.specs.Prelude.{◌≡◌, IfOk, option_map};
 ghost use Rattle.dmr_trunk.specs.Replay.{IsPlanned, IsStatus};
@@ -15,7 +15,7 @@ use std::sync::Wait;
 use std::thread::Threads;
 use std::time::Clock;
 
-/// The plan of a site file, if it could be read.
+/// The plan of a site file, if the file could be read and is valid.
 fn plan_in<'a>(
     alloc: Global,
     site_name: &'a str,
@@ -26,7 +26,7 @@ fn plan_in<'a>(
     plan_of(alloc, site.ok_or(ReplayFault::CannotRead(site_name))?)
 }
 
-/// Notes which version of the program serves which site file. The notes of serving are others, which `serve` opens.
+/// Notes which version of the program serves which site file. These notes are opened for this one; `serve` opens its own.
 fn note_start<R: Net + Log>(
     rt: &R,
     alloc: Global,
@@ -53,7 +53,7 @@ where
     serve(rt, alloc, plan, terms)
 }
 
-/// Serves the site of a plan, and returns the exit status. What goes wrong is written to `err`.
+/// Serves the site of a plan, and returns the exit status. A fault is written to `err`.
 fn serve_plan<R, E>(
     rt: &R,
     alloc: Global,
@@ -76,9 +76,8 @@ where
     }
 }
 
-/// Serves the site of a site file, and answers the exit status. The file comes as its octets, or None where it could not be read,
-/// beside the name that a fault calls it by. What goes wrong is told to `err` as one line; that it could not be written there is
-/// passed over.
+/// Serves the site of a site file, and returns the exit status. `site` has the file's octets, or `None` if the file could not be read;
+/// `site_name` is its name in a fault's text. A fault is written to `err` as one line; an error of `err` is ignored.
 pub fn serve_file<R, E>(
     rt: &R,
     alloc: Global,

@@ -1,4 +1,4 @@
-//! Octets that were written to a connection and wait until its other side takes them.
+//! Octets that were written to a connection and are kept until its other side takes them.
 
 ghost use Rattle.std.specs.Prelude.{◌≡◌, ◌-◌, ◌≤◌, [], ◌++◌, length, take, min, nat_eq, IfOk, OnErr};
 ghost use Rattle.dmr_trunk.specs.Unsent.{PassesOctets};
@@ -10,11 +10,11 @@ use std::io;
 use std::io::{ErrorKind, Write};
 use std::marker::Model;
 
-/// How many octets may wait. A link reads 64 octets at once, and none of them has an answer of more than 1,024: so what one read
-/// brings has room.
+/// The most octets that are kept. A link reads 64 octets at once, and the answer to each has at most 1,024 octets, so the answers to one
+/// read fit.
 pub const ROOM: usize = 65_536;
 
-/// The octets that wait to be sent on a connection, the oldest first. Contracts see them as a list.
+/// The octets that are kept to be sent on a connection, oldest first. Contracts see their list.
 #[derive(Drop)]
 pub struct Unsent {
     octets: HeapCircularBuffer<u8>,
@@ -31,7 +31,7 @@ impl Model for Unsent {
 }
 
 impl Unsent {
-    /// Takes the memory for all that may ever wait.
+    /// Allocates room for all octets that may ever be kept.
     pub fn new(alloc: Global) -> Result<Unsent, OutOfMemory>
         ensures { IfOk result (λ unsent. unsent ≡ []) }
     {
@@ -39,21 +39,21 @@ impl Unsent {
         Ok(Unsent { octets })
     }
 
-    /// Whether nothing waits.
+    /// Whether no octet is kept.
     pub fn is_empty(&self) -> bool
         ensures { result ≡ nat_eq (length self.now) 0 }
     {
         self.octets.is_empty()
     }
 
-    /// Forgets what waits: the connection has ended.
+    /// Drops the kept octets: the connection has ended.
     pub fn clear(&mut self)
         ensures { self.new ≡ [] }
     {
         self.octets.clear();
     }
 
-    /// Puts octets behind those that wait, the first ones, as many as there is room for, and says how many.
+    /// Appends the first octets to the kept ones, as many as there is room for, and returns their number.
     fn keep(&mut self, octets: &[u8]) -> usize
         ensures count { result ≡ min (length octets.now) (65536 - length self.old) }
         ensures octets { self.new ≡ self.old ++ take result octets.now }
@@ -61,8 +61,8 @@ impl Unsent {
         self.octets.fill_from_slice(octets)
     }
 
-    /// Writes octets behind those that wait, and says how many of them, the first ones, were taken or wait now. Where none waited they
-    /// are written at once. At an error nothing was taken, and what waits has not changed.
+    /// Writes octets after the kept ones, and returns how many of them, the first ones, were taken or are now kept. If none were kept, it
+    /// first tries to write them at once. On an error no octet was taken, and the kept octets are unchanged.
     pub fn write<W: Write>(&mut self, out: &mut W, octets: &[u8]) -> io::Result<usize>
         ensures count { IfOk result (λ count. count ≤ length octets.now) }
         ensures ok { IfOk result (λ count. PassesOctets (W.contents out.old) self.old (take count octets.now) (W.contents out.new) self.new) }
@@ -81,7 +81,7 @@ impl Unsent {
         Ok(self.keep(octets))
     }
 
-    /// Writes once what waits, and says how many octets, the oldest ones, were taken. At an error none was.
+    /// Writes the kept octets once, and returns how many, the oldest ones, were taken. On an error none was.
     pub fn send<W: Write>(&mut self, out: &mut W) -> io::Result<usize>
         ensures passes { PassesOctets (W.contents out.old) self.old [] (W.contents out.new) self.new }
         ensures count { IfOk result (λ count. length self.new ≡ length self.old - count) }

@@ -1,4 +1,4 @@
-//! Worked fields of octets, and words of 196 bits.
+//! Worked values of fields of octets, and of words of 196 bits.
 
 use dmr_bits::{BadPad, Octets10, Word196, bit_at, field, set_bit, set_field};
 use std::test::Fail;
@@ -89,7 +89,7 @@ fn parts_of_words(rt: HostRuntime) -> Result<(), Fail> {
     for k in 0..4usize {
         assert_eq!(rt; word.part(k), parts[k], "part {k}");
     }
-    // Place 0 does not count.
+    // Place 0 is not counted.
     let mut other = word;
     for (place, apart) in [(0usize, 0u32), (1, 1), (63, 2), (64, 3), (195, 4), (64, 3)] {
         other.flip(place);

@@ -77,7 +77,7 @@ fn wrong_checks(rt: HostRuntime) {
     assert_eq!(rt; read(&encode(&sealed)), None);
 }
 
-/// Ten octets and their burst, three of each kind of PDU: worked out apart from this code.
+/// Ten octets and their burst, three of each kind of PDU. They were computed apart from this code.
 const BURSTS: [(Octets10, [u8; 25]); 30] = [
     // Rand options=1 flags=0 kind=14 target=16776902 source=1001
     (
@@ -151,7 +151,8 @@ const BURSTS: [(Octets10, [u8; 25]); 30] = [
             0x86, 0x9B, 0x77, 0x96, 0x28, 0x7C, 0x7C, 0xC9, 0x42, 0xB3, 0xE0,
         ],
     ),
-    // Aloha sync=0 version=0 offset=0 active=0 mask=0 function=0 nrand_wait=0 register=1 backoff=1 system=
+    // Aloha sync=0 version=0 offset=0 active=0 mask=0 function=0 nrand_wait=0 register=1 backoff=1
+    // system=4660 address=0
     (
         [0x99, 0x00, 0x00, 0x00, 0x11, 0x12, 0x34, 0x00, 0x00, 0x00],
         [
@@ -159,7 +160,8 @@ const BURSTS: [(Octets10, [u8; 25]); 30] = [
             0x05, 0x86, 0x22, 0x80, 0x42, 0x10, 0x79, 0x00, 0x5A, 0x23, 0x10,
         ],
     ),
-    // Aloha sync=1 version=1 offset=1 active=0 mask=22 function=0 nrand_wait=7 register=0 backoff=10 syste
+    // Aloha sync=1 version=1 offset=1 active=0 mask=22 function=0 nrand_wait=7 register=0 backoff=10
+    // system=24413 address=10013063
     (
         [0x99, 0x00, 0x26, 0xB0, 0xEA, 0x5F, 0x5D, 0x98, 0xC9, 0x87],
         [
@@ -167,7 +169,8 @@ const BURSTS: [(Octets10, [u8; 25]); 30] = [
             0xBF, 0x85, 0xEB, 0xB4, 0x2C, 0x60, 0x85, 0x3C, 0xC2, 0x38, 0xD0,
         ],
     ),
-    // Aloha sync=0 version=0 offset=0 active=0 mask=8 function=3 nrand_wait=7 register=1 backoff=5 system=
+    // Aloha sync=0 version=0 offset=0 active=0 mask=8 function=3 nrand_wait=7 register=1 backoff=5
+    // system=59 address=16711680
     (
         [0x99, 0x00, 0x00, 0x46, 0xF5, 0x00, 0x3B, 0xFF, 0x00, 0x00],
         [

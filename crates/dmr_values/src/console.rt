@@ -1,4 +1,4 @@
-//! Worked values of lines, of streams and of replies, made by hand from the tables.
+//! Worked values of lines, streams and replies, computed by hand from the tables.
 
 ghost use Rattle.std.specs.Prelude.{◌<◌};
 
@@ -20,7 +20,7 @@ const COMMANDS: [(&str, Command); 4] = [
     ("  stay ", Command::Stay),
 ];
 
-/// Lines that are none.
+/// Lines that are not commands.
 const UNKNOWN: [&str; 33] = [
     "",
     "   ",
@@ -71,7 +71,7 @@ fn unknown_lines(rt: HostRuntime) {
     }
 }
 
-/// Asserts that a line is this command.
+/// Checks that a line is this command.
 fn expect_command(rt: &impl Abort, line: &str, command: Command) {
     assert_eq!(rt; parse(line.as_bytes()), Some(command), "{line}");
 }
@@ -124,7 +124,7 @@ fn feed_open(rt: &impl Abort, cutter: &mut LineCutter, octets: &[u8]) {
     }
 }
 
-/// Feeds an LF, and asserts that it ends this line.
+/// Feeds an LF, and checks that it ends this line.
 fn expect_line(rt: &impl Abort, cutter: &mut LineCutter, want: &[u8]) {
     let mut line = ArrayVec::new();
     let fits = line.try_extend_from_slice(want).is_ok();
@@ -171,7 +171,7 @@ fn lines_too_long(rt: HostRuntime) {
     expect_line(&rt, &mut cutter, b"stay");
 }
 
-/// Asserts a reply's text.
+/// Checks the text of a reply.
 fn expect_text(rt: &impl Abort, reply: &Reply, want: &str) {
     assert_eq!(rt; print(reply).as_str(), want);
 }
@@ -219,7 +219,7 @@ fn texts_of_radios(rt: HostRuntime) {
     );
 }
 
-/// The slot of a carrier.
+/// Returns the slot of a carrier.
 fn slot_of(carrier: u32, slot: u32) -> Slot
     requires carrier { carrier < 16 }
     requires slot { slot < 2 }
@@ -276,7 +276,7 @@ fn texts_of_lines(rt: HostRuntime) {
     );
 }
 
-/// A slot of a carrier, and how it stands.
+/// Returns a slot of a carrier, with its state.
 fn standing(carrier: u32, slot: u32, state: State) -> SlotState
     requires carrier { carrier < 16 }
     requires slot { slot < 2 }

@@ -1,4 +1,4 @@
-//! Frames of the link, octet by octet, whole, and written.
+//! Worked frames of the link: octet by octet, whole, and written.
 
 use dmr_bits::Word196;
 use dmr_frames::{
@@ -21,13 +21,13 @@ const RECEIVED: [u8; 28] = [
     0xC4, 0x0E, 0x88, 0x13, 0x8C, 0x9A, 0x38, 0xF9, 0x62, 0x48, 0xE1, 0x80,
 ];
 
-/// RX of that burst, its number 5, on slot 0, by the table of frames of version 2.
+/// RX of that burst with number 5 on slot 0, by the table of frames of version 2.
 const RECEIVED_NUMBERED: [u8; 29] = [
     0x02, 0x1B, 0x05, 0x00, 0x0E, 0xB4, 0x9C, 0xDF, 0x34, 0xF2, 0x74, 0x9C, 0xEC, 0xBA, 0x5C, 0xB3,
     0xB7, 0xC4, 0x0E, 0x88, 0x13, 0x8C, 0x9A, 0x38, 0xF9, 0x62, 0x48, 0xE1, 0x80,
 ];
 
-/// Feeds octets, and asserts that all but the last need more, and that the last brings this.
+/// Feeds octets. Checks that all but the last need more octets, and that the last yields `last`.
 fn expect_last(rt: &impl Abort, cutter: &mut Cutter, octets: &[u8], last: Step) {
     for (i, octet) in octets.iter().enumerate() {
         let want = if i + 1 == octets.len() {
@@ -39,14 +39,15 @@ fn expect_last(rt: &impl Abort, cutter: &mut Cutter, octets: &[u8], last: Step) 
     }
 }
 
-/// Feeds octets, and asserts that each brings this.
+/// Feeds octets, and checks that each yields `want`.
 fn expect_each(rt: &impl Abort, cutter: &mut Cutter, octets: &[u8], want: Step) {
     for octet in octets {
         assert_eq!(rt; cutter.feed_byte(*octet), want, "in {octets:?}");
     }
 }
 
-/// The cutter of a connection behind a HELLO of this version, carrier 1 on channel 1, where versions up to the greatest are served.
+/// Returns the cutter of a connection after a HELLO of this version from carrier 1 on channel 1. The site serves
+/// versions up to `greatest`.
 fn greeted(rt: &impl Abort, greatest: Version, version: u8) -> Cutter {
     let mut cutter = Cutter::new(greatest);
     let hello = FrameIn::Hello {
@@ -75,7 +76,7 @@ fn hello_in_pieces_and_a_fault(rt: HostRuntime) {
     };
     expect_each(&rt, &mut cutter, &[0x07], Step::Frame(hello));
     expect_each(&rt, &mut cutter, &[0x03], Step::Need);
-    // A POLL has no body, so 01 is no length of it; the good POLL behind it is not read any more.
+    // A POLL has no body, so 01 is a wrong length. The cutter does not read the good POLL after it.
     expect_each(
         &rt,
         &mut cutter,
@@ -136,13 +137,14 @@ fn a_stream_of_version_2(rt: HostRuntime) -> Result<(), Fail> {
         }),
     );
     expect_last(&rt, &mut cutter, &[0x05, 0x00], Step::Frame(FrameIn::Bye));
-    // Behind all these it is version 2 still.
+    // After all these octets the connection still has version 2.
     let short = Step::Fault(Cause::BadLength);
     expect_last(&rt, &mut cutter, &[0x02, 0x1A], short);
     Ok(())
 }
 
-/// The greatest version that is served, the version that a HELLO names, the octets behind it, and the fault at the last of them.
+/// The greatest version that the site serves, the version in a HELLO, the octets after it, and the fault at the last of
+/// them.
 type Misfit = (Version, u8, &'static [u8], Cause);
 
 const MISFITS: [Misfit; 8] = [
@@ -174,7 +176,7 @@ fn faults_behind_a_hello(rt: HostRuntime) {
     }
 }
 
-/// What the last octet of that RX brings.
+/// Returns the step that the last octet of that RX yields.
 fn received() -> Result<Step, Fail> {
     Ok(Step::Frame(FrameIn::Rx {
         number: None,
@@ -187,7 +189,7 @@ fn received() -> Result<Step, Fail> {
 fn the_first_frame_is_of_version_1(rt: HostRuntime) -> Result<(), Fail> {
     let fault = Step::Fault(Cause::BadLength);
     expect_last(&rt, &mut Cutter::new(Version::V2), &[0x02, 0x1B], fault);
-    // A HELLO that is not the first frame chooses nothing.
+    // A HELLO that is not the first frame chooses no version.
     let mut cutter = Cutter::new(Version::V2);
     expect_last(&rt, &mut cutter, &RECEIVED, received()?);
     let hello = FrameIn::Hello {
@@ -269,19 +271,19 @@ fn other_lengths(rt: HostRuntime) {
     }
 }
 
-/// TX, on slot 0, of the acknowledgement of a registration, of the format's test vectors.
+/// TX on slot 0 with the acknowledgement of a registration, from the format's test vectors.
 const SENT: [u8; 28] = [
     0x82, 0x1A, 0x00, 0x41, 0xC3, 0x02, 0x8A, 0x48, 0xFC, 0x8F, 0x40, 0x3D, 0xC0, 0x6F, 0x00, 0xED,
     0xA0, 0xF7, 0x83, 0xE4, 0x97, 0x54, 0x2E, 0x40, 0x5C, 0xB8, 0x3C, 0xB0,
 ];
 
-/// TX of that burst, its number 0, on slot 0, by the table of frames of version 2.
+/// TX of that burst with number 0 on slot 0, by the table of frames of version 2.
 const SENT_NUMBERED: [u8; 29] = [
     0x82, 0x1B, 0x00, 0x00, 0x41, 0xC3, 0x02, 0x8A, 0x48, 0xFC, 0x8F, 0x40, 0x3D, 0xC0, 0x6F, 0x00,
     0xED, 0xA0, 0xF7, 0x83, 0xE4, 0x97, 0x54, 0x2E, 0x40, 0x5C, 0xB8, 0x3C, 0xB0,
 ];
 
-/// Asserts how a frame is spelled.
+/// Checks the octets of a frame.
 fn expect_octets(rt: &impl Abort, frame: FrameOut, want: &[u8]) {
     assert_eq!(rt; write_frame(&frame).as_slice(), want);
 }
@@ -322,7 +324,7 @@ fn frames_written(rt: HostRuntime) -> Result<(), Fail> {
     Ok(())
 }
 
-/// Asserts what octets are in a version.
+/// Checks which frame octets are in a version.
 fn expect_whole(rt: &impl Abort, version: Version, octets: &[u8], want: Option<FrameIn>) {
     assert_eq!(rt; whole_frame(version, octets), want, "at {octets:?}");
 }
@@ -373,7 +375,7 @@ fn one_frame(rt: HostRuntime) -> Result<(), Fail> {
 
 #[test]
 fn no_frame(rt: HostRuntime) {
-    // Parts of a frame, the empty one among them.
+    // Parts of a frame, also the empty one.
     for end in 0..RECEIVED.len() {
         expect_whole(&rt, Version::V1, &RECEIVED[..end], None);
     }
@@ -383,7 +385,7 @@ fn no_frame(rt: HostRuntime) {
     // The RX of the other version.
     expect_whole(&rt, Version::V1, &RECEIVED_NUMBERED, None);
     expect_whole(&rt, Version::V2, &RECEIVED, None);
-    // Two frames, and a frame with an octet behind it or before it.
+    // Two frames, and a frame with an octet after it or before it.
     expect_whole(&rt, Version::V1, &[0x03, 0x00, 0x05, 0x00], None);
     expect_whole(&rt, Version::V1, &[0x03, 0x00, 0x03], None);
     expect_whole(&rt, Version::V1, &[0x03, 0x03, 0x00], None);
@@ -426,7 +428,7 @@ const TO_CARRIERS: [Listed; 4] = [
     (FrameKind::Refused, 0x84, "REFUSED", 1, 1),
 ];
 
-/// Asserts what the table says of a frame.
+/// Checks the row of a frame in the table.
 fn expect_row(rt: &impl Abort, listed: Listed) {
     let (kind, octet, name, first, second) = listed;
     assert_eq!(rt; kind.row().octet, octet);
@@ -460,7 +462,7 @@ fn the_table_of_frames(rt: HostRuntime) {
 
 #[test]
 fn faults_of_fields(rt: HostRuntime) {
-    // The slot stands behind the number in version 2; the last octet of the word is the last of the body.
+    // In version 2 the slot follows the number. The last octet of the word is the last octet of the body.
     let rx = FrameKind::Rx;
     assert_eq!(rt; rx.fault_at(Version::V1, 0, 2), Some(Cause::BadSlot));
     assert_eq!(rt; rx.fault_at(Version::V2, 0, 2), None);

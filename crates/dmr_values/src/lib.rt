@@ -1,7 +1,7 @@
-//! Worked values of the crates below the engine: bits, codes, bursts, PDUs, small types, frames, a table, ports in memory and the
-//! console's language.
+//! Tests with worked values of the crates below the engine: bits, codes, bursts, PDUs, small types, frames, a table,
+//! ports in memory, console lines and replies.
 //!
-//! The crate has tests alone. They stand here, above the crates that they try, since a crate that has tests is proved twice.
+//! The crate holds only tests. They are above the crates that they test, since a crate with tests is proved twice.
 #![tactic(auto)]
 
 #[cfg(test)]

@@ -1,11 +1,11 @@
-//! Lines of text that tell something and say what answers it.
+//! Lines of text, each with an input and the expected answer.
 
-/// What a line tells, and what answers that, behind ` => `.
+/// Splits a line into the input and the answer, which follows ` => `.
 pub fn told_and_wanted(line: &str) -> (&str, &str) {
     line.split_once(" => ").unwrap_or((line, "no answer"))
 }
 
-/// The first word, and what stands behind it.
+/// Splits words into the first word and the words after it.
 pub fn cut(words: &str) -> (&str, &str) {
     words.split_once(' ').unwrap_or((words, ""))
 }

@@ -6,8 +6,8 @@ use dmr_pdu::{
 };
 use std::test::Fail;
 
-/// Numbers that are tried, each with how it is written; `none` where it is out of range. Behind an address stands its number;
-/// of a place its carrier and slot are written, and behind them its place.
+/// Inputs with a number, each with the text that is written for it; `none` if the number is out of range. For an
+/// address, its number is also written. For a place, its carrier, its slot and then the place are written.
 const NUMBERS: &str = "\
 channel 0 => none
 channel 1 => 1
@@ -47,7 +47,7 @@ fn write_number(said: &mut String, kind: &str, number: u32) -> Result<(), OutOfM
     }
 }
 
-/// Writes the slot of a place, 0 to 31, and its place.
+/// Writes the slot of a place, 0 to 31, and then the place.
 fn write_place(said: &mut String, place: usize) -> Result<(), OutOfMemory> {
     let slot = &Slot::at(place % 32);
     write!(said, "{} {} {}", slot.carrier, slot.slot, slot.index())
@@ -65,7 +65,7 @@ fn numbers(rt: HostRuntime) -> Result<(), Fail> {
     Ok(())
 }
 
-/// The least of each.
+/// The blank of each type is its smallest value.
 #[test]
 fn blanks(rt: HostRuntime) {
     assert_eq!(rt; Lpcn::try_new(1), Some(Lpcn::blank()));
@@ -118,8 +118,8 @@ fn options(rt: HostRuntime) {
     assert_eq!(rt; Options::new(127).get(), 127);
 }
 
-/// Lists by their entries, each with its length, whether it is empty and whether it is full; its entries by number; and how
-/// it is shown.
+/// The entries of lists. The answer has the length, whether the list is empty, whether it is full, its entries by
+/// number, and its debug text.
 const LISTS: &str = "\
 none => 0 true false: []
 91 => 1 false false: 91 [Address { number: 91 }]
@@ -127,19 +127,19 @@ none => 0 true false: []
 91 1001 0 => 3 false true: 91 1001 0 [Address { number: 91 }, Address { number: 1001 }, Address { number: 0 }]
 ";
 
-/// The address of a number.
+/// Returns the address with this number.
 fn address_of(digits: &str) -> Option<Address> {
     Address::try_new(digits.parse::<u32>().ok()?)
 }
 
-/// Adds an address to a list, where there is room for it.
+/// Adds an address to a list, if there is room for it.
 fn add(list: &mut BoundedList<Address, 3>, address: Address) {
     if list.len() < 3 {
         list.push(address);
     }
 }
 
-/// The list of these addresses.
+/// Returns the list of these addresses.
 fn list_of(words: &str) -> BoundedList<Address, 3> {
     let mut list = BoundedList::<Address, 3>::new();
     for digits in words.split(' ') {
@@ -171,7 +171,7 @@ fn lists_of_addresses(rt: HostRuntime) -> Result<(), Fail> {
     Ok(())
 }
 
-/// A copy is a list of its own.
+/// A copy of a list is independent of it.
 #[test]
 fn copies_of_lists(rt: HostRuntime) -> Result<(), Fail> {
     let list = list_of("91 1001");

@@ -3,7 +3,7 @@
 use dmr_table::{Keyed, KeyedTable};
 use std::test::Fail;
 
-/// A named number: several may have the same number.
+/// A number with a name. Several names can have the same number.
 #[derive(Clone, Copy, Debug, PartialEq, Eq)]
 struct Named {
     number: u32,
@@ -18,7 +18,7 @@ impl Keyed for Named {
     }
 }
 
-/// The name of what was found.
+/// Returns the name of the entry that was found.
 fn name(found: Option<Named>) -> Option<char> {
     found.map(|named| named.name)
 }

@@ -1,4 +1,4 @@
-//! What a port in memory answers, call by call, and what is kept of it.
+//! Tests of a port in memory: its answers, call by call, and its record.
 
 use crate::lines::{cut, told_and_wanted};
 use dmr_pdu::OutOfMemory;
@@ -6,16 +6,16 @@ use dmr_wire::{Connect, Got, MemoryPort, Port, Put, Step, Waited, Wire};
 use std::alloc::Global;
 use std::test::Fail;
 
-/// A port in memory, and what it answers.
+/// A port in memory, and its answers.
 struct Story {
-    /// What it is called where it fails.
+    /// The name in a failure.
     name: &'static str,
-    /// For how many answers and octets of its record there is room.
+    /// The room of its record, in answers and in octets.
     room: usize,
     /// Its steps, with `, ` between them.
     steps: &'static str,
-    /// The calls and questions, each with its answer, in the names of the code: behind that of a read stand its four
-    /// octets, all `.` before it. `echo` serves one connection.
+    /// The calls and questions, each with its answer, as the code names them. The four octets of a read follow its
+    /// answer; all of them are `.` before the read. `echo` serves one connection.
     told: &'static str,
 }
 
@@ -138,7 +138,8 @@ connect => Finished
 entries => None
 ",
     },
-    // At its second write there is room for another answer, but not for its octet; nor is a later answer without octets told.
+    // At the second write the record has room for another answer, but not for its octet. It records no later answer
+    // either, even one without octets.
     Story {
         name: "nothing is told beyond the room for octets",
         room: 5,
@@ -156,7 +157,7 @@ taken => de
     },
 ];
 
-/// The steps of these words.
+/// Returns the steps that these words mean.
 fn steps_of(alloc: Global, words: &str) -> Result<Vec<Step>, Fail> {
     let mut steps = Vec::new(alloc);
     if !words.is_empty() {
@@ -167,7 +168,7 @@ fn steps_of(alloc: Global, words: &str) -> Result<Vec<Step>, Fail> {
     Ok(steps)
 }
 
-/// The step of these words.
+/// Returns the step that these words mean.
 fn step_of(alloc: Global, words: &str) -> Result<Step, Fail> {
     let (word, text) = cut(words);
     if word == "feed" {
@@ -179,7 +180,7 @@ fn step_of(alloc: Global, words: &str) -> Result<Step, Fail> {
     }
 }
 
-/// The step that gives no octets.
+/// Returns the step without octets that these words mean.
 fn answer_of(words: &str) -> Option<Step> {
     match words {
         "connect ready" => Some(Step::Connect(Connect::Ready)),
@@ -196,7 +197,7 @@ fn answer_of(words: &str) -> Option<Step> {
     }
 }
 
-/// The step of a read or a write that says how many octets.
+/// Returns the step of a read or a write with this number of octets.
 fn numbered_of(words: &str) -> Option<Step> {
     let (word, digits) = cut(words);
     let count = digits.parse::<usize>().ok()?;
@@ -207,7 +208,7 @@ fn numbered_of(words: &str) -> Option<Step> {
     }
 }
 
-/// A port of the steps of these words, with room for a record of so many answers and octets.
+/// Returns a port of the steps that these words mean, with room for `room` answers and `room` octets in its record.
 fn port_of(alloc: Global, words: &str, room: usize) -> Result<MemoryPort, Fail> {
     match MemoryPort::new(alloc, steps_of(alloc, words)?, room) {
         Ok(port) => Ok(port),
@@ -215,7 +216,7 @@ fn port_of(alloc: Global, words: &str, room: usize) -> Result<MemoryPort, Fail> 
     }
 }
 
-/// Writes what answers a call of a port, or a question to it.
+/// Writes the answer to a call of a port, or to a question to it.
 fn write_answer(said: &mut String, port: &mut MemoryPort, told: &str) -> Result<(), OutOfMemory> {
     let (word, text) = cut(told);
     match word {
@@ -238,7 +239,7 @@ fn write_octets(said: &mut String, octets: &[u8]) -> Result<(), OutOfMemory> {
     Ok(())
 }
 
-/// Reads into four octets, all `.` before, and writes what comes of it.
+/// Reads into four octets, all `.` before, and writes the result.
 fn read(said: &mut String, port: &mut MemoryPort) -> Result<(), OutOfMemory> {
     let mut octets = [b'.'; 4];
     let got = port.read(&mut octets);
@@ -246,7 +247,7 @@ fn read(said: &mut String, port: &mut MemoryPort) -> Result<(), OutOfMemory> {
     write_octets(said, &octets)
 }
 
-/// Writes octets, at least one, to a port, and then what comes of it.
+/// Writes octets, at least one, to a port, and then writes the result.
 fn write(said: &mut String, port: &mut MemoryPort, octets: &[u8]) -> Result<(), OutOfMemory> {
     if octets.is_empty() {
         return said.push_str("?");
@@ -255,8 +256,8 @@ fn write(said: &mut String, port: &mut MemoryPort, octets: &[u8]) -> Result<(), 
     write!(said, "{put:?}")
 }
 
-/// Serves one connection: what a read gives is written back once, and the port is waited for once. It knows of the port only
-/// what every port keeps.
+/// Serves one connection: writes the octets of one read back once, and waits for the port once. It uses only the
+/// promises of every port.
 fn echoes_once<P: Port>(port: &mut P) -> bool {
     let mut octets = [0; 4];
     if port.connect() != Connect::Ready {

@@ -1,4 +1,4 @@
--- Worked values of what a port in memory answers, and of its record.
+-- Worked values of the answers of a port in memory, and of its record.
 use Rattle.std.proofs.Common.{◌≡◌, [], ◌∷◌, Some, None, map, refl}
 use Rattle.dmr_wire.specs.declared.wire.Got.TheVariants as got
 use Rattle.dmr_wire.specs.declared.wire.Put.TheVariants as put
@@ -90,11 +90,11 @@ three_answers = refl
 three_octets : told_by (recording_with (recording_with (empty_recording 2) (Came (5 ∷ 6 ∷ []))) (Took (7 ∷ []))) ≡ None
 three_octets = refl
 
--- an answer that would fit is told no more, once one did not
+-- after an answer that had no room, the record is not reported even if the next answer would fit
 never_again : told_by (recording_with (recording_with (empty_recording 2) (Took (5 ∷ 6 ∷ 7 ∷ []))) WriteBlocked) ≡ None
 never_again = refl
 
--- what was taken till then stays
+-- the octets taken before that remain
 taken_till_then : taken_in (recording_with (recording_with (empty_recording 2) (Took (5 ∷ []))) (Took (6 ∷ 7 ∷ []))).answers ≡ 5 ∷ []
 taken_till_then = refl
 

@@ -1,4 +1,4 @@
--- A record and what is stored of it, as an entry and its octets are added.
+-- A record and its stored form, as an entry and its octets are added.
 use Rattle.std.proofs.Common.{suc, ◌≡◌, ℕ, ◌+◌, ◌-◌, ◌<◌, ◌≤◌, List, [], ◌∷◌, ◌++◌, Bool, true, false, ◌&&◌, nat_lt, nat_le, length, take, drop, map, refl, sym, ◌∙◌, ap, arith, length-append, length-drop, length-take-le}
 use Rattle.std.proofs.lemmas.List.Sums.{sum_by-cons, sum_by_push}
 use Rattle.std.proofs.lemmas.List.{take-append-le, drop-append-le, take-append-drop, take-take}
@@ -15,7 +15,7 @@ use Rattle.dmr_wire.specs.Entries.{entry_of_answer, came_with, taken_with, answe
 
 -- ---- one entry
 
--- octets behind those of the entry change nothing
+-- octets after those of the entry change nothing
 answer_of-behind : (e : Entry) (c cs t ts : List ℕ) → came_with e ≤ length c → taken_with e ≤ length t → answer_of e (c ++ cs) (t ++ ts) ≡ answer_of e c t
 answer_of-behind (entry.Read (got.Octets n)) c cs t ts h k = ap Came (take-append-le n c cs h)
 answer_of-behind (entry.Write (put.Octets n)) c cs t ts h k = ap Took (take-append-le n t ts k)
@@ -37,7 +37,7 @@ entry_of_answer-answer_of (entry.Connect connect.Ready) c t h k = refl
 entry_of_answer-answer_of (entry.Wait waited.Again) c t h k = refl
 entry_of_answer-answer_of other c t h k = refl
 
--- how many octets its answer has
+-- the number of octets of its answer
 pub octets_of_answer-answer_of : (e : Entry) (c t : List ℕ) → came_with e ≤ length c → taken_with e ≤ length t → length (octets_of_answer (answer_of e c t)) ≡ came_with e + taken_with e
 octets_of_answer-answer_of (entry.Read (got.Octets n)) c t h k = let e = length-take-le n c h in omega (arith, e)
 octets_of_answer-answer_of (entry.Write (put.Octets n)) c t h k = let e = length-take-le n t k in omega (arith, e)
@@ -53,7 +53,7 @@ octets_taken-answer_of (entry.Connect connect.Ready) c t = refl
 octets_taken-answer_of (entry.Wait waited.Again) c t = refl
 octets_taken-answer_of other c t = refl
 
--- ---- what is stored behind an entry
+-- ---- what is stored after an entry
 
 came_first : (e : Entry) (es : List Entry) (c t : List ℕ) → IsStored (e ∷ es) c t → came_with e ≤ length c
 came_first e es c t s = let all = sum_by-cons came_with e es in omega (arith, all, s.came_all)
@@ -101,7 +101,7 @@ entries-answers_of (e ∷ es) c t s =
     let one = entry_of_answer-answer_of e c t (came_first e es c t s) (taken_first e es c t s) in
     ap (λ d. d ∷ map entry_of_answer (answers_of_entries es (drop (came_with e) c) (drop (taken_with e) t))) one ∙ ap (λ ds. e ∷ ds) rest
 
--- ---- one entry more, with its octets behind the others
+-- ---- one more entry, with its octets appended
 
 answers_of_entries-append : (es ds : List Entry) (c cs t ts : List ℕ) → IsStored es c t → answers_of_entries (es ++ ds) (c ++ cs) (t ++ ts) ≡ answers_of_entries es c t ++ answers_of_entries ds cs ts
 answers_of_entries-append [] ds [] cs [] ts s = refl
@@ -133,14 +133,14 @@ stored_push es e c t octets s h =
       taken_all = omega (arith, s.taken_all, sum_by_push taken_with es e, length-append t taken, length-take-le (taken_with e) octets (omega (arith, h)));
     }
 
--- ---- a record with what is stored
+-- ---- a record with its stored form
 
--- the room that is left
+-- the remaining room
 pub has_room_for-stored : (room : ℕ) (es : List Entry) (c t : List ℕ) (is_over : Bool) (n : ℕ) → IsStored es c t → length c + length t ≤ room
     → has_room_for (record { room = room; answers = answers_of_entries es c t; is_over = is_over }) n ≡ nat_lt (length es) room && nat_le n (room - length c - length t)
 has_room_for-stored room es c t is_over n s h = grind (arith, h, length-answers_of es c t, count_in-answers_of es c t s)
 
--- with room for an answer more there is room for its entry and its octets
+-- if there is room for one more answer, there is room for its entry and its octets
 pub room_for_an_answer : (a : Inside) (r : Recording) (n : ℕ) → IsStored a.entries.items a.came.items a.taken.items
     → record { room = a.room; answers = answers_of_entries a.entries.items a.came.items a.taken.items; is_over = a.is_over } ≡ r → true ≡ has_room_for r n
     → (length a.entries.items < a.room) × (length a.came.items + length a.taken.items + n ≤ a.room)
@@ -150,6 +150,6 @@ room_for_an_answer a r n s v h =
     let room : true ≡ has_room_for (record { room = a.room; answers = answers_of_entries a.entries.items a.came.items a.taken.items; is_over = a.is_over }) n = h ∙ ap (λ q. has_room_for q n) (sym v) in
     (grind (arith, entries, room), grind (arith, octets, room))
 
--- where the record is not over and has room for the answer, it is kept
+-- if the record is not over and has room for the answer, the answer is kept
 pub recording_with-kept : (r : Recording) (a : Answer) → r.is_over ≡ false → has_room_for r (length (octets_of_answer a)) ≡ true → record r { answers = r.answers ++ a ∷ [] } ≡ recording_with r a
 recording_with-kept r a h k = grind (arith, h, k)

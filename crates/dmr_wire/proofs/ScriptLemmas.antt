@@ -11,14 +11,14 @@ use Rattle.dmr_wire.specs.declared.script.Script.{Script}
 use Rattle.dmr_wire.specs.Memory.{IsReading, AreReadings, reads_left}
 use Rattle.dmr_wire.specs.Script.{feed_of, connect_of, reading_of, write_of, wait_of}
 
--- what is sorted and the steps that are left give what all steps give
+-- the sorted steps and the remaining steps together give the same items as all steps
 pub record IsSorting (old now : Script) (steps left : List Step) : Type 0 where
   pub connects : now.connects.items ++ filter_map connect_of left ≡ old.connects.items ++ filter_map connect_of steps
   pub reads : now.reads.items ++ filter_map reading_of left ≡ old.reads.items ++ filter_map reading_of steps
   pub writes : now.writes.items ++ filter_map write_of left ≡ old.writes.items ++ filter_map write_of steps
   pub waits : now.waits.items ++ filter_map wait_of left ≡ old.waits.items ++ filter_map wait_of steps
 
--- what a step gives to reads gives an octet at least, or an answer without octets
+-- the item of a step for reads has at least one octet, or is an answer without octets
 feed_is_reading : (octets : List ℕ) → IfSome (feed_of octets) IsReading
 feed_is_reading [] = tt
 feed_is_reading (x ∷ octets) = omega arith
@@ -41,7 +41,7 @@ reading_first (Some r) rs h k = (h, k)
 readings_of_step : (s : Step) (ss : List Step) → filter_map reading_of (s ∷ ss) ≡ option_to_list (reading_of s) ++ filter_map reading_of ss
 readings_of_step s ss = search (rules, filter_map-append)
 
--- so what all steps give does
+-- so have the items of all steps
 pub sorted_are_readings : (ss : List Step) → AreReadings (filter_map reading_of ss)
 sorted_are_readings [] = tt
 sorted_are_readings (s ∷ ss) = rw (readings_of_step s ss) (reading_first (reading_of s) _ (step_is_reading s) (sorted_are_readings ss))

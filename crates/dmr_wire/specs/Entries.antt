@@ -1,4 +1,4 @@
--- The record, by what is stored of it: its entries, and all the octets that came and all that were taken.
+-- The record as it is stored: its entries, all octets that came, and all that were taken.
 use Rattle.std.specs.Prelude.{◌≡◌, ℕ, List, [], ◌∷◌, length, drop, sum_by}
 use Rattle.dmr_wire.specs.declared.wire.Got.TheVariants as got
 use Rattle.dmr_wire.specs.declared.wire.Put.TheVariants as put
@@ -8,7 +8,7 @@ use Rattle.dmr_wire.specs.declared.recording.Entry.{Entry}
 use Rattle.dmr_wire.specs.declared.recording.Entry.TheVariants as entry
 use Rattle.dmr_wire.specs.Told.{Answer, Opened, NotYet, Finished, Came, InputEnded, ReadInterrupted, ReadBlocked, ReadFailed, Took, WriteInterrupted, WriteBlocked, WriteFailed, Again, Silent, of_read, of_write, of_connect, of_wait}
 
--- the entry of an answer: how many octets it has stands in their place
+-- the entry of an answer: it has the number of the answer's octets instead of the octets
 abbrev pub entry_of_answer : Answer → Entry
 entry_of_answer Opened = entry.Connect connect.Ready
 entry_of_answer NotYet = entry.Connect connect.NotYet
@@ -25,12 +25,12 @@ entry_of_answer WriteFailed = entry.Write put.Fault
 entry_of_answer Again = entry.Wait waited.Again
 entry_of_answer Silent = entry.Wait waited.Silent
 
--- how many octets came with an entry
+-- the number of octets that came with an entry
 abbrev pub came_with : Entry → ℕ
 came_with (entry.Read (got.Octets n)) = n
 came_with other = 0
 
--- how many octets were taken with an entry
+-- the number of octets that were taken with an entry
 abbrev pub taken_with : Entry → ℕ
 taken_with (entry.Write (put.Octets n)) = n
 taken_with other = 0
@@ -47,7 +47,7 @@ abbrev pub answers_of_entries : List Entry → List ℕ → List ℕ → List An
 answers_of_entries [] came taken = []
 answers_of_entries (e ∷ entries) came taken = answer_of e came taken ∷ answers_of_entries entries (drop (came_with e) came) (drop (taken_with e) taken)
 
--- the octets are those of the entries, no more and no fewer
+-- the octets are exactly those of the entries
 pub record IsStored (entries : List Entry) (came taken : List ℕ) : Type 0 where
   pub came_all : sum_by came_with entries ≡ length came
   pub taken_all : sum_by taken_with entries ≡ length taken

@@ -9,7 +9,7 @@ octets_of_answer (Came octets) = octets
 octets_of_answer (Took octets) = octets
 octets_of_answer other = []
 
--- how many octets came and were taken with answers, in all
+-- the number of octets that came or were taken with answers, in all
 abbrev pub count_in : List Answer → ℕ
 count_in answers = sum_by (λ a. length (octets_of_answer a)) answers
 
@@ -22,25 +22,25 @@ octets_taken other = []
 abbrev pub taken_in : List Answer → List ℕ
 taken_in answers = flat_map octets_taken answers
 
--- the answers that are kept, the oldest first; and whether there was one without room, with which the record was over
+-- the answers that are kept, oldest first; and whether one had no room, which ended the record
 pub record Recording : Type 0 where
   pub room : ℕ
   pub answers : List Answer
   pub is_over : Bool
 
--- a record of no answers yet, with room for so many answers, and for so many octets
+-- an empty record, with room for `room` answers and for `room` octets
 abbrev pub empty_recording : ℕ → Recording
 empty_recording room = record { room = room; answers = []; is_over = false }
 
--- the record that is told: none from the first answer on for which there was no room
+-- the record that is reported: none after the first answer that had no room
 abbrev pub told_by : Recording → Option (List Answer)
 told_by recording = if recording.is_over then None else Some recording.answers
 
--- whether there is room for one answer more, with so many octets
+-- whether there is room for one more answer, with this many octets
 abbrev pub has_room_for : Recording → ℕ → Bool
 has_room_for recording count = nat_lt (length recording.answers) recording.room && nat_le (count_in recording.answers + count) recording.room
 
--- the record after one answer more
+-- the record after one more answer
 abbrev pub recording_with : Recording → Answer → Recording
 recording_with recording answer =
     if not recording.is_over && has_room_for recording (length (octets_of_answer answer))

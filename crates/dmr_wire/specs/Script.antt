@@ -1,4 +1,4 @@
--- The steps of a port in memory, sorted by the calls that they are for.
+-- The steps of a port in memory, sorted by kind of call.
 use Rattle.std.specs.Prelude.{ℕ, List, [], ◌∷◌, Option, Some, None}
 use Rattle.std.specs.List.{filter_map}
 use Rattle.dmr_wire.specs.declared.wire.Got.TheVariants as got
@@ -12,7 +12,7 @@ use Rattle.dmr_wire.specs.declared.script.Reading.TheVariants.{Feed, Says}
 use Rattle.dmr_wire.specs.Recording.{empty_recording}
 use Rattle.dmr_wire.specs.Memory.{Memory}
 
--- what a step is for a connect, if it is for one
+-- the answer of a step for connects, if it is for one
 abbrev pub connect_of : Step → Option Connect
 connect_of (step.Connect answer) = Some answer
 connect_of other = None
@@ -22,24 +22,24 @@ abbrev pub feed_of : List ℕ → Option Reading
 feed_of [] = None
 feed_of (octet ∷ octets) = Some (Feed (octet ∷ octets))
 
--- what a step is for reads: octets, or an answer without octets
+-- the item of a step for reads, if it is for one: octets, or an answer without octets
 abbrev pub reading_of : Step → Option Reading
 reading_of (step.Feed octets) = feed_of octets.items
 reading_of (step.Read (got.Octets n)) = None
 reading_of (step.Read answer) = Some (Says answer)
 reading_of other = None
 
--- what a step is for a write, if it is for one
+-- the answer of a step for writes, if it is for one
 abbrev pub write_of : Step → Option Put
 write_of (step.Write answer) = Some answer
 write_of other = None
 
--- what a step is for a wait, if it is for one
+-- the answer of a step for waits, if it is for one
 abbrev pub wait_of : Step → Option Waited
 wait_of (step.Wait answer) = Some answer
 wait_of other = None
 
--- a port that was given these steps, with room for a record of so many answers and so many octets
+-- a port that was given these steps, with room for a record of `room` answers and `room` octets
 abbrev pub memory_of : List Step → ℕ → Memory
 memory_of steps room = record {
   connects = filter_map connect_of steps;

@@ -1,11 +1,11 @@
-//! How a link's connection was closed, as its port is told.
+//! How a link's connection was closed, as reported to its port.
 
 use dmr_frames::Cause;
 
 /// How a link's connection was closed (this project's profile).
 #[derive(Clone, Copy, Debug, PartialEq, Eq)]
 pub enum Closing {
-    /// Its input ended, or it was cut. So it is also where there has been no connection yet.
+    /// The connection's input ended, or the link cut it. Also the value before the first connection.
     Over,
     /// The carrier said BYE.
     Bye,
@@ -13,13 +13,13 @@ pub enum Closing {
     ReadFailed,
     /// A write failed, would have blocked, took no octet, or was interrupted 17 times in a row.
     WriteFailed,
-    /// The carrier sent what it should not have sent.
+    /// The carrier sent octets that break the link's rules.
     Bad(Cause),
     /// The carrier's HELLO was refused for this cause, which is BadVersion or WrongCarrier. These are its numbers.
     Refused(Cause, Hello),
 }
 
-/// The numbers of a HELLO as they came; no range of theirs was examined.
+/// The numbers of a HELLO as received; their ranges were not checked.
 #[derive(Clone, Copy, Debug, PartialEq, Eq)]
 pub struct Hello {
     /// The version of the link format that the carrier speaks.

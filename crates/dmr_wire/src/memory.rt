@@ -17,13 +17,13 @@ use dmr_pdu::OutOfMemory;
 use std::alloc::Global;
 use std::marker::Model;
 
-/// A port that answers by steps, each for the next call of its kind. Where no step of the kind is left, a connect answers
-/// `Finished`, a read `End`, a write takes all octets, and a wait answers `Silent`. Steps belong to no connection: what one
-/// leaves is for the next.
+/// A port that answers by steps, each for the next call of its kind. If no step of the kind is left, a connect answers `Finished`, a read
+/// `End`, a write takes all octets, and a wait answers `Silent`. Steps belong to no connection: the next connection uses those that one
+/// leaves.
 ///
-/// It tells its record as long as that has at most so many answers as there is room for, and at most so many octets, those
-/// that came and those that were taken together. From the first answer on that goes beyond either it tells none, and goes on
-/// answering. Contracts see it as the steps that are left, by kind, and the record.
+/// The port reports its record while that has at most `room` answers and at most `room` octets, those that came and those that were taken
+/// together. After the first answer that exceeds either limit it reports none, but still answers. Contracts see the remaining steps, by
+/// kind, and the record.
 #[derive(Debug, Drop)]
 pub struct MemoryPort {
     script: Script,
@@ -47,8 +47,8 @@ impl Model for MemoryPort {
 }
 
 impl MemoryPort {
-    /// A port of these steps, with room for a record of so many answers and of so many octets. No later call takes memory.
-    /// `Err` where there is no memory for it, with the steps as they were.
+    /// Makes a port of these steps, with room for a record of `room` answers and `room` octets. No later call allocates memory. On an error
+    /// an allocation was refused; the error returns the steps unchanged.
     pub fn new(
         alloc: Global,
         steps: Vec<Step>,
@@ -66,15 +66,15 @@ impl MemoryPort {
         }
     }
 
-    /// The octets that were taken, in order. Once no record is told any more they are those that were taken while it was.
+    /// The octets that were taken, in order. After the record is over, they are those that were taken before.
     pub fn taken(&self) -> &[u8]
         ensures { result.now ≡ taken_in self.now.recording.answers }
     {
         self.recording.taken()
     }
 
-    /// The entries of the record, the oldest first: each call and what it answered, without its octets. `None` where the port
-    /// tells no record any more.
+    /// The entries of the record, oldest first: each call and its answer, without its octets. `None` if the port no longer reports a
+    /// record.
     pub fn entries(&self) -> Option<&[Entry]>
         ensures { option_map (λ entries. entries.now) result ≡ option_map (map entry_of_answer) (told_by self.now.recording) }
     {
@@ -85,7 +85,7 @@ impl MemoryPort {
 impl Wire for MemoryPort {
     ghost told = { λ port. told_by port.recording };
 
-    /// Answers by the next step for reads. The octets of the slice behind those that came stay as they were.
+    /// Answers by the next step for reads. The octets of the slice after those that came are unchanged.
     fn read(&mut self, octets: &mut [u8]) -> Got
         requires { 0 < length octets.old }
         ensures within { GotWithin result (length octets.new) }
@@ -143,7 +143,7 @@ impl Port for MemoryPort {
     }
 }
 
-/// The room for so many steps, and for a record of so many answers and so many octets. `Err` where there is no memory for it.
+/// Allocates room for `steps` steps, and for a record of `room` answers and `room` octets. On an error an allocation was refused.
 fn room_for(alloc: Global, steps: usize, room: usize) -> Result<(Script, Recording), OutOfMemory>
     ensures room { IfOk result (λ made. HasRoom made.0 steps) }
     ensures none { IfOk result (λ made. IsEmpty made.0) }

@@ -6,29 +6,29 @@ ghost use Rattle.dmr_wire.specs.Told.{Tells, of_connect, of_wait};
 use crate::closing::Closing;
 use crate::wire::Wire;
 
-/// What comes of asking for the next connection.
+/// A port's answer to a request for the next connection.
 #[derive(Clone, Copy, Debug, PartialEq, Eq)]
 pub enum Connect {
-    /// There is one: reads and writes are on it from now on.
+    /// There is a connection. Reads and writes are on it from now on.
     Ready,
-    /// None has come yet. It may be asked again.
+    /// No connection has come yet. The port may be asked again.
     NotYet,
-    /// None will come any more.
+    /// No connection will come any more.
     Finished,
 }
 
-/// What a wait ends with.
+/// How a wait ends.
 #[derive(Clone, Copy, Debug, PartialEq, Eq)]
 pub enum Waited {
-    /// It is worth reading again.
+    /// A read may succeed now.
     Again,
-    /// The other side has been silent for as long as the port bears: its connection is to be cut.
+    /// The other side has been silent for as long as the port allows: its connection is to be cut.
     Silent,
 }
 
-/// A wire on which one connection follows another. What it answers to these calls stands in its record too.
+/// A wire on which one connection follows another. Its record also has its answers to these calls.
 pub trait Port: Wire {
-    /// Asks for the next connection. One that stood till then is let go.
+    /// Asks for the next connection. The port drops a connection that it still has.
     fn connect(&mut self) -> Connect
         ensures { Tells (Self.told self.old) (of_connect result ∷ []) (Self.told self.new) };
 
@@ -36,7 +36,7 @@ pub trait Port: Wire {
     fn wait(&mut self) -> Waited
         ensures { Tells (Self.told self.old) (of_wait result ∷ []) (Self.told self.new) };
 
-    /// Is told how the connection was closed, before the next is asked for. Nothing is read or written. By default it does nothing.
+    /// Receives how the connection was closed, before the next one is asked for. It reads and writes nothing. By default it does nothing.
     fn closed(&mut self, closing: Closing)
         ensures { Self.told self.new ≡ Self.told self.old }
     {

@@ -1,4 +1,4 @@
-//! The record of a port in memory, in room that is taken when it is made.
+//! The record of a port in memory, in room that is allocated when the record is made.
 
 ghost use Rattle.std.specs.Prelude.{◌≡◌, ◌+◌, ◌≤◌, length, map, option_map, IfOk};
 ghost use Rattle.dmr_wire.specs.Recording.{empty_recording, has_room_for, recording_with, told_by, taken_in};
@@ -10,21 +10,21 @@ use dmr_pdu::OutOfMemory;
 use std::alloc::Global;
 use std::marker::Model;
 
-/// An entry of a port's record: a call, and what it answered. How many octets came or were taken stands here, but not which.
+/// An entry of a port's record: a call and its answer. It has the number of octets that came or were taken, but not the octets.
 #[derive(Clone, Copy, Debug, PartialEq, Eq)]
 pub enum Entry {
-    /// A connect, and what it answered.
+    /// A connect and its answer.
     Connect(Connect),
-    /// A read, and what it answered.
+    /// A read and its answer.
     Read(Got),
-    /// A write, and what it answered.
+    /// A write and its answer.
     Write(Put),
-    /// A wait, and what it ended with.
+    /// A wait, and how it ended.
     Wait(Waited),
 }
 
 impl Entry {
-    /// How many octets came with it.
+    /// The number of octets that came with the entry.
     fn count_came(self) -> usize
         ensures { result ≡ came_with self }
     {
@@ -34,7 +34,7 @@ impl Entry {
         }
     }
 
-    /// How many octets were taken with it.
+    /// The number of octets that were taken with the entry.
     fn count_taken(self) -> usize
         ensures { result ≡ taken_with self }
     {
@@ -45,9 +45,9 @@ impl Entry {
     }
 }
 
-/// The answers of a port, as long as there is room for them and for their octets; from the first answer on for which there is
-/// none, those before it. Contracts see it as the list of those answers with their octets, the oldest first, beside the room and
-/// whether the record is over.
+/// The answers of a port, as long as there is room for them and for their octets. The first answer without room ends the record, which then
+/// keeps the answers before it. Contracts see the list of those answers with their octets, oldest first, the room, and whether the record
+/// is over.
 #[derive(Debug, Drop)]
 pub struct Recording {
     room: usize,
@@ -72,8 +72,7 @@ impl Model for Recording {
 }
 
 impl Recording {
-    /// A record of no answers yet, with room for so many answers, and for so many of their octets. `Err` where there is no
-    /// memory for that.
+    /// Makes an empty record, with room for `room` answers and for `room` of their octets. On an error an allocation was refused.
     pub fn new(alloc: Global, room: usize) -> Result<Recording, OutOfMemory>
         ensures { IfOk result (λ recording. recording ≡ empty_recording room) }
     {
@@ -86,7 +85,7 @@ impl Recording {
         })
     }
 
-    /// Notes what a call answered. Its octets, if it has any, are the first of the slice.
+    /// Notes the answer of a call. Its octets, if it has any, are the first of the slice.
     pub fn note(&mut self, entry: Entry, octets: &[u8])
         requires { came_with entry + taken_with entry ≤ length octets.now }
         ensures { self.new ≡ recording_with self.old (answer_of entry octets.now octets.now) }
@@ -102,7 +101,7 @@ impl Recording {
         self.entries.push_reserved(entry);
     }
 
-    /// Whether there is room for one answer more, with so many octets.
+    /// Whether there is room for one more answer, with this many octets.
     fn has_room(&self, octets: usize) -> bool
         ensures { result ≡ has_room_for self.now octets }
     {
@@ -116,7 +115,7 @@ impl Recording {
         self.taken.as_slice()
     }
 
-    /// The entries of the answers, the oldest first; `None` where the record is over.
+    /// The entries of the answers, oldest first; `None` if the record is over.
     pub fn entries(&self) -> Option<&[Entry]>
         ensures { option_map (λ entries. entries.now) result ≡ option_map (map entry_of_answer) (told_by self.now) }
     {

@@ -1,4 +1,4 @@
-//! The steps of a port in memory, sorted by the calls that they are for.
+//! The steps of a port in memory, sorted by kind of call.
 
 ghost use Rattle.std.specs.Prelude.{◌≡◌, ◌==◌, ◌+◌, ◌≤◌, ◌∷◌, ◌++◌, [], length, take, drop, min, vec_len, IfOk};
 ghost use Rattle.std.specs.VecDeque.{deque_len, deque_capacity};
@@ -13,7 +13,7 @@ use std::alloc::Global;
 use std::collections::VecDeque;
 use std::marker::Model;
 
-/// Octets that come in one piece. Contracts see them as their list.
+/// Octets that come in one piece. Contracts see their list.
 #[derive(Debug, Drop)]
 pub struct Piece {
     octets: Vec<u8>,
@@ -28,7 +28,7 @@ impl Model for Piece {
 }
 
 impl Piece {
-    /// The piece of these octets.
+    /// Makes the piece of these octets.
     pub fn new(octets: Vec<u8>) -> Piece
         ensures { result ≡ octets.items }
     {
@@ -42,7 +42,7 @@ impl Piece {
         self.octets.is_empty()
     }
 
-    /// Gives the first octets away, as many as the slice holds, to the front of the slice, and says how many.
+    /// Moves the first octets to the front of the slice, as many as the slice holds, and returns their number.
     pub fn give(&mut self, into: &mut [u8]) -> usize
         ensures count { result ≡ min (length self.old) (length into.old) }
         ensures given { into.new ≡ take result self.old ++ drop result into.old }
@@ -55,7 +55,7 @@ impl Piece {
     }
 }
 
-/// What reads answer.
+/// The answer to a read, or to several.
 #[derive(Debug, Drop)]
 pub enum Reading {
     /// These octets, each read as many as its slice holds.
@@ -64,7 +64,7 @@ pub enum Reading {
     Says(Got),
 }
 
-/// The steps that are left, by kind, the next of each kind first.
+/// The remaining steps, by kind, the next of each kind first.
 #[derive(Debug, Drop)]
 pub struct Script {
     pub connects: VecDeque<Connect>,
@@ -74,7 +74,7 @@ pub struct Script {
 }
 
 impl Script {
-    /// No steps, with room for so many, of whatever kind they are. `Err` where there is no memory for that.
+    /// Makes a script without steps, with room for `count` steps of each kind. On an error an allocation was refused.
     pub fn new(alloc: Global, count: usize) -> Result<Script, OutOfMemory>
         ensures room { IfOk result (λ script. HasRoom script count) }
         ensures none { IfOk result IsEmpty }
@@ -87,7 +87,7 @@ impl Script {
         })
     }
 
-    /// Puts steps behind those that are there, each behind those of its kind. There must be room for them.
+    /// Appends steps, each to those of its kind. There must be room for them.
     pub fn add_all(&mut self, steps: Vec<Step>)
         requires { HasRoom self.old (vec_len steps) }
         ensures { Follows self.old self.new steps.items }
@@ -97,7 +97,7 @@ impl Script {
         }
     }
 
-    /// Puts a step behind those of its kind. There must be room for it.
+    /// Appends a step to those of its kind. There must be room for it.
     fn add(&mut self, step: Step)
         requires { HasRoom self.old 1 }
         ensures added { Follows self.old self.new (step ∷ []) }
@@ -122,7 +122,7 @@ impl Script {
     }
 }
 
-/// Answers a read by what is next for reads: puts octets at the front of the slice, or gives none.
+/// Answers a read by the next item for reads: writes its octets to the front of the slice, or answers without octets.
 pub fn read_next(reads: &mut VecDeque<Reading>, into: &mut [u8]) -> Got
     ensures got { result ≡ next_got reads.old.items (length into.old) }
     ensures octets { let given = next_octets reads.old.items (length into.old) in into.new ≡ given ++ drop (length given) into.old }

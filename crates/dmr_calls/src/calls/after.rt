@@ -1,4 +1,4 @@
-//! Talkgroup calls in turn.
+//! The turns of talkgroup calls.
 
 ghost use Rattle.std.specs.Prelude.{◌≡◌, ◌<◌, ◌≤◌, IfSome, MatchOption};
 ghost use Rattle.std.specs.Option.{option_or};
@@ -9,10 +9,10 @@ use super::Calls;
 use crate::call::Call;
 use dmr_pdu::Slot;
 
-/// How many slots 16 carriers have.
+/// The slots of 16 carriers.
 const SLOTS: usize = 32;
 
-/// The first place behind a slot, by carrier, then by number; the first of all where there is none.
+/// The place after a slot, by carrier, then by number; the first place of all if no slot is given.
 fn place_after(last: Option<Slot>) -> usize
     ensures place { result ≡ place_after last }
     ensures within { result ≤ 32 }
@@ -25,9 +25,10 @@ fn place_after(last: Option<Slot>) -> usize
 }
 
 impl Calls {
-    /// The talkgroup call on the least slot above the last one, by carrier, then by slot number; where none stands above, or
-    /// no slot is given, the one on the least slot of all. `None` where no talkgroup call stands. Asked again with the slot
-    /// of its answer it goes round all of them.
+    /// The talkgroup call on the least slot above the last one, by carrier, then by slot number.
+    ///
+    /// If there is none above, or no slot is given, it is the one on the least slot of all. Returns `None` if no talkgroup call is
+    /// active. A caller that passes the slot of each answer in the next question gets all talkgroup calls in turn.
     #[tactic(auto, unfolding(crate::specs::After::group_after))]
     pub fn group_after(&self, last: Option<Slot>) -> Option<Call>
         ensures value { result ≡ group_after self.now.calls last }
@@ -37,7 +38,7 @@ impl Calls {
         self.call_on(Slot::at(place))
     }
 
-    /// The first place of a talkgroup call from one on, or else the first of all.
+    /// The first place of a talkgroup call from a place on; if there is none, the first of all.
     fn group_place_after(&self, behind: usize) -> Option<usize>
         requires { behind ≤ 32 }
         ensures value { result ≡ option_or (group_place self.now.calls behind) (group_place self.now.calls 0) }
@@ -49,7 +50,7 @@ impl Calls {
         }
     }
 
-    /// The first place of a talkgroup call, from one on.
+    /// The first place of a talkgroup call from a place on.
     fn group_place(&self, from: usize) -> Option<usize>
         requires { from ≤ 32 }
         ensures value { result ≡ group_place self.now.calls from }
@@ -58,7 +59,7 @@ impl Calls {
         (from..SLOTS).find(|place| self.is_group_at(*place))
     }
 
-    /// Whether the call on the slot at a place is a talkgroup's.
+    /// Reports whether the call on the slot at a place is a talkgroup's.
     fn is_group_at(&self, place: usize) -> bool
         requires { place < 32 }
         ensures { result ≡ is_group_at self.now.calls place }

@@ -1,4 +1,4 @@
-//! The asks among what stands.
+//! The asks.
 
 ghost use Rattle.std.specs.Prelude.{◌≡◌, ◌<◌, [], ◌∷◌, ◌++◌, length, is_err};
 ghost use Rattle.dmr_calls.specs.declared.calls.TheConstants.{MOST_ASKS};
@@ -13,8 +13,9 @@ use crate::party::is_party;
 use dmr_pdu::Address;
 
 impl Calls {
-    /// A C_AHOY was sent: the ask stands behind the others, with no tick since then. It takes the place of the ask of the
-    /// same source, if there is one. `Err` where 32 asks of other sources stand; then nothing changes.
+    /// Adds an ask whose C_AHOY was sent now, after the others. It replaces the ask of the same source, if there is one.
+    ///
+    /// If `MOST_ASKS` asks of other sources are active, returns `Full` and changes nothing.
     pub fn ask(&mut self, ask: Ask) -> Result<(), Full>
         ensures full { is_err result ≡ has_no_place self.old.asks ask.source }
         ensures asks { self.new ≡ record self.old { asks = with_ask self.old.asks ask } }
@@ -26,8 +27,9 @@ impl Calls {
         Ok(())
     }
 
-    /// A C_AHOY was sent: the ask stands behind the others, with no tick since then. It takes the place of the ask of the
-    /// same source, if there is one. There must be a place for it: fewer than 32 asks of other sources stand.
+    /// Adds an ask whose C_AHOY was sent now, after the others. It replaces the ask of the same source, if there is one.
+    ///
+    /// There must be a place for it: fewer than `MOST_ASKS` asks of other sources are active.
     pub fn add_ask(&mut self, ask: &Ask)
         requires { length (others_than ask.now.source self.old.asks) < MOST_ASKS }
         ensures { self.new ≡ record self.old { asks = others_than ask.now.source self.old.asks ++ new_asking ask.now ∷ [] } }
@@ -39,15 +41,14 @@ impl Calls {
         });
     }
 
-    /// Takes out the ask of a radio, if there is one.
+    /// Removes the ask of a radio, if there is one.
     pub fn ask_over(&mut self, source: Address)
         ensures { self.new ≡ record self.old { asks = others_than source self.old.asks } }
     {
         self.asks.remove(source.get());
     }
 
-    /// The target of an ask answered: takes out the first ask to it, and gives it. `None` where there is none; then
-    /// nothing changes.
+    /// Removes the first ask to a radio that answered, and returns it. If there is none, returns `None` and changes nothing.
     pub fn answer(&mut self, target: Address) -> Option<Ask>
         ensures ask { result ≡ ask_to self.old.asks target }
         ensures asks { self.new ≡ record self.old { asks = without_ask_to self.old.asks target } }
@@ -77,7 +78,7 @@ impl Calls {
         Some(found.ask)
     }
 
-    /// Whether the ask of the source is to the target.
+    /// Reports whether the ask of the source is to the target.
     pub fn has_own_ask(&self, source: Address, target: Address) -> bool
         ensures { result ≡ has_own_ask self.now.asks source target }
     {
@@ -87,7 +88,7 @@ impl Calls {
         own.ask.target == target
     }
 
-    /// The first ask that a radio is a party to.
+    /// The first ask to which a radio is a party.
     pub(super) fn ask_with(&self, radio: Address) -> Option<Ask>
         ensures { result ≡ ask_with self.now.asks radio }
     {
@@ -99,7 +100,7 @@ impl Calls {
         Some(found.ask)
     }
 
-    /// The first ask, where the wait for its answer is over.
+    /// The first ask, if it has waited `ahoy_wait` ticks or more.
     pub(super) fn due_ask(&self, ahoy_wait: u16) -> Option<Ask>
         ensures { result ≡ due_ask ahoy_wait self.now.asks }
     {
@@ -111,7 +112,7 @@ impl Calls {
         }
     }
 
-    /// How many asks of other sources stand.
+    /// The number of asks of other sources.
     fn asks_of_others(&self, source: Address) -> usize
         ensures { result ≡ length (others_than source self.now.asks) }
     {

@@ -1,4 +1,4 @@
-//! The lines among what stands.
+//! The lines.
 
 ghost use Rattle.std.specs.Prelude.{◌≡◌, ◌≤◌, ◌<◌, [], ◌∷◌, ◌++◌, nat_le, length, is_err};
 ghost use Rattle.dmr_calls.specs.declared.calls.TheConstants.{MOST_LINES};
@@ -22,7 +22,7 @@ fn from_place(lines: &[Line], place: usize) -> &[Line]
 }
 
 impl Calls {
-    /// Puts a line behind the others. `Err` where 32 lines stand; then nothing changes.
+    /// Adds a line after the others. If `MOST_LINES` lines are active, returns `Full` and changes nothing.
     pub fn line(&mut self, line: Line) -> Result<(), Full>
         ensures full { is_err result ≡ nat_le MOST_LINES (length self.old.lines) }
         ensures lines { self.new ≡ record self.old { lines = with_line self.old.lines line } }
@@ -34,7 +34,7 @@ impl Calls {
         Ok(())
     }
 
-    /// Puts a line behind the others. There must be a place for it.
+    /// Adds a line after the others. There must be a place for it.
     pub fn add_line(&mut self, line: &Line)
         requires { length self.old.lines < MOST_LINES }
         ensures { self.new ≡ record self.old { lines = self.old.lines ++ line.now ∷ [] } }
@@ -42,7 +42,7 @@ impl Calls {
         self.lines.push(*line);
     }
 
-    /// Takes out the lines of a radio.
+    /// Removes the lines of a radio.
     pub fn unline(&mut self, source: Address)
         ensures { self.new ≡ record self.old { lines = without_line source self.old.lines } }
     {
@@ -56,7 +56,7 @@ impl Calls {
         self.lines.as_slice().first().copied()
     }
 
-    /// The lines from a place on, 16 at most, in their order. Places are counted from 0.
+    /// At most 16 lines from a place on, in their order. Places are counted from 0.
     pub fn lines_from(&self, place: usize) -> ArrayVec<Line, 16>
         ensures rows { result.items ≡ page_of_lines self.now.lines place }
         ensures few { length result.items ≤ 16 }
@@ -68,7 +68,7 @@ impl Calls {
         rows
     }
 
-    /// Whether any line stands.
+    /// Reports whether there is any line.
     pub fn has_lines(&self) -> bool
         ensures { result ≡ has_lines self.now.lines }
     {
@@ -93,7 +93,7 @@ impl Calls {
             .find(|l| !l.group && l.target == target)
     }
 
-    /// Whether any line is to the talkgroup.
+    /// Reports whether there is a line to the talkgroup.
     pub fn group_line(&self, group: Address) -> bool
         ensures { result ≡ has_group_line self.now.lines group }
     {
@@ -103,7 +103,7 @@ impl Calls {
             .any(|l| l.group && l.target == group)
     }
 
-    /// Whether the source has a line to the talkgroup.
+    /// Reports whether the source has a line to the talkgroup.
     pub fn own_group_line(&self, source: Address, group: Address) -> bool
         ensures { result ≡ has_own_group_line self.now.lines source group }
     {
@@ -115,7 +115,7 @@ impl Calls {
                 .any(|l| l.source == source && l.group && l.target == group)
     }
 
-    /// Whether the source has an individual line to the target.
+    /// Reports whether the source has an individual line to the target.
     pub fn own_line(&self, source: Address, target: Address) -> bool
         ensures { result ≡ has_own_line self.now.lines source target }
     {
@@ -127,7 +127,7 @@ impl Calls {
                 .any(|l| l.source == source && !l.group && l.target == target)
     }
 
-    /// The first line that a radio is a party to.
+    /// The first line to which a radio is a party.
     pub(super) fn line_with(&self, radio: Address) -> Option<Line>
         ensures { result ≡ line_with self.now.lines radio }
     {

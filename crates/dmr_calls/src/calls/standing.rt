@@ -1,4 +1,4 @@
-//! The calls among what stands.
+//! The calls.
 
 ghost use Rattle.std.specs.Prelude.{◌≡◌, ◌<◌, [], ◌∷◌, ◌++◌, nat_le, length, map, is_err};
 ghost use Rattle.dmr_calls.specs.declared.calls.TheConstants.{MOST_CALLS};
@@ -14,8 +14,7 @@ use crate::ticks::mark;
 use dmr_pdu::{Address, CarrierNo, Slot};
 
 impl Calls {
-    /// A call begins: it stands behind the others, with no tick since then. `Err` where 31 calls stand; then nothing
-    /// changes.
+    /// Begins a call: adds it after the others, with 0 ticks. If `MOST_CALLS` calls are active, returns `Full` and changes nothing.
     pub fn begin(&mut self, call: Call) -> Result<(), Full>
         ensures full { is_err result ≡ nat_le MOST_CALLS (length self.old.calls) }
         ensures calls { self.new ≡ record self.old { calls = with_call self.old.calls call } }
@@ -27,7 +26,7 @@ impl Calls {
         Ok(())
     }
 
-    /// A call begins: it stands behind the others, with no tick since then. There must be a place for it.
+    /// Begins a call: adds it after the others, with 0 ticks. There must be a place for it.
     pub fn add_call(&mut self, call: Call)
         requires { length self.old.calls < MOST_CALLS }
         ensures { self.new ≡ record self.old { calls = self.old.calls ++ just_begun call ∷ [] } }
@@ -39,7 +38,7 @@ impl Calls {
         });
     }
 
-    /// Takes out the calls on a slot, and gives the first of them.
+    /// Removes the calls on a slot, and returns the first of them.
     pub fn end(&mut self, slot: Slot) -> Option<Call>
         ensures first { result ≡ call_on self.old.calls slot }
         ensures calls { self.new ≡ record self.old { calls = on_other_slots slot self.old.calls } }
@@ -49,14 +48,14 @@ impl Calls {
         first
     }
 
-    /// Takes out the calls on a slot, if any stand there.
+    /// Removes the calls on a slot, if there are any.
     pub fn end_all_on(&mut self, slot: &Slot)
         ensures { self.new ≡ record self.old { calls = on_other_slots slot.now self.old.calls } }
     {
         self.calls.remove(slot.index() as u32);
     }
 
-    /// Takes out the calls on the slots of a carrier.
+    /// Removes the calls on the slots of a carrier.
     pub fn end_of_carrier(&mut self, carrier: CarrierNo)
         ensures { self.new ≡ record self.old { calls = on_other_carriers carrier self.old.calls } }
     {
@@ -65,7 +64,7 @@ impl Calls {
         self.calls.remove(first + 1);
     }
 
-    /// Marks the calls on a slot as active: no tick since then.
+    /// Marks the calls on a slot as active: their quiet time is 0 again.
     pub fn active(&mut self, slot: Slot)
         ensures { self.new ≡ record self.old { calls = map (with_activity slot) self.old.calls } }
     {
@@ -112,7 +111,7 @@ impl Calls {
         Some(found.call)
     }
 
-    /// The first call that a radio is a party to: the source, or the target of an individual call.
+    /// The first call to which a radio is a party: its source, or its target if it is individual.
     pub fn call_of(&self, radio: Address) -> Option<Call>
         ensures { result ≡ call_of self.now.calls radio }
     {
@@ -125,7 +124,7 @@ impl Calls {
         Some(found.call)
     }
 
-    /// The slot of the first call that was quiet for the hang time, or has lasted as long as one may.
+    /// The slot of the first call that was quiet for `hang` ticks, or is `maximum` ticks old.
     pub(super) fn due_call(&self, hang: u16, maximum: u16) -> Option<Slot>
         ensures { result ≡ due_call hang maximum self.now.calls }
     {

@@ -1,4 +1,4 @@
-//! The acts that answers are made of.
+//! The parts of answers: acknowledgements, grants, P_CLEARs, and beginnings and ends of calls.
 
 ghost use Rattle.std.specs.Prelude.{◌≡◌, ◌≤◌, ◌+◌, ◌<◌, ◌++◌, length, replicate};
 ghost use Rattle.dmr_core.specs.Rules.{ack, ahoy, begin, clear, close, grant, grant_pdu};
@@ -9,7 +9,7 @@ use dmr_calls::{Ask, Call};
 use dmr_pdu::{Address, Kind, Number, Pdu, Reason};
 
 impl Machine {
-    /// Acknowledges to a source, with a target besides.
+    /// Adds a C_ACKD to `source` that names `target`.
     pub(super) fn add_ack(
         &self,
         acts: &mut ActList,
@@ -32,7 +32,7 @@ impl Machine {
         ));
     }
 
-    /// Asks the target of an ask.
+    /// Adds the C_AHOY to the target of an ask.
     pub(super) fn add_ahoy(&self, acts: &mut ActList, ask: &Ask)
         requires { length acts.old < 16 }
         ensures { acts.new ≡ acts.old ++ ahoy self.now.plan ask.now }
@@ -49,7 +49,7 @@ impl Machine {
         ));
     }
 
-    /// As many grants of a call as the plan says.
+    /// Adds the grant of a call, in as many copies as the plan's `grant_copies`.
     #[tactic(auto, using(crate::proofs::PlansAreKnown::plan_known), unfolding(crate::specs::Rules::grant))]
     pub(super) fn add_grant(&self, acts: &mut ActList, call: &Call, late: bool)
         requires { length acts.old + 4 ≤ 16 }
@@ -61,7 +61,7 @@ impl Machine {
         add_copies(acts, self.plan.grant_copies(), act);
     }
 
-    /// The grant of a call: TV_GRANT to a talkgroup, else PV_GRANT.
+    /// The grant of a call: TV_GRANT for a talkgroup, else PV_GRANT.
     pub(super) fn grant_pdu(&self, call: &Call, late: bool) -> Pdu
         ensures { result ≡ grant_pdu self.now.plan call.now late }
     {
@@ -84,7 +84,7 @@ impl Machine {
         }
     }
 
-    /// A call ends, and its slot is told so as often as the plan says.
+    /// Adds the end of a call, and P_CLEAR on its slot in as many copies as the plan's `clear_copies`.
     #[tactic(auto, using(crate::proofs::PlansAreKnown::plan_known), unfolding(crate::specs::Rules::clear))]
     pub(super) fn add_clear(&self, acts: &mut ActList, call: &Call)
         requires { length acts.old + 5 ≤ 16 }
@@ -105,7 +105,7 @@ impl Machine {
         add_copies(acts, self.plan.clear_copies(), act);
     }
 
-    /// A call begins, and is granted.
+    /// Adds the beginning of a call, and its grant.
     pub(super) fn add_begin(&self, acts: &mut ActList, call: &Call)
         requires { length acts.old + 5 ≤ 16 }
         ensures acts { acts.new ≡ acts.old ++ begin self.now.plan call.now }
@@ -115,7 +115,7 @@ impl Machine {
         self.add_grant(acts, call, false);
     }
 
-    /// What a radio is engaged by is over.
+    /// Adds the end of the call, ask or line that engages a radio, if there is one.
     #[tactic(auto, unfolding(crate::specs::Rules::close))]
     pub(super) fn add_close(&self, acts: &mut ActList, radio: Address)
         requires { length acts.old + 5 ≤ 16 }
@@ -138,7 +138,7 @@ impl Machine {
     }
 }
 
-/// Adds an act so many times.
+/// Adds an act `copies` times.
 fn add_copies(acts: &mut ActList, copies: u8, act: &Act)
     requires { length acts.old + copies ≤ 16 }
     ensures { acts.new ≡ acts.old ++ replicate copies act.now }

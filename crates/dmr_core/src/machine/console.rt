@@ -1,4 +1,4 @@
-//! What answers an operator's commands: the acts and the reply, decided together.
+//! The answers to an operator's commands: the acts and the reply, decided together.
 
 ghost use Rattle.std.specs.Prelude.{◌≡◌, ◌≤◌, ◌<◌, ◌+◌, ◌++◌, length, filter, if◌then◌else◌};
 ghost use Rattle.dmr_core.specs.declared.reply.Reply.TheVariants.{Calls, NoCarrier, Status};
@@ -14,7 +14,7 @@ use crate::reply::{Reply, SlotState, State};
 use dmr_calls::Call;
 use dmr_pdu::{Address, BoundedList, CarrierNo, Slot, SlotNo};
 
-/// The answer to a command that changes nothing by itself.
+/// The answer to a command that has no acts.
 fn reply_alone(reply: Reply) -> Acts
     ensures { result ≡ reply_alone reply }
 {
@@ -24,7 +24,7 @@ fn reply_alone(reply: Reply) -> Acts
     }
 }
 
-/// The answer to a command that is done, by these acts.
+/// The answer to a command that is done by these acts.
 fn acts_and_done(list: ActList) -> Acts
     ensures { result ≡ acts_and_done list }
 {
@@ -35,7 +35,7 @@ fn acts_and_done(list: ActList) -> Acts
 }
 
 impl Machine {
-    /// What answers a command.
+    /// The answer to a command.
     #[tactic(auto, unfolding(crate::specs::Rules::answer_to_command))]
     pub(super) fn commanded(&self, command: &Command) -> Acts
         ensures { result ≡ answer_to_command self.now.plan self.now.facts command.now }
@@ -61,8 +61,8 @@ impl Machine {
         }
     }
 
-    /// Drops a radio: where it is registered, and there is room for what that brings about, what it is engaged by is over
-    /// and it is registered no more.
+    /// The answer to `drop`. If the radio is registered and there is room, the call, ask or line that engages it ends, and it is no
+    /// longer registered.
     fn drop_radio(&self, radio: Address) -> Acts
         ensures { result ≡ drop_radio self.now.plan self.now.facts radio }
     {
@@ -78,7 +78,7 @@ impl Machine {
         }
     }
 
-    /// Ends the call on a slot of a carrier of the plan, if one stands there.
+    /// The answer to `end`: it ends the call on a slot, if the plan has the carrier and a call is active there.
     fn end_call(&self, slot: &Slot) -> Acts
         ensures { result ≡ end_call self.now.plan self.now.facts slot.now }
     {
@@ -93,7 +93,7 @@ impl Machine {
         }
     }
 
-    /// The calls on a carrier, or that the plan has none of this number.
+    /// The calls on a carrier; `NoCarrier` if the plan has none of this number.
     fn calls_or_no_carrier(&self, carrier: CarrierNo) -> Reply
         ensures { result ≡ (if has_carrier self.now.plan carrier then Calls (calls_on_carrier self.now.facts.calls carrier) else NoCarrier) }
     {
@@ -104,7 +104,7 @@ impl Machine {
         }
     }
 
-    /// What stands, in numbers.
+    /// The answer to `status`.
     fn status(&self) -> Reply
         ensures { result ≡ Status (length (filter (λ up. up) self.now.facts.up)) (length self.now.facts.registered) (length self.now.facts.asks) (length self.now.facts.lines) (length self.now.facts.calls) self.now.facts.moving }
     {
@@ -129,7 +129,7 @@ impl Machine {
         calls
     }
 
-    /// Adds the call on a slot, if one stands there.
+    /// Adds the call on a slot, if one is active there.
     fn add_call(&self, calls: &mut BoundedList<Call, 2>, carrier: CarrierNo, slot: SlotNo)
         requires { length calls.old < 2 }
         ensures calls { calls.new ≡ calls.old ++ at_most_one (call_on self.now.facts.calls (record { carrier = carrier; slot = slot })) }
@@ -140,7 +140,7 @@ impl Machine {
         }
     }
 
-    /// How a slot stands: the first state that applies.
+    /// The state of a slot: the first that applies.
     fn state_of(&self, slot: &Slot) -> State
         ensures { result ≡ state_of self.now.plan self.now.facts slot.now }
     {
@@ -157,7 +157,7 @@ impl Machine {
         }
     }
 
-    /// Each slot of the plan, by carrier number, then slot, and how it stands.
+    /// Each slot of the plan with its state, by carrier number, then slot.
     fn slots(&self) -> BoundedList<SlotState, 32>
         ensures { result ≡ all_slot_states self.now.plan self.now.facts }
     {
@@ -168,7 +168,7 @@ impl Machine {
         slots
     }
 
-    /// Adds a slot, and how it stands, if the plan has its carrier.
+    /// Adds a slot with its state, if the plan has its carrier.
     fn add_slot(&self, slots: &mut BoundedList<SlotState, 32>, slot: &Slot)
         requires { length slots.old < 32 }
         ensures slots { slots.new ≡ slots.old ++ slot_states self.now.plan self.now.facts slot.now }

@@ -1,4 +1,4 @@
-//! What answers a PDU that was heard on the control slot: a request, or the answer of a called radio.
+//! The acts that answer a PDU received on the control slot: a request, or the answer of a called radio.
 
 ghost use Rattle.std.specs.Prelude.{◌≡◌, ◌≤◌, ◌+◌, ◌++◌, length};
 ghost use Rattle.dmr_core.specs.Words.{is_engaged};
@@ -11,7 +11,7 @@ use dmr_calls::{Ask, Line, MOST_ASKS, MOST_LINES};
 use dmr_pdu::{Address, BoundedList, Kind, Number, Options, Pdu, Reason};
 use dmr_registry::MOST_RADIOS;
 
-/// Whether the option bit is 1, bit 0 being the last of the seven.
+/// Reports whether an option bit is 1. Bit 0 is the last of the seven.
 fn has_option(options: Options, bit: u8) -> bool
     ensures { result ≡ option_bit options bit }
 {
@@ -19,7 +19,7 @@ fn has_option(options: Options, bit: u8) -> bool
 }
 
 impl Machine {
-    /// What answers a PDU.
+    /// The acts that answer a PDU.
     #[tactic(auto, unfolding(crate::specs::Rules::acts_for_pdu))]
     pub(super) fn heard(&self, pdu: &Pdu) -> ActList
         ensures { result ≡ acts_for_pdu self.now.plan self.now.facts pdu.now }
@@ -49,7 +49,7 @@ impl Machine {
         }
     }
 
-    /// What answers a request.
+    /// The acts that answer a request.
     #[tactic(auto, unfolding(crate::specs::Rules::acts_for_request))]
     fn request(&self, asked: &Request, flags: Number<5>, kind: Kind) -> ActList
         ensures { result ≡ acts_for_request self.now.plan self.now.facts asked.now flags kind }
@@ -91,7 +91,7 @@ impl Machine {
         }
     }
 
-    /// What answers a radio that leaves.
+    /// The acts that answer a radio that leaves.
     #[tactic(auto, unfolding(crate::specs::Rules::acts_for_leaving))]
     fn leaving(&self, request: &Request) -> ActList
         ensures { result ≡ acts_for_leaving self.now.plan self.now.facts request.now }
@@ -110,7 +110,7 @@ impl Machine {
         acts
     }
 
-    /// What answers a registration or a leaving.
+    /// The acts that answer a registration, or a radio that leaves.
     #[tactic(auto, unfolding(crate::specs::Rules::acts_for_registration))]
     fn registration(&self, request: &Request) -> ActList
         ensures { result ≡ acts_for_registration self.now.plan self.now.facts request.now }
@@ -152,14 +152,15 @@ impl Machine {
         acts
     }
 
-    /// Whether a radio is engaged.
+    /// Reports whether a radio is engaged.
     fn is_engaged(&self, radio: Address) -> bool
         ensures { result ≡ is_engaged self.now.facts radio }
     {
         self.calls.engaged(radio).is_some()
     }
 
-    /// A call where a slot is free and no line stands, else a line, else neither.
+    /// Begins a call if a slot is free and there is no line. Otherwise adds the line, or refuses it if there are `MOST_LINES`
+    /// lines.
     #[tactic(auto, unfolding(crate::specs::Rules::acts_for_new_call))]
     fn add_new_call(&self, acts: &mut ActList, line: &Line)
         requires { length acts.old + 5 ≤ 16 }
@@ -175,7 +176,7 @@ impl Machine {
         }
     }
 
-    /// What answers a talkgroup request.
+    /// The acts that answer a talkgroup request.
     #[tactic(auto, unfolding(crate::specs::Rules::acts_for_talkgroup_request))]
     fn talkgroup(&self, asked: &Request) -> ActList
         ensures { result ≡ acts_for_talkgroup_request self.now.plan self.now.facts asked.now }
@@ -212,7 +213,7 @@ impl Machine {
         acts
     }
 
-    /// What answers an individual request.
+    /// The acts that answer an individual request.
     #[tactic(auto, unfolding(crate::specs::Rules::acts_for_individual_request))]
     fn individual(&self, asked: &Request) -> ActList
         ensures { result ≡ acts_for_individual_request self.now.plan self.now.facts asked.now }
@@ -250,7 +251,7 @@ impl Machine {
         acts
     }
 
-    /// What answers the called radio's own answer.
+    /// The acts that answer the called radio's acknowledgement.
     #[tactic(auto, unfolding(crate::specs::Rules::acts_for_called_radio))]
     fn answered(&self, reason: Reason, called: Address) -> ActList
         ensures { result ≡ acts_for_called_radio self.now.plan self.now.facts reason called }
@@ -272,7 +273,7 @@ impl Machine {
         acts
     }
 
-    /// What answers a radio that calls its request off.
+    /// The acts that answer a radio that cancels its request.
     #[tactic(auto, unfolding(crate::specs::Rules::acts_for_cancel))]
     fn cancel(&self, asked: &Request) -> ActList
         ensures { result ≡ acts_for_cancel self.now.plan self.now.facts asked.now }

@@ -1,4 +1,4 @@
-//! Late entries: what tells radios of the talkgroup calls that stand.
+//! Late entries: grants that announce active talkgroup calls.
 
 ghost use Rattle.std.specs.Prelude.{◌≡◌};
 ghost use Rattle.dmr_core.specs.declared.act.Act.TheVariants.{Fill};
@@ -12,8 +12,8 @@ use dmr_calls::Call;
 use dmr_pdu::{CarrierNo, Lpcn, Pdu, Slot};
 
 impl Machine {
-    /// The late entry of the next Fill, if it has one: where it is due and nothing is moved, the grant of the next talkgroup
-    /// call.
+    /// The late entry of the next Fill. If one is due and the control channel is not to be moved, it is the grant of the next
+    /// talkgroup call, if there is one.
     #[tactic(auto, unfolding(crate::specs::Rules::late_entry))]
     pub(super) fn late_entry(&self) -> Option<Pdu>
         ensures { result ≡ late_entry self.now.plan self.now.facts }
@@ -26,7 +26,7 @@ impl Machine {
         }
     }
 
-    /// The talkgroup call that follows the one last named.
+    /// The talkgroup call that follows the one named last.
     fn next_call(&self) -> Option<Call>
         ensures { result ≡ next_call self.now.plan self.now.facts }
     {
@@ -53,7 +53,7 @@ impl Machine {
         Some(row.number)
     }
 
-    /// The control slot is filled: that is counted, and the slot that a late entry names is the last.
+    /// Applies a Fill of the control slot: counts it and, if it is a late entry, remembers the slot that it names.
     pub(super) fn fill(&mut self, slot: &Slot, pdu: &Pdu)
         ensures { self.new ≡ record { plan = self.old.plan; facts = facts_after_act self.old.facts (Fill slot.now pdu.now) } }
     {

@@ -1,4 +1,4 @@
-//! What a carrier is sent in its next two slots.
+//! The answer to a carrier's poll: the PDUs for its next two slots.
 
 ghost use Rattle.std.specs.Prelude.{◌≡◌, ◌≤◌, ◌<◌, ◌+◌, ◌++◌, length};
 ghost use Rattle.dmr_core.specs.declared.event.Event.TheVariants.{Poll};
@@ -9,7 +9,7 @@ use crate::act::{Act, ActList};
 use dmr_pdu::{BoundedList, CarrierNo, Slot, SlotNo};
 
 impl Machine {
-    /// What answers a carrier's poll: for slot 0, then for slot 1; nothing where the carrier isn't up.
+    /// The acts that answer a carrier's poll, for slot 0 and then for slot 1. There are none if the carrier is not up.
     pub(super) fn poll(&self, carrier: CarrierNo) -> ActList
         ensures { result ≡ acts_of self.now.plan self.now.facts (Poll carrier) }
     {
@@ -21,7 +21,7 @@ impl Machine {
         acts
     }
 
-    /// The first PDU that waits for a slot, or what fills the control slot.
+    /// Adds the first PDU that waits for a slot; if none waits and the slot is the control slot, its Fill.
     #[tactic(auto, unfolding(crate::specs::Rules::acts_for_slot))]
     fn add_poll(&self, acts: &mut ActList, slot: &Slot)
         requires { length acts.old < 16 }

@@ -1,4 +1,4 @@
-//! What the rules ask of slots: which is the control slot, which is up, has room, is free for a call.
+//! Questions about slots: which is the control slot, which carriers are up, whether there is room, which slots are free.
 
 ghost use Rattle.std.specs.Prelude.{◌≡◌};
 ghost use Rattle.dmr_pool.specs.Free.{control_slot, is_control};
@@ -18,28 +18,28 @@ impl Machine {
         self.pool.control_slot()
     }
 
-    /// Whether a slot is the control slot.
+    /// Reports whether a slot is the control slot.
     pub(super) fn is_control(&self, slot: &Slot) -> bool
         ensures { result ≡ is_control self.now.plan slot.now }
     {
         self.pool.is_control(*slot)
     }
 
-    /// Whether a carrier is up.
+    /// Reports whether a carrier is up.
     pub(super) fn is_up(&self, carrier: CarrierNo) -> bool
         ensures { result ≡ is_up self.now.facts carrier }
     {
         self.pool.is_up(carrier)
     }
 
-    /// Whether there is room for the answer to a request.
+    /// Reports whether there is room for the answer to a request.
     pub(super) fn has_room(&self) -> bool
         ensures { result ≡ has_room self.now.plan self.now.facts }
     {
         self.pool.waiting(self.control_slot()) <= MOST_WITH_ROOM
     }
 
-    /// The channel of a carrier.
+    /// The channel of a carrier; 1 if the plan does not have the carrier.
     pub(super) fn lpcn_of(&self, carrier: CarrierNo) -> Lpcn
         ensures { result ≡ lpcn_of self.now.plan carrier }
     {
@@ -49,7 +49,7 @@ impl Machine {
         }
     }
 
-    /// Whether a call stands on a slot.
+    /// Reports whether a call is active on a slot.
     #[tactic(auto, using(crate::proofs::ConsoleLemmas::called))]
     pub(super) fn stands_on(&self, slot: &Slot) -> bool
         ensures { result ≡ stands_on self.now.facts.calls slot.now }
@@ -57,7 +57,7 @@ impl Machine {
         self.calls.call_on(*slot).is_some()
     }
 
-    /// Whether a call can begin on a slot.
+    /// Reports whether a call can begin on a slot.
     #[tactic(auto, using(crate::proofs::FreeLemmas::pool_free))]
     pub(super) fn is_free(&self, slot: &Slot) -> bool
         ensures { result ≡ is_free self.now.plan self.now.facts slot.now }
@@ -66,7 +66,7 @@ impl Machine {
         self.pool.is_free(*slot)
     }
 
-    /// The first of all slots that is free.
+    /// The lowest free slot, by carrier number, then slot.
     #[tactic(auto, using(crate::proofs::FreeLemmas::pool_lowest))]
     pub(super) fn lowest_free(&self) -> Option<Slot>
         ensures { result ≡ lowest_free self.now.plan self.now.facts }
@@ -74,7 +74,7 @@ impl Machine {
         self.pool.free_slot()
     }
 
-    /// A slot for a new call: lines come first.
+    /// A slot for a new call: the lowest free one, but none while a line waits.
     pub(super) fn slot_for_new(&self) -> Option<Slot>
         ensures { result ≡ slot_for_new self.now.plan self.now.facts }
     {

@@ -1,4 +1,4 @@
-//! What a tick brings about.
+//! The acts of a tick.
 
 ghost use Rattle.std.specs.Prelude.{◌≡◌, ◌≤◌, ◌+◌, ◌++◌, length};
 ghost use Rattle.dmr_calls.specs.Due.{due_of};
@@ -11,7 +11,7 @@ use dmr_calls::{Ask, Due};
 use dmr_pdu::{BoundedList, Reason};
 
 impl Machine {
-    /// What a tick brings about, after it was counted.
+    /// The acts of a tick, which has been counted.
     #[tactic(auto, unfolding(crate::specs::Rules::acts_for_tick))]
     pub(super) fn tick(&self) -> ActList
         ensures { result ≡ acts_for_tick self.now.plan self.now.facts }
@@ -25,7 +25,7 @@ impl Machine {
         acts
     }
 
-    /// What is due by the plan.
+    /// The call, ask and line that are due by the plan's times.
     fn due(&self) -> Due
         ensures { result ≡ due_of (standings self.now.facts) self.now.plan.hang self.now.plan.maximum self.now.plan.ahoy_wait }
     {
@@ -34,7 +34,7 @@ impl Machine {
             .due(plan.hang(), plan.maximum(), plan.ahoy_wait())
     }
 
-    /// The first call that is over ends.
+    /// Adds the end of the first call that is over.
     #[tactic(auto, unfolding(crate::specs::Rules::acts_for_due_call))]
     fn add_ended(&self, acts: &mut ActList)
         requires { length acts.old + 5 ≤ 16 }
@@ -48,7 +48,7 @@ impl Machine {
         }
     }
 
-    /// The ask with the oldest C_AHOY, once more or given up.
+    /// Repeats the ask whose last C_AHOY is oldest, if it is due; after the plan's last try, removes it.
     #[tactic(auto, unfolding(crate::specs::Rules::acts_for_due_ask))]
     fn add_repeat(&self, acts: &mut ActList)
         requires { length acts.old + 2 ≤ 16 }
@@ -69,7 +69,7 @@ impl Machine {
         }
     }
 
-    /// A slot for the first line.
+    /// Begins the call of the first line, if a slot is free.
     #[tactic(auto, unfolding(crate::specs::Rules::acts_for_first_line))]
     fn add_serve(&self, acts: &mut ActList)
         requires { length acts.old + 6 ≤ 16 }

@@ -1,10 +1,10 @@
-//! Stories that access is told.
+//! Stories of access.
 
 use super::Fills;
 use crate::language::tell;
 use std::test::Fail;
 
-/// Each story by its name.
+/// The stories, each with its name.
 static STORIES: [(&str, &str); 6] = [
     (
         "fills by the site file",

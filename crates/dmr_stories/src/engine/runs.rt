@@ -1,4 +1,4 @@
-//! What comes to engines, and what they put out.
+//! Inputs of engines, and the octets that the engines write.
 
 use super::frames::{
     ACCEPTED, BYE, DONE, FILL, HELLO_0, HELLO_1, OTHER_CARRIER, OTHER_VERSION, POLL, REGISTERS,
@@ -8,24 +8,24 @@ use super::{Pieces, Step, Told, puts_out};
 use Step::{Bytes, Cut, Open, Text, Tick};
 use std::test::Fail;
 
-/// What comes to an engine, and how it answers.
+/// Inputs of an engine, and its answers.
 struct Run {
-    /// What it is called where it fails.
+    /// The name in a failure.
     name: &'static str,
-    /// What comes, each with what is put out then.
+    /// The inputs, each with the octets that the engine writes for it.
     told: &'static [Told],
 }
 
-/// What `status` brings on a site on which nothing stands.
+/// The reply to `status` on a site with no carrier up, no radio, ask, line or call.
 const QUIET: &[u8] = b"status carriers 0 radios 0 asks 0 lines 0 calls 0 fill aloha\n";
 
-/// Is told a line that is no command.
+/// The reply to a line that is not a command.
 const UNKNOWN: &[u8] = b"error unknown command\n";
 
-/// As many spaces as a line may have octets, and one more.
+/// Spaces: as many as the longest line has octets, without its LF.
 const SPACES: &[u8] = &[b' '; 80];
 
-/// What comes from carriers.
+/// Inputs from carriers.
 static OF_CARRIERS: [Run; 4] = [
     Run {
         name: "hello, registration and poll",
@@ -37,7 +37,7 @@ static OF_CARRIERS: [Run; 4] = [
             (Bytes(0, &[POLL]), &[ACCEPTED, DONE]),
         ],
     },
-    // No octets come, and then octets behind a cut.
+    // A piece without octets, and later octets after a cut.
     Run {
         name: "steps with ample memory",
         told: &[
@@ -54,8 +54,8 @@ static OF_CARRIERS: [Run; 4] = [
         name: "no inputs",
         told: &[],
     },
-    // Octets and cuts where no connection is open, and a carrier that the site doesn't have, mean nothing; each of two
-    // carriers has its own connection.
+    // Octets and cuts have no effect without an open connection, and on a carrier that the site doesn't have. Each of
+    // two carriers has its own connection.
     Run {
         name: "carriers apart",
         told: &[
@@ -73,13 +73,13 @@ static OF_CARRIERS: [Run; 4] = [
     },
 ];
 
-/// What comes from operators, and from carriers beside them.
+/// Inputs from operators, and from carriers between them.
 static OF_OPERATORS: [Run; 7] = [
     Run {
         name: "status",
         told: &[(Text(&[b"status\n"]), &[QUIET])],
     },
-    // What an operator is told stands beside what the carrier is sent.
+    // An operator's replies are separate from a carrier's answers.
     Run {
         name: "radios after a registration",
         told: &[
@@ -111,7 +111,7 @@ static OF_OPERATORS: [Run; 7] = [
         name: "longest line",
         told: &[(Text(&[SPACES, b"\n"]), &[UNKNOWN])],
     },
-    // An open line outlives its carriers' connections, and clock ticks.
+    // An incomplete line survives the carriers' connections, and clock ticks.
     Run {
         name: "open line outlives links",
         told: &[
@@ -137,13 +137,13 @@ static OF_OPERATORS: [Run; 7] = [
     },
 ];
 
-/// What comes on a fresh connection of carrier 0 and closes it, and what is put out for it.
+/// Octets on a new connection of carrier 0 that close it, and the octets that the engine writes for them.
 struct Ending {
-    /// What it is called where it fails.
+    /// The name in a failure.
     name: &'static str,
-    /// The octets that come.
+    /// The octets that arrive.
     octets: Pieces,
-    /// What is put out.
+    /// The octets that the engine writes.
     sent: Pieces,
 }
 
@@ -188,7 +188,7 @@ static ENDINGS: [Ending; 12] = [
         octets: &[&[0x01, 0x04, 0x01, 0x00, 0x01, 0x01]],
         sent: &[OTHER_CARRIER],
     },
-    // Behind good frames, all in one piece: the frames before are taken.
+    // The fault follows good frames in the same piece: the engine processes the frames before it.
     Ending {
         name: "a slot 2 behind good frames",
         octets: &[HELLO_0, POLL, SLOT_2, POLL],
@@ -211,8 +211,7 @@ static ENDINGS: [Ending; 12] = [
     },
 ];
 
-/// What ends an open connection of carrier 0: a cut, a BYE, a fault, and a connection in the place of the one that is
-/// open.
+/// Steps that end an open connection of carrier 0: a cut, a BYE, a fault, and a new connection that replaces it.
 static LOSSES: [Step; 4] = [Cut(0), Bytes(0, &[BYE]), Bytes(0, &[SLOT_2]), Open(0)];
 
 #[test]
@@ -231,7 +230,7 @@ fn operators_are_answered(rt: HostRuntime) -> Result<(), Fail> {
     Ok(())
 }
 
-/// Each connection is closed afterwards: a POLL and a HELLO put out nothing more.
+/// Checks that each connection is closed afterwards: the engine writes nothing for a POLL and a HELLO.
 #[test]
 fn connections_end(rt: HostRuntime) -> Result<(), Fail> {
     for ending in &ENDINGS {
@@ -246,7 +245,7 @@ fn connections_end(rt: HostRuntime) -> Result<(), Fail> {
     Ok(())
 }
 
-/// What was queued for a carrier is gone once its connection has ended.
+/// Checks that the PDUs queued for a carrier are gone once its connection has ended.
 #[test]
 fn lost_carriers(rt: HostRuntime) -> Result<(), Fail> {
     for loss in &LOSSES {

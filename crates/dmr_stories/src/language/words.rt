@@ -1,38 +1,38 @@
-//! The words that all listeners know: radios, slots, PDUs, asks, lines and calls, read and written.
+//! Reads and writes the words that all listeners share: radios, slots, PDUs, asks, lines and calls.
 //!
-//! `C.S` is slot S of carrier C; a talkgroup has a `g` before its number. An ask is `R T OPTIONS ATTEMPT`, a line `R T`
-//! and a call `C.S R T`, where R is a radio and T whom it calls.
+//! `C.S` is slot S of carrier C. A talkgroup has a `g` before its number. An ask is `R T OPTIONS ATTEMPT`, a line is `R
+//! T` and a call is `C.S R T`, with R the calling radio and T its target.
 
 use dmr_calls::{Ask, Call, Line};
 use dmr_pdu::{Address, CarrierNo, Options, OutOfMemory, Pdu, Slot, SlotNo};
 
-/// Puts a value in a place. What stood there goes.
+/// Replaces the value of `place` and drops the old value.
 pub fn replace_with<T: Drop>(place: &mut T, value: T) {
     *place = value;
 }
 
-/// The first word, and what stands behind it.
+/// Splits words into the first word and the words after it.
 pub fn cut(words: &str) -> (&str, &str) {
     words.split_once(' ').unwrap_or((words, ""))
 }
 
-/// The radio of a number.
+/// Returns the address with this number.
 pub fn address_of(digits: &str) -> Option<Address> {
     Address::try_new(digits.parse::<u32>().ok()?)
 }
 
-/// Two radios, or a radio and a talkgroup, each by its number alone.
+/// Returns two addresses: two radios, or a radio and a talkgroup without its `g`.
 pub fn two_addresses_of(words: &str) -> Option<(Address, Address)> {
     let (first, second) = cut(words);
     Some((address_of(first)?, address_of(second)?))
 }
 
-/// The carrier of a number.
+/// Returns the carrier with this number.
 pub fn carrier_of(digits: &str) -> Option<CarrierNo> {
     CarrierNo::try_new(digits.parse::<u32>().ok()?)
 }
 
-/// A slot of a carrier.
+/// Returns the slot that is written `C.S`.
 pub fn slot_of(place: &str) -> Option<Slot> {
     let (carrier, slot) = place.split_once('.')?;
     Some(Slot {
@@ -41,7 +41,7 @@ pub fn slot_of(place: &str) -> Option<Slot> {
     })
 }
 
-/// The PDU of twenty hexadecimal digits.
+/// Returns the PDU that is written as twenty hexadecimal digits.
 pub fn pdu_of(digits: &str) -> Option<Pdu> {
     let mut octets = [0; 10];
     let mut left = digits;
@@ -56,7 +56,7 @@ pub fn pdu_of(digits: &str) -> Option<Pdu> {
     }
 }
 
-/// Whom a radio calls, and whether that is a talkgroup.
+/// Returns the target of a call, and whether it is a talkgroup.
 fn target_of(word: &str) -> Option<(Address, bool)> {
     match word.strip_prefix('g') {
         Some(digits) => Some((address_of(digits)?, true)),
@@ -64,7 +64,7 @@ fn target_of(word: &str) -> Option<(Address, bool)> {
     }
 }
 
-/// An ask.
+/// Returns the ask that is written `R T OPTIONS ATTEMPT`.
 pub fn ask_of(words: &str) -> Option<Ask> {
     let (source, others) = cut(words);
     let (target, numbers) = cut(others);
@@ -77,7 +77,7 @@ pub fn ask_of(words: &str) -> Option<Ask> {
     })
 }
 
-/// The service options of a number.
+/// Returns the service options with this number, 0 to 127.
 fn options_of(digits: &str) -> Option<Options> {
     let number = digits.parse::<u32>().ok()?;
     if number < 128 {
@@ -87,7 +87,7 @@ fn options_of(digits: &str) -> Option<Options> {
     }
 }
 
-/// A line.
+/// Returns the line that is written `R T`.
 pub fn line_of(words: &str) -> Option<Line> {
     let (source, target) = cut(words);
     let (target, group) = target_of(target)?;
@@ -98,7 +98,7 @@ pub fn line_of(words: &str) -> Option<Line> {
     })
 }
 
-/// A call.
+/// Returns the call that is written `C.S R T`.
 pub fn call_of(words: &str) -> Option<Call> {
     let (place, parties) = cut(words);
     let Line {
@@ -114,12 +114,12 @@ pub fn call_of(words: &str) -> Option<Call> {
     })
 }
 
-/// Writes a slot behind a word.
+/// Writes a word and a slot.
 pub fn write_slot(said: &mut String, word: &str, slot: &Slot) -> Result<(), OutOfMemory> {
     write!(said, "{word}{}.{}", slot.carrier, slot.slot)
 }
 
-/// Writes that a PDU is sent so in a slot.
+/// Writes a word, a slot and a PDU that is sent or queued there.
 pub fn write_sent(
     said: &mut String,
     word: &str,
@@ -139,7 +139,7 @@ pub fn write_pdu(said: &mut String, pdu: &Pdu) -> Result<(), OutOfMemory> {
     Ok(())
 }
 
-/// Writes an ask behind a word.
+/// Writes a word and an ask.
 pub fn write_ask(said: &mut String, word: &str, ask: &Ask) -> Result<(), OutOfMemory> {
     let options = ask.options.get();
     write!(
@@ -149,25 +149,25 @@ pub fn write_ask(said: &mut String, word: &str, ask: &Ask) -> Result<(), OutOfMe
     )
 }
 
-/// What stands before the number of a talkgroup, and of a radio.
+/// Returns the mark before a target's number: `g` for a talkgroup, nothing for a radio.
 fn mark_of(group: bool) -> &'static str {
     if group { "g" } else { "" }
 }
 
-/// Writes a line behind a word.
+/// Writes a word and a line.
 pub fn write_line(said: &mut String, word: &str, line: &Line) -> Result<(), OutOfMemory> {
     let mark = mark_of(line.group);
     write!(said, "{word}{} {mark}{}", line.source, line.target)
 }
 
-/// Writes a call behind a word.
+/// Writes a word and a call.
 pub fn write_call(said: &mut String, word: &str, call: &Call) -> Result<(), OutOfMemory> {
     write_slot(said, word, &call.slot)?;
     let mark = mark_of(call.group);
     write!(said, " {} {mark}{}", call.source, call.target)
 }
 
-/// Writes whether something is so.
+/// Writes `yes` if something holds, otherwise `no`.
 pub fn write_truth(said: &mut String, holds: bool) -> Result<(), OutOfMemory> {
     said.push_str(if holds { "yes" } else { "no" })
 }

@@ -1,4 +1,4 @@
-//! What the links of the stories answer, in words.
+//! Answers of links, and how they are written.
 
 use super::steps::NAMED;
 use crate::language::words::cut;
@@ -7,7 +7,7 @@ use dmr_frames::Cause;
 use dmr_link::{Deposit, Ended};
 use dmr_pdu::OutOfMemory;
 
-/// The word for why a call of `serve` ended.
+/// Returns the word for why a call of `serve` ended.
 pub fn word_of_ended(ended: Ended) -> &'static str {
     match ended {
         Ended::Closed => "closed",
@@ -21,7 +21,7 @@ pub fn word_of_ended(ended: Ended) -> &'static str {
     }
 }
 
-/// The word for what is wrong with a connection.
+/// Returns the word for the fault of a connection.
 fn word_of_cause(cause: Cause) -> &'static str {
     match cause {
         Cause::UnknownType => "unknown type",
@@ -35,7 +35,7 @@ fn word_of_cause(cause: Cause) -> &'static str {
     }
 }
 
-/// The word for an event of carrier 0, of the clock or of an operator; `?` for those of other carriers.
+/// Returns the word for an event of carrier 0, of the clock or of an operator; `?` for an event of another carrier.
 fn word_of_event(event: &Event) -> &'static str {
     let (carrier, word) = match event {
         Event::Up(carrier) => (carrier.get(), "up"),
@@ -52,7 +52,7 @@ fn word_of_event(event: &Event) -> &'static str {
     if carrier == 0 { word } else { "?" }
 }
 
-/// Writes the events that a desk took; `-` where there is none.
+/// Writes the events that a desk took, or `-` if there are none.
 pub fn write_events(said: &mut String, calls: &[Deposit]) -> Result<(), OutOfMemory> {
     if calls.is_empty() {
         said.push_str(" -")?;
@@ -63,8 +63,8 @@ pub fn write_events(said: &mut String, calls: &[Deposit]) -> Result<(), OutOfMem
     Ok(())
 }
 
-/// Writes the octets that a port took: how many, where they are the first of the whole answer to what the links of the
-/// stories are told, and otherwise the frames or lines that they are.
+/// Writes the octets that a port took: their count if the whole answer to the story's input begins with them, otherwise
+/// the frames or lines that they form.
 pub fn write_taken(said: &mut String, answer: &[u8], taken: &[u8]) -> Result<(), OutOfMemory> {
     if answer.starts_with(taken) {
         return write!(said, " {}", taken.len());
@@ -75,7 +75,7 @@ pub fn write_taken(said: &mut String, answer: &[u8], taken: &[u8]) -> Result<(),
     write_frames(said, taken)
 }
 
-/// Writes the lines that octets are, each with ` |` in the place of its LF.
+/// Writes octets as lines, with `|` instead of each LF.
 fn write_lines(said: &mut String, octets: &[u8]) -> Result<(), OutOfMemory> {
     said.push_str(" ")?;
     for octet in octets {
@@ -87,7 +87,7 @@ fn write_lines(said: &mut String, octets: &[u8]) -> Result<(), OutOfMemory> {
     Ok(())
 }
 
-/// Writes the names of the frames that octets are; of those behind the last whole frame each octet.
+/// Writes the names of the frames that octets form, and each octet after the last whole frame.
 fn write_frames(said: &mut String, octets: &[u8]) -> Result<(), OutOfMemory> {
     let mut left = octets;
     for _ in 0..octets.len() {

@@ -1,9 +1,9 @@
-//! Stories of a carrier's link whose port fails. Its octets are HELLO, the registration of radio 1001 and POLL, 36 in all,
-//! and the whole answer has 33: WELCOME, the TX of the acknowledgement and DONE.
+//! Stories of a carrier's link whose port fails. The input is HELLO, the registration of radio 1001 and POLL, 36 octets
+//! in all. The whole answer is WELCOME, the TX of the acknowledgement and DONE, 33 octets in all.
 
 use super::Story;
 
-/// Where the input ends or fails.
+/// The input ends or fails.
 pub static READS: [Story; 6] = [
     (
         "the input ends after so many octets",
@@ -126,7 +126,7 @@ serve => closed; up heard heard heard poll poll poll lost; welcome accepted done
     ),
 ];
 
-/// Ports that take a part of the answer.
+/// The port takes only a part of the answer, or fails.
 pub static WRITES: [Story; 7] = [
     (
         "a port takes so many octets and then fails",

@@ -1,4 +1,4 @@
-//! A desk that keeps a list of what it took.
+//! A desk that keeps a list of the events that it took.
 
 ghost use Rattle.std.specs.Prelude.{◌≡◌, ◌<◌, [], ◌∷◌, ◌++◌, length, vec_len, vec_capacity, IfOk, IfErr};
 
@@ -8,7 +8,8 @@ use dmr_pdu::OutOfMemory;
 use std::alloc::Global;
 use std::marker::Model;
 
-/// A site, and the events that it was told in this term with its answers, as many as the term has room for.
+/// A site, the events that it processed in this term with their answers, and the number of events that the term has
+/// room for.
 #[derive(Drop)]
 pub struct ListDesk {
     actor: usize,
@@ -29,7 +30,7 @@ impl Model for ListDesk {
 }
 
 impl ListDesk {
-    /// An actor's desk, over a site, for a term of so many events. All its memory is taken here.
+    /// Makes a desk for an actor over a site, with a term of `limit` events. It takes all its memory here.
     pub fn new(
         alloc: Global,
         actor: usize,
@@ -46,7 +47,7 @@ impl ListDesk {
         })
     }
 
-    /// Begins another term, of so many events, with nothing taken in it. The site stays as it is.
+    /// Begins another term, of `limit` events, with no event in it. The site remains as it is.
     pub fn begin_term(&mut self, alloc: Global, limit: usize) -> Result<(), OutOfMemory>
         ensures { IfOk result (λ _. self.new ≡ record { actor = self.old.actor; calls = []; limit = limit }) }
     {
@@ -55,7 +56,7 @@ impl ListDesk {
         Ok(())
     }
 
-    /// Tells the site an event, and keeps it with the answer, unless the term is over.
+    /// Applies an event to the site and keeps it with the answer. If the term is over, it changes nothing.
     fn take(&mut self, event: &Event) -> Result<Acts, TermOver>
         ensures ok { IfOk result (λ acts. self.new ≡ record self.old { calls = self.old.calls ++ record { event = event.now; acts = acts } ∷ [] }) }
         ensures err { IfErr result (λ over. (self.new ≡ self.old) × (length self.old.calls ≡ self.old.limit) × (over.entries ≡ self.old.limit)) }
@@ -69,7 +70,7 @@ impl ListDesk {
         Ok(acts)
     }
 
-    /// What it took in this term, the oldest first.
+    /// Returns the events that the desk took in this term, oldest first.
     pub fn calls(&self) -> &[Deposit]
         ensures { result.now ≡ self.now.calls }
     {
@@ -77,7 +78,7 @@ impl ListDesk {
     }
 }
 
-/// It refuses where the term has as many events as it has room for, and stays as it was.
+/// The desk refuses an event, and changes nothing, if the term has as many events as it has room for.
 impl Desk for ListDesk {
     ghost actor = { λ d. d.actor };
 
@@ -96,7 +97,7 @@ impl Desk for ListDesk {
     }
 }
 
-/// An event that was taken, and its answer.
+/// Returns an event that was taken, with its answer.
 fn deposit_of(event: &Event, acts: &Acts) -> Deposit
     ensures { result ≡ record { event = event.now; acts = acts.now } }
 {
@@ -106,7 +107,7 @@ fn deposit_of(event: &Event, acts: &Acts) -> Deposit
     }
 }
 
-/// Puts a copy of an item at the end of a list that has room for it.
+/// Adds a copy of an item at the end of a list that has room for it.
 fn push_copy<T: Copy>(list: &mut Vec<T>, item: &T)
     requires { vec_len list.old < vec_capacity list.old }
     ensures items { list.new.items ≡ list.old.items ++ item.now ∷ [] }

@@ -1,8 +1,9 @@
-//! Stories of a carrier's link to which frames come that mean little, or are none.
+//! Stories of a carrier's link that receives frames without effect, or octets that are not frames.
 
 use super::Story;
 
-/// Octets with which no frame begins: each is told at the first octet that shows it, and nothing behind it means anything.
+/// Octets with which no frame begins. The link reports the fault at the first octet that shows it, and ignores later
+/// octets.
 pub static NO_FRAMES: [Story; 5] = [
     (
         "unknown type",
@@ -103,7 +104,7 @@ serve => bad pad; up lost; 3
     ),
 ];
 
-/// First frames, later frames, and frames behind which a fault comes in the same piece.
+/// First frames, later frames, and frames followed by a fault in the same piece.
 pub static FRAMES: [Story; 5] = [
     (
         "a first frame that is no hello",

@@ -1,22 +1,22 @@
-//! A gate that counts how often it is passed.
+//! A gate that counts its entries and exits.
 
 ghost use Rattle.std.specs.Prelude.{◌≡◌, None};
 
 use dmr_link::Gate;
 
-/// Counts how often it was to be entered and was left, and is shut at one of these entries.
+/// Counts the calls of `enter` and `leave`, and is shut at one of the entries.
 #[derive(Clone, Copy, Debug)]
 pub struct CountingGate {
-    /// At which entry it is shut, the first being 1. At 0 it is never shut.
+    /// The number of the entry at which the gate is shut, counted from 1; 0 if it is never shut.
     pub shut_at: usize,
-    /// How often it was to be entered.
+    /// The number of calls of `enter`.
     pub enters: usize,
-    /// How often it was left.
+    /// The number of calls of `leave`.
     pub leaves: usize,
 }
 
 impl CountingGate {
-    /// A gate that was not passed yet.
+    /// Returns a gate that was not entered yet.
     pub fn new(shut_at: usize) -> CountingGate {
         CountingGate {
             shut_at,
@@ -26,7 +26,7 @@ impl CountingGate {
     }
 }
 
-/// It tells no record.
+/// The gate states no record of its passages.
 impl Gate for CountingGate {
     ghost passed = { λ g. None };
 

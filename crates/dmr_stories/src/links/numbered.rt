@@ -1,10 +1,10 @@
-//! Stories of a carrier's link that is served version 2. Its octets are HELLO, the registration of radio 1001 with number 5 twice, and two
-//! POLLs, 68 in all, and the whole answer has 65: WELCOME, the TX of the acknowledgement with number 0, DONE, the TX of a Fill with number
-//! 1 and DONE.
+//! Stories of a carrier's link that serves version 2. The input is HELLO, the registration of radio 1001 with number 5
+//! twice, and two POLLs, 68 octets in all. The whole answer is WELCOME, the TX of the acknowledgement with number 0,
+//! DONE, the TX of a Fill with number 1 and DONE, 65 octets in all.
 
 use super::Story;
 
-/// A burst that comes again is not handed in, and TX are numbered on over events that were kept.
+/// A repeat is not deposited, and the numbers of TX go on over events that the link kept.
 pub static NUMBERS: [Story; 3] = [
     (
         "a burst that comes again",

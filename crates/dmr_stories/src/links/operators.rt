@@ -1,9 +1,9 @@
-//! Stories of the operators' link. Its octets are the lines `status` and `stay`, 12 in all, and the whole answer has 64:
-//! the reply to the first has 61.
+//! Stories of the operators' link. The input is the lines `status` and `stay`, 12 octets in all. The whole answer has
+//! 64 octets, and the reply to `status` has 61 of them.
 
 use super::Story;
 
-/// Where the input ends, fails or stops.
+/// The input ends, fails or stops.
 pub static READS: [Story; 5] = [
     (
         "the input ends after so many octets",
@@ -82,7 +82,7 @@ serve => closed; stay; ok|ok|ok|ok|ok|ok|ok|ok|ok|ok|ok|ok|ok|
     ),
 ];
 
-/// Ports that take a part of the answer.
+/// The port takes only a part of the answer, or fails.
 pub static WRITES: [Story; 5] = [
     (
         "a port takes so many octets and then fails",
@@ -147,7 +147,7 @@ serve => write fault; -; error
     ),
 ];
 
-/// Lines, and what is told of them.
+/// Lines, and the replies to them.
 pub static LINES: [Story; 4] = [
     (
         "lines that are no command",
@@ -217,7 +217,7 @@ serve => closed; status stay; 64
     ),
 ];
 
-/// Terms and cuts.
+/// Terms that end, and cuts.
 pub static STOPS: [Story; 3] = [
     (
         "terms of one command",
@@ -279,7 +279,7 @@ open => no
     ),
 ];
 
-/// How connections end, and what the links answer then.
+/// How connections end, and how the links answer afterwards.
 pub static ENDINGS: [Story; 4] = [
     (
         "used again after the end of the input",
@@ -299,7 +299,7 @@ pub static ENDINGS: [Story; 4] = [
     ),
 ];
 
-/// A link that is used again: it answers as before and touches nothing, until it is opened.
+/// A link that is used again without being opened: it answers as before and touches neither port nor desk.
 pub const AGAIN: &str = "\
 live => no
 term 0 =>

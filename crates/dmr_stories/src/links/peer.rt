@@ -1,4 +1,4 @@
-//! Links of either kind, and what each is told in the stories.
+//! Links of each kind, with the input and the whole answer that the stories use.
 
 use super::gate::CountingGate;
 use crate::engine::frames::{
@@ -12,37 +12,37 @@ use dmr_pdu::{CarrierNo, Lpcn, OutOfMemory};
 use dmr_wire::MemoryPort;
 use std::alloc::Global;
 
-/// A link of either kind.
+/// A link of one of the kinds.
 #[derive(Drop)]
 pub enum Peer {
-    /// The link of carrier 0, which is served version 1.
+    /// The link of carrier 0, which serves version 1.
     Carrier(Link),
-    /// The link of carrier 0, which is served version 2 too.
+    /// The link of carrier 0, which serves version 2 too.
     Numbered(Link),
     /// The operators' link.
     Operator(ConsoleLink),
 }
 
-/// What an operator is told of a site on which nothing stands, and that a command is done.
+/// The replies to `status` on a site with no carrier up, no radio, ask, line or call, and to a command that is done.
 const REPLIES: &[u8] = b"status carriers 0 radios 0 asks 0 lines 0 calls 0 fill aloha\nok\n";
 
 impl Peer {
-    /// The link of carrier 0, whose channel is 1. It has no connection.
+    /// Returns the link of carrier 0, whose channel is 1, without a connection.
     pub fn carrier() -> Peer {
         Peer::Carrier(Link::new(CarrierNo::new(0), Lpcn::new(1), Version::V1))
     }
 
-    /// The same link, which is served version 2 too.
+    /// Returns the same link, but serving version 2 too.
     pub fn numbered() -> Peer {
         Peer::Numbered(Link::new(CarrierNo::new(0), Lpcn::new(1), Version::V2))
     }
 
-    /// The operators' link. It has no connection.
+    /// Returns the operators' link, without a connection.
     pub fn operator() -> Peer {
         Peer::Operator(ConsoleLink::new())
     }
 
-    /// Another link of its kind, with no connection.
+    /// Returns another link of this kind, without a connection.
     pub fn another(&self) -> Peer {
         match self {
             Peer::Carrier(_) => Peer::carrier(),
@@ -51,7 +51,8 @@ impl Peer {
         }
     }
 
-    /// What it is told: HELLO, the registration of radio 1001 and POLL, in version 2 the registration twice and POLL twice; or two lines.
+    /// Returns the input of the stories: HELLO, the registration of radio 1001 and POLL (in version 2 the registration
+    /// twice and POLL twice), or two lines.
     pub fn told(&self, alloc: Global) -> Result<Vec<u8>, OutOfMemory> {
         match self {
             Peer::Carrier(_) => joined(alloc, &[HELLO_0, REGISTERS, POLL]),
@@ -69,7 +70,7 @@ impl Peer {
         }
     }
 
-    /// The whole answer to that.
+    /// Returns the whole answer to that input.
     pub fn answer(&self, alloc: Global) -> Result<Vec<u8>, OutOfMemory> {
         match self {
             Peer::Carrier(_) => joined(alloc, &[WELCOME, ACCEPTED, DONE]),
@@ -87,7 +88,7 @@ impl Peer {
         }
     }
 
-    /// Whether it is live.
+    /// Returns whether the link is live.
     pub fn live(&self) -> bool {
         match self {
             Peer::Carrier(link) | Peer::Numbered(link) => link.live(),
@@ -95,7 +96,7 @@ impl Peer {
         }
     }
 
-    /// Opens it.
+    /// Opens the link.
     pub fn open(&mut self) -> bool {
         match self {
             Peer::Carrier(link) | Peer::Numbered(link) => link.open(),
@@ -103,7 +104,7 @@ impl Peer {
         }
     }
 
-    /// Serves it, by a gate where there is one.
+    /// Serves the link, with a gate if one is given.
     pub fn serve<D: Desk>(
         &mut self,
         port: &mut MemoryPort,
@@ -119,7 +120,7 @@ impl Peer {
         }
     }
 
-    /// Cuts it.
+    /// Cuts the link.
     pub fn cut<D: Desk>(&mut self, desk: &mut D) -> Result<(), TermOver> {
         match self {
             Peer::Carrier(link) | Peer::Numbered(link) => link.cut(desk),

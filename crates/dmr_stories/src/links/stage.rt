@@ -1,14 +1,18 @@
-//! A link that is told stories.
+//! A link, a port and a desk as a listener of stories.
 //!
-//! `begin` and steps put another link in its place and open it, with a port of these steps, and a desk of a site on which
-//! nothing stands; its term has room for all that happens. `port` and steps put another port there, `term N` begins
-//! another term of the same site, of N events. `open`, `live`, `serve` and `cut` are the calls of the link;
-//! `serve N` serves it by a gate that is shut at the Nth entry, and at none where N is 0, `serve` by an open one. `again`
-//! is `serve`, but where it ends as the last one did, it answers `same`. `reads` asks how often the port was read, and
-//! `writes` how often it was written.
+//! Inputs:
 //!
-//! Serves and cuts are answered by how they ended, the events that the desk took meanwhile, and the octets that the port
-//! has taken till then; and by how often the gate was to be entered and was left.
+//! - `begin` and steps: replaces the link by a new one and opens it, with a port of these steps and the desk of a new site. The
+//!   term has room for all events of the story.
+//! - `port` and steps: replaces the port.
+//! - `term N`: begins another term of the same site, with room for N events.
+//! - `open`, `live`, `serve` and `cut`: calls of the link.
+//! - `serve N`: serves the link with a gate that is shut at the Nth entry, or never if N is 0. `serve` alone uses an open gate.
+//! - `again`: as `serve`, but answers `same` if it ends as the last serve did.
+//! - `reads` and `writes`: ask how many reads and writes the port has answered.
+//!
+//! The answer to `serve` and `cut` is how the call ended, the events that the desk took meanwhile, and the octets that
+//! the port has taken so far. With a gate, the numbers of its entries and exits follow.
 
 use super::Story;
 use super::answers::{word_of_ended, write_events, write_taken};
@@ -28,13 +32,13 @@ use std::alloc::Global;
 use std::process::Abort;
 use std::test::Fail;
 
-/// The room of a port's record.
+/// The room of a port's record, in entries and in octets.
 const ROOM: usize = 4096;
 
-/// The events that a term has room for where nothing else is said.
+/// The number of events that a term has room for, if the story sets no other.
 const AMPLE: usize = 100;
 
-/// A link, with what stands at its ends.
+/// A link with its port and its desk.
 #[derive(Drop)]
 struct Stage {
     alloc: Global,
@@ -42,13 +46,13 @@ struct Stage {
     peer: Peer,
     port: MemoryPort,
     desk: ListDesk,
-    /// How many of the events that the desk took in this term were told.
+    /// The number of this term's events that have been written as answers.
     seen: usize,
-    /// How the last serve ended.
+    /// How the last `serve` ended.
     ended: Option<Ended>,
 }
 
-/// Tells each story, and then the words behind it, to a link of this kind.
+/// Runs each story with a link of this kind, and then the lines `behind`.
 pub fn tell_all(
     rt: &(impl Abort + AllocGlobal),
     peer: &Peer,
@@ -62,7 +66,7 @@ pub fn tell_all(
     Ok(())
 }
 
-/// Tells a story, and then the words behind it.
+/// Runs a story, and then the lines `behind`.
 fn tell_story<L: Listener + Drop>(
     rt: &(impl Abort + AllocGlobal),
     mut stage: L,
@@ -74,7 +78,7 @@ fn tell_story<L: Listener + Drop>(
     tell_part(rt, &mut stage, name, behind)
 }
 
-/// A link with a port without steps, and a desk of a site on which nothing stands.
+/// Returns a link with a port without steps and the desk of a new site.
 fn stage_of(alloc: Global, peer: Peer) -> Result<Stage, Fail> {
     let plan = plan_of(alloc, SMALL)?;
     let port = port_of(alloc, Vec::new(alloc))?;
@@ -89,7 +93,7 @@ fn stage_of(alloc: Global, peer: Peer) -> Result<Stage, Fail> {
     })
 }
 
-/// A port of these steps.
+/// Returns a port of these steps.
 fn port_of(alloc: Global, steps: Vec<Step>) -> Result<MemoryPort, OutOfMemory> {
     match MemoryPort::new(alloc, steps, ROOM) {
         Ok(port) => Ok(port),
@@ -97,7 +101,7 @@ fn port_of(alloc: Global, steps: Vec<Step>) -> Result<MemoryPort, OutOfMemory> {
     }
 }
 
-/// The desk of a site on which nothing stands.
+/// Returns the desk of a new site.
 fn desk_of(alloc: Global, plan: Plan) -> Result<ListDesk, OutOfMemory> {
     ListDesk::new(alloc, 0, Site::new(alloc, plan)?, AMPLE)
 }
@@ -122,7 +126,7 @@ impl Listener for Stage {
 }
 
 impl Stage {
-    /// Puts a link, a desk and a port of these steps in the place of those that are there, and opens the link.
+    /// Replaces the link, the desk and the port, and opens the link.
     fn begin(&mut self, steps: &str, said: &mut String) -> Result<(), OutOfMemory> {
         self.peer = self.peer.another();
         replace_with(&mut self.desk, desk_of(self.alloc, self.plan)?);
@@ -133,7 +137,7 @@ impl Stage {
         self.take_port(steps, said)
     }
 
-    /// Puts a port of these steps in the place of the one that is there.
+    /// Replaces the port by one of these steps.
     fn take_port(&mut self, steps: &str, said: &mut String) -> Result<(), OutOfMemory> {
         let told = self.peer.told(self.alloc)?;
         match steps_of(self.alloc, told.as_slice(), steps)? {
@@ -153,8 +157,8 @@ impl Stage {
         Ok(())
     }
 
-    /// Serves the link, by a gate that is shut at this entry, or by an open one where no entry is given, and writes how that
-    /// ended. Where it ended as the last time, that may be written as `same`.
+    /// Serves the link and writes how that ended. `shut_at` is the entry at which the gate is shut; without it the gate
+    /// is open. If `may_be_same` holds and the link ended as the last time, it writes `same`.
     fn serve(
         &mut self,
         shut_at: &str,
@@ -190,7 +194,7 @@ impl Stage {
         self.write_course(ended, said)
     }
 
-    /// Writes how something ended, what the desk took since the last time, and what the port took.
+    /// Writes how a call ended, the events that the desk took since the last call, and the octets that the port took.
     fn write_course(&mut self, ended: &str, said: &mut String) -> Result<(), OutOfMemory> {
         write!(said, "{ended};")?;
         let calls = self.desk.calls();
@@ -201,7 +205,7 @@ impl Stage {
         write_taken(said, answer.as_slice(), self.port.taken())
     }
 
-    /// How often the port was read.
+    /// Returns the number of reads that the port has answered.
     fn reads(&self) -> usize {
         let entries = self.port.entries().unwrap_or(&[]);
         entries
@@ -210,7 +214,7 @@ impl Stage {
             .count()
     }
 
-    /// How often the port was written.
+    /// Returns the number of writes that the port has answered.
     fn writes(&self) -> usize {
         let entries = self.port.entries().unwrap_or(&[]);
         entries

@@ -1,10 +1,13 @@
-//! What the port of a link is to answer.
+//! The steps of a link's port: how it answers reads and writes.
 //!
-//! Steps stand with `; ` between them, each with a number before it where it comes several times. `octets` and octets come
-//! with one read, `single` and octets with one read each; an octet is its decimal number, and a word that names a frame
-//! or a line is its octets. `first N` are the first N octets that the links of the stories are told, and `behind N` those that
-//! follow them. `line` and a line come with one read and with the LF, `text` without. `read` and `write` say what a read or
-//! write answers: `end`, `interrupted`, `block` or `fault`, and `write N` takes N octets.
+//! `; ` separates the steps, and a number before a step is the count of its repetitions. Steps with octets:
+//!
+//! - `octets` and octets: one read returns them all. `single` and octets: one read for each. An octet is its decimal number, or
+//!   the name of a frame or line, which means all its octets.
+//! - `first N`: the first N octets of the story's input. `behind N`: the octets after them.
+//! - `line` and a line: one read returns the line and its LF. `text` and a text: the same without LF.
+//!
+//! `read` and `write` say how a read or write ends: `end`, `interrupted`, `block` or `fault`. `write N` takes N octets.
 
 use crate::engine::frames::{
     ACCEPTED, BYE, DONE, FILL, HELLO_0, OTHER_CARRIER, OTHER_VERSION, POLL, REGISTERS, WELCOME,
@@ -30,8 +33,7 @@ pub static NAMED: [(&str, &[u8]); 12] = [
     ("stay", b"stay\n"),
 ];
 
-/// The steps of these words, `told` being the octets that the links of the stories are told. `None` where there is a word
-/// that is none.
+/// Returns the steps that these words mean, with `told` as the story's input. Returns `None` if a word is unknown.
 pub fn steps_of(alloc: Global, told: &[u8], words: &str) -> Result<Option<Vec<Step>>, AllocError> {
     let mut steps = Vec::new(alloc);
     for words in words.split("; ") {
@@ -45,7 +47,7 @@ pub fn steps_of(alloc: Global, told: &[u8], words: &str) -> Result<Option<Vec<St
     Ok(Some(steps))
 }
 
-/// Adds the steps of words between which no `; ` stands. Whether there were such.
+/// Adds the steps of words without `; `. Returns whether the words are known.
 fn add_steps(
     alloc: Global,
     steps: &mut Vec<Step>,
@@ -69,7 +71,7 @@ fn add_steps(
     Ok(true)
 }
 
-/// The step of a read or write that gives no octets.
+/// Returns the step of a read or write without octets.
 fn answer_of(words: &str) -> Option<Step> {
     match words {
         "read end" => Some(Step::Read(Got::End)),
@@ -86,7 +88,7 @@ fn answer_of(words: &str) -> Option<Step> {
     }
 }
 
-/// The octets that come with words.
+/// Returns the octets that these words mean.
 fn octets_of(alloc: Global, told: &[u8], words: &str) -> Result<Option<Vec<u8>>, AllocError> {
     let (word, rest) = cut(words);
     let mut octets = Vec::new(alloc);
@@ -105,7 +107,7 @@ fn octets_of(alloc: Global, told: &[u8], words: &str) -> Result<Option<Vec<u8>>,
     Ok(if known { Some(octets) } else { None })
 }
 
-/// Puts the first of the octets that are told, or those behind them.
+/// Adds the first octets of the story's input, or the octets after them.
 fn put_told(octets: &mut Vec<u8>, told: &[u8], words: &str) -> Result<bool, AllocError> {
     let (word, digits) = cut(words);
     let Ok(count) = digits.parse::<usize>() else {
@@ -116,7 +118,7 @@ fn put_told(octets: &mut Vec<u8>, told: &[u8], words: &str) -> Result<bool, Allo
     Ok(true)
 }
 
-/// Puts the octets that words are, one behind the other.
+/// Adds the octets that these words mean, in order.
 fn put_all(octets: &mut Vec<u8>, words: &str) -> Result<bool, AllocError> {
     for word in words.split(' ') {
         if let Ok(octet) = word.parse::<u8>() {

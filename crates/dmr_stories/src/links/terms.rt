@@ -1,9 +1,9 @@
-//! Stories of a carrier's link that has to stop, and goes on later: after many reads, at the end of a term, at a gate that
-//! is shut, at a cut; and of one that is used again.
+//! Stories of a carrier's link that stops and goes on later: after many reads, at the end of a term, at a shut gate, or
+//! at a cut. Also stories of a link that is used again.
 
 use super::Story;
 
-/// A call makes 64 reads, interrupted ones among them.
+/// A call of `serve` makes at most 64 reads, interrupted reads included.
 pub static PAUSES: [Story; 5] = [
     (
         "the 65th read is made by the next call",
@@ -70,7 +70,8 @@ fill done fill done fill done
     ),
 ];
 
-/// What a desk that takes no more or a gate that is shut leaves is handed in by the next call, first and once.
+/// If the desk's term is over or the gate is shut, the next call deposits the remaining events, before anything else
+/// and once.
 pub static STOPS: [Story; 5] = [
     (
         "terms of one event",
@@ -183,7 +184,7 @@ writes => 3
     ),
 ];
 
-/// Cuts write nothing and read nothing, and what they leave is handed in later.
+/// A cut neither reads nor writes. The events that it leaves are deposited later.
 pub static CUTS: [Story; 5] = [
     (
         "links that are cut",
@@ -317,7 +318,7 @@ open => no
     ),
 ];
 
-/// How connections end, and what the links answer then.
+/// How connections end, and how the links answer afterwards.
 pub static ENDINGS: [Story; 8] = [
     (
         "used again after the end of the input",
@@ -353,7 +354,7 @@ pub static ENDINGS: [Story; 8] = [
     ),
 ];
 
-/// A link that is used again: it answers as before and touches nothing, until it is opened.
+/// A link that is used again without being opened: it answers as before and touches neither port nor desk.
 pub const AGAIN: &str = "\
 live => no
 term 0 =>

@@ -1,18 +1,18 @@
-//! What lists answer.
+//! Answers of the lists, and how they are written.
 
 use crate::language::words::{write_ask, write_call, write_line, write_slot, write_truth};
 use arrayvec::ArrayVec;
 use dmr_calls::{Ask, Call, Counts, Due, Engagement, Full, Line};
 use dmr_pdu::OutOfMemory;
 
-/// What lists answer.
+/// An answer of the lists.
 #[derive(Drop)]
 pub enum Answer {
-    /// Nothing.
+    /// No answer.
     Done,
     /// Whether there was a place.
     Placed(Result<(), Full>),
-    /// Whether something is so.
+    /// Whether something holds.
     Holds(bool),
     /// A call, or none.
     OneCall(Option<Call>),
@@ -22,11 +22,11 @@ pub enum Answer {
     OneLine(Option<Line>),
     /// Lines.
     Lines(ArrayVec<Line, 16>),
-    /// What a radio is engaged by, or nothing.
+    /// The ask, line or call that engages a radio, or none.
     Engaged(Option<Engagement>),
-    /// What is due.
+    /// The items that are due.
     Dues(Due),
-    /// How many stand.
+    /// The numbers of asks, lines and calls.
     Numbers(Counts),
 }
 
@@ -52,7 +52,7 @@ pub fn write_answer(said: &mut String, answer: &Answer) -> Result<(), OutOfMemor
     }
 }
 
-/// Writes lines.
+/// Writes lines, with `, ` between them.
 fn write_lines(said: &mut String, lines: &[Line]) -> Result<(), OutOfMemory> {
     let mut mark = "line ";
     for line in lines {
@@ -62,7 +62,7 @@ fn write_lines(said: &mut String, lines: &[Line]) -> Result<(), OutOfMemory> {
     Ok(())
 }
 
-/// Writes what a radio is engaged by.
+/// Writes the ask, line or call that engages a radio.
 fn write_engagement(said: &mut String, engagement: &Engagement) -> Result<(), OutOfMemory> {
     match engagement {
         Engagement::CallOf(call) => write_call(said, "call ", call),
@@ -71,7 +71,7 @@ fn write_engagement(said: &mut String, engagement: &Engagement) -> Result<(), Ou
     }
 }
 
-/// Writes what is due.
+/// Writes the items that are due.
 fn write_due(said: &mut String, due: &Due) -> Result<(), OutOfMemory> {
     if let Some(slot) = &due.call {
         write_slot(said, "call ", slot)?;

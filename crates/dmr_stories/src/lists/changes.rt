@@ -1,10 +1,10 @@
-//! What changes lists.
+//! Inputs that change the lists.
 
 use super::answers::Answer;
 use crate::language::words::{address_of, ask_of, call_of, carrier_of, cut, line_of, slot_of};
 use dmr_calls::Calls;
 
-/// Three numbers of ticks: the hang time, the longest time, and the time for an answer.
+/// Reads three numbers of ticks: the hang time, the longest time of a call, and the time for an answer.
 pub fn times_of(words: &str) -> Option<(u16, u16, u16)> {
     let (hang, others) = cut(words);
     let (maximum, wait) = cut(others);
@@ -15,7 +15,7 @@ pub fn times_of(words: &str) -> Option<(u16, u16, u16)> {
     ))
 }
 
-/// Changes calls, or counts a tick.
+/// Changes calls, or counts a tick. Returns `None` if the input is another.
 pub fn change_calls(calls: &mut Calls, word: &str, rest: &str) -> Option<Answer> {
     match word {
         "begin" => Some(Answer::Placed(calls.begin(call_of(rest)?))),
@@ -40,7 +40,7 @@ pub fn change_calls(calls: &mut Calls, word: &str, rest: &str) -> Option<Answer>
     }
 }
 
-/// Changes asks and lines.
+/// Changes asks and lines. Returns `None` if the input is another.
 pub fn change_waiting(calls: &mut Calls, word: &str, rest: &str) -> Option<Answer> {
     match word {
         "ask" => Some(Answer::Placed(calls.ask(ask_of(rest)?))),

@@ -1,11 +1,11 @@
-//! What is found in lists.
+//! Inputs that search the lists and change nothing.
 
 use super::answers::Answer;
 use super::changes::times_of;
 use crate::language::words::{address_of, slot_of, two_addresses_of};
 use dmr_calls::Calls;
 
-/// Finds a call, what a radio is engaged by, what is due, or how many stand.
+/// Finds a call, what engages a radio, the items that are due, or the counts. Returns `None` if the input is another.
 pub fn find_call(calls: &Calls, word: &str, rest: &str) -> Option<Answer> {
     match word {
         "call_on" => Some(Answer::OneCall(calls.call_on(slot_of(rest)?))),
@@ -21,7 +21,7 @@ pub fn find_call(calls: &Calls, word: &str, rest: &str) -> Option<Answer> {
     }
 }
 
-/// Finds an ask, or lines.
+/// Finds an ask, or lines. Returns `None` if the input is another.
 pub fn find_ask_or_line(calls: &Calls, word: &str, rest: &str) -> Option<Answer> {
     match word {
         "ask_of" => Some(Answer::OneAsk(calls.ask_of(address_of(rest)?))),
@@ -36,7 +36,7 @@ pub fn find_ask_or_line(calls: &Calls, word: &str, rest: &str) -> Option<Answer>
     }
 }
 
-/// Finds what a radio has to another, or to a talkgroup.
+/// Finds the call, ask or line of a radio with another radio or a talkgroup. Returns `None` if the input is another.
 pub fn find_own(calls: &Calls, word: &str, rest: &str) -> Option<Answer> {
     let (source, target) = two_addresses_of(rest)?;
     match word {

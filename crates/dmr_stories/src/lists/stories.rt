@@ -1,10 +1,10 @@
-//! Stories that lists are told.
+//! Stories of the lists.
 
 use super::Lists;
 use crate::language::tell;
 use std::test::Fail;
 
-/// Each story by its name.
+/// The stories, each with its name.
 static STORIES: [(&str, &str); 9] = [
     (
         "hangs from the later of beginning and mark",

@@ -1,13 +1,18 @@
-//! What sites answer.
+//! Answers of sites, and how they are written.
 //!
-//! An answer is a site's reply, if it says anything, and its acts in order, with `; ` between them.
+//! An answer is the site's reply, if there is one, and its acts in order, with `; ` between them.
 //!
 //! Acts are `queue C.S PDU`, `send C.S PDU`, `fill C.S PDU`, `joined R`, `left R`, `asked R T OPTIONS ATTEMPT`, `over
 //! R`, `lined R T`, `unlined R`, `began C.S R T` and `ended C.S`.
 //!
-//! A reply is `reply` and `status CARRIERS RADIOS ASKS LINES CALLS aloha`, or with `move L` at its end; `radios`, and
-//! the radios; `calls`, and calls as `C.S R T`; `lines N`, and lines as `R T`; `slots`, and slots as `C.S STATE`; `ok`,
-//! `not registered`, `busy`, `no call` or `no carrier`. What is listed is separated by `, `.
+//! A reply is `reply` and one of these, with `, ` between the items of a list:
+//!
+//! - `status CARRIERS RADIOS ASKS LINES CALLS aloha`, or with `move L` at its end
+//! - `radios` and the radios
+//! - `calls` and calls, each `C.S R T`
+//! - `lines N` and lines, each `R T`
+//! - `slots` and slots, each `C.S STATE`
+//! - `ok`, `not registered`, `busy`, `no call` or `no carrier`
 
 use crate::language::words::{write_ask, write_call, write_line, write_sent, write_slot};
 use dmr_calls::{Call, Line};
@@ -45,7 +50,7 @@ fn write_act(said: &mut String, act: &Act) -> Result<(), OutOfMemory> {
     }
 }
 
-/// Writes a radio behind a word.
+/// Writes a word and a radio.
 fn write_radio(said: &mut String, word: &str, radio: &Address) -> Result<(), OutOfMemory> {
     write!(said, "{word}{radio}")
 }
@@ -134,7 +139,7 @@ fn write_slots(said: &mut String, slots: &[SlotState]) -> Result<(), OutOfMemory
     Ok(())
 }
 
-/// The word for how a slot stands, behind a space.
+/// Returns the word for a slot's state, after a space.
 fn name_of(state: &State) -> &'static str {
     match state {
         State::Control => " control",

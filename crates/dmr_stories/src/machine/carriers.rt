@@ -1,11 +1,11 @@
-//! Carriers that come up and are lost while calls, lines and asks stand.
+//! Carriers that come up or are lost while there are calls, lines and asks.
 
 use super::stage::{Story, tell_all};
 use super::starts::{LINE_BEHIND_CALLS, ONE_ASK, THREE_CALLS};
 use crate::site_file::SMALL;
 use std::test::Fail;
 
-/// The calls on carrier 1 end with the 100th and the 101st tick, and a poll of carrier 1 sends each its P_CLEAR.
+/// The calls on carrier 1 end with the 100th and the 101st tick. After each, a poll of carrier 1 sends the P_CLEAR.
 const CALLS_OF_CARRIER_1_END: &str = "\
 99 tick =>
 tick => ended 1.0; queue 1.0 AE00001100005CFFFECA
@@ -15,8 +15,8 @@ poll 1 => send 1.1 AE00001100005DFFFECA
 ";
 
 static STORIES: [Story; 6] = [
-    // With a carrier its calls are gone, and nothing more is sent on it; once it is up again its slots are free at
-    // once.
+    // If a carrier is lost, its calls are gone and nothing more is sent on it. Once it is up again, its slots are free
+    // at once.
     Story {
         name: "lost carrier takes its calls",
         site: SMALL,
@@ -38,8 +38,8 @@ tick => ended 0.1; queue 0.1 AE00001100005BFFFECA
 ",
         ],
     },
-    // While a carrier is down its slots aren't free: a request waits, and the first tick after the carrier is up serves
-    // it.
+    // While a carrier is down, its slots are not free: a request waits, and the first tick after the carrier is up
+    // serves it.
     Story {
         name: "request waits for the carrier",
         site: SMALL,
@@ -58,7 +58,7 @@ tick => ended 0.1; queue 0.1 AE00001100005BFFFECA
 ",
         ],
     },
-    // A carrier that comes up twice loses its calls and what waited for it, as if it had been lost in between.
+    // If a carrier comes up twice, its calls and the PDUs that wait for it are gone, as if it had been lost in between.
     Story {
         name: "carrier comes up twice",
         site: SMALL,
@@ -82,8 +82,8 @@ heard 0.0 9F000001.92.1002 => queue 0.0 B100002000005C0003EA
 ",
         ],
     },
-    // With the control carrier its calls, all lines and all asks are gone. The calls of the other carrier stay and end
-    // after their hang time; registrations stay.
+    // If the control carrier is lost, its calls, all lines and all asks are gone. The calls of the other carrier go on
+    // and end after their hang time. Registrations remain.
     Story {
         name: "lost control carrier takes what waits",
         site: SMALL,
@@ -111,7 +111,8 @@ heard 0.0 9F000001.91.1001 => began 0.1 1001 g91; queue 0.0 B100001800005B0003E9
 ",
         ],
     },
-    // The control carrier comes back while calls of the other one stand: those go on, and can be joined late.
+    // The control carrier comes back during calls of the other carrier. Those calls go on, and radios can join them
+    // late.
     Story {
         name: "control carrier comes back",
         site: SMALL,
@@ -135,7 +136,7 @@ heard 0.0 9F000001.94.1004 => lined 1004 g94; queue 0.0 A00001400003EC00005E
 ",
         ],
     },
-    // An ask isn't repeated, nor answered, after the control carrier was away.
+    // After a loss of the control carrier, an ask is neither repeated nor answered.
     Story {
         name: "ask is gone with the control carrier",
         site: SMALL,

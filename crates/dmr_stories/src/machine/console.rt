@@ -6,7 +6,7 @@ use crate::site_file::SMALL;
 use std::test::Fail;
 
 static STORIES: [Story; 10] = [
-    // A radio that is dropped is registered no more, and its call ends.
+    // A radio that the operator drops is no longer registered, and its call ends.
     Story {
         name: "dropped caller",
         site: SMALL,
@@ -22,7 +22,8 @@ say calls 0 => reply calls
 ",
         ],
     },
-    // A called radio that is dropped is away to the one who calls it; the ask of one that calls is over, untold.
+    // If the called radio is dropped, its caller receives NoReg_MS_Away. If the calling radio is dropped, its ask is
+    // over and nothing is sent.
     Story {
         name: "dropped in an ask, called",
         site: SMALL,
@@ -48,7 +49,7 @@ say status => reply status 2 1 0 0 0 aloha
 ",
         ],
     },
-    // The request of a radio that is dropped waits no more.
+    // If a radio is dropped, its waiting request is removed.
     Story {
         name: "dropped in line",
         site: SMALL,
@@ -64,7 +65,7 @@ say lines 1 => reply lines 1
 ",
         ],
     },
-    // Without room nobody is dropped: 57 PDUs wait for the control slot.
+    // Without room no radio is dropped: 57 PDUs wait for the control slot.
     Story {
         name: "no room to drop",
         site: SMALL,
@@ -80,8 +81,8 @@ say drop 1001 => reply ok; left 1001
 ",
         ],
     },
-    // A call that is ended is cleared; its slot waits until its P_CLEAR has gone out, and then the request in line is
-    // served.
+    // A call that the operator ends is cleared. Its slot is not free until its P_CLEAR has been sent; then the next
+    // tick serves the waiting request.
     Story {
         name: "ended call",
         site: SMALL,
@@ -103,7 +104,7 @@ say calls 2 => reply no carrier
 ",
         ],
     },
-    // What is told of a carrier that is lost, and comes back.
+    // The replies while a carrier is lost, and after it is back.
     Story {
         name: "shown while a carrier is lost",
         site: SMALL,
@@ -124,7 +125,7 @@ say status => reply status 1 4 0 0 0 aloha
 ",
         ],
     },
-    // With the control carrier go the requests in line; calls on the other carrier stand.
+    // If the control carrier is lost, the waiting requests are gone. Calls on the other carrier go on.
     Story {
         name: "shown while the control carrier is lost",
         site: SMALL,
@@ -140,8 +141,8 @@ poll 1 => send 1.0 AE00001100005CFFFECA
 ",
         ],
     },
-    // While the control channel is to be moved C_MOVE fills its slot, with the same backoff, whether its carrier is
-    // lost or not.
+    // After the command `move`, C_MOVE fills the control slot, with the same backoff. A loss of the control carrier
+    // does not change that.
     Story {
         name: "moved control channel",
         site: SMALL,
@@ -162,7 +163,7 @@ say status => reply status 2 1 0 0 0 aloha
 ",
         ],
     },
-    // Sixteen radios at most are shown, from the number that is named.
+    // At most sixteen radios are shown, from the given number on.
     Story {
         name: "shown radios",
         site: SMALL,

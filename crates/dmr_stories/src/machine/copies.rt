@@ -5,26 +5,26 @@ use super::starts::ONE_ASK;
 use crate::site_file::SMALL;
 use std::test::Fail;
 
-/// A copy is made, and is equal to the site; what follows is told to the copy.
+/// Makes a copy, which equals the site. The following events go to the copy.
 const COPIED: &str = "\
 copy =>
 same => yes
 swap =>
 ";
 
-/// A copy is made, and is equal to the site; what follows is told to the site.
+/// Makes a copy, which equals the site. The following events go to the site.
 const COPIED_ASIDE: &str = "\
 copy =>
 same => yes
 ";
 
-/// Only one of a site and its copy was told something, and they differ; what follows is told to the other.
+/// Only one of the two has processed events, so they differ. The following events go to the other.
 const TOLD_ONE: &str = "\
 same => no
 swap =>
 ";
 
-/// Both were told the same, and they are equal.
+/// Both have processed the same events, and they are equal.
 const TOLD_BOTH: &str = "same => yes\n";
 
 /// A call, and a radio that joins it late.
@@ -35,7 +35,7 @@ heard 0.0 9F000001.91.1002 => queue 0.0 B100001C00005B0003E9
 poll 0 => send 0.0 B100001C00005B0003E9
 ";
 
-/// Two calls more, a request that waits, an operator who ends the first call, and the tick that serves the request.
+/// Two more calls, a request that waits, an operator who ends the first call, and the tick that serves the request.
 const TWO_CALLS_AND_A_LINE: &str = "\
 heard 0.0 9F000001.92.1002 => began 1.0 1002 g92; queue 0.0 B100002000005C0003EA
 poll 0 => send 0.0 B100002000005C0003EA
@@ -50,14 +50,14 @@ tick => unlined 1004; began 0.1 1004 g94; queue 0.0 B100001800005E0003EC
 poll 0 => send 0.0 B100001800005E0003EC
 ";
 
-/// A grant waits, the control slot was disturbed, and ticks were counted.
+/// A grant waits, the control slot has had noise, and ticks have been counted.
 const COUNTED: &str = "\
 heard 0.0 9F000001.91.1003 => began 0.1 1003 g91; queue 0.0 B100001800005B0003EB
 noise 0.0 =>
 4 tick =>
 ";
 
-/// An ask that is repeated and taken, a disturbed control slot, and a call that goes on.
+/// An ask that is repeated and accepted, noise on the control slot, and a call that goes on.
 const ASK_GOES_ON: &str = "\
 poll 0 => send 0.0 B100001800005B0003EB
 poll 0 => fill 0.0 99000000121234000000
@@ -70,8 +70,8 @@ tick => ended 0.1; queue 0.1 AE00001100005BFFFECA
 ";
 
 static STORIES: [Story; 4] = [
-    // A copy made after two requests answers all later events as the site itself does, and is equal to it before and
-    // after.
+    // A copy is made after two requests. It answers all later events as the site does, and equals the site before and
+    // after them.
     Story {
         name: "copy answers alike",
         site: SMALL,
@@ -85,7 +85,7 @@ static STORIES: [Story; 4] = [
             TOLD_BOTH,
         ],
     },
-    // The same where an ask stands, a grant waits, the control slot was disturbed, and ticks were counted.
+    // The same during an ask, while a grant waits, after noise on the control slot and after ticks.
     Story {
         name: "copy has what was counted",
         site: SMALL,
@@ -100,7 +100,7 @@ static STORIES: [Story; 4] = [
             TOLD_BOTH,
         ],
     },
-    // A site and its copy differ once one of them alone was told something that counts.
+    // A site and its copy differ once only one of them has processed an event that changes the state.
     Story {
         name: "copy stands alone",
         site: SMALL,
@@ -124,7 +124,7 @@ alone heard 0.0 A1000088.1001.1002 => yes
 ",
         ],
     },
-    // Sites of different plans differ, though nothing stands on either.
+    // Sites of different plans differ even before any event.
     Story {
         name: "sites of two plans differ",
         site: SMALL,

@@ -1,14 +1,13 @@
-//! What sites are told.
+//! Inputs of sites.
 //!
-//! Events are `up C`, `lost C`, `poll C`, `tick`, `active C.S`, `noise C.S` and `heard C.S PDU`; and `say` with a
-//! command of an operator: `status`, `radios N`, `calls C`, `lines N`, `slots`, `drop R`, `end C.S`, `move L` and
-//! `stay`.
+//! Events are `up C`, `lost C`, `poll C`, `tick`, `active C.S`, `noise C.S` and `heard C.S PDU`, and `say` with an
+//! operator's command: `status`, `radios N`, `calls C`, `lines N`, `slots`, `drop R`, `end C.S`, `move L` or `stay`.
 
 use crate::language::words::{address_of, carrier_of, cut, pdu_of, slot_of};
 use dmr_core::{Command, Event, LineNo};
 use dmr_pdu::Lpcn;
 
-/// The event that words name.
+/// Returns the event that these words mean.
 pub fn event_of(told: &str) -> Option<Event> {
     let (word, rest) = cut(told);
     match word {
@@ -27,7 +26,7 @@ pub fn event_of(told: &str) -> Option<Event> {
     }
 }
 
-/// The command that words name.
+/// Returns the command that these words mean.
 fn command_of(words: &str) -> Option<Command> {
     let (word, rest) = cut(words);
     match word {
@@ -47,7 +46,7 @@ fn command_of(words: &str) -> Option<Command> {
     }
 }
 
-/// The place of a line.
+/// Returns the place of a line, 1 to 32.
 fn line_number_of(digits: &str) -> Option<LineNo> {
     let number = digits.parse::<u8>().ok()?;
     if 1 <= number && number <= 32 {

@@ -5,13 +5,13 @@ use super::starts::{LINE_BEHIND_CALLS, ONE_ASK, THREE_CALLS};
 use crate::site_file::SMALL;
 use std::test::Fail;
 
-/// After the ask of radio 1002: it took radio 1001's call, which stands on slot 1 of carrier 0.
+/// After the ask to radio 1002: it accepts the call of radio 1001, which begins on slot 1 of carrier 0.
 const ONE_CALL: &str = "\
 heard 0.0 A10000880003E90003EA => over 1001; began 0.1 1001 1002; queue 0.0 B00000180003EA0003E9
 poll 0 => send 0.0 B00000180003EA0003E9
 ";
 
-/// Behind the three calls, radio 1004 called radio 1005, which took the call while no slot was free.
+/// After the three calls: radio 1004 calls radio 1005, which accepts while no slot is free.
 const ONE_LINE: &str = "\
 heard 0.0 9F000000.1005.1004 => asked 1004 1005 0 1; queue 0.0 A00001C00003EC0003ED; queue 0.0 9C0000000003ED0003EC
 poll 0 => send 0.0 A00001C00003EC0003ED
@@ -21,8 +21,7 @@ poll 0 => send 0.0 A00001400003EC0003ED
 ";
 
 static STORIES: [Story; 24] = [
-    // A call that was taken ends with the 100th quiet tick, and its slot is told so by a P_CLEAR that isn't a
-    // talkgroup's.
+    // An accepted call ends with the 100th quiet tick. The P_CLEAR on its slot is that of an individual call.
     Story {
         name: "taken call hangs",
         site: SMALL,
@@ -39,7 +38,7 @@ heard 0.0 9F000000.1001.1002 => asked 1002 1001 0 1; queue 0.0 A00001C00003EA000
 ",
         ],
     },
-    // The called radio is asked three times, each 8 ticks after the one before, and then the call is given up.
+    // The site asks the called radio three times, 8 ticks apart, and then ends the ask.
     Story {
         name: "silent radio is given up",
         site: SMALL,
@@ -61,8 +60,8 @@ heard 0.0 A1000088.1001.1002 =>
 ",
         ],
     },
-    // The called radio leaves: the ask is over and its source is told that the radio is away, then the leaving is
-    // accepted.
+    // If the called radio leaves, the ask is over. The source receives NoReg_MS_Away, and then the site accepts the
+    // leaving.
     Story {
         name: "asked radio leaves",
         site: SMALL,
@@ -78,7 +77,7 @@ heard 0.0 A1000088.1001.1002 =>
 ",
         ],
     },
-    // The called radio refuses, by any reason but MS_Accepted: the source is told that it is busy.
+    // If the called radio refuses, with any reason but MS_Accepted, the source receives Called_Party_Busy.
     Story {
         name: "asked radio refuses",
         site: SMALL,
@@ -94,7 +93,7 @@ heard 0.0 A10000C00003E90003EA => over 1001; queue 0.0 A000005C0003E90003EA
 ",
         ],
     },
-    // Only the asked radio's answer counts, and only on the control slot; whom it names as its target doesn't matter.
+    // Only an answer of the asked radio on the control slot has an effect. The target in the answer is ignored.
     Story {
         name: "answer of a radio that was not asked",
         site: SMALL,
@@ -110,7 +109,7 @@ heard 0.0 A10056890000070003EA => over 1001; began 0.1 1001 1002; queue 0.0 B000
 ",
         ],
     },
-    // The service options of the request stand in each C_AHOY.
+    // Each C_AHOY has the service options of the request.
     Story {
         name: "options are mirrored",
         site: SMALL,
@@ -125,7 +124,7 @@ tick => asked 1001 1002 86 2; queue 0.0 9C00AC000003EA0003E9
 ",
         ],
     },
-    // No radio calls itself, a radio that isn't listed, or one that isn't registered.
+    // A radio cannot call itself, a radio that is not listed, or one that is not registered.
     Story {
         name: "radios that cannot be called",
         site: SMALL,
@@ -141,8 +140,8 @@ heard 0.0 9F000000.1002.1001 => queue 0.0 A00000480003E90003EA
 ",
         ],
     },
-    // A radio is busy while it talks to a talkgroup, asks, is asked, or is in a call of its own; not where it came
-    // late.
+    // A radio is busy if it is the source of a talkgroup call, asks, is asked, or is a party of an individual call. A
+    // radio that joined a talkgroup call late is not busy.
     Story {
         name: "engaged radios are busy",
         site: SMALL,
@@ -162,7 +161,8 @@ heard 0.0 9F000000.1005.1004 => asked 1004 1005 0 1; queue 0.0 A00001C00003EC000
 ",
         ],
     },
-    // A repeated request is answered by how the first one stands: wait, queued, or the grant again.
+    // The answer to a repeated request depends on the state of the first one: Wait, Queued_For_Resource, or the grant
+    // again.
     Story {
         name: "caller asks again, ask",
         site: SMALL,
@@ -189,7 +189,7 @@ heard 0.0 9F000000.1005.1004 => queue 0.0 A00001400003EC0003ED
 ",
         ],
     },
-    // Whoever is a party to an ask, a call or a line is refused for now when it calls someone else.
+    // A party of an ask, a call or a line that calls another radio is refused for now.
     Story {
         name: "parties call someone else, ask",
         site: SMALL,
@@ -232,7 +232,7 @@ heard 0.0 9F000000.1005.1006 => queue 0.0 A000005C0003EE0003ED
 ",
         ],
     },
-    // A call that was taken while no slot was free waits for one, and is granted when one is.
+    // A call that is accepted while no slot is free waits for a slot, and is granted when one is free.
     Story {
         name: "taken call waits for a slot",
         site: SMALL,
@@ -249,7 +249,7 @@ poll 0 => send 0.0 B00000180003ED0003EC
 ",
         ],
     },
-    // A call that was taken waits behind a line that stands, though a slot is free.
+    // An accepted call waits after an existing line, even if a slot is free.
     Story {
         name: "taken call waits behind a line",
         site: SMALL,
@@ -266,7 +266,7 @@ heard 0.0 A1000088.1005.1006 => over 1005; lined 1005 1006; queue 0.0 A000014000
 ",
         ],
     },
-    // An ask is called off by its source alone, and once; a call isn't called off.
+    // Only the source can cancel an ask, and only once. A call cannot be cancelled.
     Story {
         name: "ask is called off once, ask",
         site: SMALL,
@@ -308,7 +308,8 @@ heard 0.0 9F00000F.1005.1004 => unlined 1004; queue 0.0 A00000C00003EC0003ED
 ",
         ],
     },
-    // A party leaves: what it is a party to is over. Of an ask or a line that its target leaves, the source is told so.
+    // If a party leaves, its ask, call or line is over. If the target of an ask or a line leaves, the source is
+    // informed.
     Story {
         name: "parties leave, ask",
         site: SMALL,
@@ -372,7 +373,7 @@ heard 0.0 9F00000E.16776902.1005 => unlined 1004; queue 0.0 A00000480003EC0003ED
 ",
         ],
     },
-    // One ask is repeated or given up with a tick, the one whose C_AHOY is oldest.
+    // A tick repeats or ends at most one ask, the one with the oldest C_AHOY.
     Story {
         name: "asks are repeated in turn",
         site: SMALL,

@@ -1,23 +1,23 @@
-//! Late entries: grants of the talkgroup calls that stand, in each fourth Fill.
+//! Late entries: grants of the active talkgroup calls, in each fourth Fill.
 
 use super::stage::{Story, tell_all};
 use super::starts::{ONE_ASK, THREE_CALLS};
 use crate::site_file::SMALL;
 use std::test::Fail;
 
-/// Radio 1001 talks to talkgroup 91 on slot 1 of carrier 0, and was told so.
+/// Radio 1001 talks to talkgroup 91 on slot 1 of carrier 0, and its grant has been sent.
 const ONE_CALL: &str = "\
 heard 0.0 9F000001.91.1001 => began 0.1 1001 g91; queue 0.0 B100001800005B0003E9
 poll 0 => send 0.0 B100001800005B0003E9
 ";
 
-/// Radio 1002 talks to talkgroup 92 on slot 0 of carrier 1 besides.
+/// In addition, radio 1002 talks to talkgroup 92 on slot 0 of carrier 1.
 const SECOND_CALL: &str = "\
 heard 0.0 9F000001.92.1002 => began 1.0 1002 g92; queue 0.0 B100002000005C0003EA
 poll 0 => send 0.0 B100002000005C0003EA
 ";
 
-/// Four Fills, the last of which is late entry of the call to 91, of that to 92, or of that to 93.
+/// Four Fills. The last is a late entry of the call to 91, of that to 92, or of that to 93.
 const FOUR_TO_91: &str =
     "3 poll 0 => fill 0.0 99000000111234000000\npoll 0 => fill 0.0 B100001C00005B0003E9\n";
 
@@ -28,14 +28,14 @@ const FOUR_TO_93: &str =
     "3 poll 0 => fill 0.0 99000000111234000000\npoll 0 => fill 0.0 B100002C00005D0003EB\n";
 
 static STORIES: [Story; 9] = [
-    // The one call is named each fourth time.
+    // Each fourth Fill names the only call.
     Story {
         name: "one call",
         site: SMALL,
         radios: Some(1001),
         told: &[ONE_CALL, FOUR_TO_91, FOUR_TO_91],
     },
-    // Two calls are named in turn, and three.
+    // Two calls, and three, are named in turn.
     Story {
         name: "two calls in turn",
         site: SMALL,
@@ -48,8 +48,8 @@ static STORIES: [Story; 9] = [
         radios: Some(1003),
         told: &[THREE_CALLS, FOUR_TO_91, FOUR_TO_92, FOUR_TO_93, FOUR_TO_91],
     },
-    // A call that ended is not named, and the turn goes on behind its slot; without a call there is no late entry, and
-    // the count goes on.
+    // An ended call is not named, and the turn goes on after its slot. Without a call there is no late entry, but the
+    // count of Fills goes on.
     Story {
         name: "ended calls",
         site: SMALL,
@@ -86,7 +86,7 @@ poll 0 => send 0.0 B00000180003EA0003E9
 ",
         ],
     },
-    // While the control channel is to be moved C_MOVE stands in place of a late entry, and counts.
+    // After the command `move`, a C_MOVE replaces the late entry, and counts as a Fill.
     Story {
         name: "moved control channel",
         site: SMALL,
@@ -102,7 +102,7 @@ poll 0 => fill 0.0 B100001C00005B0003E9
 ",
         ],
     },
-    // What waits and is sent does not count, nor does a poll of another carrier.
+    // A PDU that waited does not count as a Fill, nor does a poll of another carrier.
     Story {
         name: "sent in between",
         site: SMALL,
@@ -119,7 +119,8 @@ poll 0 => fill 0.0 B100001C00005B0003E9
 ",
         ],
     },
-    // With the control carrier's Up the count begins anew, and the last late entry is forgotten; so it is with its loss.
+    // When the control carrier comes up, the count begins again and the last late entry is forgotten. The same holds
+    // after its loss.
     Story {
         name: "forgotten with the control carrier",
         site: SMALL,
@@ -135,7 +136,8 @@ poll 0 => fill 0.0 B100001C00005B0003E9
             FOUR_TO_93,
         ],
     },
-    // Sites differ where one was filled once more, and are equal again after four Fills of which none was a late entry.
+    // After three more Fills a site differs from its copy. After the fourth they are equal again, since none was a late
+    // entry.
     Story {
         name: "counted Fills",
         site: SMALL,

@@ -6,7 +6,7 @@ use crate::site_file::{LARGE, LOUD, SMALL, WIDE};
 use std::test::Fail;
 
 static STORIES: [Story; 8] = [
-    // While 32 requests wait, another talkgroup request is refused, and waits once there is a place.
+    // While 32 requests wait, another talkgroup request is refused. Once there is a place, it waits.
     Story {
         name: "at most 32 requests wait",
         site: WIDE,
@@ -26,7 +26,7 @@ heard 0.0 9F000001.100.1010 => queue 0.0 A000004E0003F2000064
 ",
         ],
     },
-    // While 32 requests wait, a call that is taken is refused.
+    // While 32 requests wait, an accepted call is refused.
     Story {
         name: "taken call finds no place to wait",
         site: WIDE,
@@ -41,7 +41,7 @@ heard 0.0 A1000088.1036.1037 =>
 ",
         ],
     },
-    // 32 radios are asked at a time; a call to another is refused, and has a place once an ask is over.
+    // At most 32 radios are asked at a time. A call to another is refused until an ask is over.
     Story {
         name: "at most 32 radios are asked",
         site: SMALL,
@@ -61,7 +61,7 @@ heard 0.0 9F000000.1034.1001 => queue 0.0 A000004E0003E900040A
 ",
         ],
     },
-    // Sixteen carriers have 31 slots for calls, taken by carrier and then by slot; the 32nd request waits.
+    // Sixteen carriers have 31 slots for calls, assigned by carrier and then by slot. The 32nd request waits.
     Story {
         name: "sixteen carriers have 31 calls",
         site: LARGE,
@@ -135,8 +135,8 @@ poll 0 => send 0.0 A000014000040800007A
 ",
         ],
     },
-    // A tick that ends a call, repeats an ask and serves a line, where grants and P_CLEARs are sent four times: 13
-    // acts, of which 9 put a PDU behind others. The fourth fill before it is a late entry.
+    // One tick ends a call, repeats an ask and serves a line, with four copies of each grant and P_CLEAR: 13 acts, of
+    // which 9 queue a PDU. The fourth Fill before this tick is a late entry.
     Story {
         name: "busiest tick",
         site: LOUD,
@@ -170,8 +170,8 @@ tick => ended 1.0; queue 1.0 AE00001100005CFFFECA; queue 1.0 AE00001100005CFFFEC
 ",
         ],
     },
-    // 57 PDUs wait for the control slot: no request, answer or leaving has any effect, and no ask is repeated, until
-    // one of the 57 is sent.
+    // 57 PDUs wait for the control slot: requests, answers and leavings have no effect, and no ask is repeated, until
+    // one of the 57 has been sent.
     Story {
         name: "no room no effect",
         site: SMALL,
@@ -198,7 +198,7 @@ heard 0.0 A1000088.1001.1002 => over 1001; began 1.0 1001 1002; queue 0.0 B00000
 ",
         ],
     },
-    // A call ends without room as well, but no line is served until there is room.
+    // A call also ends without room, but no line is served until there is room.
     Story {
         name: "no room no service",
         site: SMALL,
@@ -218,7 +218,7 @@ tick => ended 1.1; queue 1.1 AE00001100005DFFFECA; unlined 1004; began 0.1 1004 
 ",
         ],
     },
-    // What waits is sent in its order, and is gone with the carrier.
+    // Waiting PDUs are sent in order, and are gone if the carrier is lost.
     Story {
         name: "what waits is gone with the carrier",
         site: SMALL,

@@ -5,7 +5,8 @@ use crate::site_file::{MANY, SMALL};
 use std::test::Fail;
 
 static STORIES: [Story; 5] = [
-    // A listed radio is registered once, and told so as often as it asks; a radio that isn't listed is denied.
+    // A listed radio is registered once, and each further request is accepted again. A radio that is not listed is
+    // denied.
     Story {
         name: "registers once",
         site: SMALL,
@@ -23,7 +24,7 @@ heard 0.0 9F00020EFFFEC60007D0 => queue 0.0 A00000560007D0FFFEC6
 ",
         ],
     },
-    // A radio that leaves is registered no more, and leaving is accepted as well from one that isn't registered or
+    // A radio that leaves is no longer registered. Leaving is also accepted from a radio that is not registered or not
     // listed.
     Story {
         name: "leaves at any time",
@@ -41,8 +42,8 @@ heard 0.0 9F00020EFFFEC60003EA => joined 1002; queue 0.0 A00000C40003EAFFFEC6
 ",
         ],
     },
-    // While 4,096 radios are registered, those are told so again, another is refused, and it has a place once one has
-    // left.
+    // While 4,096 radios are registered, their requests are accepted again and another radio is refused. It has a place
+    // once one radio has left.
     Story {
         name: "at most 4096 are registered",
         site: MANY,
@@ -63,7 +64,7 @@ heard 0.0 9F00020EFFFEC6000007 => queue 0.0 A0000054000007FFFEC6
 ",
         ],
     },
-    // Nothing waits: the control slot is filled with C_ALOHA, another slot with nothing; a carrier that is down sends
+    // Nothing waits: C_ALOHA fills the control slot, and nothing is sent on other slots. A carrier that is down sends
     // nothing.
     Story {
         name: "idle slots",
@@ -83,8 +84,8 @@ poll 9 =>
 ",
         ],
     },
-    // What disturbs the control slot raises the backoff, up to 8, and counts for the 32 polls after it; a new
-    // connection forgets it. What disturbs another slot doesn't count.
+    // Noise on the control slot raises the backoff, up to 8, and counts for the next 32 polls. A new connection resets
+    // it. Noise on another slot does not count.
     Story {
         name: "disturbed slots raise the backoff",
         site: SMALL,

@@ -1,10 +1,14 @@
-//! A site that is told stories, and a copy of it.
+//! A site and a copy of it as a listener of stories.
 //!
-//! Beside the events of a site (`events`), whose answers are its acts (`acts`), it can be told `copy`, which puts a copy
-//! of the site in the place of the one that it has; `other` and changes of the site file, which puts a site of that file
-//! there, on which nothing is up; `swap`, which turns the site and the copy; `same`, which asks whether they are equal;
-//! `alone` and an event, which asks whether another copy of the site is equal to it before the event and, the event
-//! having come to it alone, not afterwards; and `control`, which asks for the carrier of the control channel.
+//! Inputs are the events of a site (`events`), which are answered with its acts (`acts`), and these:
+//!
+//! - `copy` replaces the copy by a copy of the site.
+//! - `other` and changes of the site file replace the copy by a new site of that file, with no carrier up.
+//! - `swap` exchanges the site and the copy.
+//! - `same` asks whether the site and the copy are equal.
+//! - `alone` and an event make a further copy, and apply the event to that copy only. The answer is `yes` if the further copy
+//!   equals the site before the event and differs from it afterwards.
+//! - `control` asks for the carrier of the control channel.
 
 use super::acts::write_acts;
 use super::events::event_of;
@@ -19,16 +23,16 @@ use std::mem;
 use std::process::Abort;
 use std::test::Fail;
 
-/// A story, and the site that is told it.
+/// A story, and the site for it.
 pub struct Story {
-    /// What it is called where it fails.
+    /// The name in a failure.
     pub name: &'static str,
-    /// How the site's file differs from the common one.
+    /// The changes of the common site file.
     pub site: &'static str,
-    /// Where it is some radio, the carriers are up when the story begins, and the radios from 1001 to this one are
-    /// registered, each told so; otherwise nothing is up.
+    /// If it is a radio, the carriers are up when the story begins, the radios from 1001 to this one are registered,
+    /// and their acknowledgements have been sent. If it is `None`, no carrier is up.
     pub radios: Option<u32>,
-    /// Its parts, told one after another.
+    /// The parts of the story, in order.
     pub told: &'static [&'static str],
 }
 
@@ -40,26 +44,26 @@ struct Stage {
     alloc: Global,
 }
 
-/// A carrier comes up: the one whose number is the round's.
+/// The carrier whose number is the round's comes up.
 const COMES_UP: &str = "up 0+ =>";
 
-/// The radio whose number is the round's is registered, and told so.
+/// The radio whose number is the round's is registered, and its acknowledgement is sent.
 const REGISTERS: &str = "\
 heard 0.0 9F00020E.16776902.0+ => joined 0+; queue 0.0 A00000C4.0+.16776902
 poll 0 => send 0.0 A00000C4.0+.16776902
 ";
 
-/// Whether two sites are equal.
+/// Returns whether two sites are equal.
 fn are_same(first: &Site, second: &Site) -> bool {
     *first == *second
 }
 
-/// Whether two sites differ.
+/// Returns whether two sites differ.
 fn are_apart(first: &Site, second: &Site) -> bool {
     *first != *second
 }
 
-/// A site of this plan on which nothing is up, and a copy of it.
+/// Returns a site of this plan with no carrier up, and a copy of it.
 fn stage_of(alloc: Global, plan: &Plan) -> Result<Stage, OutOfMemory> {
     let site = Site::new(alloc, *plan)?;
     match Site::new(alloc, *plan) {
@@ -71,7 +75,7 @@ fn stage_of(alloc: Global, plan: &Plan) -> Result<Stage, OutOfMemory> {
     }
 }
 
-/// Tells each story, and wants its site to answer so.
+/// Runs each story and checks the answers of its site.
 pub fn tell_all(rt: &(impl Abort + AllocGlobal), stories: &[Story]) -> Result<(), Fail> {
     for story in stories {
         let plan = plan_of(rt.alloc(), story.site)?;
@@ -80,7 +84,7 @@ pub fn tell_all(rt: &(impl Abort + AllocGlobal), stories: &[Story]) -> Result<()
     Ok(())
 }
 
-/// Tells a story of a site of this plan.
+/// Runs a story with a site of this plan.
 fn tell_story<L: Listener + Drop>(
     rt: &(impl Abort + AllocGlobal),
     mut stage: L,
@@ -93,7 +97,7 @@ fn tell_story<L: Listener + Drop>(
     tell(rt, stage, story.name, story.told)
 }
 
-/// The carriers come up, and the radios from 1001 to the last one are registered.
+/// The carriers come up, and the radios from 1001 to `last` are registered.
 fn begin<L: Listener>(
     rt: &(impl Abort + AllocGlobal),
     stage: &mut L,
@@ -130,7 +134,7 @@ impl Listener for Stage {
 }
 
 impl Stage {
-    /// Puts the site of a site file with changes in the place of the copy.
+    /// Replaces the copy by a new site of the site file with changes.
     fn take_other(&mut self, changes: &str, said: &mut String) -> Result<(), OutOfMemory> {
         match reading_of(self.alloc, changes) {
             Ok(plan) => replace_with(&mut self.copy, Site::new(self.alloc, plan)?),
@@ -139,7 +143,8 @@ impl Stage {
         Ok(())
     }
 
-    /// Writes whether a copy of the site is equal to it, and is not once this event came to the copy alone.
+    /// Writes whether a further copy of the site equals it, and differs from it once the copy alone has processed this
+    /// event.
     fn stands_alone(&self, told: &str, said: &mut String) -> Result<(), OutOfMemory> {
         let event: Option<Event> = event_of(told);
         let Some(event) = event else {

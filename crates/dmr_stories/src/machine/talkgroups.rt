@@ -6,8 +6,8 @@ use crate::site_file::SMALL;
 use std::test::Fail;
 
 static STORIES: [Story; 12] = [
-    // The first request for a talkgroup begins a call and is granted; that of a second radio gets the same grant, late
-    // and with the first radio as its source.
+    // The first request for a talkgroup begins a call and is granted. A request of a second radio receives the same
+    // grant, marked as late and with the first radio as its source.
     Story {
         name: "second request is late",
         site: SMALL,
@@ -21,7 +21,8 @@ poll 0 => send 0.0 B100001C00005B0003E9
 ",
         ],
     },
-    // A radio that isn't registered is told so, and a registered one that the talkgroup isn't listed.
+    // A radio that is not registered receives MS_Not_Registered. A registered radio that requests a talkgroup that is
+    // not listed receives Group_Not_Allowed.
     Story {
         name: "unregistered caller and unlisted group",
         site: SMALL,
@@ -39,7 +40,7 @@ heard 0.0 9F0000010003EA0003E9 => queue 0.0 A000005E0003E90003EA
 ",
         ],
     },
-    // A request with any of the five flags isn't supported, whatever it asks for; its service options don't matter.
+    // A request with any of the five flags is not supported, whatever its kind. Its service options do not matter.
     Story {
         name: "flags are not supported",
         site: SMALL,
@@ -58,7 +59,7 @@ heard 0.0 9F00FE0100005B0003E9 => began 0.1 1001 g91; queue 0.0 B100001800005B00
 ",
         ],
     },
-    // Service kinds other than the four aren't supported, from whichever radio.
+    // Service kinds other than the four are not supported, from registered and other radios alike.
     Story {
         name: "other kinds are not supported",
         site: SMALL,
@@ -73,7 +74,7 @@ poll 0 => send 0.0 A0000040.1003.91
 ",
         ],
     },
-    // Only requests and answers are answered, and only on the control slot.
+    // Only requests and answers have an effect, and only on the control slot.
     Story {
         name: "other pdus are not answered",
         site: SMALL,
@@ -90,8 +91,8 @@ heard 0.0 9F00000100005B0003E9 => began 0.1 1001 g91; queue 0.0 B100001800005B00
 ",
         ],
     },
-    // A call ends with the 100th tick in a row without activity on its slot, counted from the later of its beginning
-    // and the last activity; activity on another slot doesn't count.
+    // A call ends with the 100th tick in a row without activity on its slot, counted from its beginning or the last
+    // activity, whichever is later. Activity on another slot does not count.
     Story {
         name: "activity restarts the hang time",
         site: SMALL,
@@ -110,7 +111,7 @@ tick => ended 0.1; queue 0.1 AE00001100005BFFFECA
 ",
         ],
     },
-    // A call that is never quiet for long ends with the 3,000th tick after its beginning.
+    // A call with continued activity ends with the 3,000th tick after its beginning.
     Story {
         name: "no call lasts longer than the maximum",
         site: SMALL,
@@ -131,8 +132,8 @@ tick =>
 ",
         ],
     },
-    // The source of a call that asks again gets its grant again, not late; asking for anything else it is refused for
-    // now.
+    // If the source of a call repeats its request, it receives its grant again, not marked as late. Its other requests
+    // are refused for now.
     Story {
         name: "source asks again",
         site: SMALL,
@@ -150,7 +151,7 @@ heard 0.0 9F000001.92.1001 => queue 0.0 A00000460003E900005C
 ",
         ],
     },
-    // A radio that came late to a call isn't engaged by it: it may call another talkgroup.
+    // A call does not engage a radio that joined it late: that radio may call another talkgroup.
     Story {
         name: "late radio may call",
         site: SMALL,
@@ -179,8 +180,8 @@ heard 0.0 9F000001.91.1002 => queue 0.0 A00000460003EA00005B
 ",
         ],
     },
-    // The source of a call leaves: the call ends and its slot is told so, before the leaving is accepted. A radio that
-    // only came late leaves without that.
+    // If the source of a call leaves, the call ends and a P_CLEAR is queued for its slot, before the site accepts the
+    // leaving. If a radio that only joined late leaves, the call goes on.
     Story {
         name: "leaving source ends its call",
         site: SMALL,
@@ -199,7 +200,7 @@ poll 0 => send 0.0 A00000C00003E9FFFEC6; send 0.1 AE00001100005BFFFECA
 ",
         ],
     },
-    // A slot isn't free while a grant of it still waits, though the call that it granted has ended and was cleared.
+    // A slot is not free while a grant of it still waits, even if its call has ended and was cleared.
     Story {
         name: "granted slot is not free",
         site: SMALL,

@@ -5,8 +5,8 @@ use super::starts::{LINE_BEHIND_CALLS, THREE_CALLS};
 use crate::site_file::SMALL;
 use std::test::Fail;
 
-/// The call on slot 1 of carrier 0 is quiet too long and ends, its P_CLEAR is sent, and the next call ends with the
-/// tick that serves the line.
+/// The call on slot 1 of carrier 0 ends after its hang time and its P_CLEAR is sent. The tick that ends the next call
+/// serves the line.
 const LINE_IS_SERVED: &str = "\
 99 tick =>
 tick => ended 0.1; queue 0.1 AE00001100005BFFFECA
@@ -27,8 +27,8 @@ poll 0 => fill 0.0 99000000111234000000; send 0.1 AE00001100005EFFFECA
 ";
 
 static STORIES: [Story; 10] = [
-    // A request for which no slot is free waits. It is granted with the first tick that finds a slot free, and that is
-    // not the tick that ends the call on it.
+    // A request waits while no slot is free. The first tick that finds a free slot grants it; the tick that ends the
+    // call on that slot does not.
     Story {
         name: "line is served on the cleared slot",
         site: SMALL,
@@ -40,7 +40,8 @@ static STORIES: [Story; 10] = [
             LAST_CALL_ENDS,
         ],
     },
-    // Until the P_CLEAR of the ended call is sent its slot isn't free: ticks grant nothing, and then the first grants.
+    // A slot is not free until the P_CLEAR of its ended call has been sent. Ticks before that grant nothing; the first
+    // one after it grants the request.
     Story {
         name: "line waits for the clearing",
         site: SMALL,
@@ -61,7 +62,8 @@ tick =>
 ",
         ],
     },
-    // The source of a line that asks again is told so again, and waits once: after its call nothing more is served.
+    // If the source of a line repeats its request, it is acknowledged again but waits only once: after its call nothing
+    // is served.
     Story {
         name: "repeated request waits once",
         site: SMALL,
@@ -77,8 +79,8 @@ poll 0 => send 0.0 A00001400003EC00005E
             LAST_CALL_ENDS,
         ],
     },
-    // A second radio that asks for the talkgroup of a line is told to wait, and has no line of its own: it may call the
-    // line's call late, or something else.
+    // A second radio that asks for the talkgroup of a line receives Queued_For_Resource but has no line of its own. It
+    // may join the line's call late, or make another call.
     Story {
         name: "second radio waits with the first",
         site: SMALL,
@@ -100,7 +102,7 @@ poll 0 => send 0.0 B100001C00005E0003EC
             LAST_CALL_ENDS,
         ],
     },
-    // The source of a line is engaged: asking for anything else it is refused for now, and called it is busy.
+    // The source of a line is engaged: its other requests are refused for now, and calls to it find it busy.
     Story {
         name: "source of a line is engaged",
         site: SMALL,
@@ -115,7 +117,7 @@ heard 0.0 9F000000.1004.1005 => queue 0.0 A000005C0003ED0003EC
 ",
         ],
     },
-    // While a line stands, a free slot is kept for it: a new request waits behind it, and is served after it.
+    // While there is a line, a free slot is kept for it: a new request waits after it, and is served after it.
     Story {
         name: "free slot goes to the first line",
         site: SMALL,
@@ -137,7 +139,7 @@ tick =>
 ",
         ],
     },
-    // A line that is called off is over; calling off again is refused, as for a radio that only has a call.
+    // A line that is cancelled is over. A second cancel is refused, and so is that of a radio that only has a call.
     Story {
         name: "line is called off once",
         site: SMALL,
@@ -159,7 +161,7 @@ tick => ended 1.0; queue 1.0 AE00001100005CFFFECA
 ",
         ],
     },
-    // The target that calls off names doesn't matter: what is over is the line of the source.
+    // The target in a cancel request is ignored: the request ends the line of its source.
     Story {
         name: "calling off goes by the source",
         site: SMALL,
@@ -173,7 +175,7 @@ heard 0.0 9F00000F.7.1004 => unlined 1004; queue 0.0 A00000C00003EC000007
 ",
         ],
     },
-    // The source of a line leaves: the line is over, and nothing is served.
+    // If the source of a line leaves, the line is over and nothing is served.
     Story {
         name: "leaving source ends its line",
         site: SMALL,
@@ -191,7 +193,7 @@ tick => ended 1.0; queue 1.0 AE00001100005CFFFECA
 ",
         ],
     },
-    // One call is ended by a tick, the one that began first, however many are over.
+    // A tick ends at most one call, the one that began first, even if several are due.
     Story {
         name: "one call ends with a tick",
         site: SMALL,

@@ -1,10 +1,10 @@
-//! Stories that slots are told.
+//! Stories of the slots.
 
 use super::Slots;
 use crate::language::tell;
 use std::test::Fail;
 
-/// Each story by its name.
+/// The stories, each with its name.
 static STORIES: [(&str, &str); 7] = [
     (
         "gives the lowest free slot",

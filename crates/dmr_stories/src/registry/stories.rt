@@ -1,10 +1,10 @@
-//! Stories that registered radios are told.
+//! Stories of the registry.
 
 use super::Radios;
 use crate::language::tell;
 use std::test::Fail;
 
-/// Each story by its name.
+/// The stories, each with its name.
 static STORIES: [(&str, &str); 4] = [
     (
         "takes 4096 radios",

@@ -1,7 +1,7 @@
-//! What comes of a carrier whose port fails. It tells 36 octets: HELLO has 6, the registration 28, and POLL 2. The answer has 33:
-//! WELCOME 3, and then the acknowledgement and DONE.
+//! Rows for a carrier whose port fails. Its input has 36 octets: HELLO 6, the registration 28, POLL 2. The answer has
+//! 33: WELCOME 3, and then the acknowledgement and DONE.
 
-/// The rows by their names.
+/// The rows, in tables with names.
 pub static ROWS: [(&str, &str); 9] = [
     (
         "the input ends after N octets",

@@ -1,14 +1,14 @@
-//! A desk at which nothing more is to be handed in.
+//! A desk that must not receive anything.
 
 ghost use Rattle.std.specs.Prelude.{[], ⊤};
 
 use dmr_core::{Acts, Event};
 use dmr_link::{Desk, TermOver};
 
-/// Takes nothing, and counts how often it was turned to.
+/// Refuses every event, and counts the calls.
 #[derive(Drop)]
 pub struct ClosedDesk {
-    /// How often it was turned to.
+    /// The number of calls.
     pub turns: usize,
 }
 

@@ -1,7 +1,7 @@
-//! What comes of a carrier of version 2 of the link whose port fails. It tells 37 octets: HELLO has 6, the registration 29, and POLL 2. The
-//! answer has 34: WELCOME 3, and then the acknowledgement and DONE.
+//! Rows for a carrier that speaks version 2 of the link and whose port fails. Its input has 37 octets: HELLO 6, the
+//! registration 29, POLL 2. The answer has 34: WELCOME 3, and then the acknowledgement and DONE.
 
-/// The rows by their names.
+/// The rows, in tables with names.
 pub static ROWS: [(&str, &str); 10] = [
     (
         "the input ends after N octets",

@@ -1,7 +1,7 @@
-//! What comes of an operator whose port fails. The lines have 7 and 5 octets, the answers 61 and 3. An open line at a fault means
-//! nothing.
+//! Rows for an operator whose port fails. The lines have 7 and 5 octets, the replies 61 and 3. An incomplete line
+//! before a fault has no effect.
 
-/// The rows by their names.
+/// The rows, in tables with names.
 pub static ROWS: [(&str, &str); 5] = [
     (
         "the input ends, or a read fails, after N octets",

@@ -1,12 +1,12 @@
-//! Who comes to a site, what it tells, and what it is answered.
+//! The peers of a site, their input, and the site's answers to it.
 
 use dmr_frames::Version;
 use std::alloc::{AllocError, Global};
 
-/// Who comes.
+/// A peer of the site.
 #[derive(Clone, Copy, Debug, PartialEq, Eq)]
 pub enum Peer {
-    /// Carrier 0. It speaks this version of the link, which is the greatest that it is served.
+    /// Carrier 0. It speaks this version of the link, which is also the greatest that the site serves to it.
     Carrier(Version),
     /// An operator.
     Operator,
@@ -19,7 +19,7 @@ const TOLD: &[u8] = &[
     0xE1, 0x80, 0x03, 0x00,
 ];
 
-/// The same in version 2 of the link, the number of the registration being 5.
+/// The same in version 2 of the link. The registration has number 5.
 const TOLD_NUMBERED: &[u8] = &[
     0x01, 0x04, 0x02, 0x00, 0x00, 0x01, 0x02, 0x1B, 0x05, 0x00, 0x0E, 0xB4, 0x9C, 0xDF, 0x34, 0xF2,
     0x74, 0x9C, 0xEC, 0xBA, 0x5C, 0xB3, 0xB7, 0xC4, 0x0E, 0x88, 0x13, 0x8C, 0x9A, 0x38, 0xF9, 0x62,
@@ -33,7 +33,7 @@ const ANSWERED: &[u8] = &[
     0x00,
 ];
 
-/// The same in version 2 of the link, the number of the acknowledgement being 0.
+/// The same in version 2 of the link. The acknowledgement has number 0.
 const ANSWERED_NUMBERED: &[u8] = &[
     0x81, 0x01, 0x02, 0x82, 0x1B, 0x00, 0x00, 0x41, 0xC3, 0x02, 0x8A, 0x48, 0xFC, 0x8F, 0x40, 0x3D,
     0xC0, 0x6F, 0x00, 0xED, 0xA0, 0xF7, 0x83, 0xE4, 0x97, 0x54, 0x2E, 0x40, 0x5C, 0xB8, 0x3C, 0xB0,
@@ -43,11 +43,11 @@ const ANSWERED_NUMBERED: &[u8] = &[
 /// Two lines.
 const SAID: &[u8] = b"status\nstay\n";
 
-/// What they are answered where no carrier is up and nothing stands.
+/// The replies to them on a site with no carrier up, no radio, ask, line or call.
 const REPLIES: &[u8] = b"status carriers 0 radios 0 asks 0 lines 0 calls 0 fill aloha\nok\n";
 
 impl Peer {
-    /// What it tells: 36 octets, 37 in version 2 of the link, or 12.
+    /// Returns the peer's input: 36 octets, 37 in version 2 of the link, or 12 of an operator.
     pub fn told(self) -> &'static [u8] {
         match self {
             Peer::Carrier(Version::V1) => TOLD,
@@ -56,7 +56,7 @@ impl Peer {
         }
     }
 
-    /// The whole answer to that: 33 octets, 34 in version 2 of the link, or 64.
+    /// Returns the whole answer to that input: 33 octets, 34 in version 2 of the link, or 64 for an operator.
     pub fn answer(self) -> &'static [u8] {
         match self {
             Peer::Carrier(Version::V1) => ANSWERED,
@@ -65,7 +65,8 @@ impl Peer {
         }
     }
 
-    /// The first octets of its answer, once for each count, one after the other. `None` where a word is no count.
+    /// Returns, for each count in `counts`, this number of first octets of the answer, joined. Returns `None` if a word
+    /// is not a count.
     pub fn answered(
         self,
         alloc: Global,
@@ -86,7 +87,7 @@ impl Peer {
     }
 }
 
-/// The number that a word is, `N` being that of the round.
+/// Returns the number that a word means. `N` is the number of the round.
 pub fn number(word: &str, round: usize) -> Option<usize> {
     if word == "N" {
         Some(round)

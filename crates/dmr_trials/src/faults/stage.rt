@@ -1,4 +1,4 @@
-//! A term to which one peer comes, and nobody else, and what stands when it has ended.
+//! A term with only one peer, and the state after it has ended.
 
 ghost use Rattle.std.specs.Prelude.{None};
 
@@ -19,16 +19,16 @@ use std::sync::Wait;
 use std::test::Fail;
 use std::thread::Threads;
 
-/// The room of a port's record: so many answers, and so many octets.
+/// The room of a port's record, in answers and in octets.
 const ROOM: usize = 4096;
 
-/// As many entries as a term may need.
+/// A limit of entries that no term here reaches.
 const AMPLE: usize = 1000;
 
 /// The console's number among the actors.
 const CONSOLE: usize = 3;
 
-/// A pacer without ticks. It tells no record.
+/// A pacer without ticks. It states no record.
 #[derive(Clone, Copy)]
 struct NoTicks;
 
@@ -43,7 +43,7 @@ impl Pacer for NoTicks {
 /// A carrier's station.
 type CarrierStation = Station<MemoryPort, OpenGate>;
 
-/// What stands before a term.
+/// The site, the stations and the console before a term, and the peer's actor.
 #[derive(Drop)]
 pub struct Stage {
     site: Site,
@@ -52,10 +52,10 @@ pub struct Stage {
     actor: usize,
 }
 
-/// What stands when a term has ended.
+/// The result of a term that has ended.
 #[derive(Drop)]
 pub struct Outcome {
-    /// How many entries the journal has.
+    /// The number of entries in the journal.
     pub entries: usize,
     /// Why each actor's worker ended.
     pub ends: ArrayVec<Ending, 18>,
@@ -65,7 +65,7 @@ pub struct Outcome {
     actor: usize,
 }
 
-/// A port of these steps.
+/// Returns a port of these steps.
 fn port_of(alloc: Global, steps: Vec<Step>) -> Result<MemoryPort, Fail> {
     match MemoryPort::new(alloc, steps, ROOM) {
         Ok(port) => Ok(port),
@@ -73,7 +73,8 @@ fn port_of(alloc: Global, steps: Vec<Step>) -> Result<MemoryPort, Fail> {
     }
 }
 
-/// The station of a carrier of this number, which is served versions of the link up to the greatest, and whose port answers by these steps.
+/// Returns the station of the carrier with this number, whose port answers by these steps. It serves versions of the
+/// link up to `greatest`.
 fn station_of(
     alloc: Global,
     number: u32,
@@ -90,7 +91,7 @@ fn station_of(
 }
 
 impl Stage {
-    /// A quiet site to which a peer comes, whose port answers by these steps.
+    /// Returns a quiet site with one peer, whose port answers by these steps.
     pub fn new(alloc: Global, peer: Peer, steps: Vec<Step>) -> Result<Stage, Fail> {
         let (of_carrier, greatest, of_operator, actor) = match peer {
             Peer::Carrier(version) => (steps, version, Vec::new(alloc), 0),
@@ -158,8 +159,10 @@ fn run<R: Wait + Threads + Sync>(
 }
 
 impl Outcome {
-    /// The events of the peer's actor, a letter for each: U is Up, H Heard, N Noise, P Poll and L Lost of carrier 0, S the command
-    /// `status`, Y `stay`, and ? any other.
+    /// Returns the events of the peer's actor, a letter for each.
+    ///
+    /// U is Up, H Heard, N Noise, P Poll and L Lost of carrier 0. S is the command `status`, Y is `stay`, and ? is any
+    /// other event.
     pub fn letters(&self, alloc: Global) -> Result<String, AllocError> {
         let mut letters = String::new(alloc);
         if let Some(view) = self.views.as_slice().get(self.actor) {
@@ -170,7 +173,7 @@ impl Outcome {
         Ok(letters)
     }
 
-    /// The port of the peer.
+    /// Returns the port of the peer.
     fn port(&self) -> &MemoryPort {
         if self.actor == CONSOLE {
             &self.console.port
@@ -179,17 +182,17 @@ impl Outcome {
         }
     }
 
-    /// All octets that the peer's port has taken.
+    /// Returns all octets that the peer's port has taken.
     pub fn taken(&self) -> &[u8] {
         self.port().taken()
     }
 
-    /// How many calls the peer's port has answered; `None` where it keeps no record.
+    /// Returns the number of calls that the peer's port has answered, or `None` if it keeps no record.
     pub fn calls(&self) -> Option<usize> {
         Some(self.port().entries()?.len())
     }
 
-    /// Whether the peer's link is live.
+    /// Returns whether the peer's link is live.
     pub fn is_live(&self) -> bool {
         if self.actor == CONSOLE {
             self.console.link.live()
@@ -198,7 +201,7 @@ impl Outcome {
         }
     }
 
-    /// Serves the peer's link once more, without opening it: how that ended, and how often the desk was turned to.
+    /// Serves the peer's link again without opening it. Returns how that ended, and the number of calls of the desk.
     pub fn serve_again(&mut self) -> (Ended, usize) {
         let mut desk = ClosedDesk { turns: 0 };
         let ended = if self.actor == CONSOLE {
@@ -211,7 +214,7 @@ impl Outcome {
     }
 }
 
-/// The letter of an event.
+/// Returns the letter of an event.
 fn letter_of(event: &Event) -> char {
     let (carrier, letter) = match event {
         Event::Up(carrier) => (carrier.get(), 'U'),

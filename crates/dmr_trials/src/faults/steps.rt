@@ -1,14 +1,18 @@
-//! What a port is to answer, in words, with `, ` between the steps.
+//! The steps of a port: how it answers its calls, in words with `, ` between the steps.
 //!
-//! `connect` is a connection that comes. `first N` feeds the first N octets of what the peer tells, `behind N` those that follow them,
-//! and `hex` octets in hexadecimal digits, `NN` being that of the round. `read` and `write` say what a read or a write answers: `end`, `interrupted`, `block` or
-//! `fault`; `write N` takes N octets. `again` and `silent` are what a wait answers. `N x` before a step: so many of it.
+//! - `connect`: a connection arrives.
+//! - `first N`: a read returns the first N octets of the peer's input. `behind N`: the octets after them.
+//! - `hex` and octets in hexadecimal digits: a read returns them. `NN` is the octet of the round's number.
+//! - `read` and `write`: how a read or write ends: `end`, `interrupted`, `block` or `fault`. `write N` takes N octets.
+//! - `again` and `silent`: the answer of a wait.
+//!
+//! `N x` before a step repeats it N times.
 
 use super::peers::number;
 use dmr_wire::{Connect, Got, Put, Step, Waited};
 use std::alloc::{AllocError, Global};
 
-/// Adds the steps of these words, `told` being what the peer tells. Whether each word was one.
+/// Adds the steps that these words mean, with `told` as the peer's input. Returns whether the words are known.
 pub fn add_steps(
     alloc: Global,
     steps: &mut Vec<Step>,
@@ -31,7 +35,7 @@ pub fn add_steps(
     Ok(true)
 }
 
-/// The step of words.
+/// Returns the step that these words mean.
 fn step_of(
     alloc: Global,
     told: &[u8],
@@ -56,7 +60,7 @@ fn step_of(
     }
 }
 
-/// The step that gives no octets.
+/// Returns the step without octets that these words mean.
 fn answer_of(words: &str, round: usize) -> Option<Step> {
     match words {
         "connect" => Some(Step::Connect(Connect::Ready)),
@@ -76,7 +80,7 @@ fn answer_of(words: &str, round: usize) -> Option<Step> {
     }
 }
 
-/// The step that feeds octets, each of two digits.
+/// Returns the step that feeds these octets, each of two digits.
 fn hex_step(alloc: Global, digits: &str, round: usize) -> Result<Option<Step>, AllocError> {
     let mut octets = Vec::new(alloc);
     let mut left = digits;
@@ -94,7 +98,7 @@ fn hex_step(alloc: Global, digits: &str, round: usize) -> Result<Option<Step>, A
     })
 }
 
-/// The octet of the first two digits, and what stands behind them.
+/// Returns the octet of the first two digits, and the digits after them.
 fn first_octet(digits: &str, round: usize) -> Option<(u8, &str)> {
     let rest = digits.get(2..)?;
     let octet = if digits.starts_with("NN") {

@@ -1,4 +1,4 @@
-//! Actors that meet: one goes on only when another has come so far.
+//! Actors that meet: one goes on only after another has made a number of steps.
 
 ghost use Rattle.std.specs.Prelude.{None, ⊤};
 
@@ -9,24 +9,25 @@ use std::sync::atomic::{AtomicU64, Ordering};
 use std::thread;
 use std::time::Duration;
 
-/// What holds the first step of its kind.
+/// The hold of the first step of its kind.
 #[derive(Clone, Copy)]
 pub enum Hold {
-    /// Nothing.
+    /// The step is not held.
     Free,
-    /// It is refused.
+    /// The step is refused.
     Shut,
-    /// It waits until another has come so far.
+    /// The step waits for the steps of another actor.
     Until {
-        /// The other's number.
+        /// The number of the other actor.
         actor: usize,
-        /// How many steps it has made by then. An event that it handed in by its gate, and that was answered, is two.
+        /// The number of steps that the other actor must have made. An event that it deposited by its gate, with the
+        /// answer, is two.
         steps: u64,
     },
 }
 
-/// Counts the steps of an actor, and holds the first that may be held. An actor makes a step wherever its gate is to be entered,
-/// wherever the gate is left, its port is silent, or its pacer is asked.
+/// Counts the steps of an actor, and holds the first one that can be held. An actor makes a step at each attempt to
+/// enter its gate, at each exit from it, at each silence of its port, and at each question to its pacer.
 #[derive(Drop)]
 pub struct Meeting<'a> {
     rt: &'a HostRuntime,
@@ -46,14 +47,15 @@ impl<'a> Meeting<'a> {
         }
     }
 
-    /// Counts a step that nothing holds.
+    /// Counts a step that cannot be held.
     fn step(&self) {
         if let Some(made) = self.steps.get(self.actor) {
             made.fetch_add(1, Ordering::SeqCst);
         }
     }
 
-    /// Counts a step that may be held. `false`: it was refused, or the other actor did not come so far.
+    /// Counts a step that can be held. Returns `false` if it was refused, or if the other actor did not make its steps
+    /// in time.
     fn held_step(&mut self) -> bool {
         self.step();
         let hold = self.hold;
@@ -65,7 +67,7 @@ impl<'a> Meeting<'a> {
         }
     }
 
-    /// Waits until an actor has made so many steps, and at most 10,000 times 1 ms. Whether it has.
+    /// Waits until an actor has made `steps` steps, for at most 10,000 times 1 ms. Returns whether it has.
     fn waits_for(&self, actor: usize, steps: u64) -> bool {
         let Some(made) = self.steps.get(actor) else {
             return false;
@@ -80,7 +82,7 @@ impl<'a> Meeting<'a> {
     }
 }
 
-/// The actor's gate. It tells no record.
+/// The actor's gate. It states no record.
 impl<'a> Gate for Meeting<'a> {
     ghost passed = { λ g. None };
 
@@ -95,7 +97,7 @@ impl<'a> Gate for Meeting<'a> {
     }
 }
 
-/// A port in memory whose first silence may be held. It tells no record.
+/// A port in memory whose first silence can be held. It states no record.
 #[derive(Drop)]
 pub struct MeetingPort<'a> {
     /// The port in memory.
@@ -130,12 +132,12 @@ impl<'a> Port for MeetingPort<'a> {
     }
 }
 
-/// A pacer that gives these answers, and whose first may be held. It tells no record.
+/// A pacer with these answers, whose first answer can be held. It states no record.
 #[derive(Drop)]
 pub struct MeetingPacer<'a> {
-    /// Its answers. Behind the last it is finished.
+    /// Its answers. After the last one it is finished.
     pub paces: &'static [Pace],
-    /// Holds the first.
+    /// Holds the first answer.
     pub meeting: Meeting<'a>,
 }
 

@@ -1,4 +1,4 @@
-//! A site of two carriers, and what stands round it from term to term.
+//! A site of two carriers with its stations, pacer and console, from term to term.
 
 use super::meeting::{Hold, Meeting, MeetingPacer, MeetingPort};
 use super::stories::{NO_CARRIER, NOTHING_COMES};
@@ -16,40 +16,40 @@ use std::sync::atomic::AtomicU64;
 use std::test::Fail;
 use std::thread::Threads;
 
-/// The room of a port's record: so many answers, and so many octets.
+/// The room of a port's record, in answers and in octets.
 const ROOM: usize = 4096;
 
 /// The console's number among the actors.
 const CONSOLE: usize = 3;
 
-/// What comes from a carrier, and what holds it.
+/// The input of a carrier, and its holds.
 #[derive(Drop)]
 pub struct Carrier {
-    /// Its connections: how many POLLs come behind its HELLO, and what the read behind them answers.
+    /// Its connections: the number of POLLs after its HELLO, and the answer of the read after them.
     pub connections: &'static [(usize, Got)],
-    /// What holds the first entry of its gate.
+    /// The hold of the first entry of its gate.
     pub gate: Hold,
-    /// What holds the first silence of its port.
+    /// The hold of the first silence of its port.
     pub wait: Hold,
 }
 
-/// What stands when the first term begins.
+/// The state at the beginning of the first term.
 #[derive(Drop)]
 pub struct Opening {
     /// The two carriers, by number.
     pub carriers: &'static [Carrier],
-    /// What the pacer answers.
+    /// The answers of the pacer.
     pub paces: &'static [Pace],
-    /// What holds the first of that.
+    /// The hold of the pacer's first answer.
     pub pacer: Hold,
-    /// The octets of an operator. Where there are none, no operator comes.
+    /// The octets of an operator. If there are none, no operator connects.
     pub operator: &'static [u8],
 }
 
 /// A carrier's station.
 type CarrierStation<'a> = Station<MeetingPort<'a>, Meeting<'a>>;
 
-/// What goes from term to term.
+/// The state that one term hands to the next.
 #[derive(Drop)]
 pub struct Stage<'a> {
     site: Site,
@@ -58,25 +58,25 @@ pub struct Stage<'a> {
     console: ConsoleStation<MemoryPort>,
 }
 
-/// What comes of a term.
+/// The result of a term.
 #[derive(Drop)]
 pub struct Outcome<'a> {
-    /// How many entries its journal has.
+    /// The number of entries in its journal.
     pub entries: usize,
     /// Why each actor's worker ended.
     pub ends: ArrayVec<Ending, 18>,
-    /// What each actor told the site.
+    /// The events of each actor.
     pub views: Views,
-    /// What the next term begins with.
+    /// The stage of the next term.
     pub stage: Stage<'a>,
 }
 
-/// How many steps each of three actors has made, none yet: the carriers' and the ticker.
+/// Returns the counts of the steps that the three actors (two carriers and the ticker) have made: none yet.
 pub fn new_steps() -> [AtomicU64; 3] {
     [AtomicU64::new(0), AtomicU64::new(0), AtomicU64::new(0)]
 }
 
-/// The station of the carrier of this number.
+/// Returns the station of the carrier with this number.
 fn station_of<'a>(
     rt: &'a HostRuntime,
     steps: &'a [AtomicU64],
@@ -96,7 +96,7 @@ fn station_of<'a>(
     })
 }
 
-/// Stations of carriers of these numbers, a digit each, to which nobody comes.
+/// Returns stations of carriers with these numbers, a digit each, to which nobody connects.
 fn stations_of<'a>(
     rt: &'a HostRuntime,
     steps: &'a [AtomicU64],
@@ -110,7 +110,8 @@ fn stations_of<'a>(
     Ok(stations)
 }
 
-/// What the port of a carrier answers. A connection comes at the second ask; its octets come after a wait, a frame with each read.
+/// Returns the steps of a carrier's port. A connection arrives at the second call of `connect`. Its octets arrive after
+/// a wait, one frame with each read.
 fn carrier_steps(alloc: Global, number: u8, carrier: &Carrier) -> Result<Vec<Step>, Fail> {
     let mut steps = Vec::new(alloc);
     for (polls, end) in carrier.connections {
@@ -128,7 +129,7 @@ fn carrier_steps(alloc: Global, number: u8, carrier: &Carrier) -> Result<Vec<Ste
     Ok(steps)
 }
 
-/// What the console's port answers.
+/// Returns the steps of the console's port.
 fn console_steps(alloc: Global, operator: &[u8]) -> Result<Vec<Step>, Fail> {
     let mut steps = Vec::new(alloc);
     if !operator.is_empty() {
@@ -138,7 +139,7 @@ fn console_steps(alloc: Global, operator: &[u8]) -> Result<Vec<Step>, Fail> {
     Ok(steps)
 }
 
-/// A port of these steps.
+/// Returns a port of these steps.
 fn port_of(alloc: Global, steps: Vec<Step>) -> Result<MemoryPort, Fail> {
     match MemoryPort::new(alloc, steps, ROOM) {
         Ok(port) => Ok(port),
@@ -147,7 +148,7 @@ fn port_of(alloc: Global, steps: Vec<Step>) -> Result<MemoryPort, Fail> {
 }
 
 impl<'a> Stage<'a> {
-    /// What stands when the first term begins, on a site on which nothing is up.
+    /// Returns the stage of the first term, with a site on which nothing is up.
     pub fn new(
         rt: &'a HostRuntime,
         steps: &'a [AtomicU64],
@@ -173,7 +174,7 @@ impl<'a> Stage<'a> {
         })
     }
 
-    /// What stands where nothing comes, with stations of carriers of these numbers, a digit each.
+    /// Returns a stage without any input, with stations of carriers of these numbers, a digit each.
     pub fn of_numbers(
         rt: &'a HostRuntime,
         steps: &'a [AtomicU64],
@@ -227,7 +228,7 @@ impl<'a> Stage<'a> {
         })
     }
 
-    /// All octets that the port of an actor has taken; the ticker has none.
+    /// Returns all octets that the port of an actor has taken. The ticker has no port.
     pub fn taken(&self, actor: usize) -> &[u8] {
         match self.stations.get(actor) {
             Some(station) => station.port.port.taken(),
@@ -236,7 +237,7 @@ impl<'a> Stage<'a> {
         }
     }
 
-    /// Whether the link of a carrier is live.
+    /// Returns whether the link of a carrier is live.
     pub fn is_live(&self, actor: usize) -> bool {
         match self.stations.get(actor) {
             Some(station) => station.link.live(),

@@ -1,4 +1,4 @@
-//! What comes in terms, and what they bring.
+//! Inputs of terms, and the expected results.
 
 use super::meeting::Hold;
 use super::spelling::Letters;
@@ -6,16 +6,17 @@ use super::stage::{Carrier, Opening};
 use dmr_desk::{Ending, Pace};
 use dmr_wire::Got;
 
-/// Why an actor's worker ends, where the schedule makes no difference to it; its events; and what its port has taken till then.
+/// Why an actor's worker ends (`None` if that depends on the schedule), its events, and the octets that its port has
+/// taken so far.
 pub type Part = (Option<Ending>, Letters, Letters);
 
-/// What a term is to bring.
+/// The expected result of a term.
 pub struct Want {
-    /// How many entries it may have.
+    /// The limit of its entries.
     pub limit: usize,
-    /// How many it has.
+    /// The number of its entries.
     pub entries: usize,
-    /// What becomes of the two carriers, the ticker, and the console.
+    /// The parts of the two carriers, the ticker and the console.
     pub actors: &'static [Part],
 }
 
@@ -23,9 +24,9 @@ pub struct Want {
 pub struct Story {
     /// Its name.
     pub name: &'static str,
-    /// What stands when the first begins.
+    /// The state at the beginning of the first term.
     pub opening: Opening,
-    /// What they bring.
+    /// The expected results.
     pub terms: &'static [Want],
 }
 
@@ -35,20 +36,20 @@ const GATE_SHUT: Option<Ending> = Some(Ending::GateShut);
 
 const TERM_OVER: Option<Ending> = Some(Ending::TermOver);
 
-/// Nothing came to an actor, and it saw its end.
+/// An actor without input, whose worker finishes.
 const NOTHING: Part = (FINISHED, &[], &[]);
 
-/// Nothing came to an actor; it may have been told first that the term is over.
+/// An actor without input, whose worker finishes or first learns that the term is over.
 const NOTHING_AT_THE_END: Part = (None, &[], &[]);
 
-/// No connection comes from a carrier, and nothing holds it.
+/// A carrier without connections and holds.
 pub const NO_CARRIER: Carrier = Carrier {
     connections: &[],
     gate: Hold::Free,
     wait: Hold::Free,
 };
 
-/// Nothing comes at all.
+/// No input at all.
 pub const NOTHING_COMES: Opening = Opening {
     carriers: &[NO_CARRIER, NO_CARRIER],
     paces: &[],
@@ -56,7 +57,7 @@ pub const NOTHING_COMES: Opening = Opening {
     operator: b"",
 };
 
-/// HELLO and 100 POLLs come from carrier 0: 102 entries.
+/// HELLO and 100 POLLs of carrier 0: 102 entries.
 pub const HUNDRED_POLLS: Opening = Opening {
     carriers: &[
         Carrier {
@@ -70,8 +71,8 @@ pub const HUNDRED_POLLS: Opening = Opening {
 
 /// The terms of the stories.
 pub static STORIES: [Story; 7] = [
-    // Carrier 1's first event waits until carrier 0 is at its gate, and carrier 0's until carrier 1 was answered twice: no one
-    // thread can serve them, in whatever order.
+    // Carrier 1's first event waits until carrier 0 is at its gate, and carrier 0's until carrier 1 has received two
+    // answers. One thread alone cannot serve them in either order.
     Story {
         name: "two workers at once",
         opening: Opening {
@@ -166,8 +167,8 @@ pub static STORIES: [Story; 7] = [
             },
         ],
     },
-    // Carrier 1's first event waits until carrier 0 is up and silent; the silence lasts until carrier 1 was answered three times,
-    // which is the last entry.
+    // Carrier 1's first event waits until carrier 0 is up and silent. The silence lasts until carrier 1 has received
+    // three answers, and the third belongs to the last entry.
     Story {
         name: "silence while another fills the journal",
         opening: Opening {
@@ -250,8 +251,8 @@ pub static STORIES: [Story; 7] = [
             },
         ],
     },
-    // Carrier 0's first event waits until the pacer is asked, and the pacer's tick until that event was answered, which is the
-    // last entry.
+    // Carrier 0's first event waits until the pacer is asked. The pacer's tick waits until that event, which is the
+    // last entry, has been answered.
     Story {
         name: "a tick that is dropped at the limit",
         opening: Opening {

@@ -12,7 +12,7 @@ pub loop-k-init : goal.loop-k-init
 unfolding added
 loop-k-init c = record { columns = refl; rows = refl; high = refl; low = refl }
 
--- four bits in a word of 64
+-- four bits in a number of 64 bits
 four_of_part : (bit : ℕ → Bool) (k j part : ℕ) → j < 16 → part ≡ bits_value bit (64 * k) 64 → bit_and (part / 2 ^ (60 - 4 * j)) 15 ≡ bits_value bit (4 * (16 * k + j)) 4
 four_of_part bit k j part lt is =
     and_mask (part / 2 ^ (60 - 4 * j)) 4
@@ -36,7 +36,7 @@ next word number k j part sum number_lt k_lt lt is so_far =
     let e : 16 * k + j + 1 ≡ 16 * k + (j + 1) = omega arith in
     step word number k j part sum number_lt (omega arith) lt is so_far ∙ ap (λ n. added (word_bit word) (sum_number number) (4 * n)) e
 
--- the places behind the third word
+-- the last four places, 192 to 195
 last : (word : List Bool) (number k part sum : ℕ) → number < 4 → k ≡ 3 → part ≡ bits_value (word_bit word) (64 * 3) 64
     → sum ≡ added (word_bit word) (sum_number number) (64 * k)
     → bit_xor sum (sum_entry number 48 (bit_and (part / 2 ^ 60) 15)) ≡ added (word_bit word) (sum_number number) 196

@@ -14,7 +14,7 @@ use Rattle.dmr_frames.proofs.whole.whole_frame.Goals as goal
 pub loop-octet-init : goal.loop-octet-init
 loop-octet-init c = record { rest = c.by-cutter.ensures; begun = open_nothing c.args.version }
 
--- an octet before the last that brings something else than more
+-- an octet before the last has another result than Need
 pub returns-in_default-feed_byte : goal.returns-in_default-feed_byte
 returns-in_default-feed_byte c =
     let octets = c.args.octets.now in
@@ -40,7 +40,7 @@ loop-octet-preserved c =
       begun = subst P (sym longer) (open-after_need c.args.version q x small c.loop-octet.invariant.begun need);
     }
 
--- where all octets but the last have needed more
+-- if all octets but the last have needed more
 open_at_end : (v : Version) (xs : List ℕ) (i : ℕ) → IsOpen v (take i xs) → i ≡ length xs → IsOpen v xs
 open_at_end v xs i h e = let P : List ℕ → Type 0 = λ ys. IsOpen v ys in subst P (ap (λ (n : ℕ). take n xs) e ∙ take-length xs) h
 

@@ -1,4 +1,4 @@
--- At each turn of the loop the line is the next of the script's lines.
+-- In each turn of the loop, the line is the next of the script's lines.
 use Rattle.std.proofs.Common.{◌≡◌, ◌∷◌, [], ◌++◌, true, Some, None, is_ok, not, map, length, sym, ap, ◌∙◌, eqb, option_map, arith, rules}
 use Rattle.std.proofs.lemmas.Iterator.Consumers.{YieldsList-at, YieldsList-from_enumerate, YieldsList-turn, YieldsList-end}
 use Rattle.std.proofs.lemmas.Iterator.Splits.{YieldsList-from_slice_split}

@@ -6,7 +6,7 @@ use Rattle.dmr_bptc.specs.Lines.{equations_of}
 use Rattle.dmr_bptc.specs.Mending.{mark}
 use Rattle.dmr_bptc.proofs.layout.Line.wrong_bit.Goals as goal
 
--- each entry of the tables is the one bit that has the mark, where there is one
+-- each entry of the tables is the one bit with this mark, if there is one
 unfoldable row_agrees : ℕ → ℕ → Bool
 row_agrees failed count = agree_below (λ k. failed == mark row_equations k) (λ k. k == get_or WRONG_IN_ROW failed 0) count
 

@@ -8,7 +8,7 @@ use Rattle.dmr_link.proofs.link_state.LinkState.read_and_work.Given.{Over}
 use Rattle.dmr_link.proofs.link_state.LinkState.read_and_work.Goals.{After-branch-work}
 use Rattle.dmr_link.proofs.link_state.LinkState.read_and_work.Goals as goal
 
--- the read brought octets, or an end: no interruption came last
+-- the read returned octets, or closed the connection: no interruption came last
 read_first : (g : Over) (c : After-branch-work g) → Moves c.args.self.now c.read.new.self
     (sides (g.W.Wire.told c.args.port.now) (g.D.Desk.calls c.args.desk.now) (g.G.Gate.passed c.args.gate.now))
     (sides (g.W.Wire.told c.read.new.port) (g.D.Desk.calls c.args.desk.now) (g.G.Gate.passed c.args.gate.now)) c.args.row 0 1 Outside Outside

@@ -24,7 +24,7 @@ push_reserved-requires c =
     let room = room_for_an_answer a _ _ c.self.invariant.0 c.self.view_is c.if-not-has_room.ensures in
     omega (arith, room, c.self.invariant, a.entries.ok.0)
 
--- the octets are stored behind those that were
+-- the octets are appended to the stored ones
 came_stored : (c : goal.After-push_reserved) → c.extend_from_slice.new.self.items ≡ c.self.inside.came.items ++ take (came_with c.args.entry) c.args.octets.now
 came_stored c = grind (arith, common_steps, c.extend_from_slice.ensures.items, c.unwrap.ensures, c.count_came.ensures)
 

@@ -18,11 +18,11 @@ use Rattle.dmr_bptc.proofs.OddSumLemmas.{odd_below, odd_below-same, odd_below-no
 
 -- one number of an entry
 unfoldable pub code_entry : ℕ → ℕ → ℕ → ℕ
-code_entry part k value = get_or (get_or (get_or ENCODED k []) value []) part 0
+code_entry part k value = get_or (get_or (get_or ENCODED.entries k []) value []) part 0
 
 -- the number that one information bit adds
 unfoldable pub code_number : ℕ → ℕ → ℕ
-code_number part k = get_or (get_or (get_or ENCODED (k / 4) []) (2 ^ (3 - k % 4)) []) part 0
+code_number part k = get_or (get_or (get_or ENCODED.entries (k / 4) []) (2 ^ (3 - k % 4)) []) part 0
 
 -- the entries of a group of four add the same as its bits one by one
 unfoldable entries_agree : ℕ → ℕ → ℕ → Bool

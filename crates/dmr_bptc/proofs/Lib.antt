@@ -8,6 +8,9 @@ pub mod MeaningLemmas
 pub mod FunctionLemmas
 pub mod OddSumLemmas
 pub mod SumTableLemmas
+pub mod SyndromeLemmas
 pub mod WordSumLemmas
+pub mod FlipLemmas
+pub mod MendingLemmas
 pub mod CodeTableLemmas
 pub mod MaskTableLemmas

@@ -91,7 +91,7 @@ unfoldable pub added : (ℕ → Bool) → (ℕ → ℕ) → ℕ → ℕ
 added bit number zero = 0
 added bit number (suc n) = bit_xor (added bit number n) (cond (bit n) (number n) 0)
 
-odd_pair : (x y : ℕ) → x < 2 → y < 2 → ((x + y) % 2 == 1) ≡ add_bits (y == 1) (x == 1)
+pub odd_pair : (x y : ℕ) → x < 2 → y < 2 → ((x + y) % 2 == 1) ≡ add_bits (y == 1) (x == 1)
 odd_pair zero zero x_lt y_lt = refl
 odd_pair zero (suc zero) x_lt y_lt = refl
 odd_pair (suc zero) zero x_lt y_lt = refl

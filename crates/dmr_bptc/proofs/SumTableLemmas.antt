@@ -7,7 +7,7 @@ use Rattle.dmr_bits.specs.Words.{word_bit}
 use Rattle.dmr_bits.specs.Packed.{packed_bit}
 use Rattle.dmr_bptc.specs.declared.layout.Line.{Line}
 use Rattle.dmr_bptc.specs.declared.layout.Line.TheVariants.{Row, Column}
-use Rattle.dmr_bptc.specs.declared.sums.TheConstants.{SUMS}
+use Rattle.dmr_bptc.specs.declared.sum_table.TheConstants.{SUMS}
 use Rattle.dmr_bptc.specs.Bptc.{parity, row_equations, column_equations, cell, place_of}
 use Rattle.dmr_bptc.specs.Lines.{line_place, line_bit, equations_of}
 use Rattle.dmr_bptc.specs.Mending.{fails, syndrome}
@@ -18,11 +18,11 @@ use Rattle.dmr_bptc.proofs.OddSumLemmas.{odd_below-same, odd_below-one, odd_belo
 
 -- one number of an entry
 unfoldable pub sum_entry : ℕ → ℕ → ℕ → ℕ
-sum_entry part k value = get_or (get_or (get_or SUMS k []) value []) part 0
+sum_entry part k value = get_or (get_or (get_or SUMS.entries k []) value []) part 0
 
 -- the number that one place adds
 unfoldable pub sum_number : ℕ → ℕ → ℕ
-sum_number part place = get_or (get_or (get_or SUMS (place / 4) []) (2 ^ (3 - place % 4)) []) part 0
+sum_number part place = get_or (get_or (get_or SUMS.entries (place / 4) []) (2 ^ (3 - place % 4)) []) part 0
 
 -- the entries of a group of four add the same as its places one by one
 unfoldable entries_agree : ℕ → ℕ → ℕ → Bool
@@ -88,16 +88,23 @@ row_right row e lt e_lt =
     (λ i. row_agrees (of_row i) (of_equation i) 196)
     ∙ agree_below_at (λ n. row_agrees (n / 4) (n % 4) 196) (λ _. true) 52 (4 * row + e) rows_right (omega arith)
 
+-- a bit of what a place adds to the columns, or to the rows, is the place's coefficient in an equation
+pub column_bit : (column e place : ℕ) → column < 15 → e < 4 → place < 196 → (bit_at (sum_number 0 place) (4 * column + (3 - e)) == 1) ≡ coefficient (Column column) (equation_at column_equations e) place
+column_bit column e place lt e_lt place_lt = column_agrees-at column e 196 place (column_right column e lt e_lt) place_lt
+
+pub row_bit : (row e place : ℕ) → row < 13 → e < 4 → place < 196 → (bit_at (sum_number 1 place) (4 * row + (3 - e)) == 1) ≡ coefficient (Row row) (equation_at row_equations e) place
+row_bit row e place lt e_lt place_lt = row_agrees-at row e 196 place (row_right row e lt e_lt) place_lt
+
 pub line_place-lt : (line : Line) (k : ℕ) → line_place line k < 196
 line_place-lt (Row row) k = omega arith
 line_place-lt (Column column) k = omega arith
 
-bit_cond : (m : ℕ) → m < 2 → m ≡ cond (m == 1) 1 0
+pub bit_cond : (m : ℕ) → m < 2 → m ≡ cond (m == 1) 1 0
 bit_cond zero lt = refl
 bit_cond (suc zero) lt = refl
 bit_cond (suc (suc m)) lt = absurd (omega arith)
 
-syndrome-four : (line : Line) (bit : ℕ → Bool)
+pub syndrome-four : (line : Line) (bit : ℕ → Bool)
     → 8 * fails bit (equation_at (equations_of line) 0) + 4 * fails bit (equation_at (equations_of line) 1) + 2 * fails bit (equation_at (equations_of line) 2) + fails bit (equation_at (equations_of line) 3) ≡ syndrome (equations_of line) bit
 unfolding row_equations column_equations
 syndrome-four (Row row) bit = omega arith
@@ -115,7 +122,7 @@ failure_bit word line e number j is =
     ∙ odd_below-parity (word_bit word) (line_place line) 196 (line_place-lt line) (e.0 ∷ e.1))
 
 -- four bits of a number, by their places
-four_of : (n s : ℕ) → n / 2 ^ s % 16 ≡ 8 * bit_at n (s + 3) + 4 * bit_at n (s + 2) + 2 * bit_at n (s + 1) + bit_at n (s + 0)
+pub four_of : (n s : ℕ) → n / 2 ^ s % 16 ≡ 8 * bit_at n (s + 3) + 4 * bit_at n (s + 2) + 2 * bit_at n (s + 1) + bit_at n (s + 0)
 four_of n s =
     let third : n / 2 ^ s / 2 ^ 3 ≡ n / 2 ^ (s + 3) = shr-shr n s 3 in
     let second : n / 2 ^ s / 2 ^ 2 ≡ n / 2 ^ (s + 2) = shr-shr n s 2 in
@@ -134,10 +141,10 @@ syndrome_bits word line number s is =
     ∙ omega (arith, bit 0 (omega arith), bit 1 (omega arith), bit 2 (omega arith), bit 3 (omega arith), syndrome-four line (line_bit word line))
 
 pub columns-are : (word : List Bool) (column : ℕ) → column < 15 → added (word_bit word) (sum_number 0) 196 / 2 ^ (4 * column) % 16 ≡ syndrome column_equations (λ row. cell word row column)
-columns-are word column lt = syndrome_bits word (Column column) (sum_number 0) (4 * column) (λ e place e_lt place_lt. column_agrees-at column e 196 place (column_right column e lt e_lt) place_lt)
+columns-are word column lt = syndrome_bits word (Column column) (sum_number 0) (4 * column) (λ e place e_lt place_lt. column_bit column e place lt e_lt place_lt)
 
 pub rows-are : (word : List Bool) (row : ℕ) → row < 13 → added (word_bit word) (sum_number 1) 196 / 2 ^ (4 * row) % 16 ≡ syndrome row_equations (λ column. cell word row column)
-rows-are word row lt = syndrome_bits word (Row row) (sum_number 1) (4 * row) (λ e place e_lt place_lt. row_agrees-at row e 196 place (row_right row e lt e_lt) place_lt)
+rows-are word row lt = syndrome_bits word (Row row) (sum_number 1) (4 * row) (λ e place e_lt place_lt. row_bit row e place lt e_lt place_lt)
 
 -- ---- bounds
 
@@ -149,11 +156,17 @@ rows_small : agree_below (λ place. ltb (sum_number 1 place) (2 ^ 52)) (λ _. tr
 unfolding sum_number
 rows_small = refl
 
+pub column_number-lt : (place : ℕ) → place < 196 → sum_number 0 place < 2 ^ 60
+column_number-lt place lt = ltb-true (sum_number 0 place) (2 ^ 60) (agree_below_at (λ place. ltb (sum_number 0 place) (2 ^ 60)) (λ _. true) 196 place columns_small lt)
+
+pub row_number-lt : (place : ℕ) → place < 196 → sum_number 1 place < 2 ^ 52
+row_number-lt place lt = ltb-true (sum_number 1 place) (2 ^ 52) (agree_below_at (λ place. ltb (sum_number 1 place) (2 ^ 52)) (λ _. true) 196 place rows_small lt)
+
 pub columns-lt : (bit : ℕ → Bool) → added bit (sum_number 0) 196 < 2 ^ 60
-columns-lt bit = added-lt bit (sum_number 0) 60 196 (λ k lt. ltb-true (sum_number 0 k) (2 ^ 60) (agree_below_at (λ place. ltb (sum_number 0 place) (2 ^ 60)) (λ _. true) 196 k columns_small lt))
+columns-lt bit = added-lt bit (sum_number 0) 60 196 column_number-lt
 
 pub rows-lt : (bit : ℕ → Bool) → added bit (sum_number 1) 196 < 2 ^ 52
-rows-lt bit = added-lt bit (sum_number 1) 52 196 (λ k lt. ltb-true (sum_number 1 k) (2 ^ 52) (agree_below_at (λ place. ltb (sum_number 1 place) (2 ^ 52)) (λ _. true) 196 k rows_small lt))
+rows-lt bit = added-lt bit (sum_number 1) 52 196 row_number-lt
 
 -- ---- information
 
@@ -171,6 +184,9 @@ unfolding information_agrees
 information_agrees-at k count place all lt =
     agree_below_at (λ place. bit_at (sum_number (2 + k / 64) place) (63 - k % 64) == 1) (λ place. place_of ((k + 3) / 11) ((k + 3) % 11) == place) count place all lt
 
+pub information_bit : (k place : ℕ) → k < 96 → place < 196 → (bit_at (sum_number (2 + k / 64) place) (63 - k % 64) == 1) ≡ (place_of ((k + 3) / 11) ((k + 3) % 11) == place)
+information_bit k place lt place_lt = information_agrees-at k 196 place (agree_below_at (λ k. information_agrees k 196) (λ _. true) 96 k information_right lt) place_lt
+
 two_words : (f : ℕ → ℕ) (n : ℕ) → n < 2 → get_or (f 2 ∷ f 3 ∷ []) n 0 ≡ f (2 + n)
 two_words f zero lt = refl
 two_words f (suc zero) lt = refl
@@ -183,5 +199,5 @@ information-is word k lt =
     ap (λ n. n / 2 ^ (63 - k % 64) % 2 == 1) (two_words (λ part. added (word_bit word) (sum_number part) 196) (k / 64) (omega arith))
     ∙ added-bit (word_bit word) (sum_number (2 + k / 64)) (63 - k % 64) 196
     ∙ odd_below-same (λ q. word_bit word q && (bit_at (sum_number (2 + k / 64) q) (63 - k % 64) == 1)) (λ q. word_bit word q && (place_of ((k + 3) / 11) ((k + 3) % 11) == q)) 196
-    (λ q q_lt. ap (λ b. word_bit word q && b) (information_agrees-at k 196 q (agree_below_at (λ k. information_agrees k 196) (λ _. true) 96 k information_right lt) q_lt))
+    (λ q q_lt. ap (λ b. word_bit word q && b) (information_bit k q lt q_lt))
     ∙ odd_below-one (word_bit word) (place_of ((k + 3) / 11) ((k + 3) % 11)) 196 (omega arith)

@@ -2,3 +2,4 @@ pub mod Bptc
 pub mod Mending
 pub mod Lines
 pub mod Functions
+pub mod Sums

@@ -38,18 +38,17 @@ static PLACES: [u8; 196] = [
 
 /// The place of the cell of a row and a column.
 fn place_at(row: usize, column: usize) -> usize
-    requires row { row < 256 }
-    requires column { column < 256 }
+    requires row { row < 13 }
+    requires column { column < 15 }
     ensures { result ≡ place_of row column }
 {
-    usize::from(PLACES[(1 + 15 * row + column) % 196])
+    usize::from(PLACES[1 + 15 * row + column])
 }
 
 impl Line {
     /// How many bits the line has.
     pub(crate) fn len(self) -> usize
-        ensures is { result ≡ line_len self }
-        ensures small { result < 256 }
+        ensures { result ≡ line_len self }
     {
         match self {
             Line::Row(_) => 15,
@@ -60,7 +59,7 @@ impl Line {
     /// The place of bit `k` of the line.
     pub(crate) fn place(self, k: usize) -> usize
         requires line { IsLine self }
-        requires bit { k < 256 }
+        requires bit { k < line_len self }
         ensures is { result ≡ line_place self k }
         ensures inside { result < 196 }
     {

@@ -18,7 +18,10 @@ mod encoding;
 mod equations;
 mod law;
 mod layout;
+mod sum_table;
 mod sums;
+mod syndromes;
+mod table;
 
 pub use decoding::decode;
 pub use encoding::encode;

@@ -53,33 +53,18 @@ loop-j-preserved c = record {
   low = next c.args.word.now 3 c.loop-k.k c.loop-j.j c.part-part.result c.loop-j.low (omega arith) (omega arith) (omega arith) c.part-part.ensures.is c.loop-j.invariant.low;
 }
 
-pub returns-clause-columns : goal.returns-clause-columns
+pub returns : goal.returns
 unfolding sum_entry
-returns-clause-columns c = λ column lt.
-    ap (λ n. n / 2 ^ (4 * column) % 16) (last c.args.word.now 0 c.loop-k.k c.part.result c.loop-k.columns (omega arith) (omega arith) c.part.ensures.is c.loop-k.invariant.columns)
-    ∙ columns-are c.args.word.now column lt
-
-pub returns-clause-rows : goal.returns-clause-rows
-unfolding sum_entry
-returns-clause-rows c = λ row lt.
-    ap (λ n. n / 2 ^ (4 * row) % 16) (last c.args.word.now 1 c.loop-k.k c.part.result c.loop-k.rows (omega arith) (omega arith) c.part.ensures.is c.loop-k.invariant.rows)
-    ∙ rows-are c.args.word.now row lt
-
-pub returns-clause-small_columns : goal.returns-clause-small_columns
-unfolding sum_entry
-returns-clause-small_columns c =
-    subst (λ n. n < 2 ^ 60) (sym (last c.args.word.now 0 c.loop-k.k c.part.result c.loop-k.columns (omega arith) (omega arith) c.part.ensures.is c.loop-k.invariant.columns)) (columns-lt (word_bit c.args.word.now))
-
-pub returns-clause-small_rows : goal.returns-clause-small_rows
-unfolding sum_entry
-returns-clause-small_rows c =
-    subst (λ n. n < 2 ^ 52) (sym (last c.args.word.now 1 c.loop-k.k c.part.result c.loop-k.rows (omega arith) (omega arith) c.part.ensures.is c.loop-k.invariant.rows)) (rows-lt (word_bit c.args.word.now))
-
-pub returns-clause-information : goal.returns-clause-information
-unfolding sum_entry
-returns-clause-information c = λ k lt.
-    (λ i. packed_bit
-    (last c.args.word.now 2 c.loop-k.k c.part.result c.loop-k.high (omega arith) (omega arith) c.part.ensures.is c.loop-k.invariant.high i
-    ∷ last c.args.word.now 3 c.loop-k.k c.part.result c.loop-k.low (omega arith) (omega arith) c.part.ensures.is c.loop-k.invariant.low i
-    ∷ []) k)
-    ∙ information-is c.args.word.now k lt
+returns c =
+    let columns = last c.args.word.now 0 c.loop-k.k c.part.result c.loop-k.columns (omega arith) (omega arith) c.part.ensures.is c.loop-k.invariant.columns in
+    let rows = last c.args.word.now 1 c.loop-k.k c.part.result c.loop-k.rows (omega arith) (omega arith) c.part.ensures.is c.loop-k.invariant.rows in
+    let high = last c.args.word.now 2 c.loop-k.k c.part.result c.loop-k.high (omega arith) (omega arith) c.part.ensures.is c.loop-k.invariant.high in
+    let low = last c.args.word.now 3 c.loop-k.k c.part.result c.loop-k.low (omega arith) (omega arith) c.part.ensures.is c.loop-k.invariant.low in
+    record {
+      len = c.part.ensures.len;
+      columns = λ column lt. ap (λ n. n / 2 ^ (4 * column) % 16) columns ∙ columns-are c.args.word.now column lt;
+      rows = λ row lt. ap (λ n. n / 2 ^ (4 * row) % 16) rows ∙ rows-are c.args.word.now row lt;
+      small_columns = subst (λ n. n < 2 ^ 60) (sym columns) (columns-lt (word_bit c.args.word.now));
+      small_rows = subst (λ n. n < 2 ^ 52) (sym rows) (rows-lt (word_bit c.args.word.now));
+      information = λ k lt. (λ i. packed_bit (high i ∷ low i ∷ []) k) ∙ information-is c.args.word.now k lt;
+    }

@@ -11,10 +11,9 @@ use Rattle.dmr_pdu.specs.Channels.{IsChannel}
 use Rattle.dmr_pdu.specs.declared.pdu.Pdu.{Pdu}
 use Rattle.dmr_pdu.specs.declared.pdu.Pdu.TheVariants.{Other}
 use Rattle.dmr_pdu.specs.Layout.{Row, layout, Holds, HasChannel, IsListed, IsLaidOut, SpellsPdu, Agrees}
-use Rattle.dmr_pdu.specs.Rows.{fills}
 use Rattle.dmr_pdu.specs.Reading.{channel, read_as}
 use Rattle.dmr_pdu.specs.Functions.{row_bit, octets_of, do_hold, pdu_or_other, pdu_of}
-use Rattle.dmr_pdu.proofs.RowLemmas.{follows}
+use Rattle.dmr_pdu.proofs.RowLemmas.{fills, follows}
 use Rattle.dmr_pdu.proofs.LayoutLemmas.{layout-fills, laid_out-read, agrees-laid_out, agrees-same, agrees-other, agrees-other_same}
 
 -- ---- the octets of a PDU

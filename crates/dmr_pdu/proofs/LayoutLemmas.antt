@@ -7,9 +7,8 @@ use Rattle.dmr_pdu.specs.declared.pdu.Pdu.{Pdu}
 use Rattle.dmr_pdu.specs.declared.pdu.Pdu.TheVariants.{Aloha, Ahoy, Random, Ackd, Acku, Clear, PvGrant, TvGrant, Move, Other}
 use Rattle.dmr_pdu.specs.Channels.{IsChannel}
 use Rattle.dmr_pdu.specs.Layout.{Row, bit, layout, Holds, HasChannel, IsListed, IsLaidOut, SpellsPdu, Agrees, IsReadable}
-use Rattle.dmr_pdu.specs.Rows.{fills}
 use Rattle.dmr_pdu.specs.Reading.{channel, bit_of, read_as}
-use Rattle.dmr_pdu.proofs.RowLemmas.{rows_determine}
+use Rattle.dmr_pdu.proofs.RowLemmas.{fills, rows_determine}
 
 -- the rows of each layout follow one another from bit 0 to bit 80
 pub layout-fills : (pdu : Pdu) → IsListed pdu → fills 0 (layout pdu) ≡ true

@@ -1,17 +1,18 @@
 //! The table of layouts: the place of each field of each PDU in ten octets. The table is used in both directions, and
 //! for the names of the fields in words.
 
-ghost use Rattle.std.specs.Prelude.{◌≡◌, ◌+◌, ◌<◌, ◌≤◌, ◌^◌, ℕ, IsTrue, IfSome, if◌then◌else◌};
+ghost use Rattle.std.specs.Prelude.{◌≡◌, ◌+◌, ◌<◌, ◌≤◌, ◌^◌, IfSome, if◌then◌else◌};
 ghost use Rattle.dmr_bits.specs.Bits.{field_of, IsOctets};
-ghost use Rattle.dmr_pdu.specs.Layout.{Holds, IsListed, SpellsPdu};
-ghost use Rattle.dmr_pdu.specs.Rows.{fills, AllFit};
+ghost use Rattle.dmr_pdu.specs.declared.pdu.Pdu.{Pdu as APdu};
+ghost use Rattle.dmr_pdu.specs.Layout.{IsListed, SpellsPdu};
+ghost use Rattle.dmr_pdu.specs.Rows.{HasNumber};
 ghost use Rattle.dmr_pdu.specs.Reading.{read_as, bit_of, channel};
 
 use crate::display::{Shown, show_all, show_octets};
 use crate::numbers::{Address, Kind, Number, Reason};
 use crate::pdu::Pdu;
 use crate::slots::{Lpcn, SlotNo};
-use dmr_bits::{Octets10, field, set_field};
+use dmr_bits::Octets10;
 use std::fmt;
 
 /// The place of a number in ten octets: its first bit, and its width in bits. Bit 0 is the most significant bit of
@@ -113,10 +114,10 @@ macro_rules! number {
         0
     };
     ($field:ident: bool) => {
-        number_of($field)
+        u64::from(number_of($field))
     };
     ($field:ident: $type:ident) => {
-        $field.get()
+        u64::from($field.get())
     };
 }
 
@@ -124,11 +125,7 @@ macro_rules! number {
 macro_rules! octets_of {
     ($pdu:expr; $($name:ident = $opcode:literal { $($first:literal, $width:literal $(=> $field:ident: $type:ident)?;)* })*) => {
         match $pdu {
-            $(Pdu::$name { $($($field,)?)* } => spell(&[
-                (Place { first: 0, width: 8 }, $opcode),
-                (Place { first: 8, width: 8 }, 0),
-                $((Place { first: $first, width: $width }, number!($($field: $type)?)),)*
-            ]),)*
+            $(Pdu::$name { $($($field,)?)* } => spell($opcode, 0 $(| number!($($field: $type)?) << (80 - $first - $width))*),)*
             Pdu::Other(octets) => copy_of(&octets),
         }
     };
@@ -143,14 +140,14 @@ macro_rules! field_at {
         channel_at($octets, $first)?
     };
     ($type:ident, $octets:expr, $first:literal, $width:literal) => {
-        $type::new(number_at($octets, $first, $width))
+        $type::new(number_at($octets, Place { first: $first, width: $width }))
     };
 }
 
 /// The PDU with the fields of ten octets, by its rows.
 macro_rules! pdu_of {
     ($octets:expr; $($name:ident = $opcode:literal { $($first:literal, $width:literal $(=> $field:ident: $type:ident)?;)* })*) => {
-        Some(match number_at($octets, 0, 8) {
+        Some(match opcode_of($octets) {
             $($opcode => Pdu::$name { $($($field: field_at!($type, $octets, $first, $width),)?)* },)*
             _ => return None,
         })
@@ -208,18 +205,13 @@ pub(crate) fn read(octets: &Octets10) -> Option<Pdu>
     layouts!(pdu_of, octets)
 }
 
-/// Returns the ten octets in which every row holds.
-fn spell(rows: &[(Place, u32)]) -> Octets10
-    requires whole { IsTrue (fills 0 rows.now) }
-    requires fit { AllFit rows.now }
+/// Returns the ten octets of an opcode and of the rows after octet 1, which is 0.
+fn spell(opcode: u8, number: u64) -> Octets10
     ensures octets { IsOctets 10 result }
-    ensures rows { Holds result rows.now }
+    ensures is { (pdu : APdu) → HasNumber pdu opcode number → SpellsPdu pdu result }
 {
-    let mut octets = [0; 10];
-    for row in rows {
-        set_field(&mut octets, row.0.first, row.0.width, row.1);
-    }
-    octets
+    let [a, b, c, d, e, f, g, h] = number.to_be_bytes();
+    [opcode, 0, a, b, c, d, e, f, g, h]
 }
 
 /// Returns a bit as a number.
@@ -230,30 +222,50 @@ fn number_of(flag: bool) -> u32
     if flag { 1 } else { 0 }
 }
 
-/// Returns the number at a place.
-fn number_at(octets: &Octets10, first: u32, width: u32) -> u32
-    requires width { width ≤ 32 }
-    requires inside { first + width ≤ 80 }
-    ensures value { result ≡ field_of octets.now first width }
-    ensures fits { result < 2 ^ width }
+/// Returns the first octet.
+fn opcode_of(octets: &Octets10) -> u8
+    ensures { result ≡ field_of octets.now 0 8 }
 {
-    field(octets, first, width)
+    octets[0]
 }
 
-/// Returns the bit at a place.
-fn flag_at(octets: &Octets10, place: u32) -> bool
-    requires { place < 80 }
-    ensures { result ≡ bit_of octets.now place }
+/// Returns the octets after octet 1 as one number of 64 bits.
+fn rows_of(octets: &Octets10) -> u64
+    ensures { result ≡ field_of octets.now 16 64 }
 {
-    field(octets, place, 1) == 1
+    let mut rows = [0; 8];
+    rows.copy_from_slice(&octets[2..]);
+    u64::from_be_bytes(rows)
 }
 
-/// Returns the channel whose 12 bits begin at a bit, or `None` if its number is 0 or 4095.
+/// Returns the number at a place after octet 1.
+fn number_at(octets: &Octets10, place: Place) -> u32
+    requires width { (1 ≤ place.width) × (place.width ≤ 32) }
+    requires after { 16 ≤ place.first }
+    requires inside { place.first + place.width ≤ 80 }
+    ensures value { result ≡ field_of octets.now place.first place.width }
+    ensures fits { result < 2 ^ place.width }
+{
+    let number = rows_of(octets) >> (80 - place.first - place.width);
+    (number & ((1 << place.width) - 1)) as u32
+}
+
+/// Returns the bit at a place after octet 1.
+fn flag_at(octets: &Octets10, first: u32) -> bool
+    requires after { 16 ≤ first }
+    requires inside { first < 80 }
+    ensures { result ≡ bit_of octets.now first }
+{
+    number_at(octets, Place { first, width: 1 }) == 1
+}
+
+/// Returns the channel whose 12 bits begin at a bit after octet 1, or `None` if its number is 0 or 4095.
 fn channel_at(octets: &Octets10, first: u32) -> Option<Lpcn>
-    requires { first + 12 ≤ 80 }
+    requires after { 16 ≤ first }
+    requires inside { first + 12 ≤ 80 }
     ensures { result ≡ channel (field_of octets.now first 12) }
 {
-    Lpcn::try_new(field(octets, first, 12))
+    Lpcn::try_new(number_at(octets, Place { first, width: 12 }))
 }
 
 /// Returns a copy of the octets. Its contract says that there are ten, each below 256.

@@ -127,7 +127,7 @@ impl Default for Address {
 /// The service kind of a request: 4 bits (TS 102 361-4, clause 7.2).
 #[derive(Clone, Copy, Debug, PartialEq, Eq)]
 pub struct Kind {
-    code: u32,
+    code: u8,
 }
 
 impl Model for Kind {
@@ -160,7 +160,7 @@ impl Kind {
         requires { number < 2 ^ 4 }
         ensures { result ≡ number }
     {
-        Kind { code: number }
+        Kind { code: number as u8 }
     }
 
     /// Returns the kind as an integer.
@@ -168,7 +168,7 @@ impl Kind {
         ensures value { result ≡ self.now }
         ensures range { result < 2 ^ 4 }
     {
-        self.code
+        u32::from(self.code)
     }
 }
 
@@ -176,7 +176,7 @@ impl Kind {
 /// project's profile.
 #[derive(Clone, Copy, Debug, PartialEq, Eq)]
 pub struct Reason {
-    octet: u32,
+    octet: u8,
 }
 
 impl Model for Reason {
@@ -245,7 +245,9 @@ impl Reason {
         requires { number < 2 ^ 8 }
         ensures { result ≡ number }
     {
-        Reason { octet: number }
+        Reason {
+            octet: number as u8,
+        }
     }
 
     /// Returns the reason's octet.
@@ -253,6 +255,6 @@ impl Reason {
         ensures value { result ≡ self.now }
         ensures range { result < 2 ^ 8 }
     {
-        self.octet
+        u32::from(self.octet)
     }
 }

@@ -12,7 +12,7 @@ use std::marker::Model;
 /// A carrier's number within the site: 0 to 15 (this project's profile).
 #[derive(Clone, Copy, Debug, PartialEq, Eq, PartialOrd, Ord, Hash)]
 pub struct CarrierNo {
-    number: u32,
+    number: u8,
 }
 
 impl Model for CarrierNo {
@@ -33,7 +33,9 @@ impl CarrierNo {
         requires { number < 16 }
         ensures { result ≡ number }
     {
-        CarrierNo { number }
+        CarrierNo {
+            number: number as u8,
+        }
     }
 
     /// Returns the carrier with this number, or `None` if the number is above 15.
@@ -52,7 +54,7 @@ impl CarrierNo {
         ensures value { result ≡ self.now }
         ensures range { result < 16 }
     {
-        self.number
+        u32::from(self.number)
     }
 }
 
@@ -79,7 +81,7 @@ impl Blank for CarrierNo {
 /// One of a carrier's two slots: 0 or 1 (TS 102 361-1, clause 4.2).
 #[derive(Clone, Copy, Debug, PartialEq, Eq, PartialOrd, Ord, Hash)]
 pub struct SlotNo {
-    index: u32,
+    index: u8,
 }
 
 impl Model for SlotNo {
@@ -100,7 +102,9 @@ impl SlotNo {
         requires { number < 2 }
         ensures { result ≡ number }
     {
-        SlotNo { index: number }
+        SlotNo {
+            index: number as u8,
+        }
     }
 
     /// Returns the slot with this number, or `None` if the number is neither 0 nor 1.
@@ -119,7 +123,7 @@ impl SlotNo {
         ensures value { result ≡ self.now }
         ensures range { result < 2 }
     {
-        self.index
+        u32::from(self.index)
     }
 }
 
@@ -194,7 +198,7 @@ impl Blank for Slot {
 /// 4095 name no channel.
 #[derive(Clone, Copy, Debug, PartialEq, Eq, PartialOrd, Ord, Hash)]
 pub struct Lpcn {
-    channel: u32,
+    channel: u16,
 }
 
 impl Model for Lpcn {
@@ -216,7 +220,9 @@ impl Lpcn {
         requires { IsChannel number }
         ensures { result ≡ number }
     {
-        Lpcn { channel: number }
+        Lpcn {
+            channel: number as u16,
+        }
     }
 
     /// Returns the channel with this number, or `None` if the number is not from 1 to 4094.
@@ -235,7 +241,7 @@ impl Lpcn {
         ensures value { result ≡ self.now }
         ensures range { IsChannel result }
     {
-        self.channel
+        u32::from(self.channel)
     }
 }
 

@@ -117,6 +117,8 @@ impl Machine {
     /// Applies the Up of a carrier, which is up then if the plan has it. Its calls end, and the PDUs that waited for its slots are
     /// removed. For the control carrier, asks and lines end too, and the noise numbers and Fills begin again.
     #[tactic(auto, using(crate::proofs::HeldLemmas::lost))]
+    // Out of line: an event of another kind then does not clear this function's locals.
+    #[inline(never)]
     fn came_up(&mut self, carrier: CarrierNo)
         ensures { self.new ≡ record { plan = self.old.plan; facts = facts_after_event self.old.plan self.old.facts (Up carrier) } }
     {
@@ -137,6 +139,8 @@ impl Machine {
     /// Applies the Lost of a carrier. Its calls end, and the PDUs that waited for its slots are removed. For the control carrier,
     /// asks and lines end too, and there are no noise numbers.
     #[tactic(auto, using(crate::proofs::HeldLemmas::lost))]
+    // Out of line: an event of another kind then does not clear this function's locals.
+    #[inline(never)]
     fn lost(&mut self, lost: CarrierNo)
         ensures { self.new ≡ record { plan = self.old.plan; facts = facts_after_event self.old.plan self.old.facts (Lost lost) } }
     {
@@ -227,6 +231,8 @@ impl Machine {
     }
 
     /// The acts that answer a PDU on a slot: none unless the slot is the control slot, its carrier is up, and there is room.
+    // Out of line: an event of another kind then does not clear this function's locals.
+    #[inline(never)]
     fn heard_on(&self, slot: &Slot, pdu: &Pdu) -> ActList
         ensures { result ≡ acts_of self.now.plan self.now.facts (Heard slot.now pdu.now) }
     {

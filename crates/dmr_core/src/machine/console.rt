@@ -37,6 +37,8 @@ fn acts_and_done(list: ActList) -> Acts
 impl Machine {
     /// The answer to a command.
     #[tactic(auto, unfolding(crate::specs::Rules::answer_to_command))]
+    // Out of line: an event of another kind then does not clear this function's locals.
+    #[inline(never)]
     pub(super) fn commanded(&self, command: &Command) -> Acts
         ensures { result ≡ answer_to_command self.now.plan self.now.facts command.now }
     {

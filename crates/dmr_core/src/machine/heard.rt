@@ -21,6 +21,8 @@ fn has_option(options: Options, bit: u8) -> bool
 impl Machine {
     /// The acts that answer a PDU.
     #[tactic(auto, unfolding(crate::specs::Rules::acts_for_pdu))]
+    // Out of line: an event of another kind then does not clear this function's locals.
+    #[inline(never)]
     pub(super) fn heard(&self, pdu: &Pdu) -> ActList
         ensures { result ≡ acts_for_pdu self.now.plan self.now.facts pdu.now }
     {

@@ -13,6 +13,8 @@ use dmr_pdu::{BoundedList, Reason};
 impl Machine {
     /// The acts of a tick, which has been counted.
     #[tactic(auto, unfolding(crate::specs::Rules::acts_for_tick))]
+    // Out of line: an event of another kind then does not clear this function's locals.
+    #[inline(never)]
     pub(super) fn tick(&self) -> ActList
         ensures { result ≡ acts_for_tick self.now.plan self.now.facts }
     {

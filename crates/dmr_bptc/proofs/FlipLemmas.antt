@@ -1,4 +1,4 @@
--- The sums of a word of which one place is turned over: what the place adds is added to each.
+-- The sums of a word in which one place is turned over: each changes by what the place adds.
 use Rattle.std.proofs.Common.{◌≡◌, ◌==◌, ℕ, zero, suc, ◌+◌, ◌-◌, ◌*◌, ◌/◌, ◌%◌, ◌^◌, ◌<◌, Bool, true, false, not, cond, List, [], ◌∷◌, get_or, bit_xor, refl, sym, ap, ◌∙◌, arith}
 use Rattle.std.specs.Int.{bit_at}
 use Rattle.std.proofs.lemmas.Nat.{xor_lt}
@@ -33,7 +33,7 @@ turned false false = refl
 flipped_bit : (word flipped : List Bool) (place q : ℕ) → IsFlipped place word flipped → word_bit flipped q ≡ add_bits (word_bit word q) (q == place)
 flipped_bit word flipped place q is = is.bits q ∙ turned (q == place) (word_bit word q)
 
--- an equation's failure turns over where the place is that of an odd number of the equation's bits
+-- an equation's failure turns over if the place is that of an odd number of the equation's bits
 odd_sum : (a b : Bool) → cond {A = ℕ} (add_bits a b) 1 0 ≡ (cond a 1 0 + cond b 1 0) % 2
 odd_sum true true = refl
 odd_sum true false = refl

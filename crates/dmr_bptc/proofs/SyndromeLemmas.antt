@@ -1,4 +1,4 @@
--- Syndromes that are packed in one number: the first that is not 0, and those behind it.
+-- Syndromes that are packed in one number: the first that is not 0, and those after it.
 use Rattle.std.proofs.Common.{◌≡◌, ◌==◌, ℕ, zero, suc, ◌+◌, ◌-◌, ◌*◌, ◌/◌, ◌%◌, ◌^◌, ◌<◌, ◌≤◌, Bool, true, false, not, cond, refl, sym, ap, ◌∙◌, arith, ⊎_elim}
 use Rattle.std.specs.Int.{bit_at, w64, trailing_zeros}
 use Rattle.std.proofs.Math.Nat.{zero-div, div-eq_of_lt}
@@ -45,13 +45,13 @@ rest-at syndromes rest line k is =
     let e : 4 * line + 4 * k ≡ 4 * (line + k) = omega arith in
     ap (λ n. n / 2 ^ (4 * k) % 16) is ∙ ap (λ n. n % 16) (shr-shr syndromes (4 * line) (4 * k)) ∙ ap (λ m. syndromes / 2 ^ m % 16) e
 
--- those behind a line
+-- those after a line
 pub rest-next : (syndromes rest line k : ℕ) → rest ≡ syndromes / 2 ^ (4 * line) → rest / 2 ^ (4 * k) / 2 ^ 4 ≡ syndromes / 2 ^ (4 * (line + k + 1))
 rest-next syndromes rest line k is =
     let e : 4 * line + 4 * k + 4 ≡ 4 * (line + k + 1) = omega arith in
     ap (λ n. n / 2 ^ (4 * k) / 2 ^ 4) is ∙ ap (λ n. n / 2 ^ 4) (shr-shr syndromes (4 * line) (4 * k)) ∙ shr-shr syndromes (4 * line + 4 * k) 4 ∙ ap (λ m. syndromes / 2 ^ m) e
 
--- behind the last line no syndrome is left
+-- after the last line no syndrome is left
 pub past-none : (syndromes count line : ℕ) → syndromes < 2 ^ (4 * count) → count ≤ line → syndrome_at syndromes line ≡ 0
 past-none syndromes count line fits le =
     let wide : 2 ^ (4 * count) ≤ 2 ^ (4 * line) = pow_mono (let e : 4 * count ≤ 4 * line = omega arith in e) in
@@ -64,7 +64,7 @@ fails-within syndromes count line fits fails =
     (λ (le : count ≤ line). absurd (omega (arith, past-none syndromes count line fits le, fails)))
     (cases_lt line count)
 
--- where nothing is left, no line fails
+-- if nothing is left, no line fails
 pub rest-none : (syndromes rest line k : ℕ) → rest ≡ syndromes / 2 ^ (4 * line) → rest ≡ 0 → line ≤ k → syndrome_at syndromes k ≡ 0
 rest-none syndromes rest line k is none le =
     let e : line + (k - line) ≡ k = omega arith in
@@ -81,7 +81,7 @@ holds-not syndromes line zero_there = ap not (eq-eqb (syndrome_at syndromes line
 fails-so : (syndromes line : ℕ) → 0 < syndrome_at syndromes line → line_fails syndromes line ≡ true
 fails-so syndromes line positive = ap not (ne_eqb (syndrome_at syndromes line) 0 (λ e. absurd (omega (arith, e, positive))))
 
--- a number has the syndromes from some line on, before which so many lines fail
+-- a number has the syndromes from some line on, and this many lines fail before it
 pub record IsRest (syndromes rest count : ℕ) : Type 0 where
   pub line : ℕ
   pub is : rest ≡ syndromes / 2 ^ (4 * line)

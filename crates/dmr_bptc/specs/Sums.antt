@@ -1,4 +1,4 @@
--- The sums of a word: words for the contracts of private functions. Nothing above rests on them.
+-- The sums of a word. Only contracts of internal functions name these definitions; nothing above depends on them.
 use Rattle.std.specs.Prelude.{◌≡◌, ◌==◌, ℕ, ◌+◌, ◌*◌, ◌/◌, ◌%◌, ◌^◌, ◌<◌, Bool, not, List, [], ◌∷◌, length, if◌then◌else◌}
 use Rattle.dmr_bits.specs.Bits.{count_from}
 use Rattle.dmr_bits.specs.Words.{word_bit}

@@ -1,5 +1,5 @@
-//! What adds up over the set bits of a word, all of it at once: which equations each column and each row fails (TS 102 361-1,
-//! clause B.1.1), and the information.
+//! The sums over the set bits of a word: the equations that each column and each row fails (TS 102 361-1, clause B.1.1), and the
+//! information. One pass over the word finds all of them.
 
 ghost use Rattle.std.specs.Prelude.{◌≡◌, ℕ, ◌<◌, Bool, List, [], ◌∷◌, ◌↔◌, IsTrue};
 ghost use Rattle.dmr_bits.specs.Bits.{octet_bit, IsOctets};
@@ -9,7 +9,7 @@ ghost use Rattle.dmr_bptc.specs.Sums.{AreSums, IsFlipped};
 use crate::sum_table::SUMS;
 use dmr_bits::{Octets12, Word196};
 
-/// Which equations the columns and the rows of a word fail, and the word's information bits, as they stand in their cells.
+/// The equations that the columns and the rows of a word fail, and the information bits that its cells hold.
 #[derive(Clone, Copy)]
 pub(crate) struct Sums {
     /// Four bits for each column, those of column 0 the least significant: its syndrome, the failure of the first equation
@@ -63,7 +63,7 @@ impl Sums {
         self.columns == 0 && self.rows == 0
     }
 
-    /// Turns over a place, 0 to 195, of the word that these are the sums of: what the place adds is added.
+    /// Turns over a place, 0 to 195, of the word that these are the sums of: adds what the place adds.
     pub(crate) fn flip(&mut self, place: usize)
         requires { place < 196 }
         ensures { (word flipped : List Bool) → IsFlipped place word flipped →

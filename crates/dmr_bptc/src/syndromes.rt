@@ -3,7 +3,7 @@
 ghost use Rattle.std.specs.Prelude.{◌≡◌, ◌<◌, ◌↔◌, ℕ, IsTrue};
 ghost use Rattle.dmr_bptc.specs.Sums.{syndrome_at, failing_lines};
 
-/// The first line that fails. There is one.
+/// Returns the first line that fails. One must fail.
 pub(crate) fn first_failing(syndromes: u64) -> usize
     requires { 0 < syndromes }
     ensures before { (line : ℕ) → line < result → syndrome_at syndromes line ≡ 0 }
@@ -13,7 +13,7 @@ pub(crate) fn first_failing(syndromes: u64) -> usize
     (syndromes.trailing_zeros() / 4) as usize
 }
 
-/// Whether more lines fail than a number.
+/// Reports whether more than `most` lines fail.
 pub(crate) fn more_fail_than(syndromes: u64, most: u32) -> bool
     ensures { IsTrue result ↔ most < failing_lines syndromes }
 {

@@ -10,7 +10,7 @@ use std::marker::Model;
 /// The octet that ends a line.
 const LF: u8 = b'\n';
 
-/// The octet that a line may have directly before its LF, once.
+/// The octet that is dropped if it directly precedes an LF.
 const CR: u8 = b'\r';
 
 /// The most octets of a line before its LF, including a CR (this project's profile).

@@ -1,4 +1,4 @@
--- What closing a desk shows: either its report, or why there is none.
+-- The result of closing a desk: its report, or why there is none.
 use Rattle.std.specs.Prelude.{◌≡◌, ◌≢◌, ◌⊎◌, ◌<◌, ◌≤◌, ◌+◌, ℕ, List, [], ◌∷◌, length, reverse, slice_get, Some, Contains, All}
 use Rattle.dmr_core.specs.declared.entry.Entry.{Entry}
 use Rattle.dmr_core.specs.Journal.{IsLegal}

@@ -28,14 +28,14 @@ IsOneRecord past doings = map in_record (past_after past doings) ≡ read_on pas
 
 -- ---- one meaning
 
--- what came on connections, newest first, means these notices, oldest first
+-- the octets that came on connections, newest first, mean these notices, oldest first
 abbrev pub AllMean : Peer → List Session → List Notice → Type 0
 AllMean who [] notices = notices ≡ []
 AllMean who (s ∷ ss) notices =
     (earlier : List Notice) × (own : List Notice) × (notices ≡ earlier ++ own) × AllMean who ss earlier × OwesMeaning who s.how s.came own
 
--- what came on a connection means `done`, then `owing`; the desk took exactly the events of `done`. The octets that the connection took are
--- the text of `done`, or the first part of it if a write failed or an event was kept at a cut
+-- the octets that came on a connection mean `done`, then `owing`; the desk took exactly the events of `done`. The octets that the
+-- connection took are the text of `done`, or the first part of it if a write failed or an event was kept at a cut
 pub record IsAccounted (who : Peer) (s : Session) (done owing : List Notice) : Type 0 where
   pub means : OwesMeaning who s.how s.came (done ++ owing)
   pub events : events_in done ≡ map (λ d. d.event) s.calls
@@ -47,9 +47,9 @@ AreAccounted who [] done owing = (done ≡ []) × (owing ≡ [])
 AreAccounted who (s ∷ ss) done owing =
     (earlier : List Notice) × (own : List Notice) × (done ≡ earlier ++ own) × AreAccounted who ss earlier [] × IsAccounted who s own owing
 
--- ONE MEANING: what came on all connections of a link, one after another, means `done`, and then the link's pending notices. The events of
--- `done` are those that the desk took from these connections, in its order. The same holds of each connection, and each took its text, or a
--- first part of it
+-- ONE MEANING: the octets that came on all connections of a link, one after another, mean `done`, and then the link's pending notices. The
+-- events of `done` are those that the desk took from these connections, in its order. The same holds of each connection, and each took its
+-- text, or a first part of it
 pub record IsOneMeaning (link : LinkState) (past : List Session) : Type 0 where
   pub done : List Notice
   pub means : AllMean link.who past (done ++ notices_owed link)

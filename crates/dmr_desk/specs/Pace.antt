@@ -1,4 +1,4 @@
--- What a pacer reports, and what the ticker does.
+-- A pacer's reports, and the ticker's work.
 use Rattle.std.specs.Prelude.{◌≡◌, ℕ, ◌+◌, ◌⊎◌, Bool, true, false, List, ◌++◌, Option, Some, None, length, All}
 use Rattle.dmr_core.specs.declared.event.Event.TheVariants.{Tick}
 use Rattle.dmr_link.specs.declared.desk.Deposit.{Deposit}
@@ -45,7 +45,7 @@ TicksTo before after taken ending.Finished = Gave before after taken × SaysFini
 TicksTo before after taken ending.GateShut = ⊥
 TicksTo before after taken ending.TermOver = Gave before after taken ⊎ Gave before after (taken + 1)
 
--- the ticker's desk took a tick for each that the pacer gave
+-- the ticker's desk took a tick for each that the pacer gave, except one that may have been dropped when the term was over
 abbrev pub Ticks : Option Paced → List Deposit → Option Paced → List Deposit → Ending → Type 0
 Ticks before calls after later e = (took : List Deposit) × (later ≡ calls ++ took) × AreTicks took × TicksTo before after (length took) e
 
@@ -55,7 +55,7 @@ Ticks before calls after later e = (took : List Deposit) × (later ≡ calls ++ 
 abbrev pub Ticking : Option Paced → List Deposit → Option Paced → List Deposit → Type 0
 Ticking before calls after later = (took : List Deposit) × (later ≡ calls ++ took) × AreTicks took × Gave before after (length took)
 
--- after a step the ticker goes on, or its whole work is done
+-- after a step the ticker continues, or its work has ended with this ending
 abbrev pub TicksOn : Option Paced → List Deposit → Option Paced → List Deposit → Option Ending → Type 0
 TicksOn before calls after later None = Ticking before calls after later
 TicksOn before calls after later (Some e) = Ticks before calls after later e

@@ -29,7 +29,7 @@ pages_with_entry pages actor event acts = record {
 abbrev pub answer_to : Pages → Event → Acts
 answer_to pages event = answer_after_entries pages.opening.plan pages.opening.facts (reverse pages.entries) event
 
--- what holds of every book: it was opened with a site, its journal is legal from there, and it has at most `limit` entries
+-- every book was opened with a site, its journal is legal from there, and it has at most `limit` entries
 pub record AreSoundPages (pages : Pages) : Type 0 where
   pub site : IsSite pages.opening
   pub legal : IsLegal pages.opening.plan pages.opening.facts (reverse pages.entries)

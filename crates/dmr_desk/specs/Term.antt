@@ -1,4 +1,4 @@
--- What a term does: each actor's part, and the whole.
+-- A term: each actor's part, and the whole.
 use Rattle.std.specs.Prelude.{◌≡◌, ℕ, ◌+◌, ◌≤◌, ◌<◌, ◌==◌, ◌&&◌, Bool, true, false, List, [], ◌∷◌, Option, Some, length, reverse, slice_get, All}
 use Rattle.dmr_core.specs.State.{SiteState}
 use Rattle.dmr_core.specs.Journal.{IsLegal}
@@ -75,7 +75,7 @@ pub record HasRun (start : Start) (end : End) : Type 0 where
   -- each station was returned, and each actor has ended
   pub handed_back : length end.stations ≡ length start.stations
   pub all_ended : length end.ends ≡ length start.stations + 2
-  -- each actor did its part, and its view is what its desk took
+  -- each actor did its part, and its view is the list of its desk's deposits
   pub carriers : (k : ℕ) (s t : Stand) (e : Ending) → slice_get start.stations k ≡ Some s → slice_get end.stations k ≡ Some t → slice_get end.ends k ≡ Some e
       → HasWorked s t (view_of k end.journal) e
   pub ticker : (e : Ending) → slice_get end.ends (length start.stations) ≡ Some e → HasTicked start.pacer end.pacer (view_of (length start.stations) end.journal) e

@@ -1,4 +1,4 @@
--- What a journal has of an actor.
+-- A journal's list for an actor.
 use Rattle.std.specs.Prelude.{◌==◌, ℕ, List, filter, map}
 use Rattle.dmr_core.specs.declared.entry.Entry.{Entry}
 use Rattle.dmr_link.specs.declared.desk.Deposit.{Deposit}

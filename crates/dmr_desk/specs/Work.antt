@@ -27,7 +27,7 @@ pub record Stand : Type 0 where
 abbrev pub stand : LinkState → Option (List Answer) → Option (List Passage) → Stand
 stand link told passed = record { link = link; told = told; passed = passed }
 
--- a station's state, and what the desk took so far
+-- a station's state, and the desk's deposits so far
 pub record Moment : Type 0 where
   pub at : Stand
   pub calls : List Deposit
@@ -98,7 +98,7 @@ abbrev pub past_after : List Session → List Doing → List Session
 past_after past [] = past
 past_after past (d ∷ earlier) = past_then (past_after past earlier) d
 
--- what a desk took of connections, oldest first
+-- the deposits of connections, oldest first
 abbrev pub deposits_of_sessions : List Session → List Deposit
 deposits_of_sessions [] = []
 deposits_of_sessions (s ∷ ss) = deposits_of_sessions ss ++ s.calls
@@ -165,9 +165,9 @@ IsOrderly who past (Waited answer deposits ∷ earlier) = IsWait answer deposits
 -- these steps lead from moment `m` to moment `n`
 pub record Went (m : Moment) (n : Moment) (doings : List Doing) : Type 0 where
   pub who : n.at.link.who ≡ m.at.link.who
-  -- the reports of port, desk and gate continue with what happened, and with nothing else
+  -- the reports of port, desk and gate continue with exactly what happened
   pub happens : Happens (sides_at m.at m.calls) (happened_of doings) (sides_at n.at n.calls)
-  -- if the link's state agreed with some connections before (`StandsFor`), it agrees with what these steps make of them
+  -- if connections agreed with the link's state before (`StandsFor`), they agree with it after these steps
   pub stands : (past : List Session) → StandsFor m.at.link past → StandsFor n.at.link (past_after past doings)
   -- the desk's deposits in these steps, in one list, are those of these connections since
   pub view : (past : List Session) → StandsFor m.at.link past → deposits_of_sessions (past_after past doings) ≡ deposits_of_sessions past ++ deposits_in (happened_of doings)
@@ -195,7 +195,7 @@ WorksUntil m n e = (doings : List Doing) × Went m n doings × EndsFor e n.at.li
 
 -- ---- on the way
 
--- the work goes on, with a call of `serve` or a request for a connection
+-- the work continues, with a call of `serve` or a request for a connection
 abbrev pub Going : Moment → Moment → Type 0
 Going m n = (doings : List Doing) × Went m n doings × (is_live n.at.link ≡ true → MayBeginServe doings)
 
@@ -203,7 +203,7 @@ Going m n = (doings : List Doing) × Went m n doings × (is_live n.at.link ≡ t
 abbrev pub IsAboutToWait : Moment → Moment → Type 0
 IsAboutToWait m n = (doings : List Doing) × Went m n doings × MayWait doings × IsQuiet n.at.link × (n.at.link.unread ≡ [])
 
--- the work goes on, or it has ended so
+-- the work continues, or it has ended with this ending
 abbrev pub GoesOn : Moment → Moment → Option Ending → Type 0
 GoesOn m n None = Going m n
 GoesOn m n (Some e) = WorksUntil m n e

@@ -10,7 +10,7 @@ ghost use Rattle.dmr_desk.specs.Sitting.{HasSeat, Opened, Sitting};
 ghost use Rattle.dmr_desk.specs.Views.{view_of};
 ghost use Rattle.dmr_desk.specs.declared.report.Report.{Report as AReport};
 
-/// Says what holds of the report that [`close`](crate::SharedDesk::close) returns for a desk and these seats.
+/// States the facts about the report that [`close`](crate::SharedDesk::close) returns for a desk and these seats.
 /// - The journal is legal from the site that the desk was opened with: each entry has the one answer of the site machine.
 /// - The journal has at most as many entries as the limit of the desk.
 /// - The report's site has the same plan, and the facts that the journal leads to.

@@ -25,9 +25,9 @@ pub fn one_record()
     records_read();
 }
 
-/// One meaning. What came on all connections of a link, one after another, means some notices, and then the link's pending notices. The
-/// events of the former are those that the desk took from these connections. Each connection took the text of its own part. It took only
-/// the first part of the text if a write failed, or if the connection was cut while an event was kept.
+/// One meaning. The octets that came on all connections of a link, one after another, mean some notices, and then the link's pending
+/// notices. The events of the former are those that the desk took from these connections. Each connection took the text of its own part. It
+/// took only the first part of the text if a write failed, or if the connection was cut while an event was kept.
 pub fn one_meaning()
     ensures stands { (link : ALinkState) (past : List Session) → StandsFor link past → IsOneMeaning link past }
     // The same of a worker's link, after the worker's steps.

@@ -31,7 +31,7 @@ pub struct ConsoleStation<P> {
     pub port: P,
 }
 
-/// What a link's worker serves. Contracts see its state (`Stand`).
+/// A station that a worker serves. Contracts see its state (`Stand`).
 pub trait Serving {
     /// The link, and the records that its port and its gate report. A console has no gate, and reports nothing of one.
     ghost stand: { Self → Stand };

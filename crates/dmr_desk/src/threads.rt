@@ -190,7 +190,7 @@ where
     }
 }
 
-/// What a term's threads receive: a new seat for each station and for the others, and room for the results.
+/// The crew of a term: the stations, the pacer and the console, a new seat for each, and room for the results.
 #[derive(Drop)]
 pub struct Crew<S, T, C, L: Ledger> {
     /// The stations.

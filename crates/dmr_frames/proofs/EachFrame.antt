@@ -87,7 +87,7 @@ cause_at b kind.Tx place x cause is e = absurd is
 cause_at b kind.Done place x cause is e = absurd is
 cause_at b kind.Refused place x cause is e = absurd is
 
--- ---- a body goes on with zeros
+-- ---- a body continues with zeros
 
 both_none : (b : Bool) → ◌≡◌ {A = Option Cause} (cond b None None) None
 both_none true = refl
@@ -124,7 +124,7 @@ fitting-zeros b k body n h = fitting-append b k body (replicate n 0) h (λ i pas
     let at : get_or (body ++ replicate n 0) i 0 ≡ 0 = get_or-append_right body (replicate n 0) (length body) i 0 refl past ∙ zeros_at n (i - length body) in
     subst P (sym at) (zero_none b (frame_row k).body i))
 
--- a body that has begun goes on with zeros
+-- a body that has begun continues with zeros
 pub whole-zeros : (b : Bool) (k : FrameKind) (body : List ℕ) (n : ℕ) → AreSmall body → AreFitting b k body → length body + n ≡ body_length b k → IsWhole b k (body ++ replicate n 0)
 whole-zeros b k body n small fitting e = record {
   all = omega (arith, e, length-append body (replicate n 0), length-replicate {A = ℕ} n 0);

@@ -37,7 +37,7 @@ shape-from_open v (octet ∷ rest) (f, x, more, is, e) =
     let P : Option FrameKind → Type 0 = λ m. IsShapeOf (has_numbers v) m rest in
     subst P (sym behind.known) (front_shape (has_numbers v) behind.which rest x more behind.body behind.whole behind.rest_is)
 
--- ---- and what has this shape is an open front
+-- ---- octets of this shape are an open front
 
 open_kind : (v : Version) (octet : ℕ) (k : FrameKind) (rest : List ℕ) → carrier_kind v octet ≡ Some k → IsShapeOf (has_numbers v) (Some k) rest → IsOpen v (octet ∷ rest)
 open_kind v octet k [] known h =

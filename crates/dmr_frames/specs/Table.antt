@@ -71,18 +71,18 @@ fields_length numbered (field ∷ fields) = field_length numbered field + fields
 abbrev pub body_length : Bool → FrameKind → ℕ
 body_length numbered kind = fields_length numbered (frame_row kind).body
 
--- what is wrong with an octet at a place of a field: a slot is 0 or 1, and the last four bits of a word's octets are 0
+-- the fault of an octet at a place of a field: a slot has to be 0 or 1, and the last four bits of a word's octets 0
 abbrev pub field_fault : Field → ℕ → ℕ → Option Cause
 field_fault field.Slot place octet = if nat_lt octet 2 then None else Some BadSlot
 field_fault field.Word place octet = if place == 24 then (if octet % 16 == 0 then None else Some BadPad) else None
 field_fault other place octet = None
 
--- what is wrong with an octet at a place of fields
+-- the fault of an octet at a place of fields
 abbrev pub fields_fault : Bool → List Field → ℕ → ℕ → Option Cause
 fields_fault numbered [] place octet = None
 fields_fault numbered (field ∷ fields) place octet =
     if nat_lt place (field_length numbered field) then field_fault field place octet else fields_fault numbered fields (place - field_length numbered field) octet
 
--- what is wrong with an octet at a place of a frame's body
+-- the fault of an octet at a place of a frame's body
 abbrev pub body_fault : Bool → FrameKind → ℕ → ℕ → Option Cause
 body_fault numbered kind place octet = fields_fault numbered (frame_row kind).body place octet

@@ -136,7 +136,7 @@ impl fmt::Display for FrameOut {
     }
 }
 
-/// What is wrong with a connection. The cutter finds the first four at one octet; the session finds the last four at a whole frame.
+/// A fault of a connection. The cutter finds the first four at one octet; the session finds the last four at a whole frame.
 #[derive(Clone, Copy, Debug, PartialEq, Eq)]
 pub enum Cause {
     /// A type octet that is not one of a carrier's frames, 01 to 05.

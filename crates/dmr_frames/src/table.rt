@@ -152,7 +152,7 @@ impl FrameKind {
         add_lengths(version, self.row().body)
     }
 
-    /// Returns what is wrong with this octet at a place of the frame's body, counted from 0.
+    /// Returns the fault of this octet at a place of the frame's body, counted from 0, if it is one.
     pub fn fault_at(self, version: Version, place: usize, octet: u8) -> Option<Cause>
         ensures { result ≡ body_fault (has_numbers version) self place octet }
     {
@@ -202,7 +202,7 @@ impl Field {
         }
     }
 
-    /// Returns what is wrong with this octet at a place of the field, counted from 0.
+    /// Returns the fault of this octet at a place of the field, counted from 0, if it is one.
     pub fn fault_at(self, place: usize, octet: u8) -> Option<Cause>
         ensures { result ≡ field_fault self place octet }
     {
@@ -245,7 +245,7 @@ fn add_lengths(version: Version, fields: &[Field]) -> u8
     }
 }
 
-/// Returns what is wrong with this octet at a place of a body that has these fields.
+/// Returns the fault of this octet at a place of a body that has these fields, if it is one.
 fn find_fault(version: Version, fields: &[Field], place: usize, octet: u8) -> Option<Cause>
     ensures { result ≡ fields_fault (has_numbers version) fields.now place octet }
 {

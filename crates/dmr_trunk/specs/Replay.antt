@@ -5,8 +5,8 @@ use Rattle.dmr_command.specs.declared.words.Job.{Job}
 use Rattle.dmr_command.specs.declared.words.Job.TheVariants.{Script, Serve}
 use Rattle.dmr_command.specs.Words.{AskFor, Text}
 
--- an exit status of the program: 0, 1, 2, 3 or 4. Success is 0; 1 is for a file, a port or the output, 2 for refused words, 3 for an audit
--- that found a difference, and 4 for no memory or no thread
+-- an exit status of the program: 0, 1, 2, 3 or 4. 1 is for a file, a port or the output, and 2 for refused words. 3 is for an audit that
+-- found a difference, and 4 for no memory or no thread
 abbrev pub IsStatus : ℕ → Type 0
 IsStatus status = (status ≡ 0) ⊎ (status ≡ 1) ⊎ (status ≡ 2) ⊎ (status ≡ 3) ⊎ (status ≡ 4)
 

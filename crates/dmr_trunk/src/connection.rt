@@ -30,7 +30,7 @@ pub struct Connection<S: Drop> {
     pub from: SocketAddr,
     /// The number of parts of waits in a row without an octet.
     silent: u32,
-    /// The number of parts of waits since octets were last kept to be sent.
+    /// The number of parts of waits in which nothing happened since octets last began to be kept.
     unread: u32,
     /// Why the connection ended, once that is known.
     pub ended: Option<Cause>,
@@ -138,7 +138,7 @@ impl<S: Read + Write + Drop> Connection<S> {
     }
 
     /// Counts a part of a wait in which nothing happened: no octet came, and no kept octet could be sent. Returns whether the connection
-    /// has had all its waits: `silence` in a row without an octet, or 50 since octets were kept.
+    /// has had all its waits: `silence` in a row without an octet, or 50 since octets began to be kept.
     pub fn is_given_up(&mut self, unsent: &Unsent, silence: u16) -> bool
         ensures silent { unsent.now ≡ [] → (self.new.silent ≡ min (self.old.silent + 1) (2 ^ 32 - 1)) × (result ≡ nat_le (4 * silence) self.new.silent) × (result ≡ true → self.new.ended ≡ Some Cause.Silence) }
         ensures unread { unsent.now ≢ [] → (self.new.unread ≡ min (self.old.unread + 1) (2 ^ 32 - 1)) × (result ≡ nat_le 200 self.new.unread) × (result ≡ true → self.new.ended ≡ Some Cause.NotRead) }

@@ -42,7 +42,7 @@ first_octets = refl
 others_left : reads_left (Feed (1 ∷ 2 ∷ 3 ∷ []) ∷ Feed (4 ∷ []) ∷ []) 2 ≡ Feed (3 ∷ []) ∷ Feed (4 ∷ []) ∷ []
 others_left = refl
 
--- a read does not go on to the next feed
+-- a read does not continue into the next feed
 not_joined : next_octets (Feed (3 ∷ []) ∷ Feed (4 ∷ []) ∷ []) 2 ≡ 3 ∷ []
 not_joined = refl
 

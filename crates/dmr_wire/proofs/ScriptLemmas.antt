@@ -46,7 +46,7 @@ pub sorted_are_readings : (ss : List Step) → AreReadings (filter_map reading_o
 sorted_are_readings [] = tt
 sorted_are_readings (s ∷ ss) = rw (readings_of_step s ss) (reading_first (reading_of s) _ (step_is_reading s) (sorted_are_readings ss))
 
--- what a read leaves is for reads as well
+-- the items that remain after a read are for reads as well
 pub left_are_readings : (rs : List Reading) (len : ℕ) → AreReadings rs → AreReadings (reads_left rs len)
 left_are_readings [] len k = tt
 left_are_readings (Says g ∷ rs) len k = k.1

@@ -31,7 +31,7 @@ next_octets [] len = []
 next_octets (Feed octets ∷ rest) len = take len octets
 next_octets (Says answer ∷ rest) len = []
 
--- what remains for the next reads: of the octets, those that did not fit
+-- the items that remain for the next reads: of a feed, the octets that did not fit
 abbrev pub reads_left : List Reading → ℕ → List Reading
 reads_left [] len = []
 reads_left (Feed octets ∷ rest) len = if nat_lt len (length octets) then Feed (drop len octets) ∷ rest else rest

@@ -8,5 +8,6 @@ pub mod ShapeLemmas
 pub mod StepLemmas
 pub mod StreamLemmas
 pub mod ReadingLemmas
+pub mod WholeFrameLemmas
 pub mod OneFrameLemmas
 pub mod VersionLaws

@@ -38,7 +38,7 @@ spelling-small v f is =
     let len : body_length (has_numbers v) s.which < 256 = omega (arith, length-most (has_numbers v) s.which) in
     subst P (sym s.spelled) (small-cons (frame_row s.which).octet (body_length (has_numbers v) s.which ∷ s.body) (octet_small s.which) (small-cons (body_length (has_numbers v) s.which) s.body len s.whole.small))
 
-frame_same : (f g : FrameIn) → Frame f ≡ Frame g → f ≡ g
+pub frame_same : (f g : FrameIn) → Frame f ≡ Frame g → f ≡ g
 frame_same f g e = cc
 
 bodies_same : (v w : Version) (f g : FrameIn) (k : FrameKind) (a b x y : List ℕ) → IsWhole (has_numbers v) k a → IsWhole (has_numbers w) k b →

@@ -1,5 +1,5 @@
 -- The result of each octet, for the rest before it.
-use Rattle.std.specs.Prelude.{ℕ, ◌+◌, Bool, List, [], ◌∷◌, ◌++◌, length, nat_lt, ◌==◌, not, Option, Some, None, is_some, if◌then◌else◌}
+use Rattle.std.specs.Prelude.{◌≡◌, ℕ, ◌+◌, Bool, List, [], ◌∷◌, ◌++◌, length, nat_lt, ◌==◌, not, Option, Some, None, is_some, if◌then◌else◌}
 use Rattle.std.specs.List.{flat_map, fold, scan}
 use Rattle.dmr_frames.specs.declared.frame.FrameIn.{FrameIn}
 use Rattle.dmr_frames.specs.declared.frame.Cause.{Cause}
@@ -65,6 +65,12 @@ frame_of _ = []
 -- the frames that octets produce
 abbrev pub frames_from : Rest → List ℕ → List FrameIn
 frames_from rest octets = flat_map frame_of (scan rest_after_octet step_from rest octets)
+
+-- each of these octets needs more, except the last, which has this step
+abbrev pub BringAtLast : Rest → List ℕ → Step → Type 0
+BringAtLast rest [] step = ⊥
+BringAtLast rest (x ∷ []) step = step_from rest x ≡ step
+BringAtLast rest (x ∷ y ∷ octets) step = (step_from rest x ≡ Need) × BringAtLast (rest_after_octet rest x) (y ∷ octets) step
 
 -- the rest after octets
 abbrev pub rest_after_octets : Rest → List ℕ → Rest

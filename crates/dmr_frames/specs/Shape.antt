@@ -1,18 +1,23 @@
 -- The octets from which a frame can follow: definitions for the cutter and its private functions. No public contract depends on them.
 use Rattle.std.specs.Prelude.{◌≡◌, ℕ, ◌<◌, Bool, true, false, List, [], ◌∷◌, length, slice_index, Option, Some, None}
 use Rattle.dmr_bits.specs.Bits.{field_of}
+use Rattle.dmr_frames.specs.declared.table.Field.{Field}
 use Rattle.dmr_frames.specs.declared.table.FrameKind.{FrameKind}
 use Rattle.dmr_frames.specs.declared.version.Version.{Version}
-use Rattle.dmr_frames.specs.Table.{body_length, body_fault, carrier_kind}
+use Rattle.dmr_frames.specs.Table.{frame_row, body_length, fields_fault, carrier_kind}
 use Rattle.dmr_frames.specs.Versions.{has_numbers}
 
 -- every number is an octet's
 abbrev pub AreSmall : List ℕ → Type 0
 AreSmall xs = (k : ℕ) → slice_index xs k < 256
 
+-- no octet of these fields is a fault
+abbrev pub AreFaultless : Bool → List Field → List ℕ → Type 0
+AreFaultless numbered fields octets = (k : ℕ) → k < length octets → fields_fault numbered fields k (slice_index octets k) ≡ None
+
 -- no octet of a body is a fault
 abbrev pub AreFitting : Bool → FrameKind → List ℕ → Type 0
-AreFitting numbered kind body = (k : ℕ) → k < length body → body_fault numbered kind k (slice_index body k) ≡ None
+AreFitting numbered kind body = AreFaultless numbered (frame_row kind).body body
 
 -- a body that has begun, without a fault
 pub record IsBegun (numbered : Bool) (kind : FrameKind) (body : List ℕ) : Type 0 where

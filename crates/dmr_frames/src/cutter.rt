@@ -1,6 +1,6 @@
 //! Cuts a carrier's octets into frames.
 
-ghost use Rattle.std.specs.Prelude.{◌≡◌, ℕ, ◌<◌, List, [], ◌∷◌, ◌++◌, length};
+ghost use Rattle.std.specs.Prelude.{◌≡◌, ℕ, ◌<◌, ◌≤◌, List, [], ◌∷◌, ◌++◌, length, take, IfSome};
 ghost use Rattle.dmr_bits.specs.Bits.{field_of};
 ghost use Rattle.dmr_bits.specs.Words.{word_of};
 ghost use Rattle.dmr_frames.specs.Rest.{Open};
@@ -9,8 +9,8 @@ ghost use Rattle.dmr_frames.specs.Shape.{IsShape, IsBegun, IsWhole, IsRxBody, Is
 ghost use Rattle.dmr_frames.specs.declared.frame.FrameIn.{FrameIn};
 ghost use Rattle.dmr_frames.specs.declared.version.FrameTable.{FrameTable};
 ghost use Rattle.dmr_frames.specs.Stream.{Reads};
-ghost use Rattle.dmr_frames.specs.Reading.{frame_of, step_from, rest_after_octet};
-ghost use Rattle.dmr_frames.specs.Frames.{whole_step, hello_step, rx_step, burst_step, active_step};
+ghost use Rattle.dmr_frames.specs.Reading.{BringAtLast, frame_of, step_from, rest_after_octet, rest_after_octets};
+ghost use Rattle.dmr_frames.specs.Frames.{IsFrame, spelling, whole_step, hello_step, rx_step, burst_step, active_step};
 ghost use Rattle.dmr_frames.specs.Reading.{step_at, length_step, body_step};
 
 use crate::frame::{Cause, FrameIn, LONGEST_FRAME};
@@ -104,6 +104,43 @@ impl Cutter {
         self.take(octet)
     }
 
+    /// Takes octets up to the end of the next frame, up to a fault, or all of them. Returns how many it took, and the step of the last of
+    /// these. The result is that of [`Cutter::feed_byte`] for each octet, but a whole frame is taken at once.
+    pub fn feed(&mut self, octets: &[u8]) -> (usize, Step)
+        requires { 0 < length octets.now }
+        ensures count { result.0 ≤ length octets.now }
+        ensures all { result.1 ≡ Step.Need → result.0 ≡ length octets.now }
+        ensures step { BringAtLast self.old (take result.0 octets.now) result.1 }
+        ensures rest { self.new ≡ rest_after_octets self.old (take result.0 octets.now) }
+    {
+        if self.count == 0 && self.fault.is_none() {
+            if let Some((count, frame)) = read_frame(self.table.version(), octets) {
+                self.table = self.table.after(&frame);
+                return (count, Step::Frame(frame));
+            }
+        }
+        self.feed_one_by_one(octets)
+    }
+
+    /// Does the same as [`Cutter::feed`], one octet after another.
+    fn feed_one_by_one(&mut self, octets: &[u8]) -> (usize, Step)
+        requires { 0 < length octets.now }
+        ensures count { result.0 ≤ length octets.now }
+        ensures all { result.1 ≡ Step.Need → result.0 ≡ length octets.now }
+        ensures step { BringAtLast self.old (take result.0 octets.now) result.1 }
+        ensures rest { self.new ≡ rest_after_octets self.old (take result.0 octets.now) }
+    {
+        let mut count = 0;
+        for octet in octets {
+            count += 1;
+            match self.take(*octet) {
+                Step::Need => {}
+                step => return (count, step),
+            }
+        }
+        (count, Step::Need)
+    }
+
     /// Takes the next octet.
     fn take(&mut self, octet: u8) -> Step
         ensures step { result ≡ step_from self.old octet }
@@ -128,6 +165,29 @@ impl Cutter {
                 Step::Fault(cause)
             }
         }
+    }
+}
+
+/// Returns the whole frame of this version that octets begin with, and how many octets it has.
+fn read_frame(version: Version, octets: &[u8]) -> Option<(usize, FrameIn)>
+    ensures { IfSome result (λ r. (r.0 ≤ length octets.now)
+        × IsFrame version r.1 × (take r.0 octets.now ≡ spelling r.1)) }
+{
+    let [first, length, rest @ ..] = octets else {
+        return None;
+    };
+    let kind = FrameKind::from_carrier(version, *first)?;
+    let count = usize::from(kind.body_length(version));
+    if usize::from(*length) != count || rest.len() < count {
+        return None;
+    }
+    let body = &rest[..count];
+    if !kind.admits(version, body) {
+        return None;
+    }
+    match read_whole(version, kind, body) {
+        Step::Frame(frame) => Some((count + 2, frame)),
+        _ => None,
     }
 }
 

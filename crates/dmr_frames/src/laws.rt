@@ -11,7 +11,7 @@ ghost use Rattle.dmr_frames.specs.Frames.{IsFrame, IsFrameOut, spelling, spellin
 ghost use Rattle.dmr_frames.specs.Rest.{Rest, Open};
 ghost use Rattle.dmr_frames.specs.Stream.{IsOpen, Reads};
 ghost use Rattle.dmr_frames.specs.Versions.{table_after, version_of};
-ghost use Rattle.dmr_frames.specs.Reading.{frames_from, rest_after_octets};
+ghost use Rattle.dmr_frames.specs.Reading.{frame_of, frames_from, rest_after_octet, rest_after_octets, step_from};
 
 /// Octets have exactly one reading by each table: the frames that they produce one by one, and the rest, in whatever pieces they come.
 pub fn one_reading()
@@ -22,6 +22,9 @@ pub fn one_reading()
     ensures cut { (rest : Rest) (a b : List ℕ) →
         (frames_from rest (a ++ b) ≡ frames_from rest a ++ frames_from (rest_after_octets rest a) b)
         × (rest_after_octets rest (a ++ b) ≡ rest_after_octets (rest_after_octets rest a) b) }
+    // A reading continues with one more octet, from the rest before it.
+    ensures more { (table : FrameTable) (octets : List ℕ) (fs : List FrameIn) (r : Rest) (x : ℕ) → x < 256 → Reads table octets fs r →
+        Reads table (octets ++ x ∷ []) (fs ++ frame_of (step_from r x)) (rest_after_octet r x) }
     // The octets of a frame produce it and leave nothing; those of a part of a frame produce nothing and are kept.
     ensures frame { (table : FrameTable) (f : FrameIn) → IsFrame (version_of table) f →
         (frames_from (Open table []) (spelling f) ≡ f ∷ [])

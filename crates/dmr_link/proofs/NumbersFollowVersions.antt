@@ -129,7 +129,7 @@ event_frames_number version (Say command) acts next is = is
 
 module _ (who : CarrierIdentity) (plan : Settings) (facts : Facts) (next : Option ℕ) where
   -- the number after the notice of a step
-  abbrev next_by : Option Notice → Option ℕ
+  abbrev pub next_by : Option Notice → Option ℕ
   next_by brought = next_after_frames next (frames_said plan facts (list_of_notice brought))
 
   first_numbered : (f : FrameIn) (b : Bool) →

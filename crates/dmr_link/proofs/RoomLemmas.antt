@@ -1,5 +1,5 @@
 -- Room for the octets that answer octets.
-use Rattle.std.proofs.Common.{◌≡◌, Bool, true, false, ℕ, ◌+◌, ◌-◌, ◌*◌, ◌^◌, ◌<◌, ◌≤◌, min, List, [], ◌∷◌, Option, Some, None, length, drop, get_or, refl, sym, ap, ◌∙◌, arith}
+use Rattle.std.proofs.Common.{◌≡◌, Bool, true, false, ℕ, ◌+◌, ◌-◌, ◌*◌, ◌^◌, ◌≤◌, min, List, [], ◌∷◌, Option, Some, None, length, take, drop, refl, sym, ap, ◌∙◌, arith}
 use Rattle.std.specs.Prelude.{is_some}
 use Rattle.std.proofs.lemmas.Bool.{false≢true}
 use Rattle.std.proofs.lemmas.List.{drop_all}
@@ -18,8 +18,8 @@ use Rattle.dmr_link.specs.Notices.{Notice}
 use Rattle.dmr_link.specs.Numbering.{frame_text}
 use Rattle.dmr_link.specs.Room.{length_of_tx, most_in, numbered_after_all}
 use Rattle.dmr_link.specs.Session.{transmissions}
-use Rattle.dmr_link.specs.Steps.{notice_of_octet, connection_after_octet, notices_of_octets}
-use Rattle.dmr_link.proofs.OneOctetMore.{most_goes}
+use Rattle.dmr_link.specs.Steps.{notices_of_octets, connection_after_octets}
+use Rattle.dmr_link.proofs.OnePieceMore.{most_goes}
 
 -- all octets were counted
 pub room_whole : (room : ℕ) (who : CarrierIdentity) (numbered : Bool) (trial : Connection) (octets : List ℕ) (i whole : ℕ) → length octets ≤ i → room ≤ 2 ^ 64 - 1 →
@@ -31,14 +31,14 @@ room_whole room who numbered trial octets i whole past fits e =
     counted : (room more whole : ℕ) → more ≡ 0 → room ≤ 2 ^ 64 - 1 → min (room + more) (2 ^ 64 - 1) ≡ whole → room ≡ whole
     counted room more whole none fits e = omega (arith, none, fits, e)
 
--- one more octet was counted
-pub room_more : (who : CarrierIdentity) (numbered then : Bool) (k later : Connection) (octets : List ℕ) (i : ℕ) (brought : Option Notice) (room most more whole : ℕ) → i < length octets → brought ≡ notice_of_octet who k (get_or octets i 0) →
-    later ≡ connection_after_octet who k (get_or octets i 0) → then ≡ numbered_after_all numbered (list_of_notice brought) → most ≡ most_in numbered (list_of_notice brought) → more ≡ min (room + most) (2 ^ 64 - 1) →
-    min (room + most_in numbered (notices_of_octets who k (drop i octets))) (2 ^ 64 - 1) ≡ whole → min (more + most_in then (notices_of_octets who later (drop (i + 1) octets))) (2 ^ 64 - 1) ≡ whole
-room_more who numbered then k later octets i brought room most more whole inside brings left begun counted sum e =
+-- one more piece was counted
+pub room_more : (who : CarrierIdentity) (numbered then : Bool) (k later : Connection) (octets : List ℕ) (i n : ℕ) (brought : Option Notice) (room most more whole : ℕ) → notices_of_octets who k (take n (drop i octets)) ≡ list_of_notice brought →
+    later ≡ connection_after_octets who k (take n (drop i octets)) → then ≡ numbered_after_all numbered (list_of_notice brought) → most ≡ most_in numbered (list_of_notice brought) → more ≡ min (room + most) (2 ^ 64 - 1) →
+    min (room + most_in numbered (notices_of_octets who k (drop i octets))) (2 ^ 64 - 1) ≡ whole → min (more + most_in then (notices_of_octets who later (drop (i + n) octets))) (2 ^ 64 - 1) ≡ whole
+room_more who numbered then k later octets i n brought room most more whole brings left begun counted sum e =
     added room most more whole _ _
-    (most_goes who who refl k later octets i inside brought brings left numbered
-    ∙ (λ j. sym counted j + most_in (sym begun j) (notices_of_octets who later (drop (i + 1) octets)))) sum e
+    (most_goes who who refl k later octets i n brought brings left numbered
+    ∙ (λ j. sym counted j + most_in (sym begun j) (notices_of_octets who later (drop (i + n) octets)))) sum e
   where
     added : (room most more whole all rest : ℕ) → all ≡ most + rest → more ≡ min (room + most) (2 ^ 64 - 1) → min (room + all) (2 ^ 64 - 1) ≡ whole → min (more + rest) (2 ^ 64 - 1) ≡ whole
     added room most more whole all rest parts sum e = omega (arith, parts, sum, e)

@@ -1,21 +1,22 @@
 //! A carrier's connection, and the effect of its octets.
 
-ghost use Rattle.std.specs.Prelude.{◌≡◌, Some, None, false, true, option_map, IfErr, IfOk};
+ghost use Rattle.std.specs.Prelude.{◌≡◌, ◌<◌, ◌≤◌, Some, None, false, true, length, option_map, take, IfErr, IfOk};
 ghost use Rattle.dmr_burst.specs.Functions.{meaning_of};
 ghost use Rattle.dmr_frames.specs.Versions.{chosen_by};
 ghost use Rattle.dmr_core.specs.declared.event.Event.TheVariants.{Lost};
 ghost use Rattle.dmr_frames.specs.declared.frame.FrameIn.TheVariants as frame;
-ghost use Rattle.dmr_link.specs.Meaning.{event_of_burst as event_heard, is_accepted, is_repeat as is_newest_again, refusal_of_first};
+ghost use Rattle.dmr_link.specs.Meaning.{list_of_notice, event_of_burst as event_heard, is_accepted, is_repeat as is_newest_again, refusal_of_first};
 ghost use Rattle.dmr_link.specs.Closing.{cause_of_refusal, closes, first_fault, waiting_closes, running_closes};
 ghost use Rattle.dmr_wire.specs.declared.closing.Closing.TheVariants as closed;
 ghost use Rattle.dmr_link.specs.Notices.{Accepted, Happened, Refused, notice_meant};
 ghost use Rattle.dmr_link.specs.Sound.{IsConnectionSound};
-ghost use Rattle.dmr_link.specs.Steps.{new_connection, notice_of_octet, connection_after_octet, running_brings, waiting_brings, waiting_leaves, running_leaves};
+ghost use Rattle.dmr_link.specs.Steps.{new_connection, notice_of_octet, notices_of_octets, connection_after_octet, connection_after_octets, running_brings, waiting_brings, waiting_leaves, running_leaves};
 
 use crate::notices::{Aside, Notice, SiteNotice};
 use dmr_bits::Word196;
 use dmr_burst::read;
 use dmr_core::Event;
+use dmr_frames::laws::one_reading;
 use dmr_frames::{Cause, Cutter, FrameIn, Refusal, Step, Version};
 use dmr_pdu::{CarrierNo, Lpcn, Slot};
 use dmr_wire::{Closing, Hello};
@@ -299,5 +300,33 @@ impl Connection {
         };
         *self = next;
         outcome
+    }
+
+    /// Takes octets up to the end of the next frame, up to a fault, or all of them. Returns how many it took, and the notice that these
+    /// produce, if any. The result is that of [`Connection::receive`] for each octet.
+    pub fn receive_piece(&mut self, who: &CarrierIdentity, octets: &[u8]) -> (usize, Option<Notice>)
+        requires { 0 < length octets.now }
+        ensures some { 0 < result.0 }
+        ensures count { result.0 ≤ length octets.now }
+        ensures notice { notices_of_octets who.now self.old (take result.0 octets.now) ≡ list_of_notice (option_map notice_meant result.1) }
+        ensures connection { self.new ≡ connection_after_octets who.now self.old (take result.0 octets.now) }
+        ensures sound { IsConnectionSound who.now.greatest self.old → IsConnectionSound who.now.greatest self.new }
+    {
+        one_reading();
+        match replace(self, Connection::Closed) {
+            Connection::Closed => (octets.len(), None),
+            Connection::Waiting(mut cutter) => {
+                let (count, step) = cutter.feed(octets);
+                let (outcome, next) = take_first(who, cutter, &step);
+                *self = next;
+                (count, outcome.notice)
+            }
+            Connection::Running { mut cutter, newest } => {
+                let (count, step) = cutter.feed(octets);
+                let (outcome, next) = take_next(who.carrier, cutter, newest, &step);
+                *self = next;
+                (count, outcome.notice)
+            }
+        }
     }
 }

@@ -69,10 +69,12 @@ pub fn room_for(
     let mut trial = connection.fork();
     let mut numbered = numbered;
     let mut room: usize = 0;
-    for octet in octets {
-        let outcome = trial.receive(who, *octet);
-        room = room.saturating_add(most(&outcome.notice, numbered));
-        numbered = is_numbered_after(&outcome.notice, numbered);
+    let mut from = 0;
+    while from < octets.len() {
+        let (count, notice) = trial.receive_piece(who, &octets[from..]);
+        room = room.saturating_add(most(&notice, numbered));
+        numbered = is_numbered_after(&notice, numbered);
+        from += count;
     }
     room
 }

@@ -1,5 +1,5 @@
--- The notices and the outputs of octets: those of the next octet, and those of the octets after it.
-use Rattle.std.proofs.Common.{◌≡◌, ℕ, ◌+◌, ◌<◌, ◌≤◌, Bool, List, ◌∷◌, ◌++◌, Option, Some, None, length, drop, drop-cons, get_or, sym, ap, ◌∙◌, append_assoc, arith, add-one}
+-- The notices and the outputs of octets: those of the next piece, and those of the octets after it.
+use Rattle.std.proofs.Common.{◌≡◌, ℕ, ◌+◌, ◌≤◌, Bool, List, ◌++◌, Option, Some, None, take, drop, drop-drop, take-append-drop, sym, ap, ◌∙◌, append_assoc, arith}
 use Rattle.std.proofs.lemmas.List.Sums.{fold-append}
 use Rattle.dmr_core.specs.State.{SiteState as Site}
 use Rattle.dmr_frames.specs.declared.frame.FrameOut.{FrameOut}
@@ -11,13 +11,10 @@ use Rattle.dmr_link.specs.Notices.{Notice}
 use Rattle.dmr_link.specs.Numbering.{frames_text, next_after_frames}
 use Rattle.dmr_link.specs.Room.{most_in, numbered_after_all}
 use Rattle.dmr_link.specs.Session.{frames_said}
-use Rattle.dmr_link.specs.Steps.{notice_of_octet, connection_after_octet, notices_of_octets, connection_after_octets}
+use Rattle.dmr_link.specs.Steps.{connection_after_octet, notices_of_octets, connection_after_octets}
 use Rattle.dmr_link.proofs.NumberingLemmas.{frames_text-append, next_after_frames-append}
+use Rattle.dmr_link.proofs.OctetsMeanWhatTheyBring.{notices_of_octets-append}
 use Rattle.dmr_link.proofs.PiecesInTwo.{frames_said-append}
-
--- the octets from a position on
-from_here : (octets : List ℕ) (i : ℕ) → i < length octets → drop i octets ≡ get_or octets i 0 ∷ drop (i + 1) octets
-from_here octets i inside = drop-cons octets i 0 inside ∙ ap (λ (n : ℕ). get_or octets i 0 ∷ drop n octets) (sym (add-one i))
 
 site-append : (site : Site) (a b : List Notice) → site_after_notices site (a ++ b) ≡ site_after_notices (site_after_notices site a) b
 site-append site a b = (λ i. record { plan = site.plan; facts = fold-append (facts_after_notice site.plan) site.facts a b i })
@@ -27,25 +24,32 @@ most-append : (numbered : Bool) (notice : Option Notice) (more : List Notice) �
 most-append numbered None more = omega arith
 most-append numbered (Some notice) more = omega arith
 
--- the carrier of the octets, the connection before the octet, the notice that the octet produced, and the connection after it
-module _ (who whose : CarrierIdentity) (same : whose ≡ who) (k later : Connection) (octets : List ℕ) (i : ℕ) (inside : i < length octets) (brought : Option Notice)
-    (brings : brought ≡ notice_of_octet whose k (get_or octets i 0)) (left : later ≡ connection_after_octet whose k (get_or octets i 0)) where
+-- the carrier of the octets, the connection before the piece, the notice that the piece produced, and the connection after it
+module _ (who whose : CarrierIdentity) (same : whose ≡ who) (k later : Connection) (octets : List ℕ) (i n : ℕ) (brought : Option Notice)
+    (brings : notices_of_octets whose k (take n (drop i octets)) ≡ list_of_notice brought) (left : later ≡ connection_after_octets whose k (take n (drop i octets))) where
   abbrev before : List Notice
   before = notices_of_octets who k (drop i octets)
 
   abbrev behind : List Notice
-  behind = notices_of_octets who later (drop (i + 1) octets)
+  behind = notices_of_octets who later (drop (i + n) octets)
+
+  in_two : drop i octets ≡ take n (drop i octets) ++ drop (i + n) octets
+  in_two = sym (take-append-drop n (drop i octets)) ∙ ap (λ (xs : List ℕ). take n (drop i octets) ++ xs) (drop-drop n i octets)
+
+  left_by : later ≡ connection_after_octets who k (take n (drop i octets))
+  left_by = left ∙ ap (λ (w : CarrierIdentity). connection_after_octets w k (take n (drop i octets))) same
 
   notices_go : before ≡ list_of_notice brought ++ behind
   notices_go =
-      ap (notices_of_octets who k) (from_here octets i inside)
-      ∙ (λ j. list_of_notice ((ap (λ (w : CarrierIdentity). notice_of_octet w k (get_or octets i 0)) (sym same) ∙ sym brings) j)
-      ++ notices_of_octets who ((ap (λ (w : CarrierIdentity). connection_after_octet w k (get_or octets i 0)) (sym same) ∙ sym left) j) (drop (i + 1) octets))
+      ap (notices_of_octets who k) in_two
+      ∙ notices_of_octets-append who k (take n (drop i octets)) (drop (i + n) octets)
+      ∙ (λ j. (ap (λ (w : CarrierIdentity). notices_of_octets w k (take n (drop i octets))) (sym same) ∙ brings) j ++ notices_of_octets who (sym left_by j) (drop (i + n) octets))
 
-  pub connection_goes : (whole : Connection) → connection_after_octets who k (drop i octets) ≡ whole → connection_after_octets who later (drop (i + 1) octets) ≡ whole
+  pub connection_goes : (whole : Connection) → connection_after_octets who k (drop i octets) ≡ whole → connection_after_octets who later (drop (i + n) octets) ≡ whole
   connection_goes whole e =
-      ap (λ (l : Connection). connection_after_octets who l (drop (i + 1) octets)) (left ∙ ap (λ (w : CarrierIdentity). connection_after_octet w k (get_or octets i 0)) same)
-      ∙ sym (ap (connection_after_octets who k) (from_here octets i inside))
+      ap (λ (l : Connection). connection_after_octets who l (drop (i + n) octets)) left_by
+      ∙ sym (fold-append (connection_after_octet who) k (take n (drop i octets)) (drop (i + n) octets))
+      ∙ sym (ap (connection_after_octets who k) in_two)
       ∙ e
 
   pub most_goes : (numbered : Bool) → most_in numbered before ≡ most_in numbered (list_of_notice brought) + most_in (numbered_after_all numbered (list_of_notice brought)) behind

@@ -8,11 +8,11 @@ use Rattle.std.proofs.lemmas.List.{get_or_past, get_or-drop}
 use Rattle.std.proofs.lemmas.Nat.{pow_pos, shr-shr, shl_whole, shl_below, field_of, mod-pow-add, be_bytes_8}
 use Rattle.std.proofs.lemmas.Nat.Bits.{bit_at_or, bit_at-zero, bit_at_above, bit_at_cat_low, bit_at_cat_high}
 use Rattle.dmr_bits.specs.Bits.{octet_bit, field_of as bits_of_field, IsOctets}
-use Rattle.dmr_bits.proofs.Laws.{bits_value-of_number}
+use Rattle.dmr_bits.proofs.Laws.{bits_value-of_number, bits_value-bit}
 use Rattle.dmr_pdu.specs.declared.pdu.Pdu.{Pdu}
-use Rattle.dmr_pdu.specs.Layout.{Row, layout_row, layout, Holds, SpellsPdu}
+use Rattle.dmr_pdu.specs.Layout.{Row, layout_row, layout, Holds, IsLaidOut, SpellsPdu}
 use Rattle.dmr_pdu.specs.Rows.{ArePacked, HasNumber}
-use Rattle.dmr_pdu.proofs.LayoutLemmas.{layout-fills, spells-laid_out}
+use Rattle.dmr_pdu.proofs.LayoutLemmas.{layout-fills, laid_out_alone, spells-laid_out}
 use Rattle.dmr_pdu.proofs.RowLemmas.{fills, follows, fills-le}
 
 -- ---- octets of a number
@@ -120,6 +120,26 @@ packed-hold octets packed bits first (r ∷ rows) number e low are blank =
           ∙ omega (arith, blank k (omega arith), placed_below r.1 r.0.width shift k are.0 within (omega (arith, here.starts)))),
     )
 
+-- a PDU is laid out in octets that have its opcode, 0, and its number
+has_number-laid_out : (octets : List ℕ) (opcode n : ℕ) → bits_of_field octets 0 8 ≡ opcode → bits_of_field octets 8 8 ≡ 0
+    → ((q : ℕ) → 16 ≤ q → q < 80 → octet_bit octets q ≡ (n / 2 ^ (79 - q) % 2 == 1)) → (pdu : Pdu) → HasNumber pdu opcode n → IsLaidOut pdu octets
+has_number-laid_out octets opcode n first second bits pdu is =
+    let rows : List Row = layout_row 0 8 opcode ∷ layout_row 8 8 0 ∷ drop 2 (layout pdu) in
+    let begins : rows ≡ layout pdu = ap (λ (firsts : List Row). firsts ++ drop 2 (layout pdu)) (sym is.begins) ∙ take-append-drop 2 (layout pdu) in
+    let whole : fills 0 rows ≡ true = ap (fills 0) begins ∙ layout-fills pdu is.listed in
+    let hold : Holds octets rows = (first, (second, packed-hold octets n bits 16 (drop 2 (layout pdu)) 0 whole (omega arith) is.rows (λ k lt. bit_at-zero k))) in
+    record { listed = is.listed; rows = subst (Holds octets) begins hold; channel = is.channel }
+
+-- that is, in octets of which octet 1 is 0 and the rest spells its number
+pub number-laid_out : (octets : List ℕ) (n : ℕ) → get_or octets 1 0 ≡ 0 → bits_of_field octets 16 64 ≡ n → (pdu : Pdu) → HasNumber pdu (bits_of_field octets 0 8) n → IsLaidOut pdu octets
+number-laid_out octets n zero_octet number pdu is =
+    has_number-laid_out octets (bits_of_field octets 0 8) n refl (octet-field octets 1 (omega (arith, zero_octet)) ∙ zero_octet)
+    (λ q low high.
+    let at : 16 + (q - 16) ≡ q = omega arith in
+    let shift : 64 - 1 - (q - 16) ≡ 79 - q = omega arith in
+    ap (octet_bit octets) (sym at) ∙ sym (bits_value-bit (octet_bit octets) 16 64 (q - 16) (omega arith)) ∙ ap (λ s. bits_of_field octets 16 64 / 2 ^ s % 2 == 1) shift
+    ∙ ap (λ m. m / 2 ^ (79 - q) % 2 == 1) number) pdu is
+
 -- an octet, 0, and a number
 module _ (opcode n : ℕ) (small : opcode < 256) where
   octet_small : (k : ℕ) → get_or (to_be_bytes w64 n) k 0 < 256
@@ -150,15 +170,22 @@ module _ (opcode n : ℕ) (small : opcode < 256) where
       let shift : 63 - (q - 16) ≡ 79 - q = omega arith in
       rw (at, bit) (ap (λ m. m == 1) (number_bit n (q - 16) (omega arith) ∙ ap (λ s. n / 2 ^ s % 2) shift))
 
-  -- rows that were put into the number hold there
-  spelled-hold : (rows : List Row) → fills 16 rows ≡ true → ArePacked 0 rows n → Holds (opcode ∷ 0 ∷ to_be_bytes w64 n) (layout_row 0 8 opcode ∷ layout_row 8 8 0 ∷ rows)
-  spelled-hold rows whole are = (spelled-opcode, (spelled-zero, packed-hold (opcode ∷ 0 ∷ to_be_bytes w64 n) n spelled-bit 16 rows 0 whole (omega arith) are (λ k lt. bit_at-zero k)))
+  -- a PDU that has the number is laid out there
+  spelled-laid_out : (pdu : Pdu) → HasNumber pdu opcode n → IsLaidOut pdu (opcode ∷ 0 ∷ to_be_bytes w64 n)
+  spelled-laid_out pdu is = has_number-laid_out (opcode ∷ 0 ∷ to_be_bytes w64 n) opcode n spelled-opcode spelled-zero spelled-bit pdu is
 
-  -- a PDU that has the number is written as them
   pub spelled-is : (octets : List ℕ) → octets ≡ opcode ∷ 0 ∷ to_be_bytes w64 n → (pdu : Pdu) → HasNumber pdu opcode n → SpellsPdu pdu octets
-  spelled-is octets same pdu is =
-      let rows : List Row = layout_row 0 8 opcode ∷ layout_row 8 8 0 ∷ drop 2 (layout pdu) in
-      let begins : rows ≡ layout pdu = ap (λ (firsts : List Row). firsts ++ drop 2 (layout pdu)) (sym is.begins) ∙ take-append-drop 2 (layout pdu) in
-      let whole : fills 0 rows ≡ true = ap (fills 0) begins ∙ layout-fills pdu is.listed in
-      let hold : Holds octets rows = subst (λ (o : List ℕ). Holds o rows) (sym same) (spelled-hold (drop 2 (layout pdu)) whole is.rows) in
-      spells-laid_out pdu octets (record { listed = is.listed; rows = subst (Holds octets) begins hold; channel = is.channel })
+  spelled-is octets same pdu is = subst (SpellsPdu pdu) (sym same) (spells-laid_out pdu (opcode ∷ 0 ∷ to_be_bytes w64 n) (spelled-laid_out pdu is))
+
+  spelled-number : n < 2 ^ 64 → bits_of_field (opcode ∷ 0 ∷ to_be_bytes w64 n) 16 64 ≡ n
+  spelled-number fits =
+      bits_value-of_number (octet_bit (opcode ∷ 0 ∷ to_be_bytes w64 n)) 16 n 64 (λ k lt.
+      let shift : 79 - (16 + k) ≡ 64 - 1 - k = omega arith in
+      spelled-bit (16 + k) (omega arith) (omega arith) ∙ ap (λ s. n / 2 ^ s % 2 == 1) shift)
+      ∙ mod-eq_of_lt fits
+
+  -- and it is laid out in no other octets
+  pub has_number-octets : n < 2 ^ 64 → (octets : List ℕ) → IsOctets 10 octets → (pdu : Pdu) → HasNumber pdu opcode n → IsLaidOut pdu octets → (get_or octets 1 0 ≡ 0) × (bits_of_field octets 16 64 ≡ n)
+  has_number-octets fits octets is_octets pdu has is =
+      let same : octets ≡ opcode ∷ 0 ∷ to_be_bytes w64 n = laid_out_alone pdu octets (opcode ∷ 0 ∷ to_be_bytes w64 n) is_octets spelled-octets is (spelled-laid_out pdu has) in
+      (ap (λ (o : List ℕ). get_or o 1 0) same, ap (λ (o : List ℕ). bits_of_field o 16 64) same ∙ spelled-number fits)

@@ -1,10 +1,10 @@
 //! The table of layouts: the place of each field of each PDU in ten octets. The table is used in both directions, and
 //! for the names of the fields in words.
 
-ghost use Rattle.std.specs.Prelude.{◌≡◌, ◌+◌, ◌<◌, ◌≤◌, ◌^◌, IfSome, if◌then◌else◌};
+ghost use Rattle.std.specs.Prelude.{◌≡◌, ◌+◌, ◌<◌, ◌≤◌, ◌^◌, Some, IfSome, if◌then◌else◌};
 ghost use Rattle.dmr_bits.specs.Bits.{field_of, IsOctets};
 ghost use Rattle.dmr_pdu.specs.declared.pdu.Pdu.{Pdu as APdu};
-ghost use Rattle.dmr_pdu.specs.Layout.{IsListed, SpellsPdu};
+ghost use Rattle.dmr_pdu.specs.Layout.{IsLaidOut, SpellsPdu};
 ghost use Rattle.dmr_pdu.specs.Rows.{HasNumber};
 ghost use Rattle.dmr_pdu.specs.Reading.{read_as, bit_of, channel};
 
@@ -108,6 +108,15 @@ macro_rules! layouts {
     };
 }
 
+/// True if the rows of each layout fill the 64 bits after octet 1, each bit once.
+macro_rules! rows_fill {
+    ($of:expr; $($name:ident = $opcode:literal { $($first:literal, $width:literal $(=> $field:ident: $type:ident)?;)* })*) => {
+        $of $(&& 0 $(+ $width)* == 64 && 0 $(| ((1_u64 << $width) - 1) << (80 - $first - $width))* == u64::MAX)*
+    };
+}
+
+const _: () = prove!(layouts!(rows_fill, true));
+
 /// The number in a row: that of its field, or else 0.
 macro_rules! number {
     () => {
@@ -121,11 +130,18 @@ macro_rules! number {
     };
 }
 
+/// The number of 64 bits that the rows after octet 1 make.
+macro_rules! packed {
+    ($($first:literal, $width:literal $(=> $field:ident: $type:ident)?;)*) => {
+        0 $(| number!($($field: $type)?) << (80 - $first - $width))*
+    };
+}
+
 /// The octets of a PDU, by its rows.
 macro_rules! octets_of {
     ($pdu:expr; $($name:ident = $opcode:literal { $($first:literal, $width:literal $(=> $field:ident: $type:ident)?;)* })*) => {
         match $pdu {
-            $(Pdu::$name { $($($field,)?)* } => spell($opcode, 0 $(| number!($($field: $type)?) << (80 - $first - $width))*),)*
+            $(Pdu::$name { $($($field,)?)* } => spell($opcode, packed!($($first, $width $(=> $field: $type)?;)*)),)*
             Pdu::Other(octets) => copy_of(&octets),
         }
     };
@@ -147,10 +163,13 @@ macro_rules! field_at {
 /// The PDU with the fields of ten octets, by its rows.
 macro_rules! pdu_of {
     ($octets:expr; $($name:ident = $opcode:literal { $($first:literal, $width:literal $(=> $field:ident: $type:ident)?;)* })*) => {
-        Some(match opcode_of($octets) {
-            $($opcode => Pdu::$name { $($($field: field_at!($type, $octets, $first, $width),)?)* },)*
-            _ => return None,
-        })
+        match opcode_of($octets) {
+            $($opcode => {
+                $($(let $field = field_at!($type, $octets, $first, $width);)?)*
+                if_written(Pdu::$name { $($($field,)?)* }, $octets, packed!($($first, $width $(=> $field: $type)?;)*))
+            })*
+            _ => None,
+        }
     };
 }
 
@@ -195,12 +214,12 @@ pub(crate) fn written(pdu: &Pdu) -> Octets10
     layouts!(octets_of, *pdu)
 }
 
-/// Returns the PDU with the fields of ten octets, by the first of these. Fixed bits are ignored. `None` if the first
-/// octet is not that of a layout, or a channel number is 0 or 4095.
-#[tactic(auto, unfolding(crate::specs::Reading::read_as, crate::specs::Layout::IsListed))]
+/// Returns the PDU of the table that is laid out in ten octets. `None` if there is no such PDU: the first octet is not that
+/// of a layout, a fixed bit is not as listed, or a channel number is 0 or 4095.
+#[tactic(auto, unfolding(crate::specs::Reading::read_as, crate::specs::Layout::layout, crate::specs::Layout::IsListed, crate::specs::Layout::HasChannel))]
 pub(crate) fn read(octets: &Octets10) -> Option<Pdu>
-    ensures listed { IfSome result IsListed }
-    ensures is { result ≡ read_as (field_of octets.now 0 8) octets.now }
+    ensures found { IfSome result (λ pdu. IsLaidOut pdu octets.now) }
+    ensures only { (pdu : APdu) → IsLaidOut pdu octets.now → result ≡ Some pdu }
 {
     layouts!(pdu_of, octets)
 }
@@ -212,6 +231,20 @@ fn spell(opcode: u8, number: u64) -> Octets10
 {
     let [a, b, c, d, e, f, g, h] = number.to_be_bytes();
     [opcode, 0, a, b, c, d, e, f, g, h]
+}
+
+/// Returns this PDU, whose fields were read in ten octets, if its own octets are these. `number` has its rows.
+fn if_written(pdu: Pdu, octets: &Octets10, number: u64) -> Option<Pdu>
+    requires read { read_as (field_of octets.now 0 8) octets.now ≡ Some pdu }
+    requires number { HasNumber pdu (field_of octets.now 0 8) number }
+    ensures found { IfSome result (λ pdu. IsLaidOut pdu octets.now) }
+    ensures only { (pdu : APdu) → IsLaidOut pdu octets.now → result ≡ Some pdu }
+{
+    if octets[1] == 0 && rows_of(octets) == number {
+        Some(pdu)
+    } else {
+        None
+    }
 }
 
 /// Returns a bit as a number.

@@ -1,9 +1,9 @@
 //! PDUs, their octets, and the reading of octets.
 
-ghost use Rattle.std.specs.Prelude.{◌≡◌, ◌↔◌, ℕ, List, IsTrue, IfSome};
+ghost use Rattle.std.specs.Prelude.{◌≡◌, ◌↔◌, ℕ, List, IsTrue};
 ghost use Rattle.dmr_bits.specs.Bits.{IsOctets};
 ghost use Rattle.dmr_pdu.specs.declared.pdu.Pdu.{Pdu as APdu};
-ghost use Rattle.dmr_pdu.specs.Layout.{IsLaidOut, SpellsPdu, Agrees};
+ghost use Rattle.dmr_pdu.specs.Layout.{SpellsPdu, Agrees};
 ghost use Rattle.dmr_pdu.specs.Functions.{octets_of, pdu_of};
 
 use crate::layouts::{read, written};
@@ -59,7 +59,7 @@ pub enum Pdu {
         options: Options,
         /// The bits between the options and the service kind.
         flags: Number<5>,
-        /// The service that is requested.
+        /// The service that is asked for.
         kind: Kind,
         /// The radio, talkgroup or service that is called.
         target: Address,
@@ -83,11 +83,11 @@ pub enum Pdu {
     Acku {
         /// The response information.
         info: Number<7>,
-        /// The reason code.
+        /// The answer.
         reason: Reason,
         /// A reserved bit.
         spare: bool,
-        /// The address that the answer is for.
+        /// Whom the answer is for.
         target: Address,
         /// The radio that answers.
         additional: Address,
@@ -96,11 +96,11 @@ pub enum Pdu {
     Clear {
         /// The channel that the radios go to.
         lpcn: Lpcn,
-        /// Whether the call was to a talkgroup.
+        /// Whether the call is one to a talkgroup.
         group: bool,
         /// The radio or talkgroup that was called.
         target: Address,
-        /// The address that sends the PDU.
+        /// Who sends the PDU.
         source: Address,
     },
     /// PV_GRANT: grants a slot to a voice call to one radio (TS 102 361-4, clause 7.1.1).
@@ -118,7 +118,7 @@ pub enum Pdu {
     TvGrant {
         /// The channel of the slot's carrier.
         lpcn: Lpcn,
-        /// The slot of that carrier.
+        /// Which of its slots.
         slot: SlotNo,
         /// Whether the grant announces a call that is active already (late entry).
         late: bool,
@@ -131,9 +131,9 @@ pub enum Pdu {
     Move {
         /// Whether radios must register there.
         register: bool,
-        /// The number of slots over which radios spread their tries.
+        /// Over how many slots radios spread their tries.
         backoff: Number<4>,
-        /// The channel to go to.
+        /// The channel to use.
         lpcn: Lpcn,
     },
     /// Ten octets that no layout fits: another first octet or feature set, a fixed bit other than listed, or a channel
@@ -146,7 +146,7 @@ impl Pdu {
     pub fn to_octets(&self) -> Octets10
         ensures octets { IsOctets 10 result }
         ensures is { SpellsPdu self.now result }
-        // No other octets spell the PDU.
+        // There are no others.
         ensures alone { (octets : List ℕ) → IsOctets 10 octets → SpellsPdu self.now octets → octets ≡ result }
         ensures written { result ≡ octets_of self.now }
     {
@@ -156,25 +156,14 @@ impl Pdu {
     /// Returns the one PDU that agrees with ten octets: the PDU that is laid out in them, or else `Other`.
     pub fn from_octets(octets: &Octets10) -> Self
         ensures agrees { Agrees result octets.now }
-        // No other PDU agrees with the octets.
+        // There is no other.
         ensures only { (pdu : APdu) → Agrees pdu octets.now → pdu ≡ result }
         ensures pdu { result ≡ pdu_of octets.now }
     {
-        match Pdu::listed(octets) {
+        match read(octets) {
             Some(pdu) => pdu,
             None => Pdu::Other(*octets),
         }
-    }
-
-    /// Returns the PDU of the table that is laid out in ten octets, if there is one.
-    fn listed(octets: &Octets10) -> Option<Self>
-        ensures found { IfSome result (λ pdu. IsLaidOut pdu octets.now) }
-        ensures only { (pdu : APdu) → IsLaidOut pdu octets.now → result ≡ Some pdu }
-    {
-        let pdu = read(octets)?;
-        // `read` ignores fixed bits, so they are compared here.
-        let spelled = pdu.to_octets();
-        if spelled == *octets { Some(pdu) } else { None }
     }
 
     /// Returns whether two PDUs are equal, as `==` does, but with a contract.

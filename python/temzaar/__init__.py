@@ -1,4 +1,4 @@
-"""Tools for a site of the controller: they watch it, record it, draw it, and play its carriers and radios.
+"""Tools for a site of the controller: they check its site file, watch it, record it, draw it, and play its carriers and radios.
 
 The package reads and writes the formats of `docs/FORMATS.md`. It is written from the documents alone, apart from the controller's code, so a
 comparison of the two means something. One module per subject, lowest first:
@@ -7,6 +7,13 @@ comparison of the two means something. One module per subject, lowest first:
     pdus        the PDUs: one table of layouts, read in both directions
     frames      the frames of the link in both versions: one cutter for both directions
     sitefile    the site file, as far as the tools need it
+    tomltext    the places of keys and values in a TOML text
+    tomldocument  a TOML document, values and places together
+    sitekeys    the keys of the site file: the tables of docs/SITE_FILE.md
+    sitefaults  the faults of a site file, in the order in which the controller judges
+    sitefigures  what a site file amounts to: times in seconds, and counts
+    siterisks   what is risky in a site file
+    sitereport  what a check of a site file prints
     script      scripts and printed replays
     console     an operator's console
     process     a controller that a tool starts, or replays a script with
@@ -14,5 +21,5 @@ comparison of the two means something. One module per subject, lowest first:
     ticks       where the ticks of a recorded session fell
     player      the play of a site's carriers and radios
     trouble     the same with connections that break, stall and misbehave
-    cli         the commands: siteview, timeline, capture, carriers
+    cli         the commands: siteview, timeline, capture, carriers, check
 """

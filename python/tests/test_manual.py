@@ -13,7 +13,7 @@ from tests.test_messages import as_pattern, messages
 
 MAN = TOP / "deploy" / "man"
 PAGES = sorted(it.name for it in MAN.iterdir())
-TOOLS = ("siteview", "timeline", "capture", "carriers")
+TOOLS = ("siteview", "timeline", "capture", "carriers", "check")
 WANTED = {"dmr_trunk.8", "dmr_trunk.5", "dmr_decode.1", *(f"dmr_{tool}.1" for tool in TOOLS)}
 # The order of sections; a page leaves out those that do not apply.
 ORDER = ("NAME", "SYNOPSIS", "DESCRIPTION", "COMMANDS", "OPTIONS", "CONSOLE", "SIGNALS", "EXIT STATUS", "DIAGNOSTICS", "ENVIRONMENT", "FILES", "SECURITY", "EXAMPLES", "SEE ALSO")

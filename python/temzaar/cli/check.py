@@ -1,0 +1,197 @@
+"""Checks a site file before a restart: every fault with its place, and what is risky.
+
+    check site.toml                         the faults and the warnings
+    check --explain site.toml               the values too, with times in seconds
+    check --controller build/dmr_trunk -    standard input, and the controller's own verdict at the end
+
+A fault is what the controller refuses. It reports the first one alone, and here that one is marked. A warning is what it accepts, and an operator may not have
+meant: each says why, and what to do. Keys that the controller does not know are among them, since it ignores them.
+
+The controller that --controller names, or else the dmr_trunk on the PATH, has the last word: it replays an empty script over the file. If it disagrees, that is
+a fault of this tool.
+
+Status: 0 right; 1 faults; 2 the words, or a file or program that cannot be read or run; 3 warnings, with --strict; 4 the controller disagrees.
+
+With --json standard output is one object: `status`, the controller's text as `fault`, the lists `faults` and `warnings` with `line` and `column`, and
+`controller`; with --explain also `values`. `no_verdict` says why the controller gave none.
+"""
+import argparse
+import os
+import shutil
+import signal
+import subprocess
+import sys
+import tempfile
+import types
+from collections.abc import Sequence
+from typing import BinaryIO
+
+from temzaar.frames import VERSIONS
+from temzaar.sitefaults import find_faults
+from temzaar.sitefigures import explain_site
+from temzaar.sitereport import REFUSAL, Report, Status, Verdict, report_as_json, report_as_text
+from temzaar.siterisks import Surroundings, find_risks, has_address
+from temzaar.tomldocument import read_document
+
+PROGRAM = "dmr_trunk"
+STANDARD_INPUT = "-"
+# A site file has some KiB.
+MOST_OCTETS = 1 << 20
+# What is read of the controller's output, and how long it may take.
+MOST_OUTPUT, MOST_SECONDS = 1 << 16, 20
+
+
+class CheckFault(Exception):
+    """The check cannot be made. The text says why."""
+
+
+class Interrupted(BaseException):
+    """A signal that ends the command came."""
+
+    def __init__(self, number: int) -> None:
+        super().__init__(number)
+        self.number = number
+
+
+def read_limited(stream: BinaryIO, name: str) -> bytes:
+    """The octets of a stream. CheckFault: there are too many."""
+    octets = stream.read(MOST_OCTETS + 1)
+    if len(octets) > MOST_OCTETS:
+        raise CheckFault(f"{name} is larger than {MOST_OCTETS >> 20} MiB: that is not a site file")
+    return octets
+
+
+def read_site(path: str) -> bytes:
+    """The octets of the site file, or of standard input. CheckFault: it cannot be read."""
+    try:
+        if path == STANDARD_INPUT:
+            if sys.stdin is None:
+                raise CheckFault("cannot read standard input: it is closed")
+            return read_limited(sys.stdin.buffer, "standard input")
+        with open(path, "rb") as it:
+            return read_limited(it, path)
+    except OSError as error:
+        raise CheckFault(f"cannot read {path}: {error.strerror}") from error
+    except ValueError as error:
+        raise CheckFault(f"cannot read {path!r}: {error}") from error
+
+
+def find_controller(named: str | None, is_left_out: bool) -> str | None:
+    """The controller that has the last word: the path that was named, or the one on the PATH. CheckFault: the one that was named is not a program."""
+    if is_left_out:
+        return None
+    if not named:
+        return PROGRAM if shutil.which(PROGRAM) else None
+    # a name without a folder is looked up here first, and then on the PATH
+    found = next((it for it in (named, os.path.join(os.curdir, named)) if os.sep in it and os.path.isfile(it)), named)
+    if not shutil.which(found):
+        raise CheckFault(f"cannot run {named}: it is not a program")
+    return found
+
+
+def run_controller(program: str, folder: str, octets: bytes) -> tuple[int, str, str]:
+    """Replays an empty script over a site file. The status, and the beginning of the output and of standard error. CheckFault: it cannot be run."""
+    site, output, errors = (os.path.join(folder, name) for name in ("site.toml", "output", "errors"))
+    with open(site, "wb") as it:
+        it.write(octets)
+    words = [program, "--site", site, "--script", os.devnull]
+    try:
+        with open(output, "w+b") as out, open(errors, "w+b") as err:
+            done = subprocess.run(words, stdin=subprocess.DEVNULL, stdout=out, stderr=err, timeout=MOST_SECONDS, check=False)
+            out.seek(0)
+            err.seek(0)
+            printed, said = (it.read(MOST_OUTPUT).decode("utf-8", "replace") for it in (out, err))
+    except OSError as error:
+        raise CheckFault(f"cannot run {program}: {error.strerror}") from error
+    except subprocess.TimeoutExpired as error:
+        raise CheckFault(f"{program} did not end within {MOST_SECONDS} s") from error
+    return done.returncode, printed, said
+
+
+def ask_controller(program: str, octets: bytes) -> Verdict:
+    """The controller's verdict. CheckFault: it gave none."""
+    try:
+        with tempfile.TemporaryDirectory(prefix="dmr_check") as folder:
+            status, printed, said = run_controller(program, folder, octets)
+    except OSError as error:
+        raise CheckFault(f"cannot write a copy for {program}: {error.strerror}") from error
+    if status == 0:
+        numbers = [line.split()[1] for line in printed.splitlines() if line.startswith("carrier ") and len(line.split()) == 3]
+        return Verdict(program, None, [int(it) for it in numbers if it.isdecimal()])
+    if status == 1 and said.startswith(REFUSAL):
+        return Verdict(program, said.removeprefix(REFUSAL).rstrip("\n"), [])
+    raise CheckFault(f"{program} judged nothing, status {status}: {said.strip()[:200] or 'no message'}")
+
+
+def check_site(options: argparse.Namespace) -> Report:
+    """Checks the site file that the words name. CheckFault: it cannot be read, or the controller that they name is not a program."""
+    octets = read_site(options.site)
+    program = find_controller(options.controller, options.no_controller)
+    document = read_document(octets)
+    name = "<stdin>" if options.site == STANDARD_INPUT else options.site
+    report = Report(name, document, find_faults(document), find_risks(document, Surroundings(has_address, options.link_version)), options.strict)
+    if options.explain and not document.fault:
+        report.lines = list(explain_site(document.values))
+    if program:
+        try:
+            report.verdict = ask_controller(program, octets)
+        except CheckFault as fault:
+            report.silence = str(fault)
+    return report
+
+
+def shows_colours() -> bool:
+    """Whether standard output is a terminal that shows colours."""
+    return sys.stdout.isatty() and not os.environ.get("NO_COLOR") and os.environ.get("TERM", "dumb") != "dumb"
+
+
+def write_report(report: Report, is_json: bool) -> None:
+    """Writes the report. CheckFault: standard output does not take it. A reader that has ended has read enough."""
+    if sys.stdout is None:
+        raise CheckFault("cannot write: standard output is closed")
+    text = report_as_json(report) if is_json else report_as_text(report, shows_colours())
+    try:
+        sys.stdout.buffer.write(text.encode("utf-8", "replace"))
+        sys.stdout.flush()
+    except BrokenPipeError:
+        # the flush at the end of Python would find the closed pipe again
+        os.dup2(os.open(os.devnull, os.O_WRONLY), sys.stdout.fileno())
+    except OSError as error:
+        os.dup2(os.open(os.devnull, os.O_WRONLY), sys.stdout.fileno())
+        raise CheckFault(f"cannot write: {error.strerror}") from error
+
+
+def read_words(words: Sequence[str] | None) -> argparse.Namespace:
+    """The words of the command line."""
+    parser = argparse.ArgumentParser(description=__doc__, formatter_class=argparse.RawDescriptionHelpFormatter)
+    parser.add_argument("site", metavar="SITE_FILE", help="the site file; - is standard input")
+    parser.add_argument("--explain", action="store_true", help="print the values as a table, with times in seconds")
+    parser.add_argument("--strict", action="store_true", help="warnings count: status 3 if there are any")
+    parser.add_argument("--json", action="store_true", help="print the report for machines")
+    parser.add_argument("--link-version", type=int, choices=VERSIONS, help="the greatest version of the link that base stations use; warn if the site refuses it")
+    parser.add_argument("--controller", metavar="PROGRAM", help="the controller that has the last word (dmr_trunk on the PATH)")
+    parser.add_argument("--no-controller", action="store_true", help="do not ask a controller")
+    return parser.parse_args(words)
+
+
+def interrupt(number: int, _: types.FrameType | None) -> None:
+    """Ends the command at a signal, after what it has begun is tidied up."""
+    raise Interrupted(number)
+
+
+def main(words: Sequence[str] | None = None) -> int:
+    """Runs the command. The status."""
+    options = read_words(words)
+    for number in (signal.SIGINT, signal.SIGTERM):
+        signal.signal(number, interrupt)
+    try:
+        report = check_site(options)
+        write_report(report, options.json)
+        if report.silence:
+            raise CheckFault(report.silence)
+    except CheckFault as fault:
+        print(f"check: {fault}", file=sys.stderr)
+        return Status.NOT_CHECKED
+    except Interrupted as it:
+        return 128 + it.number
+    return report.status()

@@ -1,0 +1,222 @@
+"""What is risky in a site file that the controller may well accept: each risk with its reason and what to do."""
+import errno
+import ipaddress
+import itertools
+import socket
+from collections.abc import Callable, Iterator, Mapping
+from dataclasses import dataclass
+from typing import Any
+
+from temzaar.sitefaults import Row, Steps, close_names, header_in_words, is_number, row_of, tables_of
+from temzaar.sitefigures import POLL_MS, WAIT_MS, Figures, seconds_in_words
+from temzaar.sitekeys import CARRIER_KEYS, SITE_KEYS
+from temzaar.tomldocument import Document
+from temzaar.tomltext import Place
+
+FIRST_OPEN_PORT = 1024
+# As often as this a base station has to be late before it is lost, or a call ends that still has voice.
+FEW_POLLS = 10
+# An operator's time to type is as long as the time for which a dead connection keeps a port.
+LONGEST_SILENCE_MS = 60_000
+LARGE_TERMS_MIB = 512
+SHORTEST_TERM_MS = 5_000
+# The pause at the end of a term (docs/OPERATING.md, "Terms").
+PAUSE_MS, LONGEST_PAUSE_MS = 30, 84
+MOST_LISTED, MOST_RISKS = 8, 1000
+
+
+@dataclass(frozen=True)
+class Risk:
+    """A warning: its name, the key that it is about, the reason, what to do, and its place."""
+    name: str
+    key: str
+    reason: str
+    remedy: str
+    place: Place | None = None
+    row: Row | None = None
+
+
+@dataclass(frozen=True)
+class Surroundings:
+    """What the file does not say: whether an address is one of this machine, and the greatest version of the link that base stations use, if that was said."""
+    has_address: Callable[[ipaddress.IPv4Address], bool]
+    link_version: int | None = None
+
+
+def has_address(address: ipaddress.IPv4Address) -> bool:
+    """Whether a port can be opened on an address, as the controller will open its ports. A failure for another reason counts as yes."""
+    try:
+        with socket.socket(socket.AF_INET, socket.SOCK_STREAM) as probe:
+            probe.bind((str(address), 0))
+    except OSError as error:
+        return error.errno != errno.EADDRNOTAVAIL
+    return True
+
+
+def shown_key(path: Steps, value: Any) -> str:
+    """A key as the file has it: a table or an array of tables as its header."""
+    if isinstance(value, list) and value and isinstance(value[0], dict):
+        return f"[{header_in_words(path)}]"
+    return header_in_words(path) if isinstance(value, dict) else f"`{path[-1]}`"
+
+
+class Finder:
+    """The risks of a document."""
+
+    def __init__(self, document: Document, around: Surroundings) -> None:
+        self.document, self.figures, self.around = document, Figures(document.values), around
+
+    def risks(self) -> Iterator[Risk]:
+        """All risks, subject by subject."""
+        for find in (self.text_risks, self.unknown_keys, self.call_risks, self.access_risks, self.clock_risks, self.silence_risks, self.term_risks,
+                     self.link_risks, self.address_risks, self.port_risks, self.group_risks, self.service_risks):
+            yield from find()
+
+    def risk(self, name: str, path: Steps, reason: str, remedy: str, row: Row | None = None) -> Risk:
+        """A risk at a value."""
+        key = next((it for it in reversed(path) if isinstance(it, str)), "")
+        return Risk(name, key, reason, remedy, self.document.value_place(path), row)
+
+    # the text
+
+    def text_risks(self) -> Iterator[Risk]:
+        """What the controller reads, and the other tools do not."""
+        remedy = "write it as TOML 1.0 has it, or do without dmr_siteview and the other tools"
+        if self.document.has_mark:
+            yield Risk("newer-toml", "", "the file begins with a byte order mark: the controller reads it, the other tools do not", "save the file without the mark", Place(1, 1))
+        if self.document.scan.edits:
+            edit = self.document.scan.edits[0]
+            yield Risk("newer-toml", "", f"{edit.what} is new in TOML 1.1: the controller reads it, the other tools do not", remedy, self.document.scan.place(edit.at))
+
+    def unknown_keys(self) -> Iterator[Risk]:
+        """Keys that the controller does not know, in the file and in its carriers."""
+        yield from self.unknown_in(self.document.values, (), None)
+        for number, table in self.figures.rows():
+            yield from self.unknown_in(table, ("carrier", number), row_of(number, table))
+
+    def unknown_in(self, table: Mapping[str, Any], within: Steps, row: Row | None) -> Iterator[Risk]:
+        """The unknown keys of a table."""
+        known, others = (CARRIER_KEYS, SITE_KEYS) if within else (SITE_KEYS, CARRIER_KEYS)
+        for name in table:
+            if name in known:
+                continue
+            path = (*within, name)
+            shown = shown_key(path, table[name])
+            if name in others:
+                remedy = "move it above the first header" if within else "move it below a `[[carrier]]`"
+                reason = f"{shown} is a key of {'the site' if within else 'a carrier'}, and the controller ignores it here"
+            else:
+                missing, there = (close_names(name, [it for it in known if (it in table) == is_there]) for is_there in (False, True))
+                meant = " or ".join(f"`{it}`" for it in missing or there)
+                remedy = f"did you mean {meant}?" if missing else f"remove it, or did you mean {meant}?" if there else "remove it, or make it a comment"
+                reason = f"the controller does not know {shown}, and ignores it"
+            yield Risk("unknown-key", name, reason, remedy, self.document.key_place(path), row)
+
+    # calls and times
+
+    def call_risks(self) -> Iterator[Risk]:
+        """Calls that end too early, or only at their longest."""
+        hang, longest = self.figures.number("hang"), self.figures.number("maximum")
+        if hang is not None and longest is not None and longest <= hang:
+            yield self.risk("maximum-below-hang", ("maximum",), f"a call lasts {longest} ticks at most, and `hang` is {hang}: no call ends because nobody talks",
+                            f"set `maximum` well above {hang}, for example {min(65535, 30 * hang)}")
+        time = self.figures.milliseconds("hang")
+        if time is not None and time < FEW_POLLS * POLL_MS:
+            yield self.risk("short-hang", ("hang",), f"a call ends after {seconds_in_words(time)} without voice, less than {FEW_POLLS} frames of {POLL_MS} ms: a gap on the air ends it",
+                            "set `hang` to some seconds' worth of ticks")
+        wait = self.figures.milliseconds("ahoy_wait")
+        if wait is not None and wait < 2 * POLL_MS:
+            yield self.risk("short-ahoy", ("ahoy_wait",), f"a called radio has {seconds_in_words(wait)} to answer: it is called in one frame of {POLL_MS} ms, and answers in a later one",
+                            "set `ahoy_wait` to at least half a second's worth of ticks")
+
+    def access_risks(self) -> Iterator[Risk]:
+        """A backoff that noise does not change."""
+        low, high = self.figures.number("backoff_low"), self.figures.number("backoff_high")
+        if low is not None and low == high:
+            yield self.risk("narrow-backoff", ("backoff_high",), f"`backoff_low` and `backoff_high` are both {low}: radios do not spread their tries when the channel is busy",
+                            "set `backoff_high` some steps above `backoff_low`" if low < 15 else "set `backoff_low` lower")
+
+    def clock_risks(self) -> Iterator[Risk]:
+        """Ticks that the clock cannot keep."""
+        tick = self.figures.number("tick_ms")
+        if tick is not None and tick < PAUSE_MS:
+            yield self.risk("fast-tick", ("tick_ms",), f"a tick lasts {tick} ms, and the end of a term pauses the controller for {PAUSE_MS} to {LONGEST_PAUSE_MS} ms: "
+                            "the ticks that it misses follow at once",
+                            f"set `tick_ms` to {POLL_MS}, a frame, and count `hang`, `maximum` and `ahoy_wait` in such ticks")
+
+    def silence_risks(self) -> Iterator[Risk]:
+        """Connections that are closed too early or too late."""
+        time = self.figures.milliseconds("silence")
+        if time is not None and time < FEW_POLLS * POLL_MS:
+            yield self.risk("short-silence", ("silence",), f"a base station that sends nothing for {seconds_in_words(time)}, less than {FEW_POLLS} polls, is lost with its calls, "
+                            "and an operator's connection ends as soon",
+                            f"set `silence` to some seconds: {5000 // WAIT_MS} is 5 s")
+        if time is not None and time > LONGEST_SILENCE_MS:
+            yield self.risk("long-silence", ("silence",), f"a base station that loses its power keeps its port and its calls for {seconds_in_words(time)}, and cannot come back before",
+                            f"set `silence` to at most {LONGEST_SILENCE_MS // WAIT_MS}, {seconds_in_words(LONGEST_SILENCE_MS)}")
+
+    def term_risks(self) -> Iterator[Risk]:
+        """Terms that take much memory, or end often."""
+        memory, time = self.figures.memory_mib(), self.figures.term_ms()
+        if memory is not None and memory > LARGE_TERMS_MIB:
+            yield self.risk("large-terms", ("term_entries",), f"if base stations flood the site, terms may take {memory:.0f} MiB of memory",
+                            "lower `term_entries`, or see that the machine has that much memory to spare")
+        if time is not None and time < SHORTEST_TERM_MS:
+            yield self.risk("short-terms", ("term_entries",), f"polls alone end a term each {seconds_in_words(time)}, and each end pauses the site for {PAUSE_MS} to {LONGEST_PAUSE_MS} ms",
+                            f"raise `term_entries`: {SITE_KEYS['term_entries'].default} is the default")
+
+    def link_risks(self) -> Iterator[Risk]:
+        """Base stations that are refused."""
+        served, spoken = self.figures.number("link_version"), self.around.link_version
+        if served is not None and spoken is not None and spoken > served:
+            yield self.risk("old-link", ("link_version",), f"the site serves version {served} of the link alone: base stations of version {spoken}, which number their bursts, are refused (REFUSED 1)",
+                            f"write `link_version = {spoken}`, or set the base stations to version {served}")
+
+    # addresses
+
+    def address_risks(self) -> Iterator[Risk]:
+        """An address that ports cannot be opened on, or that opens them to all."""
+        address = self.figures.address()
+        if address is None:
+            return
+        if address.is_unspecified:
+            yield self.risk("open-address", ("address",), "the ports are open on every network of the machine, and a peer that reaches the console is an operator",
+                            "name one address, or keep strangers away with a firewall (OPERATING, \"Security\")")
+        elif address.is_multicast or address == ipaddress.IPv4Address("255.255.255.255") or not self.around.has_address(address):
+            yield self.risk("foreign-address", ("address",), f"no interface of this machine has the address {address}: the controller ends with `cannot listen on port`",
+                            "`ip -4 address` lists the addresses; if the file is for another machine, check it there")
+
+    def port_risks(self) -> Iterator[Risk]:
+        """Ports that only root may open."""
+        ports: list[tuple[Steps, Row | None, Any]] = [(("console_port",), None, self.document.values.get("console_port"))]
+        ports += [(("carrier", number, "port"), row_of(number, table), table.get("port")) for number, table in self.figures.rows()]
+        for path, row, port in ports:
+            if is_number(port) and 0 < port < FIRST_OPEN_PORT:
+                yield self.risk("low-port", path, f"the port {port} is below {FIRST_OPEN_PORT}: the systemd unit cannot open it", f"use a port from {FIRST_OPEN_PORT} on", row)
+
+    # who is who
+
+    def group_risks(self) -> Iterator[Risk]:
+        """Talkgroups with the numbers of radios, all in one warning."""
+        ranges = self.figures.ranges()[:SITE_KEYS["radios"].many]
+        found = [(index, group, among) for index, group in self.figures.groups() for _, among in ranges if group in among]
+        groups = list(dict.fromkeys(group for _, group, _ in found))
+        if groups:
+            listed = ", ".join(map(str, groups[:MOST_LISTED])) + (", .." if len(groups) > MOST_LISTED else "")
+            several = len(groups) > 1
+            yield self.risk("group-in-radios", ("groups", found[0][0]), f"the talkgroup{'s' * several} {listed} {'are numbers' if several else 'is a number'} of radios too ({found[0][2]}): "
+                            "the controller keeps them apart, people who read the console or set up radios may not", "give talkgroups numbers outside `radios`")
+
+    def service_risks(self) -> Iterator[Risk]:
+        """Services with the numbers of radios. The controller refuses such ranges."""
+        for name in ("regi", "tsi"):
+            value = self.document.values.get(name)
+            among = next((it for _, it in self.figures.ranges() if is_number(value) and value in it), None)
+            if among:
+                yield self.risk("service-in-radios", (name,), f"`{name}`, {value}, is within the radios {among}: a radio could have the address of the site",
+                                f"end the range at {SITE_KEYS['radios'].most} or before")
+
+
+def find_risks(document: Document, around: Surroundings) -> list[Risk]:
+    """The risks of a document, `MOST_RISKS` at most; none if it is not TOML."""
+    return [] if document.fault else list(itertools.islice(Finder(document, around).risks(), MOST_RISKS))

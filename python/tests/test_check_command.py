@@ -1,0 +1,254 @@
+"""The command dmr_check, run as its user runs it: statuses, reports, standard input, and a controller that agrees, disagrees, or judges nothing."""
+import json
+import os
+import pathlib
+import pty
+import signal
+import subprocess
+import tempfile
+import time
+import unittest
+
+from temzaar.cli.check import MOST_OCTETS
+from tests.support import SITES, TOP, TWO_CARRIERS, program, run_tool, tool_words
+from tests.test_check_faults import SITE
+
+FAULTY = SITE.replace("lpcn = 2", "lpcn = 4095").replace("hang = 100", "hnag = 100")
+SHOWN = """\
+FILE: fault: missing hang: the key is required
+    do: `hnag` at line 5 may be meant for it
+    the controller reports this one: dmr_trunk: site file: missing hang
+FILE:25:8: fault: out of range lpcn: [[carrier]] 2, carrier 1: 4095 is reserved and names no channel: 1 to 4094
+    lpcn = 4095
+           ^
+FILE:5:1: warning: unknown-key: the controller does not know `hnag`, and ignores it
+    hnag = 100
+    ^
+    do: did you mean `hang`?
+FILE: 2 faults, 1 warning
+"""
+ACCEPTS = 'printf "carrier 0 -\\ncarrier 1 -\\n"'
+REFUSES = 'echo "dmr_trunk: site file: missing hang" >&2; exit 1'
+
+
+class Command(unittest.TestCase):
+    """A folder with site files and with programs that play a controller."""
+
+    def setUp(self) -> None:
+        holder = tempfile.TemporaryDirectory()
+        self.addCleanup(holder.cleanup)
+        self.folder = pathlib.Path(holder.name)
+        # no dmr_trunk is on the PATH, unless a test puts one there
+        self.environment = {**os.environ, "PATH": str(self.folder / "bin")}
+        (self.folder / "bin").mkdir()
+
+    def site(self, text: str, name: str = "site.toml") -> str:
+        """A site file. Its path."""
+        (self.folder / name).write_bytes(text.encode())
+        return str(self.folder / name)
+
+    def controller(self, script: str, name: str = "bin/dmr_trunk") -> str:
+        """A program that plays a controller. Its path."""
+        path = self.folder / name
+        path.write_text(f"#!/bin/sh\nPATH=/usr/bin:/bin\n{script}\n", encoding="utf-8")
+        path.chmod(0o755)
+        return str(path)
+
+    def check(self, *words: str, **options: object) -> subprocess.CompletedProcess[str]:
+        """Runs the command."""
+        return run_tool("check", *words, **{"env": self.environment, **options})
+
+    def expect(self, words: list[str], status: int, output: str, errors: str = "", **options: object) -> None:
+        """The command ends with a status; its output ends with a text, and standard error is another."""
+        done = self.check(*words, **options)
+        self.assertEqual((done.returncode, done.stderr), (status, errors), done.stdout)
+        self.assertTrue(done.stdout.endswith(output), done.stdout)
+
+
+class Reports(Command):
+    """What is printed."""
+
+    def test_right(self) -> None:
+        done = self.check(TWO_CARRIERS)
+        self.assertEqual((done.returncode, done.stdout, done.stderr), (0, f"{TWO_CARRIERS}: right, 0 warnings\n", ""))
+
+    def test_files_of_the_repository(self) -> None:
+        for path in SITES.glob("*.toml"):
+            self.assertEqual(self.check(str(path)).returncode, 0, path.name)
+
+    def test_faults_and_warnings(self) -> None:
+        path = self.site(FAULTY)
+        done = self.check(path)
+        self.assertEqual((done.returncode, done.stderr), (1, ""))
+        self.assertEqual(done.stdout, SHOWN.replace("FILE", path))
+
+    def test_not_toml(self) -> None:
+        path = self.site("a = 1\nb =")
+        self.expect([path], 1, f"{path}:2:4: fault: not TOML: Invalid value\n    b =\n       ^\n    the controller reports this one: dmr_trunk: site file: not TOML\n{path}: 1 fault\n")
+
+    def test_json(self) -> None:
+        done = self.check("--json", "--explain", self.site(FAULTY))
+        found = json.loads(done.stdout)
+        self.assertEqual((done.returncode, found["status"], found["fault"], found["controller"]), (1, 1, "missing hang", None))
+        self.assertEqual([(it["text"], it["first"], it["line"], it["column"], it["table"], it["carrier"]) for it in found["faults"]],
+                         [("missing hang", True, None, None, None, None), ("out of range lpcn", False, 25, 8, 2, 1)])
+        self.assertEqual([(it["name"], it["key"], it["line"], it["do"]) for it in found["warnings"]], [("unknown-key", "hnag", 5, "did you mean `hang`?")])
+        self.assertEqual(next(it for it in found["values"] if it["key"] == "maximum")["amounts"], "3 min 0 s")
+        self.assertNotIn("values", json.loads(self.check("--json", TWO_CARRIERS).stdout))
+
+    def test_explain(self) -> None:
+        done = self.check("--explain", self.site(SITE.replace("hang = 100", "hang = 50")))
+        self.assertEqual(done.returncode, 0)
+        self.assertRegex(done.stdout, r"(?m)^hang +50 +3\.0 s +how long a call lasts without voice$")
+        self.assertRegex(done.stdout, r"(?m)^link_version +1 \(default\) +the greatest version")
+        self.assertIn("right, 0 warnings\n", done.stdout)
+        # a text without values has no table
+        self.assertNotIn("what it is", self.check("--explain", self.site("a =")).stdout)
+
+    def test_strict(self) -> None:
+        path = self.site(SITE.replace("hang = 100", "hang = 1"))
+        for words, status in (([path], 0), (["--strict", path], 3), (["--strict", TWO_CARRIERS], 0), (["--strict", self.site(FAULTY, "other.toml")], 1)):
+            self.assertEqual(self.check(*words).returncode, status)
+
+    def test_link_version(self) -> None:
+        self.assertIn("warning: old-link: ", self.check("--link-version", "2", TWO_CARRIERS).stdout)
+        self.assertNotIn("old-link", self.check("--link-version", "1", TWO_CARRIERS).stdout)
+
+    def test_standard_input(self) -> None:
+        self.expect(["-"], 0, "<stdin>: right, 0 warnings\n", input=SITE)
+        self.expect(["-"], 1, "<stdin>: 2 faults, 1 warning\n", input=FAULTY)
+
+    def test_what_would_change_a_terminal_is_not_printed(self) -> None:
+        path = self.site("\x1b[2J = 1\n", "\x1b[31m.toml")
+        self.assertNotIn("\x1b", self.check(path).stdout)
+        self.assertNotIn("\x1b", self.check(self.site('"\\u001b[2J" = 1\n' + SITE)).stdout)
+
+    def test_colours_on_a_terminal_alone(self) -> None:
+        path = self.site(FAULTY)
+        self.assertNotIn("\x1b", self.check(path).stdout)
+        for environment, has_colours in (({"TERM": "xterm"}, True), ({"TERM": "xterm", "NO_COLOR": "1"}, False), ({"TERM": "dumb"}, False)):
+            try:
+                outer, inner = pty.openpty()
+            except OSError as error:
+                self.skipTest(f"there is no terminal to open: {error.strerror}")
+            subprocess.run(tool_words("check", path), stdout=inner, env={**self.environment, "NO_COLOR": "", **environment}, check=False, timeout=60)
+            os.close(inner)
+            self.assertEqual(b"\x1b[1;31m" in os.read(outer, 65536), has_colours, environment)
+            os.close(outer)
+
+
+class Refused(Command):
+    """What cannot be checked: a message and status 2, and no traceback."""
+
+    def test_files(self) -> None:
+        large = self.site("#" * (MOST_OCTETS + 1))
+        for path, why in (("/no/such", "cannot read /no/such: No such file or directory"), (str(self.folder), f"cannot read {self.folder}: Is a directory"), ("", "cannot read : No such file or directory"),
+                          (large, f"{large} is larger than 1 MiB: that is not a site file"), ("/dev/zero", "/dev/zero is larger than 1 MiB: that is not a site file")):
+            self.expect([path], 2, "", f"check: {why}\n")
+
+    def test_words(self) -> None:
+        for words in ([], ["a", "b"], ["--link-version", "3", TWO_CARRIERS], ["--no", TWO_CARRIERS, "x"]):
+            done = self.check(*words)
+            self.assertEqual((done.returncode, done.stdout), (2, ""))
+            self.assertIn("usage: ", done.stderr)
+
+    def test_closed_streams(self) -> None:
+        command = " ".join(tool_words("check"))
+        for words, said in ((f"{command} - <&-", "cannot read standard input: it is closed"), (f"{command} {TWO_CARRIERS} >&-", "cannot write: standard output is closed"),
+                            (f"{command} {TWO_CARRIERS} >/dev/full", "cannot write: No space left on device")):
+            done = subprocess.run(["/bin/sh", "-c", words], capture_output=True, text=True, env=self.environment, check=False, timeout=60)
+            self.assertEqual((done.returncode, done.stderr), (2, f"check: {said}\n"))
+
+    def test_a_reader_that_ends(self) -> None:
+        reader, writer = os.pipe()
+        os.close(reader)
+        done = subprocess.run(tool_words("check", self.site(FAULTY)), stdout=writer, stderr=subprocess.PIPE, env=self.environment, check=False, timeout=60)
+        os.close(writer)
+        self.assertEqual((done.returncode, done.stderr), (1, b""))
+
+    def test_not_utf_8(self) -> None:
+        path = self.folder / "site.toml"
+        path.write_bytes(b"a = 1\n# \xff\n")
+        self.expect([str(path)], 1, ": 1 fault\n")
+
+
+class Asked(Command):
+    """The controller has the last word."""
+
+    def test_it_agrees(self) -> None:
+        self.controller(ACCEPTS)
+        self.expect([TWO_CARRIERS], 0, "right, 0 warnings\ndmr_trunk accepts it\n")
+        self.controller(REFUSES)
+        self.expect([self.site(FAULTY)], 1, "dmr_trunk refuses it: dmr_trunk: site file: missing hang\n")
+        self.expect(["--no-controller", TWO_CARRIERS], 0, "right, 0 warnings\n")
+
+    def test_it_disagrees(self) -> None:
+        said = "The controller disagrees. Its verdict counts: this is a fault of dmr_check. Report it, with the site file.\n"
+        for script, text in ((REFUSES, SITE), (ACCEPTS, FAULTY), (REFUSES, FAULTY.replace("regi = 0xFFFEC6\n", "")), ('echo "carrier 0 -"', SITE)):
+            self.expect(["--controller", self.controller(script, "other"), self.site(text)], 4, said)
+        found = json.loads(self.check("--json", "--controller", self.controller(REFUSES, "other"), TWO_CARRIERS).stdout)
+        self.assertEqual((found["status"], found["fault"], found["controller"]), (4, None, {"program": str(self.folder / "other"), "fault": "missing hang", "agrees": False}))
+
+    def test_what_it_is_given(self) -> None:
+        self.controller(f'test "$1" = --site && test "$3" = --script && test "$4" = /dev/null && cp "$2" {self.folder}/copy && cat {self.folder}/said')
+        (self.folder / "said").write_text("carrier 0 -\ncarrier 1 -\n", encoding="utf-8")
+        self.expect(["-"], 0, "dmr_trunk accepts it\n", input=SITE)
+        self.assertEqual((self.folder / "copy").read_text(encoding="utf-8"), SITE)
+
+    def test_by_a_name_alone(self) -> None:
+        self.controller(ACCEPTS, "mine")
+        self.expect(["--controller", "mine", TWO_CARRIERS], 0, "mine accepts it\n", cwd=self.folder)
+        self.controller(ACCEPTS, "bin/other")
+        self.expect(["--controller", "other", TWO_CARRIERS], 0, "other accepts it\n", cwd=self.folder)
+
+    def test_it_is_no_program(self) -> None:
+        self.expect(["--controller", "/no/such", TWO_CARRIERS], 2, "", "check: cannot run /no/such: it is not a program\n")
+        self.expect(["--controller", TWO_CARRIERS, TWO_CARRIERS], 2, "", f"check: cannot run {TWO_CARRIERS}: it is not a program\n")
+
+    def test_it_judges_nothing(self) -> None:
+        for script, said in (("exit 4", "status 4: no message"), ("echo dmr_trunk: out of memory >&2; exit 4", "status 4: dmr_trunk: out of memory"),
+                             ("echo other >&2; exit 1", "status 1: other"), ("kill -9 $$", "status -9: no message")):
+            self.controller(script)
+            self.expect([self.site(FAULTY)], 2, "2 faults, 1 warning\n", f"check: dmr_trunk judged nothing, {said}\n")
+        self.assertIn("judged nothing", json.loads(self.check("--json", TWO_CARRIERS).stdout)["no_verdict"])
+
+    def test_a_broken_program(self) -> None:
+        path = self.folder / "bin" / "dmr_trunk"
+        path.write_bytes(b"\0")
+        path.chmod(0o755)
+        self.expect([TWO_CARRIERS], 2, "right, 0 warnings\n", "check: cannot run dmr_trunk: Exec format error\n")
+
+    def test_signals(self) -> None:
+        self.controller(f"touch {self.folder}/began; exec sleep 60")
+        for number in (signal.SIGTERM, signal.SIGINT):
+            temporary = self.folder / f"temporary{number}"
+            temporary.mkdir()
+            with subprocess.Popen(tool_words("check", TWO_CARRIERS), env={**self.environment, "TMPDIR": str(temporary)}, stdout=subprocess.PIPE, stderr=subprocess.PIPE) as process:
+                until = time.monotonic() + 60
+                while not (self.folder / "began").exists() and time.monotonic() < until:
+                    time.sleep(0.02)
+                process.send_signal(number)
+                output, errors = process.communicate(timeout=60)
+            (self.folder / "began").unlink()
+            self.assertEqual((process.returncode, output, errors), (128 + number, b"", b""))
+            self.assertEqual([*temporary.iterdir()], [])
+
+    def test_the_real_one(self) -> None:
+        built = program("dmr_trunk")
+        self.expect(["--controller", built, TWO_CARRIERS], 0, f"{built} accepts it\n")
+        self.expect(["--controller", built, self.site(FAULTY)], 1, f"{built} refuses it: dmr_trunk: site file: missing hang\n")
+
+
+class Unit(unittest.TestCase):
+    """The systemd unit runs the command before the controller, with words that it takes."""
+
+    def test_unit(self) -> None:
+        lines = (TOP / "deploy/dmr_trunk.service").read_text(encoding="utf-8").splitlines()
+        before = next(line for line in lines if line.startswith("ExecStartPre="))
+        # `-`: the controller starts whatever comes of it, and judges the file itself
+        self.assertTrue(before.startswith("ExecStartPre=-@PREFIX@/bin/dmr_check "), before)
+        self.assertIn("StandardOutput=journal", lines)
+        serve = next(line for line in lines if line.startswith("ExecStart="))
+        *words, path = before.split()[1:]
+        self.assertIn(f" {path} ", serve)
+        self.assertEqual(run_tool("check", *words, TWO_CARRIERS).returncode, 0)

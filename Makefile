@@ -9,6 +9,8 @@ VERSION = $(shell ci/version)
 PYTHON_LIB = $(PREFIX)/lib/python3/dist-packages
 DOC = $(PREFIX)/share/doc/dmr_trunk
 MAN = $(PREFIX)/share/man
+# the folder of Debian's Wireshark for dissectors in Lua, if the prefix is /usr (`tshark -G folders`)
+WIRESHARK_PLUGINS = $(PREFIX)/lib/$(shell uname -m)-linux-gnu/wireshark/plugins
 
 help: ## this list
 	@sed -n 's/^\([a-z][a-z-]*\):[^#]*## \(.*\)/\1@\2/p' $(MAKEFILE_LIST) | awk -F@ '{ printf "make %-15s %s\n", $$1, $$2 }'
@@ -105,7 +107,7 @@ package: build/dmr_trunk build/dmr_decode ## a Debian package of the proved prog
 package-check: package ## installs the package in a clean root and serves a site there (as root; wants debootstrap and a network)
 	ci/check-package build/dmr-trunk_$(VERSION)_*.deb
 
-install: build/dmr_trunk build/dmr_decode ## the programs, tools, manual pages, unit, examples and documents [PREFIX=/usr/local] [DESTDIR=]
+install: build/dmr_trunk build/dmr_decode ## the programs, tools, manual pages, unit, dissector, examples and documents [PREFIX=/usr/local] [DESTDIR=]
 	install -D -m 755 build/dmr_trunk $(DESTDIR)$(PREFIX)/bin/dmr_trunk
 	install -D -m 755 build/dmr_decode $(DESTDIR)$(PREFIX)/bin/dmr_decode
 	install -d $(DESTDIR)$(PREFIX)/lib/systemd/system $(DESTDIR)$(DOC)/examples/scripts $(DESTDIR)$(DOC)/examples/expected $(DESTDIR)$(DOC)/pictures
@@ -114,6 +116,7 @@ install: build/dmr_trunk build/dmr_decode ## the programs, tools, manual pages, 
 	install -m 644 python/temzaar/cli/*.py $(DESTDIR)$(PYTHON_LIB)/temzaar/cli
 	for tool in siteview timeline capture carriers check; do sed -e "s|@TOOL@|$$tool|" -e 's|@PYTHON_LIB@|$(PYTHON_LIB)|' python/launcher.in >$(DESTDIR)$(PREFIX)/bin/dmr_$$tool && chmod 755 $(DESTDIR)$(PREFIX)/bin/dmr_$$tool || exit; done
 	for section in 1 5 8; do install -d $(DESTDIR)$(MAN)/man$$section && for page in deploy/man/*.$$section; do sed -e 's|@VERSION@|$(VERSION)|' -e 's|@PREFIX@|$(PREFIX)|' $$page >$(DESTDIR)$(MAN)/man$$section/$${page##*/} || exit; done || exit; done
+	install -D -m 644 deploy/wireshark/dmr_link.lua $(DESTDIR)$(WIRESHARK_PLUGINS)/dmr_link.lua
 	ln -sf ../man8/dmr_trunk.8 $(DESTDIR)$(MAN)/man1/dmr_trunk.1
 	sed 's|@PREFIX@|$(PREFIX)|' deploy/dmr_trunk.service >$(DESTDIR)$(PREFIX)/lib/systemd/system/dmr_trunk.service
 	install -m 644 docs/OPERATING.md docs/SITE_FILE.md docs/FORMATS.md docs/LINK.md docs/GLOSSARY.md docs/GUARANTEES.md docs/ASSURANCE.md CHANGELOG.md LICENSE-APACHE LICENSE-MIT $(DESTDIR)$(DOC)

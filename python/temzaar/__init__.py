@@ -3,6 +3,7 @@
 The package reads and writes the formats of `docs/FORMATS.md`. It is written from the documents alone, apart from the controller's code, so a
 comparison of the two means something. One module per subject, lowest first:
 
+    faults      the fault that a tool reports in a line, and files that are read with a limit
     code        the block code of a burst, and the check of ten octets
     pdus        the PDUs: one table of layouts, read in both directions
     frames      the frames of the link in both versions: one cutter for both directions
@@ -17,7 +18,17 @@ comparison of the two means something. One module per subject, lowest first:
     script      scripts and printed replays
     console     an operator's console
     process     a controller that a tool starts, or replays a script with
+    relay       the relay between carriers, operators and a controller, which records
+    journal     the files of a recorded session, which grow piece by piece
+    capturefile packet captures: pcap and pcapng files
+    segments    the TCP segments in packets
+    tcpstreams  TCP connections put together again
+    pcapsession the session of a site in a packet capture
     grants      which call a grant belongs to
+    calls       the calls of a session: when, whose, how long they waited, and why they ended
+    callsheet   the list of calls as text, CSV and JSON
+    clock       ticks and clock times, and windows of them
+    drawing     the picture of a session
     ticks       where the ticks of a recorded session fell
     player      the play of a site's carriers and radios
     trouble     the same with connections that break, stall and misbehave

@@ -2,16 +2,21 @@
 import socket
 import time
 
+from temzaar.faults import ToolFault
+
 # Commands whose reply ends with a line `end`, unless it is an error.
 LISTS = ("radios", "calls", "lines", "slots")
 # Replies of one line begin with one of these.
 SINGLE_REPLIES = (b"status", b"ok", b"error")
 
+# More octets than wait to be read from a console, and more lines than any list has.
+MOST_OCTETS, MOST_LINES = 1 << 16, 1000
+
 # A carrier's number and a slot.
 SlotKey = tuple[int, int]
 
 
-class ConsoleFault(Exception):
+class ConsoleFault(ToolFault):
     """The console cannot be reached, does not answer in time, or answers something that the formats do not have. The text says which."""
 
 
@@ -23,8 +28,9 @@ class Console:
         self.name, self.seconds, self.octets = f"{address}:{port}", seconds, b""
         try:
             self.stream = socket.create_connection((address, port), timeout=seconds)
-        except OSError as fault:
-            raise ConsoleFault(f"cannot connect to the console {self.name}: {fault.strerror or fault}") from fault
+        except (OSError, ValueError) as fault:
+            # ValueError: a name that cannot be one of a machine
+            raise ConsoleFault(f"cannot connect to the console {self.name}: {fault.strerror or fault if isinstance(fault, OSError) else fault}") from fault
         self.stream.setsockopt(socket.IPPROTO_TCP, socket.TCP_NODELAY, 1)
 
     def line(self) -> str:
@@ -41,6 +47,8 @@ class Console:
             if not piece:
                 raise ConsoleFault(f"the console {self.name} ended the connection")
             self.octets += piece
+            if len(self.octets) > MOST_OCTETS:
+                raise ConsoleFault(f"the console {self.name} sends more than a console does")
         line, _, self.octets = self.octets.partition(b"\n")
         return line.decode("ascii", "replace")
 
@@ -56,6 +64,8 @@ class Console:
         reply = []
         while first != "end":
             reply.append(first)
+            if len(reply) > MOST_LINES:
+                raise ConsoleFault(f"the console {self.name} sends a list without an end")
             first = self.line()
         return reply
 
@@ -70,6 +80,11 @@ class Console:
         self.close()
 
 
+def are_numbers(words: list[str]) -> bool:
+    """Whether all words are numbers that the formats may have."""
+    return all(it.isascii() and it.isdigit() and len(it) <= 8 for it in words)
+
+
 class Status:
     """The reply to `status`: counts, and what a quiet control slot sends."""
 
@@ -77,7 +92,7 @@ class Status:
 
     def __init__(self, reply: list[str]) -> None:
         words = reply[0].split()
-        if len(words) < 13 or words[0] != "status" or tuple(words[1:11:2]) != self.NAMES or words[11] != "fill":
+        if len(words) < 13 or words[0] != "status" or tuple(words[1:11:2]) != self.NAMES or words[11] != "fill" or not are_numbers(words[2:11:2]):
             raise ConsoleFault(f"not a status: {reply[0]}")
         self.counts = {name: int(count) for name, count in zip(words[1:11:2], words[2:11:2], strict=True)}
         self.fill = " ".join(words[12:])
@@ -90,7 +105,7 @@ class Status:
 def read_slots(reply: list[str]) -> dict[SlotKey, str]:
     """The reply to `slots`: the state of each slot."""
     rows = [line.split() for line in reply]
-    if any(len(row) != 4 or row[0] != "slot" for row in rows):
+    if any(len(row) != 4 or row[0] != "slot" or not are_numbers(row[1:3]) for row in rows):
         raise ConsoleFault(f"not a list of slots: {reply}")
     return {(int(row[1]), int(row[2])): row[3] for row in rows}
 
@@ -104,8 +119,10 @@ def read_parties(words: list[str]) -> str:
 
 def read_calls(reply: list[str]) -> dict[SlotKey, str]:
     """The reply to `calls C`: the parties of each call."""
-    rows = [line.split() for line in reply]
-    return {(int(row[1]), int(row[2])): read_parties(row[3:]) for row in rows if row[0] == "call"}
+    rows = [line.split() for line in reply if line.startswith("call ")]
+    if not all(are_numbers(row[1:3]) and len(row) > 3 for row in rows):
+        raise ConsoleFault(f"not a list of calls: {reply}")
+    return {(int(row[1]), int(row[2])): read_parties(row[3:]) for row in rows}
 
 
 def read_lines(reply: list[str]) -> list[str]:

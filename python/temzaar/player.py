@@ -16,6 +16,7 @@ from temzaar.frames import BYE, POLL, TO_CARRIER, Cutter, Frame, FrameType, Link
 from temzaar.grants import Parties, SiteCalls, cleared_parties, granted_parties, is_fill, is_grant, is_late, requested_parties
 from temzaar.pdus import Pdu
 from temzaar.process import connect
+from temzaar.script import SessionFault
 from temzaar.sitefile import Row, Site
 
 # Seconds between two polls of a carrier, as on the air.
@@ -24,6 +25,8 @@ PERIOD = 0.060
 PATIENCE = 2.0
 # The share of its RX that a carrier retransmits, in version 2 of the link.
 RETRANSMITTED = 0.1
+# Seconds within which a port of the controller has to listen.
+CONNECTING = 3.0
 
 SlotKey = tuple[int | None, int]
 
@@ -244,7 +247,10 @@ class Carrier:
 
     def __init__(self, play: "Play", row: Row, begins: float) -> None:
         self.play, self.number = play, row["number"]
-        self.stream = connect(play.site.address, row["port"])
+        try:
+            self.stream = connect(play.site.address, row["port"], CONNECTING)
+        except OSError as fault:
+            raise SessionFault(f"carrier {self.number}: cannot connect to {play.site.address}:{row['port']}: {fault.strerror or fault}") from fault
         self.stream.setblocking(False)
         self.cutter, self.sent, self.due, self.welcomed = Cutter(TO_CARRIER), 0.0, begins, False
         self.link, self.again, self.backoff = Link(play.version), b"", Backoff(play.site.plan)

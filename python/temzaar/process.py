@@ -1,4 +1,5 @@
 """A controller that a tool starts: to serve a site, or to replay a script."""
+import ctypes
 import os
 import re
 import signal
@@ -7,7 +8,7 @@ import subprocess
 import tempfile
 import threading
 import time
-from collections.abc import Sequence
+from collections.abc import Callable, Sequence
 from typing import Any
 
 from temzaar.script import SessionFault
@@ -41,11 +42,26 @@ class Process:
         return len(os.listdir(f"/proc/{self.pid}/fd"))
 
 
+# The number of the call by which a process says which signal it gets when its parent ends (prctl(2)).
+PR_SET_PDEATHSIG = 1
+
+
+def ends_with_parent() -> Callable[[], None]:
+    """A function for a process that was just forked: from then on it gets SIGTERM when its parent ends, in whatever way."""
+    libc = ctypes.CDLL(None, use_errno=True)
+
+    def ask_system() -> None:
+        """Asks for the signal. It takes no memory and no lock."""
+        libc.prctl(PR_SET_PDEATHSIG, signal.SIGTERM)
+
+    return ask_system
+
+
 class Controller(Process):
-    """The controller, serving a site until it is stopped. `notes` has the lines of its standard error, as they come."""
+    """The controller, serving a site until it is stopped, or until this process ends. Ctrl-C in the terminal does not reach it by itself. `notes` has the lines of its standard error, as they come."""
 
     def __init__(self, program: str, site: Site, words: Sequence[str] = (), **options: Any) -> None:
-        """Starts it, with further words of its command line; `options` go to `subprocess.Popen`."""
+        """Starts it, with further words of its command line; `options` go to `subprocess.Popen`. SessionFault: it cannot be run."""
         self.folder = tempfile.TemporaryDirectory()
         path = os.path.join(self.folder.name, "site.toml")
         with open(path, "w", encoding="utf-8") as it:
@@ -54,7 +70,12 @@ class Controller(Process):
         # as deploy/dmr_trunk.service has it: the memory of a term goes back to the system when the term ends
         environment = {**os.environ, "MALLOC_MMAP_THRESHOLD_": "262144"}
         command = [program, "--site", path, "--serve", *words]
-        self.process = subprocess.Popen(command, stderr=subprocess.PIPE, text=True, env=environment, **options)
+        more: dict[str, Any] = {"stdin": subprocess.DEVNULL, "process_group": 0, "preexec_fn": ends_with_parent(), **options}
+        try:
+            self.process = subprocess.Popen(command, stderr=subprocess.PIPE, text=True, errors="replace", env=environment, **more)
+        except (OSError, ValueError) as fault:
+            self.folder.cleanup()
+            raise SessionFault(f"cannot run {program}: {fault.strerror if isinstance(fault, OSError) else fault}") from fault
         self.reader = threading.Thread(target=self._read_notes, daemon=True)
         self.reader.start()
         super().__init__(self.process.pid)
@@ -68,13 +89,18 @@ class Controller(Process):
         """Waits until a note, from number `since` on, has the pattern. Whether one did in time."""
         until = time.monotonic() + seconds
         while time.monotonic() < until:
+            ended = not self.runs()
+            if ended:
+                self.reader.join(1)
             if any(re.search(pattern, note) for note in list(self.notes)[since:]):
                 return True
+            if ended:
+                return False
             time.sleep(0.02)
         return False
 
     def wait_until_served(self) -> None:
-        """Waits until the console listens, the last of the ports. SessionFault: it does not within half a minute."""
+        """Waits until the console listens, the last of the ports. SessionFault: it ends, or does not within half a minute."""
         if not self.wait_for("console: listening", 30):
             raise SessionFault("the controller does not listen: " + "; ".join(self.notes))
 
@@ -120,9 +146,9 @@ def connect(address: str, port: int, seconds: float = 10.0) -> socket.socket:
 def replay(program: str, site: str, script: str) -> str:
     """The output of the controller that replays the text of a script. SessionFault: it cannot be run, or refuses the script."""
     try:
-        done = subprocess.run([program, "--site", site, "--script", "/dev/stdin"], input=script.encode("utf-8"), capture_output=True, check=False)
-    except OSError as fault:
-        raise SessionFault(f"cannot run {program}: {fault.strerror}") from fault
+        done = subprocess.run([program, "--site", site, "--script", "/dev/stdin"], input=script.encode("utf-8"), capture_output=True, check=False, process_group=0)
+    except (OSError, ValueError) as fault:
+        raise SessionFault(f"cannot run {program}: {fault.strerror if isinstance(fault, OSError) else fault}") from fault
     if done.returncode:
         raise SessionFault(done.stderr.decode("utf-8", "replace").strip() or f"{program} ended with status {done.returncode}")
     return done.stdout.decode("utf-8", "replace")

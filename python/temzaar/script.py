@@ -1,15 +1,17 @@
 """Scripts and printed replays (docs/FORMATS.md, "Scripts", "Link sessions"): which answer belongs to which poll, and when."""
+import re
 from collections.abc import Iterable
 from dataclasses import dataclass
 
 from temzaar import code
+from temzaar.faults import ToolFault
 from temzaar.frames import FROM_CARRIER, TO_CARRIER, Cutter, Frame, FrameType, Link, welcome
 
 # The key of what goes to operators; other keys are carrier numbers.
 OPERATORS = -1
 
 
-class SessionFault(Exception):
+class SessionFault(ToolFault):
     """A script, a printed replay or a controller that a tool cannot use. The text says which, and where."""
 
 
@@ -35,21 +37,25 @@ class Input:
         return f"text {self.octets.hex().upper()}"
 
 
+# The lines of a script but `say`: C, N and HEX as the formats have them.
+LINE = re.compile(r"(?P<kind>open|cut) (?P<of>\d|1[0-5])|bytes (?P<carrier>\d|1[0-5]) (?P<octets>(?:[0-9A-Fa-f]{2})+)|tick(?: (?P<count>[1-9]\d{0,4}|100000))?"
+                  r"|text (?P<text>(?:[0-9A-Fa-f]{2})+)", re.ASCII)
+
+
 def input_of_line(line: str) -> Input:
     """The input of a line that is neither empty nor a comment. ValueError: it is not a line of a script."""
-    kind, _, rest = line.partition(" ")
-    if kind in ("open", "cut"):
-        return Input(kind, int(rest))
-    if kind == "bytes":
-        carrier, _, digits = rest.partition(" ")
-        return Input(kind, int(carrier), bytes.fromhex(digits))
-    if kind == "tick":
-        return Input(kind, count=int(rest or "1"))
-    if kind == "say":
-        return Input("text", octets=rest.encode("utf-8") + b"\n")
-    if kind == "text":
-        return Input(kind, octets=bytes.fromhex(rest))
-    raise ValueError(line)
+    if line.startswith("say "):
+        return Input("text", octets=line[4:].encode("utf-8") + b"\n")
+    found = LINE.fullmatch(line)
+    if not found:
+        raise ValueError(line)
+    if found["kind"]:
+        return Input(found["kind"], int(found["of"]))
+    if found["octets"]:
+        return Input("bytes", int(found["carrier"]), bytes.fromhex(found["octets"]))
+    if found["text"]:
+        return Input("text", octets=bytes.fromhex(found["text"]))
+    return Input("tick", count=int(found["count"] or "1"))
 
 
 def read_script(text: str) -> list[Input]:

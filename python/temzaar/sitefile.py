@@ -1,20 +1,104 @@
 """The site file (docs/SITE_FILE.md), as far as the tools need it, and changed copies of it that a trial serves on loopback."""
 import tomllib
-from typing import Any
+from bisect import bisect_right
+from collections.abc import Iterable
+from itertools import accumulate
+from typing import Any, NamedTuple
+
+from temzaar.faults import ToolFault, read_text
 
 Row = dict[str, Any]
+# The most octets of a site file.
+MOST_OCTETS = 1 << 20
+
+
+class SiteFault(ToolFault):
+    """A site file that a tool cannot use. The text names the file and the key, in the words of the controller."""
+
+
+class Range(NamedTuple):
+    """The least and the greatest value of a key, and whether the file has to have it."""
+    least: int
+    most: int
+    required: bool = True
+
+
+# The keys that tools read and that are whole numbers; those of a carrier; how many entries an array has, and the range of each.
+NUMBERS = {
+    "regi": Range(16776416, 16777215), "tsi": Range(16776416, 16777215), "leave_bit": Range(0, 6, False), "hang": Range(1, 65535), "maximum": Range(1, 65535),
+    "grant_copies": Range(1, 4), "clear_copies": Range(1, 4), "backoff_low": Range(1, 15), "backoff_high": Range(1, 15), "tick_ms": Range(10, 1000),
+    "link_version": Range(1, 2, False), "console_port": Range(1, 65535), "control": Range(0, 15),
+}
+OF_CARRIER = {"number": Range(0, 15), "lpcn": Range(1, 4094), "port": Range(1, 65535)}
+COUNTS = {"address": Range(4, 4, False), "radios": Range(1, 16), "groups": Range(0, 64), "carrier": Range(1, 16)}
+ADDRESS_OCTET, IDENTITY = Range(0, 255), Range(1, 16776415)
+
+
+def fault_of_number(key: str, value: object, bounds: Range) -> str:
+    """What is wrong with a value that is to be a whole number; empty if nothing is."""
+    if not isinstance(value, int) or isinstance(value, bool):
+        return f"wrong type {key}"
+    return "" if bounds.least <= value <= bounds.most else f"out of range {key}"
+
+
+def fault_of_row(row: object) -> str:
+    """What is wrong with a table of a carrier; empty if nothing is."""
+    if not isinstance(row, dict):
+        return "wrong type carrier"
+    faults = (f"missing {key}" if key not in row else fault_of_number(key, row[key], bounds) for key, bounds in OF_CARRIER.items())
+    return next((it for it in faults if it), "")
+
+
+def fault_of_array(key: str, value: object) -> str:
+    """What is wrong with a value that is to be an array; empty if nothing is."""
+    if not isinstance(value, list):
+        return f"wrong type {key}"
+    if not COUNTS[key].least <= len(value) <= COUNTS[key].most:
+        return f"{'wrong type' if key == 'address' else 'out of range'} {key}"
+    if key == "carrier":
+        return next((fault for row in value if (fault := fault_of_row(row))), "")
+    if key == "radios" and not all(isinstance(it, list) and len(it) == 2 for it in value):
+        return "wrong type radios"
+    numbers = [number for pair in value for number in pair] if key == "radios" else value
+    bounds = ADDRESS_OCTET if key == "address" else IDENTITY
+    return next((fault for number in numbers if (fault := fault_of_number(key, number, bounds))), "")
+
+
+def fault_of_key(key: str, plan: dict[str, Any]) -> str:
+    """What is wrong with a key of a site file; empty if nothing is."""
+    bounds = NUMBERS.get(key) or COUNTS[key]
+    if key not in plan:
+        return f"missing {key}" if bounds.required else ""
+    fault = fault_of_number(key, plan[key], bounds) if key in NUMBERS else fault_of_array(key, plan[key])
+    if not fault and key == "control" and isinstance(plan.get("carrier"), list) and plan[key] not in [row.get("number") for row in plan["carrier"]]:
+        return "out of range control"
+    return fault
+
+
+def read_plan(path: str, keys: Iterable[str] = (*NUMBERS, *COUNTS)) -> dict[str, Any]:
+    """The values of a site file. SiteFault: it cannot be read, or one of these keys is not as the tools need it."""
+    try:
+        plan = tomllib.loads(read_text(path, MOST_OCTETS))
+    except ToolFault as fault:
+        raise SiteFault(f"site file {fault}") from fault
+    except (ValueError, RecursionError) as fault:
+        raise SiteFault(f"site file {path}: not TOML: {fault}") from fault
+    # the carriers come before the number of one of them
+    for key in sorted(keys, key=lambda it: it == "control"):
+        if fault := fault_of_key(key, plan):
+            raise SiteFault(f"site file {path}: {fault}")
+    return plan
 
 
 class Site:
     """A site: the values of its file, and its carriers.
 
-    `carriers` is the greatest number of carriers that are kept, the control carrier always among them. With `first_port` the console listens on that port of
+    SiteFault: the file cannot be used. `carriers` is the greatest number of carriers that are kept, the control carrier always among them. With `first_port` the console listens on that port of
     the loopback address and the carriers on the ports after it. `changes` are other keys of the file.
     """
 
     def __init__(self, path: str, carriers: int = 16, first_port: int | None = None, **changes: Any) -> None:
-        with open(path, "rb") as it:
-            self.plan: dict[str, Any] = tomllib.load(it)
+        self.plan = read_plan(path)
         rows: list[Row] = sorted(self.plan["carrier"], key=lambda row: (row["number"] != self.plan["control"], row["number"]))[:carriers]
         if first_port is not None:
             for number, row in enumerate(rows):
@@ -69,16 +153,21 @@ class Site:
             row["port"] += shift
 
     def text(self) -> str:
-        """The site file."""
-        lines = [f"{key} = {value}" for key, value in self.plan.items() if key != "carrier"]
+        """The site file; keys that no site file has, of another type, are left out."""
+        lines = [f"{key} = {value}" for key, value in self.plan.items() if key != "carrier" and isinstance(value, int | list) and not isinstance(value, bool)]
         for row in self.rows:
-            lines += ["[[carrier]]"] + [f"{key} = {value}" for key, value in row.items()]
+            lines += ["[[carrier]]"] + [f"{key} = {row[key]}" for key in OF_CARRIER]
         return "\n".join(lines) + "\n"
 
     def radios(self, count: int) -> list[int]:
         """At most `count` of the radios that the site admits, spread over its ranges."""
-        listed = [radio for first, last in self.plan["radios"] for radio in range(first, last + 1)]
-        return listed[::max(1, len(listed) // count)][:count]
+        ranges = [range(first, last + 1) for first, last in self.plan["radios"]]
+        total = sum(map(len, ranges))
+        places = range(0, total, max(1, total // count))[:count]
+        # a site may admit millions of radios, so they are counted through and not listed
+        starts = list(accumulate(map(len, ranges), initial=0))
+        within = [(place, bisect_right(starts, place) - 1) for place in places]
+        return [ranges[number][place - starts[number]] for place, number in within]
 
     def register_options(self) -> int:
         """The options of a request that registers, if the site distinguishes joining from leaving by an option bit."""

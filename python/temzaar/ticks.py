@@ -5,16 +5,19 @@ answer. If a replay's answers differ, the search takes the first piece that is a
 before it, such as the piece with which a call began, nearest first. Of all placings tried, it goes on from the one whose answers agree for longest.
 """
 import heapq
-from collections.abc import Iterator, Mapping
+from collections.abc import Callable, Iterator, Mapping
 from dataclasses import dataclass
 from typing import Protocol
 
 from temzaar import process
-from temzaar.script import OPERATORS, Input, read_printed
+from temzaar.script import OPERATORS, Input, SessionFault, read_printed
 
 # The number of phases that are tried. The number of pieces before the first difference across which a tick is moved. The most placings that are replayed, and
 # that are kept to go on from.
 PHASES, REACH_BACK, MOST_PLACINGS, MOST_KEPT = 24, 48, 3000, 100
+
+# The most ticks of a line of a script, and of a session.
+MOST_OF_LINE, MOST_OF_SESSION = 100000, 10**8
 
 # How many ticks come before each piece, and after the last.
 Gaps = list[int]
@@ -55,12 +58,16 @@ class Program:
         return {**carriers, OPERATORS: told.encode("utf-8")}
 
 
+def line_counts(ticks: int) -> list[int]:
+    """A number of ticks as those of lines of a script, each of which has at most `MOST_OF_LINE`."""
+    return [MOST_OF_LINE] * (ticks // MOST_OF_LINE) + [ticks % MOST_OF_LINE] * bool(ticks % MOST_OF_LINE)
+
+
 def script_lines(pieces: list[Piece], gaps: Gaps) -> list[str]:
     """The lines of the script of these pieces, with the ticks of `gaps` before each and after the last."""
     lines = []
     for piece, ticks in zip([*pieces, None], gaps, strict=True):
-        if ticks:
-            lines.append(Input("tick", count=ticks).line())
+        lines += [Input("tick", count=count).line() for count in line_counts(ticks)]
         if piece:
             lines.append(piece.input.line())
     return lines
@@ -153,13 +160,18 @@ class Search:
         return not self.open or self.is_at_bound()
 
 
-def place_ticks(pieces: list[Piece], seconds: float, program: Replayer) -> Search:
-    """Searches for a placing of ticks of `seconds` each. `is_done` of the result says whether one was found."""
+def place_ticks(pieces: list[Piece], seconds: float, program: Replayer, is_stopped: Callable[[], bool] = lambda: False) -> Search:
+    """Searches for a placing of ticks of `seconds` each, until `is_stopped`. `is_done` of the result says whether one was found.
+
+    SessionFault: the pieces are too far apart, or the program cannot replay them.
+    """
+    if (max(it.time for it in pieces) - min(it.time for it in pieces)) / seconds > MOST_OF_SESSION:
+        raise SessionFault(f"the session has more than {MOST_OF_SESSION} ticks: are its times right?")
     search = Search(pieces, program)
     for phase in range(PHASES):
         search.consider(even_gaps(pieces, seconds, phase / PHASES), 0)
-        if search.is_done():
+        if search.is_done() or is_stopped():
             return search
-    while not search.is_done() and not search.is_exhausted():
+    while not search.is_done() and not search.is_exhausted() and not is_stopped():
         search.go_on()
     return search

@@ -1,10 +1,14 @@
 """The parts that tests share: the repository's files, the controller's programs, and readers of the documents."""
+import contextlib
+import io
 import os
 import pathlib
 import re
+import signal
 import subprocess
 import sys
 import unittest
+from collections.abc import Callable
 
 TOP = pathlib.Path(__file__).resolve().parents[2]
 EXAMPLES, SITES = TOP / "examples", TOP / "sites"
@@ -25,6 +29,27 @@ def program(name: str) -> str:
 def run_tool(name: str, *words: str, **options: object) -> subprocess.CompletedProcess[str]:
     """Runs a command of tools/ to its end."""
     return subprocess.run(tool_words(name, *words), capture_output=True, text=True, check=False, timeout=120, **options)  # type: ignore[call-overload,no-any-return]
+
+
+def call_tool(main: Callable[[list[str]], int], *words: str) -> subprocess.CompletedProcess[str]:
+    """Runs the `main` of a command in this process, which is faster. What `run_tool` has of it."""
+    out, fault = io.StringIO(), io.StringIO()
+    handlers = {number: signal.getsignal(number) for number in (signal.SIGTERM, signal.SIGHUP)}
+    with contextlib.redirect_stdout(out), contextlib.redirect_stderr(fault):
+        try:
+            status = main(list(words))
+        except SystemExit as ended:
+            status = int(ended.code or 0)
+        finally:
+            for number, handler in handlers.items():
+                signal.signal(number, handler)
+    return subprocess.CompletedProcess(words, status, out.getvalue(), fault.getvalue())
+
+
+def take_signals() -> None:
+    """In a process that was just forked: Ctrl-C and the end of the terminal have their effect, also if the tests were started without it."""
+    for number in (signal.SIGINT, signal.SIGHUP):
+        signal.signal(number, signal.SIG_DFL)
 
 
 def tool_words(name: str, *words: str) -> list[str]:

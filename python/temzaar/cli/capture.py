@@ -1,264 +1,84 @@
-"""Passes octets between carriers, operators and a controller, and writes them as a script that replays to the same octets.
+"""Records what comes to a site as a script that replays to the same octets: between carriers, operators and a controller, or from a packet capture.
 
     capture --site site.toml --program build/dmr_trunk --out incident.txt
+    capture --site site.toml --program build/dmr_trunk --out incident.txt --pcap incident.pcap
+    capture --site site.toml --program build/dmr_trunk --out incident.txt --unfinished incident.txt
 
-It listens on the ports of the site file, starts the controller on ports further up (--shift, 10000; on loopback), and passes everything on, both ways,
-until Ctrl-C or --seconds. Then it writes the script, and to incident.txt.out what was sent, as a replay prints it, and searches for the
-ticks. With --running the controller is one that runs already: its site file is this one except for its ports, which are higher by --shift. The site
-must be empty then: no carrier, no radio and no call.
+Without --pcap it listens on the ports of the site file and starts the controller on ports further up (--shift, 10000; on loopback). It passes everything
+on, both ways, until Ctrl-C, SIGTERM, the end of its terminal, or --seconds. Then it searches for the ticks. It writes the script, and to incident.txt.out
+what was sent, as a replay prints it. The controller ends with the tool. With --running the controller is one that runs already: its site file is this one
+except for its ports, which are higher by --shift. The site must be empty then: no carrier, no radio and no call.
 
-What is certain. Each piece is handed to the controller only after the piece before it is answered, so the script has them in the order in which the
-site took them. Frames without an answer (RX, ACTIVE) wait for the next frame that has one. After a fifth of a second they go alone; then their order
-among other carriers' pieces is not certain. If the tool ends with 'replays to the same octets', it has replayed the script and compared every octet.
+While it records, each piece is appended to the script at once, with even ticks. If the tool is killed or the disk is full, the script has all that was
+recorded; --unfinished reads it and searches for the ticks.
+
+With --pcap it reads a file that tcpdump or Wireshark wrote, and nothing has to be between base station and controller. The file is pcap or pcapng,
+with Ethernet, Linux cooked, raw IP or loopback packets, IPv4 or IPv6. The tool puts the TCP streams together again, and names each gap and its place.
+The capture has to begin before the first carrier connects to an empty site.
+
+What is certain. Recorded live, each piece is handed to the controller only after the piece before it is answered. So the script has them in the site's
+order. Frames without an answer (RX, ACTIVE) wait for the next frame that has one. After a fifth of a second they go alone; then their
+order among other carriers' pieces is not certain. With --pcap the order between carriers follows from the times of answers, and is likely. If the tool ends
+with 'replays to the same octets', it has replayed the script and compared every octet.
 
 What is not certain. The site's ticks cannot be seen. The tool places the script's ticks so that the answers are the same. If no answer shows the
-difference, a tick may have fallen elsewhere. What was on the site before is not in the script.
+difference, a tick may have fallen elsewhere. What was on the site before is not in the script. A second Ctrl-C ends the search for the ticks.
 
-Status: 0 the script replays to the same octets; 1 a file, a port or the controller, named on standard error; 2 the words; 3 a script was written, and
-no placing of the ticks was found that gives the same octets: the tool prints where they first differ.
+Status: 0 the script replays to the same octets; 1 a file, a full disk, a port or the controller, named on standard error; 2 the words; 3 a script was
+written, but it replays to other octets, the controller ended by itself, or the packet capture has gaps: the tool prints which.
 """
 import argparse
 import os
-import selectors
 import signal
-import socket
-import sys
 import time
-from collections.abc import Callable, Iterable, Iterator, Sequence
+from collections.abc import Iterable, Iterator, Sequence
+from contextlib import closing, contextmanager
+from dataclasses import dataclass, field
+from datetime import datetime
 
-from temzaar.console import SINGLE_REPLIES, Console, ConsoleFault, Status
-from temzaar.frames import FROM_CARRIER, Cutter, Frame, FrameType
-from temzaar.process import Controller, connect
-from temzaar.script import OPERATORS, Input, SessionFault
+from temzaar.cli.command import amount_above, count_of, print_note, run_command
+from temzaar.clock import begin_comment
+from temzaar.console import Console, Status
+from temzaar.journal import Journal, OutputFile, read_journal
+from temzaar.pcapsession import read_session
+from temzaar.process import Controller
+from temzaar.relay import ControllerLost, Relay
+from temzaar.script import OPERATORS, SessionFault
 from temzaar.sitefile import Site
 from temzaar.ticks import Piece, Program, Search, place_ticks, script_lines
 
-# Seconds for which frames without an answer wait for one that has one, and for which the controller may take to answer.
-HOLD, PATIENCE = 0.2, 10.0
-ANSWERED = (FrameType.HELLO, FrameType.POLL, FrameType.BYE)
+MOST_PORT = 65535
+SAME, DIFFERENT = 0, 3
 
 
-class Ended(Exception):
-    """The other side has ended a connection, or the controller does not answer any more."""
+class StopRequests:
+    """The signals that ask the tool to come to an end. The first ends the recording, one after it the search for the ticks."""
 
+    def __init__(self) -> None:
+        self.count = 0
 
-class Upstream:
-    """The connection to the controller that belongs to one from a carrier or an operator."""
-
-    def __init__(self, address: str, port: int) -> None:
-        self.stream, self.octets = connect(address, port), b""
-        self.stream.settimeout(PATIENCE)
-
-    def read(self) -> None:
-        """Reads more. Ended: the controller ended the connection."""
+    @contextmanager
+    def handled(self) -> Iterator["StopRequests"]:
+        """While it lasts Ctrl-C, SIGTERM and the end of the terminal are counted, and end nothing by themselves. `nohup` keeps its effect."""
+        counted = [signal.SIGINT, signal.SIGTERM, *([signal.SIGHUP] if signal.getsignal(signal.SIGHUP) is not signal.SIG_IGN else [])]
+        before = {number: signal.signal(number, self._count) for number in counted}
         try:
-            piece = self.stream.recv(65536)
-        except OSError as fault:
-            raise Ended(str(fault)) from fault
-        if not piece:
-            raise Ended("end of input")
-        self.octets += piece
+            yield self
+        finally:
+            for number, handler in before.items():
+                signal.signal(number, handler)
 
-    def frame(self) -> bytes:
-        """The octets of the next frame, whatever its type."""
-        while len(self.octets) < 2 or len(self.octets) < 2 + self.octets[1]:
-            self.read()
-        frame, self.octets = self.octets[:2 + self.octets[1]], self.octets[2 + self.octets[1]:]
-        return frame
-
-    def line(self) -> bytes:
-        """The next line, with its LF."""
-        while b"\n" not in self.octets:
-            self.read()
-        line, _, self.octets = self.octets.partition(b"\n")
-        return line + b"\n"
-
-    def reply(self) -> bytes:
-        """The reply to one line of an operator."""
-        reply = line = self.line()
-        if not line.startswith(SINGLE_REPLIES):
-            while line != b"end\n":
-                line = self.line()
-                reply += line
-        return reply
+    def _count(self, *_: object) -> None:
+        self.count += 1
 
 
-class Side:
-    """A connection that is passed on: of a carrier, or of an operator."""
-
-    def __init__(self, capture: "Capture", carrier: int, stream: socket.socket, port: int) -> None:
-        self.capture, self.carrier, self.stream = capture, carrier, stream
-        self.upstream, self.held = Upstream("127.0.0.1", port), b""
-        # when the oldest octet that is held came
-        self.since: float | None = None
-
-    def receive(self) -> None:
-        """Takes the octets received. Ended: the other side closed the connection."""
-        try:
-            piece = self.stream.recv(65536)
-        except OSError:
-            piece = b""
-        if not piece:
-            raise Ended("the other side closed")
-        self.held += piece
-        self.since = self.since or time.monotonic()
-
-    def pass_on(self, given: Input, answers: Iterable[bytes]) -> None:
-        """Hands an input to the controller, and each part of its answer back; `answers` reads the parts."""
-        piece = Piece(given, time.monotonic())
-        self.capture.pieces.append(piece)
-        try:
-            self.upstream.stream.sendall(given.octets)
-            for part in answers:
-                piece.answer += part
-                self.stream.sendall(part)
-        except OSError as fault:
-            raise Ended(str(fault)) from fault
-
-    def hand_over(self, now: float) -> None:
-        """Hands over what is held, if it is complete, or has waited long enough."""
-        raise NotImplementedError
-
-    def finish(self) -> None:
-        """The connection has ended."""
-
-
-class CarrierSide(Side):
-    """A carrier's connection."""
-
-    def __init__(self, capture: "Capture", carrier: int, stream: socket.socket, port: int) -> None:
-        super().__init__(capture, carrier, stream, port)
-        self.cutter, self.up = Cutter(FROM_CARRIER), False
-        # octets that were cut and not handed over yet, and their frames; None marks octets from which no frame can follow
-        self.cut = b""
-        self.waiting: list[Frame | None] = []
-        capture.pieces.append(Piece(Input("open", carrier), time.monotonic()))
-
-    def hand_over(self, now: float) -> None:
-        if self.held:
-            had_fault = self.cutter.fault is not None
-            self.waiting += self.cutter.feed(self.held)
-            if self.cutter.fault and not had_fault:
-                self.waiting.append(None)
-        self.cut, self.held = self.cut + self.held, b""
-        answered = any(frame is None or frame.kind in ANSWERED for frame in self.waiting)
-        if self.cut and (answered or self.since and now - self.since > HOLD):
-            octets, frames, self.cut, self.waiting, self.since = self.cut, self.waiting, b"", [], None
-            self.pass_on(Input("bytes", self.carrier, octets), self.answers(frames))
-
-    def answers(self, frames: list[Frame | None]) -> Iterator[bytes]:
-        """The frames that the controller sends for these, as they come."""
-        for frame in frames:
-            if frame is None or frame.kind == FrameType.BYE or (frame.kind == FrameType.HELLO) == self.up:
-                self.wait_for_end()
-            elif frame.kind == FrameType.HELLO:
-                octets = self.upstream.frame()
-                yield octets
-                self.up = octets[0] == FrameType.WELCOME
-                if not self.up:
-                    self.wait_for_end()
-            elif frame.kind == FrameType.POLL:
-                octets = b"\0"
-                while octets[0] != FrameType.DONE:
-                    octets = self.upstream.frame()
-                    yield octets
-
-    def wait_for_end(self) -> None:
-        """Waits until the controller closes the connection: then the site has taken its end. Ended: always."""
-        while True:
-            self.upstream.read()
-
-    def finish(self) -> None:
-        rest = self.cut + self.held
-        if rest:
-            self.capture.pieces.append(Piece(Input("bytes", self.carrier, rest), time.monotonic()))
-        try:
-            if rest:
-                self.upstream.stream.sendall(rest)
-            self.upstream.stream.shutdown(socket.SHUT_WR)
-            self.wait_for_end()
-        except (OSError, Ended):
-            pass
-        self.capture.pieces.append(Piece(Input("cut", self.carrier), time.monotonic()))
-
-
-class OperatorSide(Side):
-    """An operator's connection: whole lines are handed over; what follows the last LF at the end means nothing."""
-
-    def hand_over(self, now: float) -> None:
-        while b"\n" in self.held:
-            line, _, self.held = self.held.partition(b"\n")
-            self.pass_on(Input("text", octets=line + b"\n"), (self.upstream.reply() for _ in range(1)))
-        self.since = None
-
-
-class Capture:
-    """The ports, the connections that are passed on, and the pieces that were handed over. SessionFault: a port cannot be listened on."""
-
-    def __init__(self, site: Site, shift: int) -> None:
-        self.shift = shift
-        self.pieces: list[Piece] = []
-        self.selector = selectors.DefaultSelector()
-        self.listeners: dict[int, tuple[socket.socket, int]] = {}
-        self.sides: dict[int, Side] = {}
-        for port, carrier in [(site.console_port, OPERATORS), *((row["port"], row["number"]) for row in site.rows)]:
-            try:
-                self.listeners[carrier] = socket.create_server((site.address, port)), port
-            except OSError as fault:
-                raise SessionFault(f"cannot listen on port {port}: {fault.strerror}") from fault
-            self.await_connection(carrier)
-
-    def await_connection(self, carrier: int) -> None:
-        """Waits for a connection on a port. One at a time is served; another one waits until that has ended."""
-        self.selector.register(self.listeners[carrier][0], selectors.EVENT_READ, ("listen", carrier))
-
-    def accept(self, carrier: int) -> None:
-        """Takes the connection that came on a port."""
-        listener, port = self.listeners[carrier]
-        stream, _ = listener.accept()
-        stream.setsockopt(socket.IPPROTO_TCP, socket.TCP_NODELAY, 1)
-        self.selector.unregister(listener)
-        kind = OperatorSide if carrier == OPERATORS else CarrierSide
-        self.sides[carrier] = side = kind(self, carrier, stream, port + self.shift)
-        self.selector.register(stream, selectors.EVENT_READ, ("receive", carrier))
-        self.selector.register(side.upstream.stream, selectors.EVENT_READ, ("read", carrier))
-
-    def end(self, carrier: int) -> None:
-        """Ends a connection, on both sides."""
-        side = self.sides.pop(carrier)
-        side.finish()
-        for stream in (side.stream, side.upstream.stream):
-            self.selector.unregister(stream)
-            stream.close()
-        self.await_connection(carrier)
-
-    def turn(self) -> None:
-        """Does what there is to do now."""
-        for key, _ in self.selector.select(0.05):
-            what, carrier = key.data
-            if what == "listen":
-                self.accept(carrier)
-            elif carrier in self.sides:
-                side = self.sides[carrier]
-                self.attempt(carrier, side.receive if what == "receive" else side.upstream.read)
-        now = time.monotonic()
-        for carrier, side in list(self.sides.items()):
-            self.attempt(carrier, lambda side=side: side.hand_over(now))
-
-    def attempt(self, carrier: int, action: Callable[[], None]) -> None:
-        """Does something for a connection, and ends the connection if either side has ended it."""
-        try:
-            action()
-        except Ended:
-            self.end(carrier)
-
-    def close(self) -> None:
-        """Ends all connections, and listens no more."""
-        for carrier in list(self.sides):
-            self.end(carrier)
-        self.selector.close()
-        for listener, _ in self.listeners.values():
-            listener.close()
+@dataclass
+class Session:
+    """A recorded session: its pieces, the comments that say of what it is and when it began, and what is missing in it."""
+    pieces: list[Piece]
+    head: list[str]
+    remarks: list[str] = field(default_factory=list)
+    incomplete: bool = False
 
 
 def printed_text(pieces: list[Piece], numbers: Iterable[int]) -> str:
@@ -270,55 +90,121 @@ def printed_text(pieces: list[Piece], numbers: Iterable[int]) -> str:
     return "".join(lines) + b"".join(piece.answer for piece in pieces if piece.to() == OPERATORS).decode("utf-8", "replace")
 
 
-def write_script(options: argparse.Namespace, site: Site, search: Search) -> None:
-    """Writes the script, and what was sent."""
-    head = [f"# Captured {time.strftime('%Y-%m-%d %H:%M:%S')} before the controller of {os.path.basename(options.site)}.",
-            f"# Replay it over that site file; what was sent is in {os.path.basename(options.out)}.out.",
-            "# The order is that in which the site took it. Ticks are placed so that a replay gives the same octets, which need not be where they fell."]
-    with open(options.out, "w", encoding="utf-8") as it:
-        it.write("\n".join([*head, *script_lines(search.pieces, search.gaps)]) + "\n")
-    with open(options.out + ".out", "w", encoding="utf-8") as it:
-        it.write(printed_text(search.pieces, [row["number"] for row in site.rows]))
+def head_lines(options: argparse.Namespace, source: str) -> tuple[str, ...]:
+    """The comments at the top of a script."""
+    return (f"# {source} {time.strftime('%Y-%m-%d %H:%M:%S')}, for the site of {os.path.basename(options.site)}.",
+            f"# Replay it over that site file; what was sent is in {os.path.basename(options.out)}.out.")
 
 
 def require_empty_site(port: int) -> None:
     """SessionFault: something is on the site whose console this is, and a replay begins with nothing."""
     with Console("127.0.0.1", port) as console:
         if not Status(console.ask("status")).is_empty():
-            raise SessionFault("something stands at the site, and a replay begins with nothing: start the controller anew")
+            raise SessionFault("the site is not empty, and a replay begins with an empty site: restart the controller")
 
 
-def record(options: argparse.Namespace, site: Site, stopped: list[bool]) -> list[Piece]:
-    """Passes everything on until `stopped` has an item, or the time is up. The pieces that were handed over."""
+def shifted_site(options: argparse.Namespace) -> Site:
+    """The site of the controller, with its higher ports. SessionFault: a port would be none."""
     inner = Site(options.site)
+    highest = max(inner.console_port, *(row["port"] for row in inner.rows))
+    if highest + options.shift > MOST_PORT:
+        raise SessionFault(f"--shift {options.shift} is too much for port {highest}: ports end at {MOST_PORT}")
     inner.shift_ports(options.shift)
+    return inner
+
+
+def record_live(options: argparse.Namespace, site: Site, out: OutputFile, stop: StopRequests) -> Session:
+    """Passes everything on until it is to stop, or the time is up."""
+    inner = shifted_site(options)
+    journal = Journal(out, site.tick_seconds, head_lines(options, "Captured"))
+    remarks: list[str] = []
     controller = None if options.running else Controller(options.program, inner)
     try:
         if controller:
             controller.wait_until_served()
         require_empty_site(inner.console_port)
-        capture, ends = Capture(site, options.shift), time.monotonic() + options.seconds
-        print("capture: listening", file=sys.stderr, flush=True)
-        while time.monotonic() < ends and not stopped:
-            capture.turn()
-        capture.close()
-        return capture.pieces
+        with closing(Relay(site, options.shift, journal)) as relay:
+            print_note("capture", "listening")
+            try:
+                pass_on(relay, controller, time.monotonic() + options.seconds, stop)
+            except ControllerLost as fault:
+                # what led to that is worth the most
+                print_note("capture", str(fault))
+                remarks.append(str(fault))
     finally:
         if controller:
             controller.stop()
+    if not journal.pieces:
+        raise SessionFault("nothing came")
+    return Session(journal.pieces, [*journal.head, *([begin_comment(journal.began)] if journal.began else [])], remarks, bool(remarks))
 
 
-def report(options: argparse.Namespace, search: Search, replays: int) -> int:
+def pass_on(relay: Relay, controller: Controller | None, ends: float, stop: StopRequests) -> None:
+    """Passes everything on until it is to stop, or the time is up. ControllerLost: the controller has ended, or takes no connection any more."""
+    while time.monotonic() < ends and not stop.count:
+        relay.turn()
+        if controller and not controller.runs():
+            raise ControllerLost("; ".join(["the controller ended by itself", *controller.notes[-3:]]))
+
+
+def read_unfinished(options: argparse.Namespace) -> Session:
+    """The session of a recording that was not finished."""
+    pieces, began = read_journal(options.unfinished)
+    if not pieces:
+        raise SessionFault(f"{options.unfinished}: nothing was recorded")
+    return Session(pieces, [*head_lines(options, "Captured, and finished"), *([began] if began else [])])
+
+
+def read_pcap(options: argparse.Namespace, site: Site) -> Session:
+    """The session of a packet capture."""
+    found = read_session(options.pcap, site)
+    counts = ", ".join(f"{count} {name}" for name, count in found.counts.items() if count)
+    print(f"{options.pcap}: {counts}")
+    head = [*head_lines(options, f"Read from {os.path.basename(options.pcap)}"), begin_comment(datetime.fromtimestamp(found.pieces[0].time))]
+    return Session(found.pieces, head, found.remarks, found.incomplete)
+
+
+def report(options: argparse.Namespace, session: Session, search: Search, replays: int, was_stopped: bool) -> int:
     """Prints how it went. The status."""
     print(f"{len(search.pieces)} pieces, {sum(search.gaps)} ticks, {search.moved} of them moved; {replays} replays")
+    for remark in session.remarks:
+        print(remark)
     if search.is_done():
-        print(f"{options.out} replays to the same octets")
-        return 0
+        print(f"{options.out} replays to the same octets" + (", but the capture is not whole" if session.incomplete else ""))
+        return DIFFERENT if session.incomplete else SAME
     piece = search.pieces[search.reach]
     since = piece.time - search.pieces[0].time
     print(f"{options.out} does not replay to the same octets: from piece {search.reach + 1} on ({piece.input.line()[:40]}, {since:.2f} s after the first)")
-    print(f"{len(search.seen)} placings were replayed, " + ("and no more are" if search.is_at_bound() else "and none is left that leads further"))
-    return 3
+    why = "the search was stopped" if was_stopped else "no more are" if search.is_at_bound() else "none is left that leads further"
+    print(f"{len(search.seen)} placings were replayed, and {why}")
+    return DIFFERENT
+
+
+def finish_session(options: argparse.Namespace, site: Site, session: Session, program: Program, files: Sequence[OutputFile], stop: StopRequests) -> int:
+    """Searches for the ticks, and writes the script and what was sent. The status."""
+    requests = stop.count
+    search = place_ticks(session.pieces, site.tick_seconds, program, lambda: stop.count > requests)
+    head = [*session.head, *(f"# Not whole: {it}" for it in session.remarks),
+            "# The order is that in which the site took it. Ticks are placed so that a replay gives the same octets, which need not be where they fell."]
+    out, sent = files
+    sent.replace(printed_text(search.pieces, [row["number"] for row in site.rows]))
+    out.replace("\n".join([*head, *script_lines(search.pieces, search.gaps)]) + "\n")
+    return report(options, session, search, program.replays, stop.count > requests)
+
+
+def capture_session(options: argparse.Namespace) -> int:
+    """Records a session, or reads one, and writes it as a script. The status."""
+    site, program = Site(options.site), Program(options.program, options.site)
+    # what cannot replay is found before anything is recorded, and so are files that cannot be written
+    program.replay([])
+    with StopRequests().handled() as stop, closing(OutputFile(options.out)) as out, closing(OutputFile(options.out + ".out")) as sent:
+        if options.pcap:
+            session = read_pcap(options, site)
+        elif options.unfinished:
+            session = read_unfinished(options)
+        else:
+            session = record_live(options, site, out, stop)
+        return finish_session(options, site, session, program, (out, sent), stop)
 
 
 def read_words(words: Sequence[str] | None) -> argparse.Namespace:
@@ -328,27 +214,18 @@ def read_words(words: Sequence[str] | None) -> argparse.Namespace:
     parser.add_argument("--program", required=True, help="the controller: to be started (but with --running), and to replay")
     parser.add_argument("--out", required=True, help="the script")
     parser.add_argument("--running", action="store_true", help="the controller runs already, on loopback")
-    parser.add_argument("--shift", type=int, default=10000, help="how much higher the controller's ports are (10000)")
-    parser.add_argument("--seconds", type=float, default=float("inf"), help="for how long; without it, until Ctrl-C")
-    return parser.parse_args(words)
+    parser.add_argument("--shift", type=count_of(1, MOST_PORT), default=10000, help="how much higher the controller's ports are (10000)")
+    parser.add_argument("--seconds", type=amount_above(0), default=float("inf"), help="for how long; without it, until Ctrl-C")
+    which = parser.add_mutually_exclusive_group()
+    which.add_argument("--pcap", metavar="FILE", help="read this packet capture, and listen to nothing")
+    which.add_argument("--unfinished", metavar="FILE", help="read this script of a recording that was killed, and search for its ticks")
+    options = parser.parse_args(words)
+    if (options.pcap or options.unfinished) and (options.running or options.seconds != float("inf")):
+        parser.error("--running and --seconds are for recording, and --pcap and --unfinished read a file")
+    return options
 
 
 def main(words: Sequence[str] | None = None) -> int:
     """Runs the command. The status."""
     options = read_words(words)
-    stopped: list[bool] = []
-    for number in (signal.SIGINT, signal.SIGTERM):
-        signal.signal(number, lambda *_: stopped.append(True))
-    try:
-        site, program = Site(options.site), Program(options.program, options.site)
-        # what cannot replay is found before anything is recorded
-        program.replay([])
-        pieces = record(options, site, stopped)
-        if not pieces:
-            raise SessionFault("nothing came")
-        search = place_ticks(pieces, site.tick_seconds, program)
-        write_script(options, site, search)
-        return report(options, search, program.replays)
-    except (SessionFault, ConsoleFault, OSError, KeyError, ValueError) as fault:
-        print(f"capture: {fault}", file=sys.stderr)
-        return 1
+    return run_command("capture", lambda: capture_session(options))

@@ -24,13 +24,15 @@ reading, fall silent, or send no frames; the controller is stopped and continued
 reason. No others may be lost, and in the end everybody is served.
 """
 import argparse
-import signal
 import sys
 from collections.abc import Sequence
 
+from temzaar.cli.command import amount_above, clean_up_on_signals, count_of, report_fault, run_command
+from temzaar.faults import ToolFault
 from temzaar.frames import VERSIONS
 from temzaar.player import Play
 from temzaar.process import Controller, Process
+from temzaar.script import SessionFault
 from temzaar.sitefile import Site
 from temzaar.trouble import TroubledPlay
 
@@ -40,22 +42,25 @@ def read_words(words: Sequence[str] | None) -> argparse.Namespace:
     parser = argparse.ArgumentParser(description=__doc__, formatter_class=argparse.RawDescriptionHelpFormatter)
     parser.add_argument("--site", required=True, help="the site file")
     parser.add_argument("--program", help="start this controller, on loopback, and stop it again")
-    parser.add_argument("--pid", type=int, help="the process of a controller that runs, to print its share of a processor")
-    parser.add_argument("--port", type=int, default=17100, help="with --program: the console's port; the carriers' follow (17100)")
-    parser.add_argument("--carriers", type=int, default=16, help="how many of the site's carriers (16)")
+    parser.add_argument("--pid", type=count_of(1, 1 << 22), help="the process of a controller that runs, to print its share of a processor")
+    parser.add_argument("--port", type=count_of(1, 65535 - 16), default=17100, help="with --program: the console's port; the carriers' follow (17100)")
+    parser.add_argument("--carriers", type=count_of(1, 16), default=16, help="how many of the site's carriers (16)")
     parser.add_argument("--link-version", type=int, choices=VERSIONS, help="the version of the link that carriers speak (the greatest that the site file serves)")
-    parser.add_argument("--radios", type=int, default=64, help="how many radios (64)")
-    parser.add_argument("--seconds", type=float, default=30, help="how long (30)")
-    parser.add_argument("--polls", type=int, default=0, help="end after this many polls; 0: no such end")
+    parser.add_argument("--radios", type=count_of(1, 4096), default=64, help="how many radios (64)")
+    parser.add_argument("--seconds", type=amount_above(0), default=30, help="how long (30)")
+    parser.add_argument("--polls", type=count_of(0, 1 << 40), default=0, help="end after this many polls; 0: no such end")
     parser.add_argument("--fast", action="store_true", help="poll as soon as the last poll is answered")
     parser.add_argument("--seed", type=int, default=1, help="of what radios do at random (1)")
     parser.add_argument("--faults", action="store_true", help="with --program: let things go wrong")
-    parser.add_argument("--troubles", type=float, default=2.0, help="with --faults: how many a second (2)")
+    parser.add_argument("--troubles", type=amount_above(0, 1000), default=2.0, help="with --faults: how many a second (2)")
     options = parser.parse_args(words)
     if options.faults and not options.program:
-        parser.error("--faults wants --program")
+        parser.error("--faults needs --program")
     changes = {"term_entries": 5000} if options.faults else {}
-    options.served = Site(options.site, options.carriers, options.port if options.program else None, **changes)
+    try:
+        options.served = Site(options.site, options.carriers, options.port if options.program else None, **changes)
+    except ToolFault as fault:
+        sys.exit(report_fault("carriers", str(fault)))
     if (options.link_version or 0) > options.served.link_version:
         parser.error(f"--link-version: the site file serves versions up to {options.served.link_version}")
     return options
@@ -69,7 +74,10 @@ def play_site(options: argparse.Namespace, controller: Controller | None) -> int
         return 1
     process = controller or (Process(options.pid) if options.pid else None)
     before = process.seconds() if process else 0
-    seconds = play.run()
+    try:
+        seconds = play.run()
+    except OSError as fault:
+        raise SessionFault(f"the play broke off: {fault.strerror or fault}") from fault
     share = (process.seconds() - before) / seconds if process else None
     in_order = play.report(seconds, share)
     if isinstance(play, TroubledPlay):
@@ -80,14 +88,18 @@ def play_site(options: argparse.Namespace, controller: Controller | None) -> int
     return 0 if in_order else 1
 
 
-def main(words: Sequence[str] | None = None) -> int:
-    """Runs the command. The status."""
-    options = read_words(words)
-    # the controller is stopped after success and failure alike
-    signal.signal(signal.SIGTERM, lambda *_: sys.exit(1))
+def play_with_controller(options: argparse.Namespace) -> int:
+    """Plays, with a controller that is started if the words say so, and stopped after success and failure alike. The status."""
     controller = Controller(options.program, options.served) if options.program else None
     try:
         return play_site(options, controller)
     finally:
         if controller:
             controller.stop()
+
+
+def main(words: Sequence[str] | None = None) -> int:
+    """Runs the command. The status."""
+    options = read_words(words)
+    clean_up_on_signals()
+    return run_command("carriers", lambda: play_with_controller(options))

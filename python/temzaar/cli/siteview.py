@@ -18,17 +18,20 @@ import sys
 import termios
 import textwrap
 import time
-import tomllib
 import tty
 from collections.abc import Iterable, Iterator, Sequence
 from typing import Protocol
 
+from temzaar.cli.command import amount_above, clean_up_on_signals, count_of, run_command
 from temzaar.console import Console, ConsoleFault, SlotKey, Status, read_calls, read_lines, read_slots
+from temzaar.sitefile import read_plan
 
 BOLD, PLAIN = "\x1b[1m", "\x1b[0m"
 COLOURS = {"call": "\x1b[1;32m", "control": "\x1b[36m", "down": "\x1b[1;31m", "waiting": "\x1b[33m", "free": "\x1b[2m"}
 CELL = 40
 LEAVE = "\x04"
+# More than a line may have: the controller says so itself.
+MOST_TYPED = 100
 
 # A part of a row: its text, and the state that colours it.
 Part = tuple[str, str]
@@ -189,7 +192,7 @@ class Prompt:
                 self.answer, self.typed = self.console.ask(self.typed) if self.typed else [], ""
             elif key in ("\x7f", "\b"):
                 self.typed = self.typed[:-1]
-            elif key.isprintable():
+            elif key.isprintable() and len(self.typed) < MOST_TYPED:
                 self.typed += key
         return False
 
@@ -211,16 +214,22 @@ def watch(console: Console, name: str, seconds: float) -> None:
 def console_address(options: argparse.Namespace) -> tuple[str, int]:
     """The address and port of the console that the words name."""
     if options.console:
-        address, _, port = options.console.rpartition(":")
-        if not address or not port.isdigit():
-            raise ConsoleFault(f"--console wants ADDRESS:PORT, not {options.console}")
-        return address, int(port)
+        return options.console
+    plan = read_plan(options.site, ("address", "console_port"))
+    return ".".join(map(str, plan.get("address", [127, 0, 0, 1]))), plan["console_port"]
+
+
+def read_address(text: str) -> tuple[str, int]:
+    """An address and a port, from the words. ArgumentTypeError: they are not ADDRESS:PORT."""
+    address, _, port = text.rpartition(":")
+    fault = argparse.ArgumentTypeError(f"{text!r} is not ADDRESS:PORT")
     try:
-        with open(options.site, "rb") as it:
-            plan = tomllib.load(it)
-        return ".".join(map(str, plan.get("address", [127, 0, 0, 1]))), plan["console_port"]
-    except (OSError, tomllib.TOMLDecodeError, KeyError) as fault:
-        raise ConsoleFault(f"site file {options.site}: {fault!r}") from fault
+        found = address.strip("[]"), count_of(1, 65535)(port)
+    except argparse.ArgumentTypeError:
+        raise fault from None
+    if not found[0]:
+        raise fault
+    return found
 
 
 def read_words(words: Sequence[str] | None) -> argparse.Namespace:
@@ -228,28 +237,32 @@ def read_words(words: Sequence[str] | None) -> argparse.Namespace:
     parser = argparse.ArgumentParser(description=__doc__, formatter_class=argparse.RawDescriptionHelpFormatter)
     which = parser.add_mutually_exclusive_group(required=True)
     which.add_argument("--site", help="the site file, which names the console's address and port")
-    which.add_argument("--console", help="the console, as ADDRESS:PORT")
+    which.add_argument("--console", type=read_address, help="the console, as ADDRESS:PORT")
     parser.add_argument("--once", action="store_true", help="print one picture as plain text, and end")
-    parser.add_argument("--every", type=float, default=0.25, help="seconds from one picture to the next (0.25)")
+    parser.add_argument("--every", type=amount_above(0, 3600), default=0.25, help="seconds from one picture to the next (0.25)")
     return parser.parse_args(words)
+
+
+def show_site(options: argparse.Namespace) -> int:
+    """Shows the site. The status."""
+    if not options.once and not (sys.stdin and sys.stdin.isatty() and sys.stdout.isatty()):
+        raise ConsoleFault("no terminal: give --once")
+    address, port = console_address(options)
+    with Console(address, port) as console:
+        name = f"{address}:{port}"
+        if options.once:
+            sys.stdout.write(plain_text(picture_rows(Picture(console), name, Ages(), 0)))
+            return 0
+        try:
+            watch(console, name, max(0.05, options.every))
+        except KeyboardInterrupt:
+            # that is how it is left
+            pass
+    return 0
 
 
 def main(words: Sequence[str] | None = None) -> int:
     """Runs the command. The status."""
     options = read_words(words)
-    try:
-        address, port = console_address(options)
-        with Console(address, port) as console:
-            name = f"{address}:{port}"
-            if options.once:
-                sys.stdout.write(plain_text(picture_rows(Picture(console), name, Ages(), 0)))
-            elif not sys.stdin.isatty() or not sys.stdout.isatty():
-                raise ConsoleFault("no terminal: give --once")
-            else:
-                watch(console, name, max(0.05, options.every))
-    except ConsoleFault as fault:
-        print(f"siteview: {fault}", file=sys.stderr)
-        return 1
-    except KeyboardInterrupt:
-        pass
-    return 0
+    clean_up_on_signals()
+    return run_command("siteview", lambda: show_site(options))

@@ -1,0 +1,64 @@
+"""The list of calls as text, CSV and JSON."""
+import csv
+import io
+import json
+from enum import Enum
+
+from temzaar.calls import CallRecord
+from temzaar.clock import Clock, Window
+
+COLUMNS = ("begun", "ended", "begun_time", "ended_time", "carrier", "slot", "kind", "source", "target", "cause", "waited_ticks", "waited_seconds")
+
+
+class ListFormat(Enum):
+    """How the list of calls is written."""
+    TEXT = "text"
+    CSV = "csv"
+    JSON = "json"
+
+
+def call_row(record: CallRecord, clock: Clock) -> dict[str, str | int | float | None]:
+    """The columns of a call. A value that is not known, or that the call does not have, is None."""
+    return {
+        "begun": record.begun, "ended": record.ended, "begun_time": clock.full_time(record.begun) or None,
+        "ended_time": None if record.ended is None else clock.full_time(record.ended) or None,
+        "carrier": record.carrier, "slot": record.slot, "kind": record.kind, "source": record.source, "target": record.target, "cause": record.cause.value,
+        "waited_ticks": record.waited, "waited_seconds": None if record.waited is None else clock.seconds(record.waited),
+    }
+
+
+def calls_in(records: list[CallRecord], window: Window) -> list[CallRecord]:
+    """The calls that were active at some tick of a window."""
+    return [it for it in records if it.begun < window.end and (it.ended is None or it.ended >= window.first)]
+
+
+def text_cells(record: CallRecord, clock: Clock) -> list[str]:
+    """The cells of a call in the text table."""
+    def at(tick: int | None) -> str:
+        """A tick, with its clock time if it is known."""
+        return "-" if tick is None else f"{tick} {clock.time_of_day(tick)}".rstrip()
+
+    waited = "-" if record.waited is None else f"{record.waited} ({clock.seconds(record.waited):.1f} s)"
+    source = "-" if record.source is None else str(record.source)
+    return [at(record.begun), at(record.ended), f"{record.carrier}/{record.slot}", record.kind, source, str(record.target), waited, record.cause.value]
+
+
+def text_table(records: list[CallRecord], clock: Clock) -> str:
+    """The list as a table for people."""
+    rows = [["begun", "ended", "slot", "kind", "source", "target", "waited", "cause of the end"], *(text_cells(it, clock) for it in records)]
+    widths = [max(len(row[n]) for row in rows) for n in range(len(rows[0]))]
+    return "".join("  ".join(f"{cell:<{width}}" for cell, width in zip(row, widths, strict=True)).rstrip() + "\n" for row in rows)
+
+
+def write_list(records: list[CallRecord], clock: Clock, form: ListFormat) -> str:
+    """The list of calls in a format."""
+    if form is ListFormat.TEXT:
+        return text_table(records, clock)
+    rows = [call_row(it, clock) for it in records]
+    if form is ListFormat.JSON:
+        return json.dumps(rows, indent=2) + "\n"
+    out = io.StringIO(newline="")
+    writer = csv.DictWriter(out, COLUMNS, lineterminator="\n")
+    writer.writeheader()
+    writer.writerows(rows)
+    return out.getvalue()

@@ -1,0 +1,132 @@
+"""How every command ends: a fault as one line and a status, a closed pipe and Ctrl-C by their signals, and never a traceback."""
+import argparse
+import math
+import os
+import select
+import signal
+import sys
+from collections.abc import Callable
+from typing import NoReturn
+
+from temzaar.faults import ToolFault
+
+# Statuses that all commands share. argparse itself ends with WRONG_WORDS.
+DONE, FAULT, WRONG_WORDS = 0, 1, 2
+
+
+class Terminated(BaseException):
+    """SIGTERM or SIGHUP came. What was opened is closed on the way up, and then the process ends by that signal."""
+
+    def __init__(self, number: int) -> None:
+        super().__init__(number)
+        self.number = number
+
+
+def end_by_signal(number: int) -> NoReturn:
+    """Ends the process by a signal, as if it had no handler for it, so that a shell sees how it ended."""
+    signal.signal(number, signal.SIG_DFL)
+    os.kill(os.getpid(), number)
+    signal.pthread_sigmask(signal.SIG_UNBLOCK, [number])
+    raise SystemExit(128 + number)
+
+
+def clean_up_on_signals() -> None:
+    """From now on SIGTERM and SIGHUP end the command by `Terminated`, so that its `finally` clauses run."""
+    def terminate(number: int, _frame: object) -> None:
+        """Raises it, once: a second signal does not disturb the cleaning up."""
+        signal.signal(number, signal.SIG_IGN)
+        raise Terminated(number)
+
+    for number in (signal.SIGTERM, signal.SIGHUP):
+        # `nohup` ignores the end of the terminal, and so does what it starts
+        if signal.getsignal(number) is not signal.SIG_IGN:
+            signal.signal(number, terminate)
+
+
+def has_closed_pipe() -> bool:
+    """Whether standard output is a pipe whose reader has gone."""
+    poll = select.poll()
+    poll.register(1, 0)
+    return any(event & select.POLLERR for _, event in poll.poll(0))
+
+
+def drop_standard_output() -> None:
+    """Sends what is still to be written to standard output nowhere, so that the interpreter's end does not try again."""
+    nowhere = os.open(os.devnull, os.O_WRONLY)
+    os.dup2(nowhere, 1)
+    os.close(nowhere)
+
+
+def print_note(name: str, text: str) -> None:
+    """Prints a line of a command to standard error. If nobody can read it, the command goes on all the same."""
+    if sys.stderr is None:
+        return
+    try:
+        print(f"{name}: {text}", file=sys.stderr, flush=True)
+    except (OSError, ValueError):
+        # what could not be written would be tried again at the interpreter's end
+        sys.stderr = None
+
+
+def report_fault(name: str, text: str) -> int:
+    """Prints a fault of a command. Its status."""
+    print_note(name, text)
+    return FAULT
+
+
+def run_command(name: str, action: Callable[[], int]) -> int:
+    """Does what a command does, and writes out its standard output. The status."""
+    try:
+        if sys.stdout is None:
+            raise ToolFault("standard output is closed")
+        status = action()
+        sys.stdout.flush()
+        return status
+    except ToolFault as fault:
+        return finish_after_fault(name, str(fault))
+    except KeyboardInterrupt:
+        end_by_signal(signal.SIGINT)
+    except Terminated as ended:
+        end_by_signal(ended.number)
+    except BrokenPipeError as fault:
+        if has_closed_pipe():
+            end_by_signal(signal.SIGPIPE)
+        return finish_after_fault(name, fault.strerror)
+    except OSError as fault:
+        return finish_after_fault(name, f"{fault.filename or 'standard output'}: {fault.strerror or fault}")
+    except MemoryError:
+        return finish_after_fault(name, "out of memory")
+
+
+def finish_after_fault(name: str, text: str) -> int:
+    """Writes out what was printed before a fault, and then reports the fault. The status."""
+    if sys.stdout is not None:
+        try:
+            sys.stdout.flush()
+        except OSError:
+            drop_standard_output()
+    return report_fault(name, text)
+
+
+def count_of(least: int, most: int) -> Callable[[str], int]:
+    """A reader of whole numbers in a range, for argparse."""
+    def read(text: str) -> int:
+        """The number. ArgumentTypeError: it is not one, or not in the range."""
+        if not (text.isascii() and text.isdigit() and len(text) < 20 and least <= int(text) <= most):
+            raise argparse.ArgumentTypeError(f"{text!r} is not a whole number from {least} to {most}")
+        return int(text)
+    return read
+
+
+def amount_above(least: float, most: float = 1e9) -> Callable[[str], float]:
+    """A reader of numbers above a bound, such as seconds, for argparse."""
+    def read(text: str) -> float:
+        """The number. ArgumentTypeError: it is not one, or not in the range."""
+        try:
+            value = float(text)
+        except ValueError:
+            value = math.nan
+        if not least < value <= most:
+            raise argparse.ArgumentTypeError(f"{text!r} is not a number above {least:g}, at most {most:g}")
+        return value
+    return read

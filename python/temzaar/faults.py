@@ -1,0 +1,54 @@
+"""The fault that every tool reports in one line, and files that are read with a limit."""
+import os
+
+# The most octets of a text file that a tool reads: a script of a day of sixteen busy carriers has fewer.
+MOST_OCTETS = 1 << 28
+
+
+class ToolFault(Exception):
+    """Something that a tool cannot use: a file, a port, a controller or an answer. The text names it, and says why."""
+
+
+def system_fault(what: str, fault: OSError) -> ToolFault:
+    """The fault of a call of the system that concerns `what`, such as a path."""
+    return ToolFault(f"{what}: {fault.strerror or fault}")
+
+
+def read_octets(path: str, most: int = MOST_OCTETS) -> bytes:
+    """The octets of a file. ToolFault: it cannot be read, or has more than `most` octets."""
+    try:
+        with open(path, "rb") as it:
+            octets = it.read(most + 1)
+    except OSError as fault:
+        raise system_fault(path, fault) from fault
+    except ValueError as fault:
+        # a zero octet in the name
+        raise ToolFault(f"{path!r}: {fault}") from fault
+    if len(octets) > most:
+        raise ToolFault(f"{path}: more than {most} octets")
+    return octets
+
+
+def read_text(path: str, most: int = MOST_OCTETS) -> str:
+    """The text of a file, as it is. ToolFault: it cannot be read, is too long, or is not UTF-8."""
+    try:
+        return read_octets(path, most).decode("utf-8")
+    except UnicodeDecodeError as fault:
+        raise ToolFault(f"{path}: octet {fault.start} is not UTF-8") from fault
+
+
+def require_writable(path: str) -> None:
+    """Opens a file for writing and leaves its contents as they are. ToolFault: it cannot be written."""
+    try:
+        os.close(os.open(path, os.O_WRONLY | os.O_CREAT | os.O_CLOEXEC, 0o666))
+    except OSError as fault:
+        raise system_fault(path, fault) from fault
+
+
+def write_text(path: str, text: str) -> None:
+    """Writes a text file in place of one that may exist. ToolFault: it cannot be written."""
+    try:
+        with open(path, "w", encoding="utf-8", newline="") as it:
+            it.write(text)
+    except OSError as fault:
+        raise system_fault(path, fault) from fault

@@ -1,0 +1,236 @@
+"""How each command ends if something is wrong: a line and a status, the signal of a closed pipe or of Ctrl-C, and never a traceback. `--help` runs nothing."""
+import contextlib
+import os
+import pathlib
+import re
+import signal
+import socket
+import subprocess
+import tempfile
+import threading
+import time
+import unittest
+from collections.abc import Callable, Iterator
+from typing import NamedTuple
+
+from temzaar.cli import capture, carriers, siteview, timeline
+from temzaar.process import connect
+from temzaar.sitefile import Site
+from tests.support import EXAMPLES, TOP, TWO_CARRIERS, call_tool, take_signals, tool_words
+
+MAINS: dict[str, Callable[[list[str]], int]] = {"siteview": siteview.main, "timeline": timeline.main, "capture": capture.main, "carriers": carriers.main}
+FAKE = str(TOP / "python" / "tests" / "fake_controller.py")
+# The console of a stand-in, the first of some ports on which nothing listens, and the first of a controller that is started.
+CONSOLE, NOBODY, PLAYED = 18400, 18450, 18500
+SCRIPT, PRINTED = EXAMPLES / "scripts" / "operator.txt", EXAMPLES / "expected" / "operator.txt"
+# What siteview asks of a site of one carrier, in this order, and the replies.
+REPLIES = b"status carriers 1 radios 0 asks 0 lines 0 calls 0 fill aloha\nslot 0 0 control\nslot 0 1 free\nend\n"
+
+
+class Case(NamedTuple):
+    """Words of a command, the status, and what its line of standard error has.
+
+    In the words {site} is a site file, {script} and {printed} are a script and its output, and {program} is a stand-in for the controller. {none} is not
+    there, {folder} is a folder, {text} a file of something else, and {octets} is not text. {wrong} is a site file with wrong types, {nobody} one whose
+    ports nobody serves, and {out} can be written.
+    """
+    tool: str
+    words: str
+    status: int
+    said: str
+
+
+DRAW = "--site {site} --script {script} --printed {printed}"
+RECORD = "--program {program} --out {out}"
+CASES = (
+    # no controller
+    Case("siteview", f"--console 127.0.0.1:{NOBODY} --once", 1, f"cannot connect to the console 127.0.0.1:{NOBODY}: Connection refused"),
+    Case("siteview", "--site {nobody} --once", 1, "cannot connect to the console"),
+    Case("carriers", "--site {nobody} --seconds 1", 1, f"carrier 0: cannot connect to 127.0.0.1:{NOBODY + 1}: Connection refused"),
+    Case("carriers", "--site {site} --program {none}", 1, "cannot run {none}: No such file or directory"),
+    Case("capture", "--site {site} --program {none} --out {out}", 1, "cannot run {none}: No such file or directory"),
+    Case("capture", "--site {site} --program {folder} --out {out}", 1, "cannot run {folder}: Permission denied"),
+    Case("capture", "--site {nobody} --running --shift 1 " + RECORD, 1, "cannot connect to the console"),
+    Case("timeline", "--site {site} --script {script} --program {none}", 1, "cannot run {none}: No such file or directory"),
+    Case("timeline", "--site {site} --script {script} --program {folder}", 1, "cannot run {folder}: Permission denied"),
+    # no file, a folder for a file, a file of something else
+    *(Case(tool, f"--site {{{file}}} {more}", 1, f"site file {{{file}}}: {said}")
+      for tool, more in (("siteview", "--once"), ("carriers", "--seconds 1"), ("capture", RECORD), ("timeline", "--script {script} --printed {printed}"))
+      for file, said in (("none", "No such file or directory"), ("folder", "Is a directory"), ("text", "not TOML"), ("octets", "octet 0 is not UTF-8"), ("wrong", "wrong type console_port"))),
+    *(Case("timeline", words, 1, said) for words, said in (
+        ("--site {site} --script {none} --printed {printed}", "{none}: No such file or directory"), ("--site {site} --script {folder} --printed {printed}", "{folder}: Is a directory"),
+        ("--site {site} --script {text} --printed {printed}", "script line 1"), ("--site {site} --script {octets} --printed {printed}", "{octets}: octet 0 is not UTF-8"),
+        ("--site {site} --script {script} --printed {none}", "{none}: No such file or directory"), ("--site {site} --script {script} --printed {folder}", "{folder}: Is a directory"),
+        ("--site {site} --script {script} --printed {text}", "the output has no line for carrier 0"), ("--site {site} --script {script} --printed {octets}", "is not UTF-8"))),
+    *(Case("capture", f"--site {{site}} {RECORD} {word} {{{file}}}", 1, said) for word, file, said in (
+        ("--pcap", "none", "{none}: No such file or directory"), ("--pcap", "folder", "{folder}: Is a directory"), ("--pcap", "text", "{text}: not a packet capture"),
+        ("--unfinished", "none", "{none}: No such file or directory"), ("--unfinished", "folder", "{folder}: Is a directory"),
+        ("--unfinished", "text", "{text}: not a recording that was not finished"))),
+    # an output that cannot be written
+    Case("timeline", DRAW + " --out {folder}", 1, "{folder}: Is a directory"),
+    Case("timeline", DRAW + " --out {none}/a.svg", 1, "{none}/a.svg: No such file or directory"),
+    Case("timeline", DRAW + " --page 1 --out {none}/a.svg", 1, "{none}/a-001.svg: No such file or directory"),
+    Case("timeline", DRAW + " --out /dev/full", 1, "/dev/full: No space left on device"),
+    Case("capture", "--site {site} --program {program} --out {folder}", 1, "{folder}: Is a directory"),
+    Case("capture", "--site {site} --program {program} --out {none}/a", 1, "{none}/a: No such file or directory"),
+    Case("capture", "--site {site} --program {program} --out /dev/full", 1, "/dev/full: not a regular file"),
+    # wrong types of words
+    *(Case("siteview", words, 2, said) for words, said in (
+        ("--console 7100", "is not ADDRESS:PORT"), ("--console :7100", "is not ADDRESS:PORT"), ("--console a:b", "is not ADDRESS:PORT"), ("--console a:70000", "is not ADDRESS:PORT"),
+        ("--site {site} --every 0", "not a number above 0"), ("--site {site} --every soon", "not a number above 0"), ("--once", "one of the arguments --site --console is required"))),
+    *(Case("carriers", f"--site {{site}} {words}", 2, said) for words, said in (
+        ("--seconds -1", "not a number above 0"), ("--seconds nan", "not a number above 0"), ("--radios 0", "not a whole number from 1"), ("--carriers 17", "not a whole number from 1 to 16"),
+        ("--port 65530", "not a whole number from 1"), ("--polls x", "not a whole number from 0"), ("--link-version 3", "invalid choice"), ("--faults", "--faults needs --program"))),
+    *(Case("timeline", f"{DRAW} {words}", 2, said) for words, said in (("--page x", "not a number above 0"), ("--calls x", "invalid choice"), ("--page 1", "--page needs --out"))),
+    *(Case("capture", f"--site {{site}} {RECORD} {words}", 2, said) for words, said in (("--shift x", "not a whole number from 1"), ("--seconds 0", "not a number above 0"))),
+    Case("siteview", "--site {site}", 1, "no terminal: give --once"),
+    Case("siteview", "--console " + 64 * "a" + ":7100 --once", 1, "cannot connect to the console"),
+    Case("carriers", "--site {nobody} --pid 4194303", 1, "/proc/4194303/stat: No such file or directory"),
+    Case("capture", "--site {site} --shift 60000 " + RECORD, 1, "--shift 60000 is too much for port 7102: ports end at 65535"),
+)
+
+
+class Consoles:
+    """A console for one connection after another, which answers with given octets and then waits."""
+
+    def __init__(self, answer: bytes) -> None:
+        self.answer, self.listener = answer, socket.create_server(("127.0.0.1", CONSOLE))
+        self.thread = threading.Thread(target=self.serve, daemon=True)
+        self.thread.start()
+
+    def serve(self) -> None:
+        """Answers until it is closed."""
+        with contextlib.suppress(OSError):
+            while True:
+                with self.listener.accept()[0] as stream:
+                    stream.sendall(self.answer)
+                    while stream.recv(4096):
+                        pass
+
+    def close(self) -> None:
+        """Listens no more."""
+        self.listener.shutdown(socket.SHUT_RDWR)
+        self.listener.close()
+        self.thread.join(5)
+
+
+class Ended(unittest.TestCase):
+    """The table, and what only a process of its own can show."""
+
+    def setUp(self) -> None:
+        holder = tempfile.TemporaryDirectory()
+        self.addCleanup(holder.cleanup)
+        self.folder = pathlib.Path(holder.name)
+        site = pathlib.Path(TWO_CARRIERS).read_text(encoding="utf-8")
+        self.names = {"site": TWO_CARRIERS, "script": str(SCRIPT), "printed": str(PRINTED), "program": FAKE, "out": str(self.folder / "out"), "none": str(self.folder / "none")}
+        (self.folder / "folder").mkdir()
+        for name, octets in (("text", b"This is\nsomething else.\n"), ("octets", b"\xff\xfe\0"), ("wrong", site.replace("console_port = 7100", 'console_port = "7100"').encode()),
+                             ("nobody", re.sub(r"= 710(\d)", r"= 1845\1", site).encode())):
+            (self.folder / name).write_bytes(octets)
+        self.names |= {name: str(self.folder / name) for name in ("folder", "text", "octets", "wrong", "nobody")}
+
+    def test_the_table(self) -> None:
+        for case in CASES:
+            with self.subTest(case.tool, words=case.words):
+                done = call_tool(MAINS[case.tool], *case.words.format(**self.names).split())
+                self.assertEqual((done.returncode, done.stdout), (case.status, ""), done.stderr)
+                last = done.stderr.splitlines()[-1]
+                self.assertIn(case.said.format(**self.names), last)
+                self.assertTrue(last.startswith(f"{case.tool}: ") or case.status == 2)
+                if case.status == 1:
+                    self.assertEqual(done.stderr.count("\n"), 1)
+
+    def test_help_runs_nothing(self) -> None:
+        """With words that would do harm, or fail, `--help` prints its text and ends."""
+        for tool, main in MAINS.items():
+            words = ["--site", self.names["none"], "--program", self.names["none"], "--out", self.names["out"], "--help"] if tool == "capture" else ["--site", self.names["none"], "--help"]
+            done = call_tool(main, *words)
+            self.assertEqual((done.returncode, done.stderr), (0, ""), tool)
+            self.assertRegex(done.stdout, r"^usage: .*--site")
+            self.assertIn("Status:" if tool != "carriers" else "The status is", done.stdout)
+        self.assertFalse(os.path.exists(self.names["out"]))
+
+    def test_no_words(self) -> None:
+        for tool, main in MAINS.items():
+            done = call_tool(main)
+            self.assertEqual((done.returncode, done.stdout), (2, ""), tool)
+            self.assertIn("required", done.stderr)
+
+    def run_in_shell(self, tool: str, *words: str, shell: str) -> subprocess.CompletedProcess[str]:
+        """A command as a process; `shell` is what a shell does with its output."""
+        line = ["bash", "-c", f'"$@" {shell}', "bash", *tool_words(tool, *words)]
+        return subprocess.run(line, capture_output=True, text=True, check=False, timeout=60)
+
+    def test_outputs_that_end_or_are_full(self) -> None:
+        draw = ("timeline", "--site", TWO_CARRIERS, "--script", str(SCRIPT), "--printed", str(PRINTED))
+        consoles = Consoles(REPLIES)
+        self.addCleanup(consoles.close)
+        view = ("siteview", "--console", f"127.0.0.1:{CONSOLE}", "--once")
+        for words in (draw, view):
+            for shell, status, said in (("> /dev/full", 1, f"{words[0]}: standard output: No space left on device\n"),
+                                        (">&-", 1, f"{words[0]}: standard output is closed\n"), ("2>&- >/dev/null", 0, "")):
+                with self.subTest(words[0], shell=shell):
+                    done = self.run_in_shell(*words, shell=shell)
+                    self.assertEqual((done.returncode, done.stderr), (status, said))
+
+    def test_a_closed_pipe(self) -> None:
+        """The reader has gone before anything was written. argparse passes over that when it prints a help text."""
+        consoles = Consoles(REPLIES)
+        self.addCleanup(consoles.close)
+        for words, status in ((("timeline", "--site", TWO_CARRIERS, "--script", str(SCRIPT), "--printed", str(PRINTED)), -signal.SIGPIPE),
+                              (("siteview", "--console", f"127.0.0.1:{CONSOLE}", "--once"), -signal.SIGPIPE), (("capture", "--help"), 0)):
+            with self.subTest(words[0]):
+                reader, writer = os.pipe()
+                os.close(reader)
+                with subprocess.Popen(tool_words(*words), stdout=writer, stderr=subprocess.PIPE, text=True) as process:
+                    os.close(writer)
+                    _, said = process.communicate(timeout=60)
+                self.assertEqual((process.returncode, said), (status, ""))
+
+    @contextlib.contextmanager
+    def waiting(self, *words: str) -> Iterator[subprocess.Popen[str]]:
+        """A command that waits for a console which does not answer."""
+        consoles = Consoles(b"")
+        try:
+            with subprocess.Popen(tool_words(*words), stdout=subprocess.PIPE, stderr=subprocess.PIPE, text=True, preexec_fn=take_signals) as process:
+                self.addCleanup(process.kill)
+                time.sleep(2.0)
+                yield process
+        finally:
+            consoles.close()
+
+    def test_signals(self) -> None:
+        for number in (signal.SIGINT, signal.SIGTERM):
+            with self.subTest(number), self.waiting("siteview", "--console", f"127.0.0.1:{CONSOLE}", "--once") as process:
+                process.send_signal(number)
+                self.assertEqual((process.communicate(timeout=60), process.returncode), (("", ""), -number))
+
+
+    def test_signals_end_the_controller_too(self) -> None:
+        site = self.folder / "played"
+        site.write_text(Site(TWO_CARRIERS, first_port=PLAYED).text(), encoding="utf-8")
+        for number in (signal.SIGINT, signal.SIGTERM, signal.SIGHUP):
+            words = tool_words("carriers", "--site", str(site), "--program", FAKE, "--port", str(PLAYED), "--seconds", "60")
+            with self.subTest(number), subprocess.Popen(words, stdout=subprocess.PIPE, stderr=subprocess.PIPE, text=True, preexec_fn=take_signals) as process:
+                self.addCleanup(process.kill)
+                connect("127.0.0.1", PLAYED, 30).close()
+                process.send_signal(number)
+                self.assertEqual((process.communicate(timeout=60), process.returncode), (("", ""), -number))
+                self.assertRaises(ConnectionRefusedError, socket.create_connection, ("127.0.0.1", PLAYED), 1)
+
+
+class Answers(unittest.TestCase):
+    """Consoles that answer what no console does."""
+
+    def test_each(self) -> None:
+        for answer, said in ((b"HTTP/1.1 400 Bad Request\r\n", "not a status"), (b"status carriers x radios 0 asks 0 lines 0 calls 0 fill aloha\n", "not a status"),
+                             (b"x" * 100000, "sends more than a console does"), (REPLIES.split(b"\n")[0] + b"\n" + b"slot 0 0 free\n" * 2000, "sends a list without an end"),
+                             (REPLIES.split(b"\n")[0] + b"\nslot a b free\nend\n", "not a list of slots"),
+                             (REPLIES.split(b"\n")[0] + b"\nslot 0 1 call\nend\ncall 0\nend\n", "not a list of calls")):
+            consoles = Consoles(answer)
+            try:
+                done = call_tool(siteview.main, "--console", f"127.0.0.1:{CONSOLE}", "--once")
+            finally:
+                consoles.close()
+            self.assertEqual((done.returncode, done.stdout), (1, ""), done.stderr)
+            self.assertIn(said, done.stderr)

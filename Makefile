@@ -20,6 +20,8 @@ help: ## this list
 	@echo "tools/capture        records a session as a script that replays"
 	@echo "tools/carriers       plays carriers and radios against a served site"
 	@echo "tools/check          checks a site file: its faults and its risks"
+	@echo "tools/hub            holds the console of a controller, and serves it to many"
+	@echo "tools/console        the console, through the hub"
 	@echo "trials/serve-hostile plays carriers and strangers that behave badly"
 	@echo "trials/long-replay   how long a long replay takes"
 	@echo "trials/refuse-memory refuses each allocation of the programs in turn"
@@ -107,20 +109,21 @@ package: build/dmr_trunk build/dmr_decode ## a Debian package of the proved prog
 package-check: package ## installs the package in a clean root and serves a site there (as root; wants debootstrap and a network)
 	ci/check-package build/dmr-trunk_$(VERSION)_*.deb
 
-install: build/dmr_trunk build/dmr_decode ## the programs, tools, manual pages, unit, dissector, examples and documents [PREFIX=/usr/local] [DESTDIR=]
+install: build/dmr_trunk build/dmr_decode ## the programs, tools, manual pages, units, dissector, examples and documents [PREFIX=/usr/local] [DESTDIR=]
 	install -D -m 755 build/dmr_trunk $(DESTDIR)$(PREFIX)/bin/dmr_trunk
 	install -D -m 755 build/dmr_decode $(DESTDIR)$(PREFIX)/bin/dmr_decode
 	install -d $(DESTDIR)$(PREFIX)/lib/systemd/system $(DESTDIR)$(DOC)/examples/scripts $(DESTDIR)$(DOC)/examples/expected $(DESTDIR)$(DOC)/pictures
-	install -d $(DESTDIR)$(PYTHON_LIB)/temzaar/cli
+	install -d $(DESTDIR)$(PYTHON_LIB)/temzaar/cli $(DESTDIR)$(PYTHON_LIB)/temzaar/hub
 	install -m 644 python/temzaar/*.py $(DESTDIR)$(PYTHON_LIB)/temzaar
 	install -m 644 python/temzaar/cli/*.py $(DESTDIR)$(PYTHON_LIB)/temzaar/cli
-	for tool in siteview timeline capture carriers check; do sed -e "s|@TOOL@|$$tool|" -e 's|@PYTHON_LIB@|$(PYTHON_LIB)|' python/launcher.in >$(DESTDIR)$(PREFIX)/bin/dmr_$$tool && chmod 755 $(DESTDIR)$(PREFIX)/bin/dmr_$$tool || exit; done
+	install -m 644 python/temzaar/hub/*.py $(DESTDIR)$(PYTHON_LIB)/temzaar/hub
+	for tool in siteview timeline capture carriers check hub console; do sed -e "s|@TOOL@|$$tool|" -e 's|@PYTHON_LIB@|$(PYTHON_LIB)|' python/launcher.in >$(DESTDIR)$(PREFIX)/bin/dmr_$$tool && chmod 755 $(DESTDIR)$(PREFIX)/bin/dmr_$$tool || exit; done
 	for section in 1 5 8; do install -d $(DESTDIR)$(MAN)/man$$section && for page in deploy/man/*.$$section; do sed -e 's|@VERSION@|$(VERSION)|' -e 's|@PREFIX@|$(PREFIX)|' $$page >$(DESTDIR)$(MAN)/man$$section/$${page##*/} || exit; done || exit; done
 	install -D -m 644 deploy/wireshark/dmr_link.lua $(DESTDIR)$(WIRESHARK_PLUGINS)/dmr_link.lua
 	ln -sf ../man8/dmr_trunk.8 $(DESTDIR)$(MAN)/man1/dmr_trunk.1
-	sed 's|@PREFIX@|$(PREFIX)|' deploy/dmr_trunk.service >$(DESTDIR)$(PREFIX)/lib/systemd/system/dmr_trunk.service
-	install -m 644 docs/OPERATING.md docs/SITE_FILE.md docs/FORMATS.md docs/LINK.md docs/GLOSSARY.md docs/GUARANTEES.md docs/ASSURANCE.md CHANGELOG.md LICENSE-APACHE LICENSE-MIT $(DESTDIR)$(DOC)
+	for unit in dmr_trunk dmr_hub; do sed 's|@PREFIX@|$(PREFIX)|' deploy/$$unit.service >$(DESTDIR)$(PREFIX)/lib/systemd/system/$$unit.service || exit; done
+	install -m 644 docs/OPERATING.md docs/HUB.md docs/SITE_FILE.md docs/FORMATS.md docs/LINK.md docs/GLOSSARY.md docs/GUARANTEES.md docs/ASSURANCE.md CHANGELOG.md LICENSE-APACHE LICENSE-MIT $(DESTDIR)$(DOC)
 	install -m 644 docs/pictures/*.svg docs/pictures/*.png $(DESTDIR)$(DOC)/pictures
-	install -m 644 sites/*.toml $(DESTDIR)$(DOC)/examples
+	install -m 644 sites/*.toml deploy/hub.toml $(DESTDIR)$(DOC)/examples
 	install -m 644 examples/scripts/*.txt $(DESTDIR)$(DOC)/examples/scripts
 	install -m 644 examples/expected/*.txt $(DESTDIR)$(DOC)/examples/expected

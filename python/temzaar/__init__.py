@@ -17,6 +17,7 @@ comparison of the two means something. One module per subject, lowest first:
     sitereport  what a check of a site file prints
     script      scripts and printed replays
     console     an operator's console
+    picture     a picture of a served site, made of several answers of its console
     process     a controller that a tool starts, or replays a script with
     relay       the relay between carriers, operators and a controller, which records
     journal     the files of a recorded session, which grow piece by piece
@@ -32,5 +33,7 @@ comparison of the two means something. One module per subject, lowest first:
     ticks       where the ticks of a recorded session fell
     player      the play of a site's carriers and radios
     trouble     the same with connections that break, stall and misbehave
-    cli         the commands: siteview, timeline, capture, carriers, check
+    hub         a service that holds the console and serves many who ask
+    hubconsole  a connection to the hub, and what its lines may be completed to
+    cli         the commands: siteview, timeline, capture, carriers, check, hub, console
 """

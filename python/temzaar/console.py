@@ -1,11 +1,19 @@
 """An operator's console (docs/FORMATS.md, "Console"): lines, replies, and what the replies say."""
 import socket
 import time
+from collections.abc import Container
+from dataclasses import dataclass
 
 from temzaar.faults import ToolFault
 
 # Commands whose reply ends with a line `end`, unless it is an error.
 LISTS = ("radios", "calls", "lines", "slots")
+# Commands that change nothing, and those that change the site.
+QUESTIONS = ("status", *LISTS)
+CHANGES = ("drop", "end", "move", "stay")
+# How many octets a line may have before its LF, and what the controller answers to a longer one and to one that is not a command.
+LONGEST_LINE = 80
+TOO_LONG, UNKNOWN = b"error line too long\n", b"error unknown command\n"
 # Replies of one line begin with one of these.
 SINGLE_REPLIES = (b"status", b"ok", b"error")
 
@@ -20,8 +28,26 @@ class ConsoleFault(ToolFault):
     """The console cannot be reached, does not answer in time, or answers something that the formats do not have. The text says which."""
 
 
+class ReplyFrame:
+    """Finds the end of the reply to a line. It is given the reply line by line."""
+
+    def __init__(self, asked: bytes, lists: Container[str] = LISTS) -> None:
+        """`asked` is the line, and `lists` has the commands whose replies are lists."""
+        words = asked.split()
+        self.is_list = bool(words) and words[0].decode("ascii", "replace") in lists
+        self.has_begun = False
+
+    def take(self, line: bytes) -> bool:
+        """Takes the next line of the reply, without its LF. Whether it is the last."""
+        is_error = not self.has_begun and line.startswith(b"error")
+        self.has_begun = True
+        return not self.is_list or is_error or line == b"end"
+
+
 class Console:
     """A connection to a console. The site serves one at a time: another connection waits until this one is closed."""
+    # the commands whose replies are lists
+    lists: Container[str] = LISTS
 
     def __init__(self, address: str, port: int, seconds: float = 5.0) -> None:
         """Connects. `seconds` is how long an answer may take. ConsoleFault: nothing listens there."""
@@ -33,8 +59,8 @@ class Console:
             raise ConsoleFault(f"cannot connect to the console {self.name}: {fault.strerror or fault if isinstance(fault, OSError) else fault}") from fault
         self.stream.setsockopt(socket.IPPROTO_TCP, socket.TCP_NODELAY, 1)
 
-    def line(self) -> str:
-        """The next line of a reply."""
+    def line(self) -> bytes:
+        """The next line of a reply, without its LF."""
         until = time.monotonic() + self.seconds
         while b"\n" not in self.octets:
             try:
@@ -50,24 +76,26 @@ class Console:
             if len(self.octets) > MOST_OCTETS:
                 raise ConsoleFault(f"the console {self.name} sends more than a console does")
         line, _, self.octets = self.octets.partition(b"\n")
-        return line.decode("ascii", "replace")
+        return line
+
+    def exchange(self, line: bytes) -> list[bytes]:
+        """All lines of the reply to a line, the `end` of a list too."""
+        try:
+            self.stream.sendall(line + b"\n")
+        except OSError as fault:
+            raise ConsoleFault(f"the console {self.name} broke off: {fault.strerror or fault}") from fault
+        frame, reply = ReplyFrame(line, self.lists), [self.line()]
+        while not frame.take(reply[-1]):
+            if len(reply) > MOST_LINES:
+                raise ConsoleFault(f"the console {self.name} sends a list without an end")
+            reply.append(self.line())
+        return reply
 
     def ask(self, line: str) -> list[str]:
         """The lines of the reply to a line; the `end` of a list is left out."""
-        try:
-            self.stream.sendall(line.encode("utf-8") + b"\n")
-        except OSError as fault:
-            raise ConsoleFault(f"the console {self.name} broke off: {fault.strerror or fault}") from fault
-        first, words = self.line(), line.split()
-        if not words or words[0] not in LISTS or first.startswith("error"):
-            return [first]
-        reply = []
-        while first != "end":
-            reply.append(first)
-            if len(reply) > MOST_LINES:
-                raise ConsoleFault(f"the console {self.name} sends a list without an end")
-            first = self.line()
-        return reply
+        asked = line.encode("utf-8")
+        reply = [it.decode("ascii", "replace") for it in self.exchange(asked)]
+        return reply[:-1] if ReplyFrame(asked, self.lists).is_list and reply[-1] == "end" else reply
 
     def close(self) -> None:
         """Ends the connection."""
@@ -112,14 +140,28 @@ def read_slots(reply: list[str]) -> dict[SlotKey, str]:
 
 def read_parties(words: list[str]) -> str:
     """The parties of a call, as a text: `group G from R` or `radio T from R`."""
-    if len(words) != 4 or words[0] not in ("group", "radio") or words[2] != "from":
+    if len(words) != 4 or words[0] not in ("group", "radio") or words[2] != "from" or not are_numbers(words[1::2]):
         raise ConsoleFault(f"not the parties of a call: {' '.join(words)}")
     return " ".join(words)
 
 
+@dataclass(frozen=True)
+class Parties:
+    """The parties of a call or of a request that waits. `kind` is `group` or `radio`, that of the target."""
+    kind: str
+    target: int
+    source: int
+
+    @classmethod
+    def read(cls, text: str) -> "Parties":
+        """The parties of a text that `read_parties` returned."""
+        kind, target, _, source = text.split()
+        return cls(kind, int(target), int(source))
+
+
 def read_calls(reply: list[str]) -> dict[SlotKey, str]:
     """The reply to `calls C`: the parties of each call."""
-    rows = [line.split() for line in reply if line.startswith("call ")]
+    rows = [row for row in map(str.split, reply) if row[:1] == ["call"]]
     if not all(are_numbers(row[1:3]) and len(row) > 3 for row in rows):
         raise ConsoleFault(f"not a list of calls: {reply}")
     return {(int(row[1]), int(row[2])): read_parties(row[3:]) for row in rows}
@@ -128,3 +170,11 @@ def read_calls(reply: list[str]) -> dict[SlotKey, str]:
 def read_lines(reply: list[str]) -> list[str]:
     """The reply to `lines N`: the parties of each request in the queue, oldest first."""
     return [read_parties(line.split()[2:]) for line in reply]
+
+
+def read_radios(reply: list[str]) -> list[int]:
+    """The reply to `radios N`: the registered radios, ascending."""
+    rows = [line.split() for line in reply]
+    if any(len(row) != 2 or row[0] != "radio" or not are_numbers(row[1:]) for row in rows):
+        raise ConsoleFault(f"not a list of radios: {reply}")
+    return [int(row[1]) for row in rows]

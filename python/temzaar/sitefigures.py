@@ -5,11 +5,10 @@ from dataclasses import dataclass
 from typing import Any
 
 from temzaar.sitefaults import is_number, is_pair
-from temzaar.sitekeys import CARRIER_KEYS, KEYS, SITE_KEYS, Content, SiteKey, Unit
+from temzaar.sitekeys import CARRIER_KEYS, KEYS, SITE_KEYS, WAIT_MS, Content, SiteKey, Unit
 
 # A base station polls once in a TDMA frame (docs/LINK.md, "Timing").
 POLL_MS = 60
-WAIT_MS = 100
 # docs/OPERATING.md, "What to watch": memory grows up to 1.3 KiB for each entry of a term, and for each port and two more.
 ENTRY_KIB, MORE_PORTS = 1.3, 2
 SLOTS = 2

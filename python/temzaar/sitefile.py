@@ -1,15 +1,19 @@
 """The site file (docs/SITE_FILE.md), as far as the tools need it, and changed copies of it that a trial serves on loopback."""
 import tomllib
 from bisect import bisect_right
-from collections.abc import Iterable
+from collections.abc import Iterable, Mapping
+from dataclasses import dataclass
 from itertools import accumulate
 from typing import Any, NamedTuple
 
 from temzaar.faults import ToolFault, read_text
+from temzaar.sitekeys import WAIT_MS
 
 Row = dict[str, Any]
 # The most octets of a site file.
 MOST_OCTETS = 1 << 20
+# The address that the ports are on if the file names none.
+LOOPBACK = (127, 0, 0, 1)
 
 
 class SiteFault(ToolFault):
@@ -27,7 +31,7 @@ class Range(NamedTuple):
 NUMBERS = {
     "regi": Range(16776416, 16777215), "tsi": Range(16776416, 16777215), "leave_bit": Range(0, 6, False), "hang": Range(1, 65535), "maximum": Range(1, 65535),
     "grant_copies": Range(1, 4), "clear_copies": Range(1, 4), "backoff_low": Range(1, 15), "backoff_high": Range(1, 15), "tick_ms": Range(10, 1000),
-    "link_version": Range(1, 2, False), "console_port": Range(1, 65535), "control": Range(0, 15),
+    "silence": Range(1, 65535), "link_version": Range(1, 2, False), "console_port": Range(1, 65535), "control": Range(0, 15),
 }
 OF_CARRIER = {"number": Range(0, 15), "lpcn": Range(1, 4094), "port": Range(1, 65535)}
 COUNTS = {"address": Range(4, 4, False), "radios": Range(1, 16), "groups": Range(0, 64), "carrier": Range(1, 16)}
@@ -90,6 +94,30 @@ def read_plan(path: str, keys: Iterable[str] = (*NUMBERS, *COUNTS)) -> dict[str,
     return plan
 
 
+def address_of(plan: Mapping[str, Any]) -> str:
+    """The address that the ports are on, of the values of a site file."""
+    return ".".join(map(str, plan.get("address", LOOPBACK)))
+
+
+@dataclass(frozen=True)
+class ConsolePlace:
+    """A site's console, and the seconds without an octet after which the controller closes a connection to it."""
+    address: str
+    port: int
+    silence_seconds: float
+
+    @property
+    def name(self) -> str:
+        """The console, as ADDRESS:PORT."""
+        return f"{self.address}:{self.port}"
+
+
+def read_console_place(path: str) -> ConsolePlace:
+    """The console of a site file. SiteFault: the file cannot be read, or has no console."""
+    plan = read_plan(path, ("address", "console_port", "silence"))
+    return ConsolePlace(address_of(plan), plan["console_port"], plan["silence"] * WAIT_MS / 1000)
+
+
 class Site:
     """A site: the values of its file, and its carriers.
 
@@ -103,7 +131,7 @@ class Site:
         if first_port is not None:
             for number, row in enumerate(rows):
                 row["port"] = first_port + 1 + number
-            self.plan["console_port"], self.plan["address"] = first_port, [127, 0, 0, 1]
+            self.plan["console_port"], self.plan["address"] = first_port, [*LOOPBACK]
         self.plan["carrier"] = sorted(rows, key=lambda row: row["number"])
         self.plan.update(changes)
 
@@ -120,7 +148,7 @@ class Site:
     @property
     def address(self) -> str:
         """The address that the ports are on."""
-        return ".".join(map(str, self.plan.get("address", [127, 0, 0, 1])))
+        return address_of(self.plan)
 
     @property
     def console_port(self) -> int:
@@ -148,7 +176,7 @@ class Site:
     def shift_ports(self, shift: int) -> None:
         """Moves the console and all carriers to ports of the loopback address that are `shift` higher."""
         self.plan["console_port"] += shift
-        self.plan["address"] = [127, 0, 0, 1]
+        self.plan["address"] = [*LOOPBACK]
         for row in self.rows:
             row["port"] += shift
 

@@ -2,6 +2,9 @@
 import enum
 from dataclasses import dataclass
 
+# What `silence` counts.
+WAIT_MS = 100
+
 
 class Content(enum.Enum):
     """What the value of a key is: one whole number, an array of them, an array of pairs of them, or an array of tables."""
@@ -16,7 +19,7 @@ class Unit(enum.Enum):
     NONE = ""
     TICKS = "ticks"
     MILLISECONDS = "ms"
-    WAITS = "waits of 100 ms"
+    WAITS = f"waits of {WAIT_MS} ms"
     ENTRIES = "entries"
 
 

@@ -17,6 +17,7 @@ from temzaar.frames import POLL, TO_CARRIER, Cutter, Frame, FrameType, Link, hel
 from temzaar.player import PERIOD, Backoff, Options, Play
 from temzaar.process import Controller
 from temzaar.sitefile import Row, Site
+from temzaar.sitekeys import WAIT_MS
 
 # Seconds without trouble, at the beginning and at the end.
 WARM_UP, QUIET = 8.0, 15.0
@@ -133,7 +134,7 @@ class TroubledCarrier:
             self.until = now + FLOOD
         elif kind == "silent":
             self.trouble = self.must_end = kind
-            self.until = now + self.play.site.plan["silence"] * 0.1 * SLOWED + SOON
+            self.until = now + self.play.site.plan["silence"] * WAIT_MS / 1000 * SLOWED + SOON
         elif kind == "slow":
             self.await_answer()
             self.send(POLL[:1])

@@ -10,7 +10,7 @@ import time
 import unittest
 
 from temzaar.cli.check import MOST_OCTETS
-from tests.support import SITES, TOP, TWO_CARRIERS, program, run_tool, tool_words
+from tests.support import SITES, TOP, TWO_CARRIERS, program, run_tool, take_signals, tool_words
 from tests.test_check_faults import SITE
 
 FAULTY = SITE.replace("lpcn = 2", "lpcn = 4095").replace("hang = 100", "hnag = 100")
@@ -154,8 +154,8 @@ class Refused(Command):
 
     def test_closed_streams(self) -> None:
         command = " ".join(tool_words("check"))
-        for words, said in ((f"{command} - <&-", "cannot read standard input: it is closed"), (f"{command} {TWO_CARRIERS} >&-", "cannot write: standard output is closed"),
-                            (f"{command} {TWO_CARRIERS} >/dev/full", "cannot write: No space left on device")):
+        for words, said in ((f"{command} - <&-", "cannot read standard input: it is closed"), (f"{command} {TWO_CARRIERS} >&-", "standard output is closed"),
+                            (f"{command} {TWO_CARRIERS} >/dev/full", "standard output: No space left on device")):
             done = subprocess.run(["/bin/sh", "-c", words], capture_output=True, text=True, env=self.environment, check=False, timeout=60)
             self.assertEqual((done.returncode, done.stderr), (2, f"check: {said}\n"))
 
@@ -164,7 +164,7 @@ class Refused(Command):
         os.close(reader)
         done = subprocess.run(tool_words("check", self.site(FAULTY)), stdout=writer, stderr=subprocess.PIPE, env=self.environment, check=False, timeout=60)
         os.close(writer)
-        self.assertEqual((done.returncode, done.stderr), (1, b""))
+        self.assertEqual((done.returncode, done.stderr), (-signal.SIGPIPE, b""))
 
     def test_not_utf_8(self) -> None:
         path = self.folder / "site.toml"
@@ -223,14 +223,14 @@ class Asked(Command):
         for number in (signal.SIGTERM, signal.SIGINT):
             temporary = self.folder / f"temporary{number}"
             temporary.mkdir()
-            with subprocess.Popen(tool_words("check", TWO_CARRIERS), env={**self.environment, "TMPDIR": str(temporary)}, stdout=subprocess.PIPE, stderr=subprocess.PIPE) as process:
+            with subprocess.Popen(tool_words("check", TWO_CARRIERS), env={**self.environment, "TMPDIR": str(temporary)}, stdout=subprocess.PIPE, stderr=subprocess.PIPE, preexec_fn=take_signals) as process:
                 until = time.monotonic() + 60
                 while not (self.folder / "began").exists() and time.monotonic() < until:
                     time.sleep(0.02)
                 process.send_signal(number)
                 output, errors = process.communicate(timeout=60)
             (self.folder / "began").unlink()
-            self.assertEqual((process.returncode, output, errors), (128 + number, b"", b""))
+            self.assertEqual((process.returncode, output, errors), (-number, b"", b""))
             self.assertEqual([*temporary.iterdir()], [])
 
     def test_the_real_one(self) -> None:

@@ -13,12 +13,17 @@ import unittest
 from collections.abc import Callable, Iterator
 from typing import NamedTuple
 
-from temzaar.cli import capture, carriers, siteview, timeline
+from temzaar.cli import capture, carriers, check, console, hub, siteview, timeline
 from temzaar.process import connect
 from temzaar.sitefile import Site
 from tests.support import EXAMPLES, TOP, TWO_CARRIERS, call_tool, take_signals, tool_words
 
-MAINS: dict[str, Callable[[list[str]], int]] = {"siteview": siteview.main, "timeline": timeline.main, "capture": capture.main, "carriers": carriers.main}
+MAINS: dict[str, Callable[[list[str]], int]] = {"siteview": siteview.main, "timeline": timeline.main, "capture": capture.main, "carriers": carriers.main,
+                                                 "check": check.main, "hub": hub.main, "console": console.main}
+# The words for `--help` that would do harm, or fail, without it.
+HELP_WORDS = {"capture": "--site {none} --program {none} --out {out}", "check": "{none}", "hub": "--config {none}", "console": "--socket {none} status"}
+# Those that do something without words.
+WITHOUT_WORDS = ("hub", "console")
 FAKE = str(TOP / "python" / "tests" / "fake_controller.py")
 # The console of a stand-in, the first of some ports on which nothing listens, and the first of a controller that is started.
 CONSOLE, NOBODY, PLAYED = 18400, 18450, 18500
@@ -32,7 +37,7 @@ class Case(NamedTuple):
 
     In the words {site} is a site file, {script} and {printed} are a script and its output, and {program} is a stand-in for the controller. {none} is not
     there, {folder} is a folder, {text} a file of something else, and {octets} is not text. {wrong} is a site file with wrong types, {nobody} one whose
-    ports nobody serves, and {out} can be written.
+    ports nobody serves, and {out} can be written. {deep} has arrays in arrays, and {zeros} a user whose name no system has.
     """
     tool: str
     words: str
@@ -53,7 +58,17 @@ CASES = (
     Case("capture", "--site {nobody} --running --shift 1 " + RECORD, 1, "cannot connect to the console"),
     Case("timeline", "--site {site} --script {script} --program {none}", 1, "cannot run {none}: No such file or directory"),
     Case("timeline", "--site {site} --script {script} --program {folder}", 1, "cannot run {folder}: Permission denied"),
+    Case("check", "--controller {none} {site}", 2, "cannot run {none}: it is not a program"),
+    Case("check", "--controller {folder} {site}", 2, "cannot run {folder}: it is not a program"),
+    Case("siteview", "--hub {none} --once", 1, "cannot connect to the hub {none}: No such file or directory"),
+    Case("console", "--socket {none} status", 1, "cannot connect to the hub {none}: No such file or directory"),
+    Case("console", "--socket {text} status", 1, "cannot connect to the hub {text}: Connection refused"),
+    Case("console", f"--tcp 127.0.0.1:{NOBODY} status", 1, f"cannot connect to the console 127.0.0.1:{NOBODY}: Connection refused"),
     # no file, a folder for a file, a file of something else
+    *(Case("check", f"{{{file}}}", 2, f"cannot read {{{file}}}: {said}") for file, said in (("none", "No such file or directory"), ("folder", "Is a directory"))),
+    *(Case("hub", f"{more} --config {{{file}}}", 1, f"config file: {said}") for more in ("", "--check") for file, said in (
+        ("none", "cannot read {none}: No such file or directory"), ("folder", "cannot read {folder}: Is a directory"), ("text", "not TOML"),
+        ("octets", "cannot read {octets}: octet 0 is not UTF-8"), ("deep", "not TOML"), ("site", "system: unknown section"), ("zeros", "roles.full_users"))),
     *(Case(tool, f"--site {{{file}}} {more}", 1, f"site file {{{file}}}: {said}")
       for tool, more in (("siteview", "--once"), ("carriers", "--seconds 1"), ("capture", RECORD), ("timeline", "--script {script} --printed {printed}"))
       for file, said in (("none", "No such file or directory"), ("folder", "Is a directory"), ("text", "not TOML"), ("octets", "octet 0 is not UTF-8"), ("wrong", "wrong type console_port"))),
@@ -77,12 +92,16 @@ CASES = (
     # wrong types of words
     *(Case("siteview", words, 2, said) for words, said in (
         ("--console 7100", "is not ADDRESS:PORT"), ("--console :7100", "is not ADDRESS:PORT"), ("--console a:b", "is not ADDRESS:PORT"), ("--console a:70000", "is not ADDRESS:PORT"),
-        ("--site {site} --every 0", "not a number above 0"), ("--site {site} --every soon", "not a number above 0"), ("--once", "one of the arguments --site --console is required"))),
+        ("--site {site} --every 0", "not a number above 0"), ("--site {site} --every soon", "not a number above 0"), ("--once", "one of the arguments --site --hub --console is required"))),
     *(Case("carriers", f"--site {{site}} {words}", 2, said) for words, said in (
         ("--seconds -1", "not a number above 0"), ("--seconds nan", "not a number above 0"), ("--radios 0", "not a whole number from 1"), ("--carriers 17", "not a whole number from 1 to 16"),
         ("--port 65530", "not a whole number from 1"), ("--polls x", "not a whole number from 0"), ("--link-version 3", "invalid choice"), ("--faults", "--faults needs --program"))),
     *(Case("timeline", f"{DRAW} {words}", 2, said) for words, said in (("--page x", "not a number above 0"), ("--calls x", "invalid choice"), ("--page 1", "--page needs --out"))),
     *(Case("capture", f"--site {{site}} {RECORD} {words}", 2, said) for words, said in (("--shift x", "not a whole number from 1"), ("--seconds 0", "not a number above 0"))),
+    *(Case("check", words, 2, said) for words, said in (("--link-version 3 {site}", "invalid choice"), ("{site} {site}", "unrecognized arguments"))),
+    *(Case("hub", words, 2, said) for words, said in (("--config", "expected one argument"), ("status", "unrecognized arguments"))),
+    *(Case("console", f"{words} status", 2, said) for words, said in (
+        ("--tcp 7100", "is not ADDRESS:PORT"), ("--tcp a:70000", "is not ADDRESS:PORT"), ("--seconds 0", "not a number above 0"), ("--tcp a:1 --socket {none}", "not allowed with"))),
     Case("siteview", "--site {site}", 1, "no terminal: give --once"),
     Case("siteview", "--console " + 64 * "a" + ":7100 --once", 1, "cannot connect to the console"),
     Case("carriers", "--site {nobody} --pid 4194303", 1, "/proc/4194303/stat: No such file or directory"),
@@ -125,9 +144,9 @@ class Ended(unittest.TestCase):
         self.names = {"site": TWO_CARRIERS, "script": str(SCRIPT), "printed": str(PRINTED), "program": FAKE, "out": str(self.folder / "out"), "none": str(self.folder / "none")}
         (self.folder / "folder").mkdir()
         for name, octets in (("text", b"This is\nsomething else.\n"), ("octets", b"\xff\xfe\0"), ("wrong", site.replace("console_port = 7100", 'console_port = "7100"').encode()),
-                             ("nobody", re.sub(r"= 710(\d)", r"= 1845\1", site).encode())):
+                             ("nobody", re.sub(r"= 710(\d)", r"= 1845\1", site).encode()), ("deep", b"a = " + b"[" * 100000), ("zeros", b'[roles]\nfull_users = ["a\\u0000"]\n')):
             (self.folder / name).write_bytes(octets)
-        self.names |= {name: str(self.folder / name) for name in ("folder", "text", "octets", "wrong", "nobody")}
+        self.names |= {name: str(self.folder / name) for name in ("folder", "text", "octets", "wrong", "nobody", "deep", "zeros")}
 
     def test_the_table(self) -> None:
         for case in CASES:
@@ -136,22 +155,22 @@ class Ended(unittest.TestCase):
                 self.assertEqual((done.returncode, done.stdout), (case.status, ""), done.stderr)
                 last = done.stderr.splitlines()[-1]
                 self.assertIn(case.said.format(**self.names), last)
-                self.assertTrue(last.startswith(f"{case.tool}: ") or case.status == 2)
+                self.assertTrue(last.startswith(f"{'dmr_hub' if case.tool == 'hub' else case.tool}: ") or case.status == 2)
                 if case.status == 1:
                     self.assertEqual(done.stderr.count("\n"), 1)
 
     def test_help_runs_nothing(self) -> None:
         """With words that would do harm, or fail, `--help` prints its text and ends."""
         for tool, main in MAINS.items():
-            words = ["--site", self.names["none"], "--program", self.names["none"], "--out", self.names["out"], "--help"] if tool == "capture" else ["--site", self.names["none"], "--help"]
-            done = call_tool(main, *words)
+            words = HELP_WORDS.get(tool, "--site {none}").format(**self.names).split()
+            done = call_tool(main, *words, "--help")
             self.assertEqual((done.returncode, done.stderr), (0, ""), tool)
-            self.assertRegex(done.stdout, r"^usage: .*--site")
+            self.assertRegex(done.stdout, r"(?s)^usage: .*(?:--site|SITE_FILE|--config|--socket)")
             self.assertIn("Status:" if tool != "carriers" else "The status is", done.stdout)
         self.assertFalse(os.path.exists(self.names["out"]))
 
     def test_no_words(self) -> None:
-        for tool, main in MAINS.items():
+        for tool, main in ((tool, main) for tool, main in MAINS.items() if tool not in WITHOUT_WORDS):
             done = call_tool(main)
             self.assertEqual((done.returncode, done.stdout), (2, ""), tool)
             self.assertIn("required", done.stderr)
@@ -165,10 +184,10 @@ class Ended(unittest.TestCase):
         draw = ("timeline", "--site", TWO_CARRIERS, "--script", str(SCRIPT), "--printed", str(PRINTED))
         consoles = Consoles(REPLIES)
         self.addCleanup(consoles.close)
-        view = ("siteview", "--console", f"127.0.0.1:{CONSOLE}", "--once")
-        for words in (draw, view):
-            for shell, status, said in (("> /dev/full", 1, f"{words[0]}: standard output: No space left on device\n"),
-                                        (">&-", 1, f"{words[0]}: standard output is closed\n"), ("2>&- >/dev/null", 0, "")):
+        view, ask = ("siteview", "--console", f"127.0.0.1:{CONSOLE}", "--once"), ("console", "--tcp", f"127.0.0.1:{CONSOLE}", "status")
+        for words, fault in ((draw, 1), (view, 1), (ask, 1), (("check", "--no-controller", TWO_CARRIERS), 2)):
+            for shell, status, said in (("> /dev/full", fault, f"{words[0]}: standard output: No space left on device\n"),
+                                        (">&-", fault, f"{words[0]}: standard output is closed\n"), ("2>&- >/dev/null", 0, "")):
                 with self.subTest(words[0], shell=shell):
                     done = self.run_in_shell(*words, shell=shell)
                     self.assertEqual((done.returncode, done.stderr), (status, said))
@@ -178,7 +197,8 @@ class Ended(unittest.TestCase):
         consoles = Consoles(REPLIES)
         self.addCleanup(consoles.close)
         for words, status in ((("timeline", "--site", TWO_CARRIERS, "--script", str(SCRIPT), "--printed", str(PRINTED)), -signal.SIGPIPE),
-                              (("siteview", "--console", f"127.0.0.1:{CONSOLE}", "--once"), -signal.SIGPIPE), (("capture", "--help"), 0)):
+                              (("siteview", "--console", f"127.0.0.1:{CONSOLE}", "--once"), -signal.SIGPIPE),
+                              (("console", "--tcp", f"127.0.0.1:{CONSOLE}", "status"), -signal.SIGPIPE), (("check", "--no-controller", TWO_CARRIERS), -signal.SIGPIPE), (("capture", "--help"), 0)):
             with self.subTest(words[0]):
                 reader, writer = os.pipe()
                 os.close(reader)
@@ -201,10 +221,10 @@ class Ended(unittest.TestCase):
 
     def test_signals(self) -> None:
         for number in (signal.SIGINT, signal.SIGTERM):
-            with self.subTest(number), self.waiting("siteview", "--console", f"127.0.0.1:{CONSOLE}", "--once") as process:
-                process.send_signal(number)
-                self.assertEqual((process.communicate(timeout=60), process.returncode), (("", ""), -number))
-
+            for words in (("siteview", "--console", f"127.0.0.1:{CONSOLE}", "--once"), ("console", "--tcp", f"127.0.0.1:{CONSOLE}", "status")):
+                with self.subTest(number, tool=words[0]), self.waiting(*words) as process:
+                    process.send_signal(number)
+                    self.assertEqual((process.communicate(timeout=60), process.returncode), (("", ""), -number))
 
     def test_signals_end_the_controller_too(self) -> None:
         site = self.folder / "played"
@@ -223,7 +243,7 @@ class Answers(unittest.TestCase):
     """Consoles that answer what no console does."""
 
     def test_each(self) -> None:
-        for answer, said in ((b"HTTP/1.1 400 Bad Request\r\n", "not a status"), (b"status carriers x radios 0 asks 0 lines 0 calls 0 fill aloha\n", "not a status"),
+        for answer, said in ((b"HTTP/1.1 400 Bad Request\r\n", "not a status"), (b"end\n", "not a status: end"), (b"status carriers x radios 0 asks 0 lines 0 calls 0 fill aloha\n", "not a status"),
                              (b"x" * 100000, "sends more than a console does"), (REPLIES.split(b"\n")[0] + b"\n" + b"slot 0 0 free\n" * 2000, "sends a list without an end"),
                              (REPLIES.split(b"\n")[0] + b"\nslot a b free\nend\n", "not a list of slots"),
                              (REPLIES.split(b"\n")[0] + b"\nslot 0 1 call\nend\ncall 0\nend\n", "not a list of calls")):

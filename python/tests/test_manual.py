@@ -13,8 +13,9 @@ from tests.test_messages import as_pattern, messages
 
 MAN = TOP / "deploy" / "man"
 PAGES = sorted(it.name for it in MAN.iterdir())
-TOOLS = ("siteview", "timeline", "capture", "carriers", "check")
-WANTED = {"dmr_trunk.8", "dmr_trunk.5", "dmr_decode.1", *(f"dmr_{tool}.1" for tool in TOOLS)}
+TOOLS = ("siteview", "timeline", "capture", "carriers", "check", "console", "hub")
+PAGE_OF = {tool: f"dmr_{tool}.{8 if tool == 'hub' else 1}" for tool in TOOLS}
+WANTED = {"dmr_trunk.8", "dmr_trunk.5", "dmr_decode.1", *PAGE_OF.values()}
 # The order of sections; a page leaves out those that do not apply.
 ORDER = ("NAME", "SYNOPSIS", "DESCRIPTION", "COMMANDS", "OPTIONS", "CONSOLE", "SIGNALS", "EXIT STATUS", "DIAGNOSTICS", "ENVIRONMENT", "FILES", "SECURITY", "EXAMPLES", "SEE ALSO")
 ALWAYS = {"NAME", "SYNOPSIS", "DESCRIPTION", "EXAMPLES", "SEE ALSO"}
@@ -153,7 +154,7 @@ class Options(unittest.TestCase):
         for tool in TOOLS:
             with self.subTest(tool):
                 done = run_tool(tool, "--help", env={**os.environ, "COLUMNS": "1000"})
-                self.compare(f"dmr_{tool}.1", options_of(done.stdout))
+                self.compare(PAGE_OF[tool], options_of(done.stdout))
 
     def test_of_the_controller_in_its_source(self) -> None:
         text = (TOP / "crates/dmr_command/src/words.rt").read_text(encoding="utf-8")
@@ -191,7 +192,7 @@ class Statuses(unittest.TestCase):
                 said = re.search(r"^Status: (.*?)\n\n", run_tool(tool, "--help", env={**os.environ, "COLUMNS": "1000"}).stdout, re.M | re.S)
                 # carriers says its status in a sentence: 0 if all checks held
                 wanted = re.findall(r"(?:^|; )(\d) ", said[1]) if said else ["0", "1", "2"]
-                self.assertEqual(self.statuses(f"dmr_{tool}.1"), wanted)
+                self.assertEqual(self.statuses(PAGE_OF[tool]), wanted)
 
     def test_of_programs(self) -> None:
         for page, source in (("dmr_trunk.8", "dmr_command/src/words.rt"), ("dmr_decode.1", "dmr_decode/src/main.rt")):

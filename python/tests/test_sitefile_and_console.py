@@ -1,11 +1,14 @@
 """The site file and the console."""
+import pathlib
+import re
 import socket
+import tempfile
 import threading
 import tomllib
 import unittest
 
-from temzaar.console import Console, ConsoleFault, Status, read_calls, read_lines, read_slots
-from temzaar.sitefile import Site
+from temzaar.console import Console, ConsoleFault, Parties, Status, read_calls, read_lines, read_radios, read_slots
+from temzaar.sitefile import ConsolePlace, Site, SiteFault, read_console_place
 from tests.support import TWO_CARRIERS
 
 
@@ -26,6 +29,22 @@ class SiteFile(unittest.TestCase):
         site, other = Site(TWO_CARRIERS), Site(TWO_CARRIERS)
         other.shift_ports(10000)
         self.assertEqual([row["port"] + 10000 for row in site.rows] + [site.console_port + 10000], [row["port"] for row in other.rows] + [other.console_port])
+
+    def test_place_of_the_console(self) -> None:
+        """`silence` is 1 to 65535 waits of 100 ms."""
+        text = pathlib.Path(TWO_CARRIERS).read_text(encoding="utf-8")
+        with tempfile.NamedTemporaryFile("w", suffix=".toml", encoding="utf-8") as file:
+            for line, wanted in (("silence = 1", 0.1), ("silence = 65535", 6553.5), ("silence = 0", "out of range silence"), ("silence = 65536", "out of range silence"),
+                                 ('silence = "5"', "wrong type silence"), ("silence = true", "wrong type silence"), ("", "missing silence")):
+                with self.subTest(line):
+                    file.seek(0)
+                    file.truncate()
+                    file.write(re.sub(r"(?m)^silence = .*$", line, text))
+                    file.flush()
+                    if isinstance(wanted, str):
+                        self.assertRaisesRegex(SiteFault, f"^site file {re.escape(file.name)}: {wanted}$", read_console_place, file.name)
+                    else:
+                        self.assertEqual(read_console_place(file.name), ConsolePlace("127.0.0.1", 7100, wanted))
 
     def test_radios_are_admitted(self) -> None:
         site = Site(TWO_CARRIERS)
@@ -48,7 +67,13 @@ class Replies(unittest.TestCase):
         self.assertEqual(read_calls(["call 1 0 group 91 from 1001"]), {(1, 0): "group 91 from 1001"})
         self.assertEqual(read_lines(["line 1 radio 7 from 8"]), ["radio 7 from 8"])
         self.assertRaises(ConsoleFault, read_slots, ["slot 0 control"])
+        self.assertRaises(ConsoleFault, read_calls, ["call"])
+        self.assertEqual(read_calls(["error no carrier"]), {})
         self.assertRaises(ConsoleFault, read_lines, ["line 1 everybody from 8"])
+        self.assertRaises(ConsoleFault, read_lines, ["line 1 group x from 8"])
+        self.assertEqual(Parties.read("radio 7 from 8"), Parties("radio", 7, 8))
+        self.assertEqual(read_radios(["radio 7", "radio 8"]), [7, 8])
+        self.assertRaises(ConsoleFault, read_radios, ["radio x"])
 
 
 class Connection(unittest.TestCase):
@@ -80,6 +105,14 @@ class Connection(unittest.TestCase):
     def test_a_list_that_is_an_error(self) -> None:
         with Console("127.0.0.1", self.serve(b"error no carrier\n")) as console:
             self.assertEqual(console.ask("calls 3"), ["error no carrier"])
+
+    def test_a_list_without_an_end(self) -> None:
+        with Console("127.0.0.1", self.serve(b"\n" * 2000)) as console:
+            self.assertRaisesRegex(ConsoleFault, "sends a list without an end", console.ask, "slots")
+
+    def test_the_word_that_ends_lists_as_the_reply_to_a_question(self) -> None:
+        with Console("127.0.0.1", self.serve(b"end\n")) as console:
+            self.assertEqual(console.ask("status"), ["end"])
 
     def test_an_end_within_a_reply(self) -> None:
         with Console("127.0.0.1", self.serve(b"stat")) as console:

@@ -1,7 +1,8 @@
 """The picture of siteview, of replies that are written down here; no terminal and no network is needed."""
 import unittest
 
-from temzaar.cli.siteview import Ages, Picture, Prompt, paint_rows, picture_rows, plain_text
+from temzaar.cli.siteview import Prompt, paint_rows, picture_rows, plain_text
+from temzaar.picture import Ages, take_picture
 
 REPLIES = {
     "status": ["status carriers 1 radios 4 asks 0 lines 1 calls 2 fill move 7"],
@@ -38,15 +39,15 @@ class Shown(unittest.TestCase):
     """Pictures."""
 
     def test_plain(self) -> None:
-        text = plain_text(picture_rows(Picture(Written()), "here", Ages(), 0))
+        text = plain_text(picture_rows(take_picture(Written()), "here", Ages(), 0))
         self.assertTrue(text.startswith("site here   "))
         self.assertEqual(text.partition("\n")[2], SHOWN)
 
     def test_ages(self) -> None:
         ages, console = Ages(), Written()
-        ages.look(Picture(console), 10.0)
+        ages.look(take_picture(console), 10.0)
         console.replies["calls 0"] = ["call 0 1 group 92 from 1001"]
-        picture = Picture(console)
+        picture = take_picture(console)
         ages.look(picture, 20.0)
         text = plain_text(picture_rows(picture, "here", ages, 85.0))
         self.assertRegex(text, r"group 92 from 1001 +1:05\n")
@@ -54,11 +55,11 @@ class Shown(unittest.TestCase):
         self.assertRegex(text, r"group 94 from 1004 +>1:15")
 
     def test_a_queue_that_empties_between_two_answers(self) -> None:
-        picture = Picture(Written(**{"lines 1": []}))
+        picture = take_picture(Written(**{"lines 1": []}))
         self.assertEqual(picture.lines, [])
 
     def test_painted_rows_fit_the_terminal(self) -> None:
-        painted = paint_rows(picture_rows(Picture(Written()), "here", Ages(), 0), 20, 4)
+        painted = paint_rows(picture_rows(take_picture(Written()), "here", Ages(), 0), 20, 4)
         self.assertEqual(painted.count("\r\n"), 4)
         self.assertIn("carriers 1 of 2 up  \x1b[K", painted)
 

@@ -18,14 +18,14 @@ With --json standard output is one object: `status`, the controller's text as `f
 import argparse
 import os
 import shutil
-import signal
 import subprocess
 import sys
 import tempfile
-import types
 from collections.abc import Sequence
 from typing import BinaryIO
 
+from temzaar.cli.command import clean_up_on_signals, run_command
+from temzaar.faults import ToolFault
 from temzaar.frames import VERSIONS
 from temzaar.sitefaults import find_faults
 from temzaar.sitefigures import explain_site
@@ -41,16 +41,8 @@ MOST_OCTETS = 1 << 20
 MOST_OUTPUT, MOST_SECONDS = 1 << 16, 20
 
 
-class CheckFault(Exception):
+class CheckFault(ToolFault):
     """The check cannot be made. The text says why."""
-
-
-class Interrupted(BaseException):
-    """A signal that ends the command came."""
-
-    def __init__(self, number: int) -> None:
-        super().__init__(number)
-        self.number = number
 
 
 def read_limited(stream: BinaryIO, name: str) -> bytes:
@@ -146,19 +138,10 @@ def shows_colours() -> bool:
 
 
 def write_report(report: Report, is_json: bool) -> None:
-    """Writes the report. CheckFault: standard output does not take it. A reader that has ended has read enough."""
-    if sys.stdout is None:
-        raise CheckFault("cannot write: standard output is closed")
+    """Writes the report to standard output. Characters that it cannot have are replaced."""
     text = report_as_json(report) if is_json else report_as_text(report, shows_colours())
-    try:
-        sys.stdout.buffer.write(text.encode("utf-8", "replace"))
-        sys.stdout.flush()
-    except BrokenPipeError:
-        # the flush at the end of Python would find the closed pipe again
-        os.dup2(os.open(os.devnull, os.O_WRONLY), sys.stdout.fileno())
-    except OSError as error:
-        os.dup2(os.open(os.devnull, os.O_WRONLY), sys.stdout.fileno())
-        raise CheckFault(f"cannot write: {error.strerror}") from error
+    sys.stdout.buffer.write(text.encode("utf-8", "replace"))
+    sys.stdout.flush()
 
 
 def read_words(words: Sequence[str] | None) -> argparse.Namespace:
@@ -174,24 +157,17 @@ def read_words(words: Sequence[str] | None) -> argparse.Namespace:
     return parser.parse_args(words)
 
 
-def interrupt(number: int, _: types.FrameType | None) -> None:
-    """Ends the command at a signal, after what it has begun is tidied up."""
-    raise Interrupted(number)
+def check_and_report(options: argparse.Namespace) -> int:
+    """Checks the site file that the words name, and prints the report. The status. CheckFault: the check cannot be made, or the controller gave no verdict."""
+    report = check_site(options)
+    write_report(report, options.json)
+    if report.silence:
+        raise CheckFault(report.silence)
+    return report.status()
 
 
 def main(words: Sequence[str] | None = None) -> int:
     """Runs the command. The status."""
     options = read_words(words)
-    for number in (signal.SIGINT, signal.SIGTERM):
-        signal.signal(number, interrupt)
-    try:
-        report = check_site(options)
-        write_report(report, options.json)
-        if report.silence:
-            raise CheckFault(report.silence)
-    except CheckFault as fault:
-        print(f"check: {fault}", file=sys.stderr)
-        return Status.NOT_CHECKED
-    except Interrupted as it:
-        return 128 + it.number
-    return report.status()
+    clean_up_on_signals()
+    return run_command("check", lambda: check_and_report(options), Status.NOT_CHECKED)

@@ -74,8 +74,8 @@ def report_fault(name: str, text: str) -> int:
     return FAULT
 
 
-def run_command(name: str, action: Callable[[], int]) -> int:
-    """Does what a command does, and writes out its standard output. The status."""
+def run_command(name: str, action: Callable[[], int], fault_status: int = FAULT) -> int:
+    """Does what a command does, and writes out its standard output. The status, which is `fault_status` after a fault."""
     try:
         if sys.stdout is None:
             raise ToolFault("standard output is closed")
@@ -83,7 +83,7 @@ def run_command(name: str, action: Callable[[], int]) -> int:
         sys.stdout.flush()
         return status
     except ToolFault as fault:
-        return finish_after_fault(name, str(fault))
+        return finish_after_fault(name, str(fault), fault_status)
     except KeyboardInterrupt:
         end_by_signal(signal.SIGINT)
     except Terminated as ended:
@@ -91,21 +91,22 @@ def run_command(name: str, action: Callable[[], int]) -> int:
     except BrokenPipeError as fault:
         if has_closed_pipe():
             end_by_signal(signal.SIGPIPE)
-        return finish_after_fault(name, fault.strerror)
+        return finish_after_fault(name, fault.strerror, fault_status)
     except OSError as fault:
-        return finish_after_fault(name, f"{fault.filename or 'standard output'}: {fault.strerror or fault}")
+        return finish_after_fault(name, f"{fault.filename or 'standard output'}: {fault.strerror or fault}", fault_status)
     except MemoryError:
-        return finish_after_fault(name, "out of memory")
+        return finish_after_fault(name, "out of memory", fault_status)
 
 
-def finish_after_fault(name: str, text: str) -> int:
-    """Writes out what was printed before a fault, and then reports the fault. The status."""
+def finish_after_fault(name: str, text: str, status: int) -> int:
+    """Writes out what was printed before a fault, and then reports the fault. The status, as it was given."""
     if sys.stdout is not None:
         try:
             sys.stdout.flush()
         except OSError:
             drop_standard_output()
-    return report_fault(name, text)
+    print_note(name, text)
+    return status
 
 
 def count_of(least: int, most: int) -> Callable[[str], int]:
@@ -130,3 +131,16 @@ def amount_above(least: float, most: float = 1e9) -> Callable[[str], float]:
             raise argparse.ArgumentTypeError(f"{text!r} is not a number above {least:g}, at most {most:g}")
         return value
     return read
+
+
+def address_of_words(text: str) -> tuple[str, int]:
+    """A reader of an address and a port, for argparse. ArgumentTypeError: they are not ADDRESS:PORT."""
+    address, _, port = text.rpartition(":")
+    fault = argparse.ArgumentTypeError(f"{text!r} is not ADDRESS:PORT")
+    try:
+        found = address.strip("[]"), count_of(1, 65535)(port)
+    except argparse.ArgumentTypeError:
+        raise fault from None
+    if not found[0]:
+        raise fault
+    return found

@@ -1,14 +1,15 @@
 """A live picture of a served site, through its console port: carriers and slots, calls, the queue, counts, and what a quiet control slot sends.
 
-    siteview --site site.toml                the console of the site file
-    siteview --console 127.0.0.1:7100        this console
+    siteview --site site.toml                the console of the site file, through the hub if one holds it
+    siteview --hub /run/dmr_hub/console.sock     this hub
+    siteview --console 127.0.0.1:7100        this console, without a hub
     siteview --site site.toml --once         one picture, as plain text
 
-Live, the keys type a line to the operator's console; Enter sends it, and the answer is shown below the picture. Ctrl-C or Ctrl-D leaves. One operator
-is served at a time: while siteview is connected, another console waits, so type here. An age is how long siteview has seen a call or a request; `>`
-says that it was there before. The controller reports no ages, so --once shows none.
+Live, the keys type a line to the operator's console; Enter sends it, and the answer is shown below the picture. Ctrl-C or Ctrl-D leaves. Without a hub
+one operator is served at a time: while siteview is connected, another console waits, so type here. An age is how long siteview has seen a call or a
+request; `>` says that it was there before. The controller reports no ages, so --once shows none.
 
-Status: 0 it was left, or the picture printed; 1 the site file or the console, named on standard error; 2 the words.
+Status: 0 it was left, or the picture printed; 1 the site file, the console or the hub, named on standard error; 2 the words.
 """
 import argparse
 import os
@@ -20,77 +21,23 @@ import textwrap
 import time
 import tty
 from collections.abc import Iterable, Iterator, Sequence
-from typing import Protocol
 
-from temzaar.cli.command import amount_above, clean_up_on_signals, count_of, run_command
-from temzaar.console import Console, ConsoleFault, SlotKey, Status, read_calls, read_lines, read_slots
-from temzaar.sitefile import read_plan
+from temzaar.cli.command import address_of_words, amount_above, clean_up_on_signals, run_command
+from temzaar.console import LONGEST_LINE, Console, ConsoleFault, SlotKey, Status
+from temzaar.hubconsole import ControllerAway, HubConsole, find_hub
+from temzaar.picture import Ages, Asked, Picture, take_picture
+from temzaar.sitefile import read_console_place
 
 BOLD, PLAIN = "\x1b[1m", "\x1b[0m"
 COLOURS = {"call": "\x1b[1;32m", "control": "\x1b[36m", "down": "\x1b[1;31m", "waiting": "\x1b[33m", "free": "\x1b[2m"}
 CELL = 40
 LEAVE = "\x04"
 # More than a line may have: the controller says so itself.
-MOST_TYPED = 100
+MOST_TYPED = LONGEST_LINE + 20
 
 # A part of a row: its text, and the state that colours it.
 Part = tuple[str, str]
 Row = list[Part]
-# Something with an age: a call on a slot, or a request in the queue.
-Standing = tuple[str, SlotKey | None, str]
-
-
-class Asked(Protocol):
-    """Something that answers lines: a console, or a test's stand-in."""
-
-    def ask(self, line: str) -> list[str]:
-        """The lines of the reply to a line."""
-        ...
-
-
-class Picture:
-    """The answers of the console at one time. They come one after the other, so a call may end between two of them."""
-
-    def __init__(self, console: Asked) -> None:
-        self.status = Status(console.ask("status"))
-        self.slots = read_slots(console.ask("slots"))
-        self.carriers = sorted({carrier for carrier, _ in self.slots})
-        self.calls: dict[SlotKey, str] = {}
-        for carrier in sorted({carrier for (carrier, _), state in self.slots.items() if state == "call"}):
-            self.calls.update(read_calls(console.ask(f"calls {carrier}")))
-        self.lines: list[str] = []
-        while self.status.counts["lines"] > len(self.lines):
-            more = read_lines(console.ask(f"lines {len(self.lines) + 1}"))
-            self.lines += more
-            if not more:
-                break
-
-    def standings(self) -> list[Standing]:
-        """Everything in the picture that has an age."""
-        calls: list[Standing] = [("call", slot, parties) for slot, parties in self.calls.items()]
-        return calls + [("line", None, parties) for parties in self.lines]
-
-
-class Ages:
-    """The times since which siteview has seen each call and each request."""
-
-    def __init__(self) -> None:
-        # when each was first seen, and whether that was in the first picture; None before the first picture
-        self.since: dict[Standing, tuple[float, bool]] | None = None
-
-    def look(self, picture: Picture, now: float) -> None:
-        """Records when the calls and requests of a picture were first seen."""
-        before = self.since
-        new = now, before is None
-        self.since = {it: (before or {}).get(it, new) for it in picture.standings()}
-
-    def age(self, standing: Standing, now: float) -> str:
-        """The age of something, as text; empty if it was never seen."""
-        if self.since is None or standing not in self.since:
-            return ""
-        since, stood = self.since[standing]
-        seconds = int(now - since)
-        return f"{'>' if stood else ''}{seconds // 60}:{seconds % 60:02}"
 
 
 def slot_cell(picture: Picture, slot: SlotKey, age: str) -> Part:
@@ -189,55 +136,74 @@ class Prompt:
             if key == LEAVE:
                 return True
             if key == "\n":
-                self.answer, self.typed = self.console.ask(self.typed) if self.typed else [], ""
+                self.answer, self.typed = self._ask(self.typed) if self.typed else [], ""
             elif key in ("\x7f", "\b"):
                 self.typed = self.typed[:-1]
             elif key.isprintable() and len(self.typed) < MOST_TYPED:
                 self.typed += key
         return False
 
+    def _ask(self, line: str) -> list[str]:
+        """The answer to a line, or that there is none."""
+        try:
+            return self.console.ask(line)
+        except ControllerAway as fault:
+            return [str(fault)]
+
+
+class View:
+    """The site as it is shown. While the hub reports that the controller is away, only that is shown."""
+
+    def __init__(self, console: Asked, name: str) -> None:
+        self.console, self.name, self.ages, self.away = console, name, Ages(), ""
+        self.picture: Picture | None = None
+
+    def look(self) -> None:
+        """Takes a new picture. ConsoleFault: the console is at fault."""
+        try:
+            self.picture = take_picture(self.console)
+            self.ages.look(self.picture, time.monotonic())
+        except ControllerAway as fault:
+            self.picture, self.ages, self.away = None, Ages(), str(fault)
+
+    def rows(self) -> Iterable[Row]:
+        """The rows to show now."""
+        if self.picture:
+            return picture_rows(self.picture, self.name, self.ages, time.monotonic())
+        return [[(f"site {self.name}   {time.strftime('%H:%M:%S')}", "title")], [(self.away, "down")]]
+
 
 def watch(console: Console, name: str, seconds: float) -> None:
     """Shows the site, a new picture every `seconds`, until the user leaves it."""
-    ages, prompt = Ages(), Prompt(console)
+    view, prompt = View(console, name), Prompt(console)
     with Screen() as screen:
         while True:
-            picture, now = Picture(console), time.monotonic()
-            ages.look(picture, now)
-            until = now + seconds
+            until = time.monotonic() + seconds
+            view.look()
             while (left := until - time.monotonic()) > 0:
-                screen.show(picture_rows(picture, name, ages, time.monotonic()), prompt.typed, prompt.answer)
+                screen.show(view.rows(), prompt.typed, prompt.answer)
                 if prompt.take_keys(screen.keys(left)):
                     return
 
 
-def console_address(options: argparse.Namespace) -> tuple[str, int]:
-    """The address and port of the console that the words name."""
+def open_console(options: argparse.Namespace) -> tuple[Console, str]:
+    """The console that the words name, and its name: through a hub if the words name one, or if one holds the console of the site file."""
+    if options.hub is not None:
+        return HubConsole(options.hub), options.hub
     if options.console:
-        return options.console
-    plan = read_plan(options.site, ("address", "console_port"))
-    return ".".join(map(str, plan.get("address", [127, 0, 0, 1]))), plan["console_port"]
-
-
-def read_address(text: str) -> tuple[str, int]:
-    """An address and a port, from the words. ArgumentTypeError: they are not ADDRESS:PORT."""
-    address, _, port = text.rpartition(":")
-    fault = argparse.ArgumentTypeError(f"{text!r} is not ADDRESS:PORT")
-    try:
-        found = address.strip("[]"), count_of(1, 65535)(port)
-    except argparse.ArgumentTypeError:
-        raise fault from None
-    if not found[0]:
-        raise fault
-    return found
+        console = Console(*options.console)
+        return console, console.name
+    place = read_console_place(options.site)
+    return find_hub(place.name) or Console(place.address, place.port), place.name
 
 
 def read_words(words: Sequence[str] | None) -> argparse.Namespace:
     """The words of the command line."""
     parser = argparse.ArgumentParser(description=__doc__, formatter_class=argparse.RawDescriptionHelpFormatter)
     which = parser.add_mutually_exclusive_group(required=True)
-    which.add_argument("--site", help="the site file, which names the console's address and port")
-    which.add_argument("--console", type=read_address, help="the console, as ADDRESS:PORT")
+    which.add_argument("--site", help="the site file, which names the console's address and port; a hub that holds this console is asked instead")
+    which.add_argument("--hub", help="the hub, by the path of its socket")
+    which.add_argument("--console", type=address_of_words, help="the console, as ADDRESS:PORT, without a hub")
     parser.add_argument("--once", action="store_true", help="print one picture as plain text, and end")
     parser.add_argument("--every", type=amount_above(0, 3600), default=0.25, help="seconds from one picture to the next (0.25)")
     return parser.parse_args(words)
@@ -247,11 +213,10 @@ def show_site(options: argparse.Namespace) -> int:
     """Shows the site. The status."""
     if not options.once and not (sys.stdin and sys.stdin.isatty() and sys.stdout.isatty()):
         raise ConsoleFault("no terminal: give --once")
-    address, port = console_address(options)
-    with Console(address, port) as console:
-        name = f"{address}:{port}"
+    opened, name = open_console(options)
+    with opened as console:
         if options.once:
-            sys.stdout.write(plain_text(picture_rows(Picture(console), name, Ages(), 0)))
+            sys.stdout.write(plain_text(picture_rows(take_picture(console), name, Ages(), 0)))
             return 0
         try:
             watch(console, name, max(0.05, options.every))

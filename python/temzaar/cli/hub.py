@@ -1,0 +1,52 @@
+"""Holds the console of a controller, and serves it to many operators, over a unix socket.
+
+    hub                          with /etc/dmr_trunk/hub.toml
+    hub --config hub.toml        with this config file
+    hub --check                  checks the config file alone
+
+The controller serves one console connection at a time. The hub has that connection, and passes on the lines of all who are connected to it, each with the
+role of its user by the config file. It runs until SIGTERM or SIGINT.
+
+Status: 0 it was stopped, or the config file is accepted; 1 the config file, a port or the audit log, named on standard error; 2 the words.
+"""
+import argparse
+import asyncio
+from collections.abc import Sequence
+
+from temzaar.cli.command import run_command
+from temzaar.faults import ToolFault
+from temzaar.hub.config import DEFAULT_PATH, load_config
+from temzaar.hub.keys import ConfigFault
+from temzaar.hub.notes import note
+from temzaar.hub.roles import find_rules
+from temzaar.hub.service import Hub
+
+
+def read_words(words: Sequence[str] | None) -> argparse.Namespace:
+    """The words of the command line."""
+    parser = argparse.ArgumentParser(description=__doc__, formatter_class=argparse.RawDescriptionHelpFormatter)
+    parser.add_argument("--config", metavar="FILE", default=DEFAULT_PATH, help=f"the config file ({DEFAULT_PATH})")
+    parser.add_argument("--check", action="store_true", help="check the config file, and end")
+    return parser.parse_args(words)
+
+
+def hold_console(options: argparse.Namespace) -> int:
+    """Serves until a signal comes, or checks the config file. The status. ToolFault: the config file, a port or the audit log is at fault."""
+    try:
+        config = load_config(options.config)
+        rules = find_rules(config.roles)
+    except ConfigFault as fault:
+        raise ToolFault(f"config file: {fault}") from fault
+    if options.check:
+        return 0
+    note(f"config file {options.config}, site file {config.controller.site_file}")
+    # SIGTERM and SIGINT end the loop, and not the process
+    asyncio.run(Hub(config, rules).run())
+    note("stopped")
+    return 0
+
+
+def main(words: Sequence[str] | None = None) -> int:
+    """Runs the command. The status."""
+    options = read_words(words)
+    return run_command("dmr_hub", lambda: hold_console(options))

@@ -1,0 +1,22 @@
+"""The hub: a service that holds the one console of a controller and serves many who ask (docs/HUB.md).
+
+Modules, lowest first:
+
+    keys       kinds of values in the config file, and the strict reader of a section
+    config     the keys of the config file
+    moment     times, and their text
+    counts     counters, gauges and histograms, and their text for Prometheus
+    fairqueue  a queue in which those who ask take turns
+    link       the connection to the controller's console
+    model      the state of the site, as the last answers had it
+    poller     keeps the model up to date
+    lines      the lines of operators
+    roles      who a peer is, and what it may do
+    audit      the audit log
+    notes      what the hub writes to standard error, and to systemd
+    session    an operator's connection: lines and their replies
+    lineport   the port that operators connect to
+    views      the site as JSON and as metrics, and whether all is well
+    web        the HTTP port
+    service    all of it together, from start to stop
+"""

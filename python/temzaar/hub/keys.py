@@ -1,0 +1,127 @@
+"""Kinds of values in the hub's config file, and a strict reader of its sections.
+
+A section is a frozen dataclass whose fields are made by `key`. A key without a value in the file has its default. Unknown keys, other types and values out of
+range are faults, which name the key.
+"""
+import dataclasses
+from collections.abc import Mapping
+from typing import Any, Protocol, TypeVar
+
+from temzaar.faults import ToolFault
+
+Section = TypeVar("Section")
+
+
+class ConfigFault(ToolFault):
+    """The config file cannot be used. The text says why, with the key."""
+
+
+class Kind(Protocol):
+    """A kind of value. `says` describes it for documents and faults."""
+    says: str
+
+    def read(self, value: Any) -> Any:
+        """The value of a key. ValueError: it is not of this kind; the text says what is."""
+        ...
+
+
+class Number:
+    """A number in a range, whole or with decimals."""
+
+    def __init__(self, low: float, high: float) -> None:
+        self.low, self.high, self.says = low, high, f"{low:g} to {high:g}"
+
+    def read(self, value: Any) -> float:
+        """The number."""
+        if isinstance(value, bool) or not isinstance(value, int | float):
+            raise ValueError(f"not a number: {self.says}")
+        if not self.low <= value <= self.high:
+            raise ValueError(f"out of range: {self.says}")
+        return float(value)
+
+
+class Whole:
+    """A whole number in a range."""
+
+    def __init__(self, low: int, high: int) -> None:
+        self.low, self.high, self.says = low, high, f"{low} to {high}"
+
+    def read(self, value: Any) -> int:
+        """The number."""
+        if isinstance(value, bool) or not isinstance(value, int):
+            raise ValueError(f"not a whole number: {self.says}")
+        if not self.low <= value <= self.high:
+            raise ValueError(f"out of range: {self.says}")
+        return value
+
+
+class FilePath:
+    """An absolute path."""
+    says = "an absolute path"
+
+    def read(self, value: Any) -> str:
+        """The path."""
+        if not isinstance(value, str) or not value.startswith("/") or "\0" in value:
+            raise ValueError(f"not {self.says}")
+        return value
+
+
+class Choice:
+    """One of some words."""
+
+    def __init__(self, *words: str) -> None:
+        self.words, self.says = words, " or ".join(f'"{word}"' for word in words)
+
+    def read(self, value: Any) -> str:
+        """The word."""
+        if value not in self.words or not isinstance(value, str):
+            raise ValueError(f"not {self.says}")
+        return value
+
+
+class Names:
+    """A list of names, in which numbers count as names too if `numbers` says so."""
+
+    def __init__(self, numbers: bool = False) -> None:
+        self.numbers, self.says = numbers, "a list of names or numbers" if numbers else "a list of names"
+
+    def read(self, value: Any) -> tuple[str | int, ...]:
+        """The names."""
+        allowed = (str, int) if self.numbers else (str,)
+        if not isinstance(value, list) or any(isinstance(it, bool) or not isinstance(it, allowed) or it == "" for it in value):
+            raise ValueError(f"not {self.says}")
+        return tuple(value)
+
+
+class CarrierChoice:
+    """Carriers: all of the site, none, or those of a list."""
+    says = '"all", "none" or a list of carriers'
+
+    def read(self, value: Any) -> str | tuple[int, ...]:
+        """The word, or the numbers."""
+        if value in ("all", "none"):
+            return str(value)
+        if not isinstance(value, list) or any(isinstance(it, bool) or not isinstance(it, int) or not 0 <= it <= 15 for it in value):
+            raise ValueError(f"not {self.says}, 0 to 15")
+        return tuple(value)
+
+
+def key(kind: Kind, default: Any, about: str) -> Any:
+    """A field of a section: its kind, the value if the key is missing, and what it is."""
+    return dataclasses.field(default=default, metadata={"kind": kind, "about": about})
+
+
+def read_section(section: type[Section], name: str, table: Any) -> Section:
+    """A section from its table of the file. ConfigFault: a key is unknown, or its value is not of its kind."""
+    if not isinstance(table, Mapping):
+        raise ConfigFault(f"{name}: not a table")
+    fields = {field.name: field for field in dataclasses.fields(section)}  # type: ignore[arg-type]
+    values: dict[str, Any] = {}
+    for word, value in table.items():
+        if word not in fields:
+            raise ConfigFault(f"{name}.{word}: unknown key")
+        try:
+            values[word] = fields[word].metadata["kind"].read(value)
+        except ValueError as fault:
+            raise ConfigFault(f"{name}.{word}: {fault}") from fault
+    return section(**values)

@@ -1,0 +1,82 @@
+"""The lines of operators: cut from octets, and told apart by what they do."""
+import enum
+from dataclasses import dataclass
+
+from temzaar.console import CHANGES, LISTS, LONGEST_LINE, QUESTIONS
+
+# The hub answers these itself, with lists.
+OWN = ("help", "history", "who")
+# What the hub answers while the controller does not; the reason follows.
+AWAY = "the controller is away"
+# The commands of a line port whose replies are lists.
+HUB_LISTS = (*LISTS, *OWN)
+
+
+class LineKind(enum.Enum):
+    """What a line does."""
+    QUESTION = "question"
+    CHANGE = "change"
+    OWN = "own"
+    UNKNOWN = "unknown"
+
+
+@dataclass(frozen=True)
+class Line:
+    """A line without its LF: its octets as they came, and its words."""
+    octets: bytes
+    words: tuple[bytes, ...]
+
+    @classmethod
+    def read(cls, octets: bytes) -> "Line":
+        """The line of some octets. Words are separated by spaces alone, and one CR at the end is dropped, as the controller does it."""
+        return cls(octets, tuple(word for word in octets.removesuffix(b"\r").split(b" ") if word))
+
+    @property
+    def name(self) -> str:
+        """The first word; empty if there is none."""
+        return self.words[0].decode("latin-1") if self.words else ""
+
+    @property
+    def kind(self) -> LineKind:
+        """What the line does. Only a line whose first word is a command of the controller is ever passed on."""
+        for names, kind in ((QUESTIONS, LineKind.QUESTION), (CHANGES, LineKind.CHANGE), (OWN, LineKind.OWN)):
+            if self.name in names:
+                return kind
+        return LineKind.UNKNOWN
+
+    @property
+    def text(self) -> str:
+        """The line for people and logs: octets that are not printable ASCII are escaped."""
+        return printable(self.octets)
+
+
+def printable(octets: bytes) -> str:
+    """Octets as text; those that are not printable ASCII are escaped."""
+    return "".join(chr(it) if 32 <= it < 127 and it != 92 else f"\\x{it:02x}" for it in octets)
+
+
+class LineCutter:
+    """Cuts lines from octets. It keeps no more than a line may have."""
+
+    def __init__(self, longest: int = LONGEST_LINE) -> None:
+        self.longest, self.begun, self.is_too_long = longest, bytearray(), False
+
+    def feed(self, octets: bytes) -> list[bytes | None]:
+        """The lines that end in these octets, each without its LF; None for one that is too long."""
+        *ends, rest = octets.split(b"\n")
+        lines: list[bytes | None] = []
+        for piece in ends:
+            self._add(piece)
+            lines.append(None if self.is_too_long else bytes(self.begun))
+            self.begun.clear()
+            self.is_too_long = False
+        self._add(rest)
+        return lines
+
+    def _add(self, piece: bytes) -> None:
+        """Adds to the line that has begun."""
+        self.is_too_long = self.is_too_long or len(self.begun) + len(piece) > self.longest
+        if self.is_too_long:
+            self.begun.clear()
+        else:
+            self.begun += piece

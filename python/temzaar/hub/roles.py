@@ -1,0 +1,105 @@
+"""Who a peer of a unix socket is, and what it may do."""
+import enum
+import grp
+import os
+import pwd
+import socket
+import struct
+from collections.abc import Callable, Sequence
+from dataclasses import dataclass
+
+from temzaar.hub.config import RoleKeys
+from temzaar.hub.keys import ConfigFault
+
+# The option of a socket that reports the groups of its peer (Linux 4.13). Python has no name for it.
+SO_PEERGROUPS = 59
+# As many octets as Python's getsockopt takes: 256 groups.
+GROUPS_OCTETS = 1024
+
+
+class Role(enum.IntEnum):
+    """What somebody may do. Each role may do what those below it may."""
+    NONE = 0
+    READ = 1
+    FULL = 2
+
+
+@dataclass(frozen=True)
+class Peer:
+    """Who has connected: a name for people, the user's and the process's number if the socket reports them, and the role."""
+    user: str
+    role: Role
+    uid: int | None = None
+    pid: int | None = None
+
+
+@dataclass(frozen=True)
+class Rules:
+    """The users and groups of each role, by their numbers."""
+    full_users: frozenset[int]
+    full_groups: frozenset[int]
+    read_users: frozenset[int]
+    read_groups: frozenset[int]
+    others: Role
+
+    def role_of(self, uid: int, groups: Sequence[int]) -> Role:
+        """The greatest role that a user has by itself or by one of the groups."""
+        if uid in self.full_users or self.full_groups.intersection(groups):
+            return Role.FULL
+        if uid in self.read_users or self.read_groups.intersection(groups):
+            return Role.READ
+        return self.others
+
+
+def find_numbers(key: str, names: Sequence[str | int], find: Callable[[str], int]) -> frozenset[int]:
+    """The numbers of users or groups. ConfigFault: there is none of a name."""
+    numbers = set()
+    for name in names:
+        try:
+            numbers.add(name if isinstance(name, int) else find(name))
+        except (KeyError, ValueError) as fault:
+            # ValueError: a zero octet in the name
+            raise ConfigFault(f"roles.{key}: there is no {key.rpartition('_')[2].removesuffix('s')} {name}") from fault
+    return frozenset(numbers)
+
+
+def find_rules(keys: RoleKeys) -> Rules:
+    """The rules of the config. ConfigFault: a user or a group does not exist."""
+    return Rules(find_numbers("full_users", keys.full_users, find_user), find_numbers("full_groups", keys.full_groups, find_group),
+                 find_numbers("read_users", keys.read_users, find_user), find_numbers("read_groups", keys.read_groups, find_group), Role[keys.others.upper()])
+
+
+def find_user(name: str) -> int:
+    """The number of a user. KeyError: there is none of this name."""
+    return pwd.getpwnam(name).pw_uid
+
+
+def find_group(name: str) -> int:
+    """The number of a group. KeyError: there is none of this name."""
+    return grp.getgrnam(name).gr_gid
+
+
+def user_name(uid: int) -> str:
+    """The name of a user, or its number."""
+    try:
+        return pwd.getpwuid(uid).pw_name
+    except KeyError:
+        return f"uid {uid}"
+
+
+def peer_groups(stream: socket.socket, uid: int, gid: int) -> list[int]:
+    """The groups of a socket's peer, as they were when it connected; those of its user if the socket cannot report them."""
+    try:
+        octets = stream.getsockopt(socket.SOL_SOCKET, SO_PEERGROUPS, GROUPS_OCTETS)
+        return [gid, *struct.unpack(f"={len(octets) // 4}I", octets)]
+    except OSError:
+        try:
+            return [gid, *os.getgrouplist(pwd.getpwuid(uid).pw_name, gid)]
+        except (KeyError, OSError):
+            return [gid]
+
+
+def find_peer(stream: socket.socket, rules: Rules) -> Peer:
+    """The peer of a unix socket, with its role. OSError: the socket does not report it."""
+    pid, uid, gid = struct.unpack("=iII", stream.getsockopt(socket.SOL_SOCKET, socket.SO_PEERCRED, 12))
+    return Peer(user_name(uid), rules.role_of(uid, peer_groups(stream, uid, gid)), uid, pid)

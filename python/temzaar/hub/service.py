@@ -1,0 +1,100 @@
+"""The hub as a whole, from start to stop."""
+import asyncio
+import contextlib
+import signal
+from http import HTTPStatus
+
+from temzaar.hub.audit import AuditFault, AuditLog
+from temzaar.hub.config import Config
+from temzaar.hub.counts import HubCounts
+from temzaar.hub.lineport import STOP_SECONDS, LinePort
+from temzaar.hub.link import ConsoleLink
+from temzaar.hub.model import SiteModel
+from temzaar.hub.moment import Moment
+from temzaar.hub.notes import note, notify_systemd, warn
+from temzaar.hub.poller import Poller
+from temzaar.hub.roles import Rules
+from temzaar.hub.session import Desk
+from temzaar.hub.views import Views
+from temzaar.hub.web import JSON, METRICS, TEXT, Response, WebPort
+from temzaar.sitefile import ConsolePlace, read_console_place
+
+
+class Hub:
+    """The parts of the hub."""
+
+    def __init__(self, config: Config, rules: Rules) -> None:
+        self.config, self.counts, self.model = config, HubCounts(), SiteModel()
+        self.link = ConsoleLink(self._read_place, config.controller, self.counts, self._report_link)
+        self.poller = Poller(self.link, self.model, config.poll)
+        self.audit = AuditLog(config.audit)
+        self.desk = Desk(self.link, self.audit, config.line_port, self.counts, self.poller.hurry)
+        self.line_port = LinePort(self.desk, rules)
+        self.views = Views(config, self.link, self.model, self.counts, self.desk.sessions, Moment.now())
+        paths = {"/v1/site.json": lambda: Response(self.views.site_json(), JSON), "/metrics": lambda: Response(self.views.metrics(), METRICS), "/healthz": self._health}
+        self.web_port = WebPort(config.http, paths, self.counts)
+        self.stopping = asyncio.Event()
+
+    def _read_place(self) -> ConsolePlace:
+        """The console that the site file names now."""
+        return read_console_place(self.config.controller.site_file)
+
+    def _health(self) -> Response:
+        """Whether all is well, as a response."""
+        faults = self.views.health_faults()
+        return Response("".join(f"{it}\n" for it in faults or ["ok"]).encode("ascii", "replace"), TEXT, HTTPStatus.SERVICE_UNAVAILABLE if faults else HTTPStatus.OK)
+
+    def _report_link(self) -> None:
+        """Notes that the controller answers, or why it does not."""
+        state = self.link.state
+        if state.is_up:
+            note(f"controller: the console {self.link.place.name if self.link.place else ''} answers")
+            self.poller.hurry()
+        elif not self.stopping.is_set():
+            warn(f"controller: away: {state.reason}")
+
+    def stop(self) -> None:
+        """Begins the end."""
+        self.stopping.set()
+
+    async def run(self) -> None:
+        """Serves until a signal or `stop` ends it. AuditFault, PortFault: it cannot begin."""
+        loop = asyncio.get_running_loop()
+        for number in (signal.SIGTERM, signal.SIGINT):
+            with contextlib.suppress(ValueError, RuntimeError):
+                loop.add_signal_handler(number, self.stop)
+        # a terminal that is closed, or a habit of those who rotate logs, does not end the hub
+        with contextlib.suppress(ValueError, RuntimeError):
+            loop.add_signal_handler(signal.SIGHUP, note, "SIGHUP: the config file is read at the start alone")
+        try:
+            await asyncio.to_thread(self.audit.open)
+        except OSError as fault:
+            raise AuditFault(f"audit log: cannot write {self.audit.path}: {fault.strerror or fault}") from fault
+        tasks: list[asyncio.Task[None]] = []
+        waiting = asyncio.create_task(self.stopping.wait())
+        try:
+            await self._open_ports()
+            tasks += [asyncio.create_task(self.link.run()), asyncio.create_task(self.poller.run())]
+            notify_systemd("READY=1")
+            await asyncio.wait({waiting, *tasks}, return_when=asyncio.FIRST_COMPLETED)
+            for task in tasks:
+                if task.done():
+                    task.result()
+        finally:
+            self.stop()
+            notify_systemd("STOPPING=1")
+            await self._close_ports()
+            for task in (*tasks, waiting):
+                task.cancel()
+            await asyncio.wait({*tasks, waiting}, timeout=STOP_SECONDS)
+            self.audit.close()
+
+    async def _open_ports(self) -> None:
+        """Opens the ports. PortFault: one cannot be opened."""
+        await self.line_port.open()
+        await self.web_port.open()
+
+    async def _close_ports(self) -> None:
+        """Closes the ports, and ends the connections."""
+        await self.web_port.close()
+        await self.line_port.close()

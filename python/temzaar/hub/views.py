@@ -1,0 +1,159 @@
+"""What the hub shows to machines: the site as JSON, metrics in the text format of Prometheus, and whether all is well."""
+import json
+import os
+from collections.abc import Iterator, Sized
+from dataclasses import dataclass
+from typing import Any
+
+from temzaar.console import Parties
+from temzaar.hub.config import Config
+from temzaar.hub.counts import HubCounts, Series
+from temzaar.hub.lines import AWAY
+from temzaar.hub.link import ConsoleLink
+from temzaar.hub.model import SiteModel
+from temzaar.hub.moment import Moment, utc_text
+from temzaar.picture import Picture, Standing
+from temzaar.process import Process
+
+SLOT_STATES = ("control", "down", "call", "free", "waiting")
+# A picture that is older than this many polls, and than the rule for the controller, counts as none.
+MISSED_POLLS = 5
+
+
+@dataclass
+class Views:
+    """Everything that the views are made of. `sessions` has the connections of operators."""
+    config: Config
+    link: ConsoleLink
+    model: SiteModel
+    counts: HubCounts
+    sessions: Sized
+    begun: Moment
+
+    def site_json(self) -> bytes:
+        """The state of the site as JSON (docs/HUB.md)."""
+        now, state = Moment.now(), self.link.state
+        view = {
+            "time": utc_text(now.wall, decimals=True),
+            "controller": {"up": state.is_up, "console": self.link.place.name if self.link.place else None, "since": utc_text(state.since.wall, decimals=True),
+                           "reason": state.reason or None},
+            "state": self._state_view(now),
+            "radios": self._radios_view(now),
+        }
+        # without an indent, which takes Python a hundred times as long
+        return json.dumps(view).encode("ascii") + b"\n"
+
+    def _state_view(self, now: Moment) -> dict[str, Any] | None:
+        """The last picture; None if there is none yet."""
+        picture, seen = self.model.picture, self.model.seen
+        if picture is None or seen is None:
+            return None
+        fill, _, channel = picture.status.fill.partition(" ")
+        return {
+            "time": utc_text(seen.wall, decimals=True),
+            "age_seconds": rounded(now.steady - seen.steady),
+            "counts": picture.status.counts,
+            "fill": {"kind": fill, "channel": int(channel) if channel.isdecimal() else None},
+            "carriers": [self._carrier_view(picture, number, now) for number in picture.carriers],
+            "queue": [{"place": place, **self._parties_view(("line", None, parties), now)} for place, parties in enumerate(picture.lines, 1)],
+        }
+
+    def _carrier_view(self, picture: Picture, number: int, now: Moment) -> dict[str, Any]:
+        """A carrier with its slots."""
+        slots = []
+        for (carrier, slot), state in sorted(picture.slots.items()):
+            if carrier == number:
+                parties = picture.calls.get((carrier, slot))
+                call = self._parties_view(("call", (carrier, slot), parties), now) if parties else None
+                slots.append({"slot": slot, "state": state, "call": call})
+        known = self.model.carriers[number]
+        return {"number": number, "up": known.is_up, "since": utc_text(known.since.wall, decimals=True), "slots": slots}
+
+    def _parties_view(self, standing: Standing, now: Moment) -> dict[str, Any]:
+        """The parties of a call or of a request that waits, with its age."""
+        parties, age = Parties.read(standing[2]), self.model.ages.find(standing, now.steady)
+        return {"kind": parties.kind, "target": parties.target, "source": parties.source,
+                "age_seconds": rounded(age.seconds) if age else None, "older": age.is_older if age else True}
+
+    def _radios_view(self, now: Moment) -> dict[str, Any] | None:
+        """The registered radios; None if there is no list yet."""
+        radios, seen = self.model.radios, self.model.radios_seen
+        if radios is None or seen is None:
+            return None
+        return {"time": utc_text(seen.wall, decimals=True), "age_seconds": rounded(now.steady - seen.steady), "complete": radios.is_complete, "registered": radios.radios}
+
+    def metrics(self) -> bytes:
+        """All metrics."""
+        series = [*self._site_series(), *self._process_series(), *self.counts.all_series()]
+        return "".join(line for it in series for line in it.lines()).encode("utf-8")
+
+    def _site_series(self) -> Iterator[Series]:
+        """Gauges of the site. While the controller is away there is only the one that says so."""
+        yield gauge("dmr_site_controller_up", "Whether the controller answers.", int(self.link.state.is_up))
+        picture, seen = self.model.picture, self.model.seen
+        if not self.link.state.is_up or picture is None or seen is None:
+            return
+        now, counts = Moment.now(), picture.status.counts
+        yield gauge("dmr_site_state_timestamp_seconds", "When the controller was asked for these values, in seconds since 1970.", seen.wall)
+        up = Series("dmr_site_carrier_up", "Whether a carrier is up.")
+        for number, carrier in self.model.carriers.items():
+            up.set(int(carrier.is_up), carrier=str(number))
+        yield up
+        slots = Series("dmr_site_slots", "Slots, by their state.")
+        for state in SLOT_STATES:
+            slots.set(sum(it == state for it in picture.slots.values()), state=state)
+        yield slots
+        yield gauge("dmr_site_registered_radios", "Radios that are registered.", counts["radios"])
+        yield gauge("dmr_site_pending_asks", "Called radios that have not answered yet.", counts["asks"])
+        yield gauge("dmr_site_waiting_requests", "Requests that wait for a slot.", counts["lines"])
+        yield gauge("dmr_site_active_calls", "Calls.", counts["calls"])
+        ages = [age.seconds for parties in picture.lines if (age := self.model.ages.find(("line", None, parties), now.steady))]
+        yield gauge("dmr_site_oldest_waiting_request_seconds", "How long the hub has seen the request that has waited longest; 0 if none waits.", max(ages, default=0))
+        channel = picture.status.fill.removeprefix("move ")
+        yield gauge("dmr_site_move_channel", "The channel that radios are sent to by `move`; 0 if they are not.", int(channel) if channel.isdecimal() else 0)
+
+    def _process_series(self) -> Iterator[Series]:
+        """Gauges of the hub's process and connections."""
+        process = Process(os.getpid())
+        yield gauge("dmr_hub_queued_questions", "Questions that wait for their turn.", len(self.link.queue))
+        yield gauge("dmr_hub_line_connections", "Operators' connections that are served.", len(self.sessions))
+        yield gauge("process_start_time_seconds", "When the hub started, in seconds since 1970.", self.begun.wall)
+        cpu = Series("process_cpu_seconds_total", "Processor time that the hub has used.")
+        cpu.add(process.seconds())
+        yield cpu
+        yield gauge("process_resident_memory_bytes", "Memory that the hub holds.", process.memory() * 1024)
+        yield gauge("process_open_fds", "File descriptors that the hub has open.", process.descriptors())
+
+    def health_faults(self) -> list[str]:
+        """What is not well, by the rule of the config; empty if all is."""
+        rule, now = self.config.health, Moment.now()
+        if not self.link.state.is_up:
+            away = now.steady - self.link.state.since.steady
+            return [f"{AWAY}: {self.link.state.reason}"] if away > rule.controller_seconds else []
+        seen = self.model.seen or self.link.state.since
+        if now.steady - seen.steady > max(rule.controller_seconds, MISSED_POLLS * self.config.poll.state_seconds):
+            return ["the controller answers, but the hub has no picture of the site"]
+        return list(self._carrier_faults(now))
+
+    def _carrier_faults(self, now: Moment) -> Iterator[str]:
+        """The carriers of the rule that are down."""
+        rule, carriers = self.config.health, self.model.carriers
+        if rule.carriers == "none" or not carriers:
+            return
+        for number in carriers if isinstance(rule.carriers, str) else rule.carriers:
+            if number not in carriers:
+                yield f"carrier {number} is not in the site"
+            elif not carriers[number].is_up and now.steady - carriers[number].since.steady > rule.carrier_seconds:
+                yield f"carrier {number} is down since {utc_text(carriers[number].since.wall)}"
+
+
+def gauge(name: str, about: str, value: float) -> Series:
+    """A gauge without labels."""
+    series = Series(name, about)
+    series.set(value)
+    return series
+
+
+def rounded(seconds: float) -> float:
+    """Seconds to the millisecond."""
+    return round(seconds, 3)

@@ -1,0 +1,187 @@
+"""The command dmr_console: in a pipe, with words, on a terminal; and what it completes; and siteview through the hub. A hub in this process answers."""
+import asyncio
+import os
+import pty
+import select
+import subprocess
+import time
+import unittest
+
+from temzaar.cli.siteview import Prompt, View
+from temzaar.console import Console
+from temzaar.hubconsole import Completions, HubConsole, has_ended
+from tests.fake_console import FakeConsole
+from tests.hub_support import FULL, NONE, HubCase, wait_until
+from tests.support import tool_words
+
+STATUS = "status carriers 2 radios 40 asks 0 lines 1 calls 2 fill aloha\n"
+
+
+class ToolCase(HubCase):
+    """A test that runs tools over a hub."""
+
+    async def run_tool(self, name: str, *words: str, given: str = "") -> subprocess.CompletedProcess[str]:
+        """Runs a tool to its end."""
+        environment = {**os.environ, "DMR_HUB_SOCKET": self.socket, "XDG_STATE_HOME": self.folder}
+
+        def run() -> subprocess.CompletedProcess[str]:
+            return subprocess.run(tool_words(name, *words), input=given, capture_output=True, text=True, check=False, timeout=60, env=environment)
+
+        return await asyncio.to_thread(run)
+
+
+class Command(ToolCase):
+    """The command as a process."""
+
+    async def run_console(self, *words: str, given: str = "") -> subprocess.CompletedProcess[str]:
+        """Runs the command to its end."""
+        return await self.run_tool("console", *words, given=given)
+
+    async def test_lines_in_a_pipe(self) -> None:
+        await self.start()
+        done = await self.run_console(given="status\nlines 1\nstay")
+        self.assertEqual((done.returncode, done.stdout, done.stderr), (0, STATUS + "line 1 group 94 from 1004\nend\nok\n", ""))
+        done = await self.run_console(given="drop 7\nstatus\n")
+        self.assertEqual((done.returncode, done.stdout), (3, "error not registered\n" + STATUS))
+
+    async def test_a_line_of_words(self) -> None:
+        await self.start()
+        done = await self.run_console("calls", "0")
+        self.assertEqual((done.returncode, done.stdout), (0, "call 0 1 group 91 from 1001\nend\n"))
+        self.assertEqual((await self.run_console("--socket", self.socket, "calls", "x")).returncode, 3)
+
+    async def test_faults(self) -> None:
+        done = await self.run_console("status")
+        self.assertEqual((done.returncode, done.stdout, done.stderr), (1, "", f"console: cannot connect to the hub {self.socket}: No such file or directory\n"))
+        done = await self.run_console("--tcp", "here", "status")
+        self.assertEqual((done.returncode, done.stderr.splitlines()[-1]), (2, "console: error: argument --tcp: 'here' is not ADDRESS:PORT"))
+        self.assertEqual((await self.run_console("--tcp", "a:1", "--socket", "b")).returncode, 2)
+
+    async def test_a_user_without_a_role(self) -> None:
+        await self.start(NONE)
+        done = await self.run_console(given="status\nstatus\n")
+        self.assertIn(done.returncode, (1, 3))
+        self.assertIn("has no role here", done.stdout + done.stderr)
+        self.assertNotIn("Traceback", done.stderr)
+
+    async def test_on_a_terminal(self) -> None:
+        await self.start()
+        shown = await asyncio.to_thread(self.type_keys, ["stat\t\n", "drop 103\t\n", "end 1 \t\n", "\x03", "quit\n"])
+        self.assertIn("status carriers 2 radios 40", shown)
+        self.assertIn("drop 103", shown)
+        self.assertIn("end 1 0", self.fake.asked)
+        with open(os.path.join(self.folder, "dmr_console", "history"), encoding="utf-8") as it:
+            self.assertIn("status \n", it.read())
+
+    def type_keys(self, pieces: list[str]) -> str:
+        """What the command shows on a terminal on which these keys are typed, each piece after a prompt. AssertionError: it does not end well."""
+        ours, theirs = pty.openpty()
+        environment = {**os.environ, "DMR_HUB_SOCKET": self.socket, "XDG_STATE_HOME": self.folder, "TERM": "dumb"}
+        shown = b""
+        with subprocess.Popen(tool_words("console"), stdin=theirs, stdout=theirs, stderr=theirs, env=environment, start_new_session=True) as process:
+            os.close(theirs)
+            try:
+                for count, piece in enumerate(pieces, 1):
+                    until = time.monotonic() + 30
+                    while shown.count(b"dmr> ") < count and time.monotonic() < until:
+                        if select.select([ours], [], [], 0.1)[0]:
+                            shown += os.read(ours, 4096)
+                    os.write(ours, piece.replace("\x03", "").encode() or b"\n")
+                self.assertEqual(process.wait(30), 0, shown)
+            finally:
+                process.kill()
+                os.close(ours)
+        return shown.decode("utf-8", "replace")
+
+
+class Siteview(ToolCase):
+    """The picture of a site through the hub."""
+
+    async def test_through_the_hub(self) -> None:
+        """The hub holds the console all the time: siteview would wait for it in vain."""
+        await self.start()
+        for words in (("--site", self.site), ("--hub", self.socket)):
+            done = await self.run_tool("siteview", *words, "--once")
+            self.assertEqual((done.returncode, done.stderr), (0, ""))
+            self.assertIn("carriers 2 of 2 up   radios 40   asks 0   lines 1   calls 2   fill aloha\n", done.stdout)
+            self.assertIn("group 91 from 1001\n", done.stdout)
+        self.assertEqual(self.fake.connections, 1)
+
+    async def test_a_hub_of_another_console(self) -> None:
+        await self.start()
+        other = FakeConsole()
+        other.radios.clear()
+        self.addCleanup(other.stop)
+        self.write_site(other.port)
+        done = await self.run_tool("siteview", "--site", self.site, "--once")
+        self.assertIn("radios 0 ", done.stdout)
+
+    async def test_a_user_without_a_role(self) -> None:
+        await self.start(NONE)
+        done = await self.run_tool("siteview", "--site", self.site, "--once")
+        self.assertEqual(done.returncode, 1)
+        self.assertRegex(done.stderr, rf"^siteview: the hub {self.socket}: the user \S+ has no role here\n$")
+
+    async def test_without_a_hub(self) -> None:
+        done = await self.run_tool("siteview", "--site", self.site, "--once")
+        self.assertIn("radios 40 ", done.stdout)
+        done = await self.run_tool("siteview", "--hub", self.socket, "--once")
+        self.assertEqual((done.returncode, done.stderr), (1, f"siteview: cannot connect to the hub {self.socket}: No such file or directory\n"))
+
+    async def test_the_controller_is_away(self) -> None:
+        hub = await self.start()
+        console = await asyncio.to_thread(HubConsole, self.socket)
+        view = View(console, "here")
+        await asyncio.to_thread(view.look)
+        self.assertIsNotNone(view.picture)
+        self.fake.stop()
+        await wait_until(lambda: "cannot connect" in hub.link.state.reason)
+        await asyncio.to_thread(view.look)
+        rows = list(view.rows())
+        self.assertRegex(rows[1][0][0], "^the controller is away: cannot connect")
+        prompt = Prompt(console)
+        await asyncio.to_thread(prompt.take_keys, "slots\n")
+        self.assertRegex(prompt.answer[0], "^the controller is away: ")
+        again = FakeConsole(self.fake.port)
+        self.addCleanup(again.stop)
+        await wait_until(lambda: hub.link.state.is_up)
+        await asyncio.to_thread(view.look)
+        self.assertIsNotNone(view.picture)
+        console.close()
+
+
+class Completed(unittest.TestCase):
+    """Completions, over a fake controller."""
+
+    def setUp(self) -> None:
+        self.fake = FakeConsole()
+        self.addCleanup(self.fake.stop)
+        self.console = Console("127.0.0.1", self.fake.port)
+        self.addCleanup(self.console.close)
+
+    def test_words(self) -> None:
+        self.fake.radios = {1001, 1002, 100, 20, 10011, 1999}
+        completions = Completions(self.console)
+        for before, begun, words in (("", "st", ["stay", "status"]), ("", "h", ["help", "history"]), ("drop ", "100", ["100", "1001", "1002", "10011"]), ("drop ", "2", ["20"]), ("drop ", "x", []),
+                                     ("calls ", "", ["0", "1"]), ("end ", "", ["0", "1"]), ("end 1 ", "", ["0"]), ("end 1 0 ", "", []), ("status ", "", []), ("nonsense ", "", [])):
+            with self.subTest(before + begun):
+                self.assertEqual(completions.find(before, begun), words)
+
+    def test_a_console_at_fault(self) -> None:
+        self.fake.stop()
+        self.assertEqual(Completions(self.console).find("drop ", "1"), [])
+
+
+class Connected(HubCase):
+    """The connection."""
+
+    async def test_an_end_is_seen(self) -> None:
+        hub = await self.start(FULL, self.config({"idle_seconds": 3.0}))
+        console = await asyncio.to_thread(HubConsole, self.socket)
+        self.assertFalse(has_ended(console))
+        self.assertEqual(await asyncio.to_thread(console.ask, "stay"), ["ok"])
+        while hub.desk.sessions:
+            await asyncio.sleep(0.05)
+        await asyncio.sleep(0.1)
+        self.assertTrue(has_ended(console))
+        console.close()

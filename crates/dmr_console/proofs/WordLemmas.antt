@@ -1,7 +1,11 @@
 -- The first word of a line.
-use Rattle.std.proofs.Common.{◌≡◌, ℕ, ◌+◌, ◌-◌, ◌<◌, ◌≤◌, Bool, true, false, cond, not, List, [], ◌∷◌, length, take, drop, eqb, ltb, refl, sym, ap, ◌∙◌, arith, suc, zero, filter, Option, Some, None, unwrap_or, length-drop, subst}
+use Rattle.std.proofs.Common.{◌≡◌, ◌&&◌, get_or, add-one, pow-suc, ◌*◌, ◌^◌, ℕ, ◌+◌, ◌-◌, ◌<◌, ◌≤◌, Bool, true, false, cond, not, List, [], ◌∷◌, length, take, drop, eqb, ltb, refl, sym, ap, ◌∙◌, arith, suc, zero, filter, Option, Some, None, unwrap_or, length-drop, subst}
 use Rattle.std.proofs.lemmas.Bool.{ltb-true, ltb-false}
-use Rattle.std.proofs.lemmas.List.{take_all}
+use Rattle.std.proofs.lemmas.List.{take_all, drop_more}
+use Rattle.std.proofs.lemmas.Str.{digit_value_digit}
+use Rattle.std.specs.Char.{IsAsciiDigit, digit_value, is_ascii_digit}
+use Rattle.std.specs.Str.{all_ascii_digits}
+use Rattle.std.specs.Str.Parse.{digits_value_after}
 use Rattle.std.specs.List.{slice_split, onto_first, position_or_len}
 use Rattle.std.proofs.lemmas.List.Recursion.{is_position_or_len}
 use Rattle.dmr_console.specs.Words.{is_word, words_of_line}
@@ -159,3 +163,19 @@ word_and_rest line rest front back b e r q f is cut g at p n =
     let P : List ℕ → Type 0 = λ xs. Parted line xs in
     let both : Parted line rest = subst P (sym whole) (parted line (omega (arith, begin.0, begin.1, here))) in
     both ∙ (λ i. (take (sym end i) rest) ∷ words_of_line (drop (sym end i) rest)) ∙ (λ i. (sym p i) ∷ words_of_line (sym n i))
+
+-- ---- the number of a word
+
+-- one digit more
+pub digit_more : (n i : ℕ) (word : List ℕ) → i < length word → IsAsciiDigit (get_or word i 0) → digits_value_after 10 n (drop i word) ≡ digits_value_after 10 (n * 10 + (get_or word i 0 - 48)) (drop (i + 1) word)
+digit_more n i word lt is =
+    let digit : n * 10 + digit_value (get_or word i 0) ≡ n * 10 + (get_or word i 0 - 48) = omega (arith, digit_value_digit (get_or word i 0) is) in
+    ap (digits_value_after 10 n) (drop_more word i 0 lt) ∙ ap (λ (m : ℕ). digits_value_after 10 m (drop (i + 1) word)) digit
+
+pub digits_more : (i : ℕ) (word : List ℕ) → i < length word → true ≡ is_ascii_digit (get_or word i 0) → all_ascii_digits (drop i word) ≡ all_ascii_digits (drop (i + 1) word)
+digits_more i word lt is = ap all_ascii_digits (drop_more word i 0 lt) ∙ ap (λ (b : Bool). b && all_ascii_digits (drop (i + 1) word)) (sym is)
+
+pub small_more : (n i x : ℕ) → n < 10 ^ i → IsAsciiDigit x → n * 10 + (x - 48) < 10 ^ (i + 1)
+small_more n i x lt is =
+    let power : 10 ^ (i + 1) ≡ 10 ^ i * 10 = ap (λ (m : ℕ). 10 ^ m) (add-one i) ∙ pow-suc 10 i in
+    omega (arith, lt, is, power)

@@ -16,7 +16,7 @@ use Rattle.dmr_link.specs.declared.connection.Connection.{Connection}
 use Rattle.dmr_link.specs.Meaning.{list_of_notice}
 use Rattle.dmr_link.specs.Notices.{Notice}
 use Rattle.dmr_link.specs.Numbering.{frame_text}
-use Rattle.dmr_link.specs.Room.{length_of_tx, most_in, numbered_after_all}
+use Rattle.dmr_link.specs.Room.{length_of_tx, most_in, most_to_poll, numbered_after_all}
 use Rattle.dmr_link.specs.Session.{transmissions}
 use Rattle.dmr_link.specs.Steps.{notices_of_octets, connection_after_octets}
 use Rattle.dmr_link.proofs.OnePieceMore.{most_goes}
@@ -83,3 +83,13 @@ few_more true true same now later i put was = omega (arith, put, was)
 few_more false false same now later i put was = omega (arith, put, was)
 few_more true false same now later i put was = absurd (false≢true same)
 few_more false true same now later i put was = absurd (false≢true (sym same))
+
+-- after at most 16 TX the answer has room for one more frame
+pub one_fits : (b : Bool) (now i : ℕ) → i ≤ 16 → now ≤ length_of_tx b * i → now + 29 ≤ 493
+one_fits true now i le was = omega (arith, le, was)
+one_fits false now i le was = omega (arith, le, was)
+
+-- and then DONE
+pub few_done : (b : Bool) (now later i : ℕ) → i ≤ 2 → later ≡ now + 2 → now ≤ length_of_tx b * i → later ≤ most_to_poll b
+few_done true now later i two put was = omega (arith, two, put, was)
+few_done false now later i two put was = omega (arith, two, put, was)

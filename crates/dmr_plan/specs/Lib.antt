@@ -5,6 +5,7 @@ pub mod Arrays
 pub mod Lists
 pub mod Carriers
 pub mod Kept
+pub mod Sections
 pub mod IsPlan
 pub mod Plan
 pub mod EqualityLemmas

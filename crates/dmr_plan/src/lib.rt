@@ -13,6 +13,7 @@ mod limits;
 mod lists;
 mod numbers;
 mod plan;
+mod sections;
 mod settings;
 
 pub use carriers::CarrierRow;

@@ -1,18 +1,16 @@
 //! The settings: the contents of a site file.
 
-ghost use Rattle.std.specs.Prelude.{◌≡◌, IfOk, IfErr, IfSome};
+ghost use Rattle.std.specs.Prelude.{◌≡◌, IfOk, IfErr};
 ghost use Rattle.toml.specs.View.{table_view};
-ghost use Rattle.dmr_plan.specs.Keys.{IsNumberOf};
 ghost use Rattle.dmr_plan.specs.Steps.{IsOfKey};
-ghost use Rattle.dmr_plan.specs.Numbers.{optional_in};
 ghost use Rattle.dmr_plan.specs.Plan.{plan_of};
 ghost use Rattle.dmr_plan.specs.IsPlan.{IsPlan};
 
-use crate::carriers::{CarrierRow, carriers_in, has_number};
+use crate::carriers::CarrierRow;
 use crate::fault::PlanFault;
-use crate::key::{Key, MOST_CARRIERS, MOST_GROUPS, MOST_RANGES};
-use crate::lists::{RadioRange, address_in, groups_in, radios_in};
-use crate::numbers::{address, address_unlike, bit, field, number, number_from, optional_number};
+use crate::key::{MOST_CARRIERS, MOST_GROUPS, MOST_RANGES};
+use crate::lists::RadioRange;
+use crate::sections::{aloha_in, calls_in, lists_in, serving_in, system_in};
 use dmr_pdu::{Address, BoundedList, CarrierNo, Number};
 use toml::Table;
 
@@ -75,18 +73,6 @@ pub struct Settings {
     pub control: CarrierNo,
 }
 
-/// Reads the option bit that is 0 in a registration request that leaves, if the table has the key.
-fn leave_bit_in(table: &Table) -> Result<Option<u8>, PlanFault>
-    ensures gives { result ≡ optional_in (table_view table.now) Key.LeaveBit }
-    ensures within { IfOk result (λ bit. IfSome bit (IsNumberOf Key.LeaveBit)) }
-    ensures of_key { IfErr result IsOfKey }
-{
-    match optional_number(table, Key::LeaveBit)? {
-        Some(bit) => Ok(Some(bit as u8)),
-        None => Ok(None),
-    }
-}
-
 /// Reads the settings from a table, or its first fault. The fields are read in the order of the keys.
 #[tactic(auto, unfolding(crate::specs::Plan::plan_of))]
 pub fn settings_in(table: &Table) -> Result<Settings, PlanFault>
@@ -94,37 +80,39 @@ pub fn settings_in(table: &Table) -> Result<Settings, PlanFault>
     ensures limits { IfOk result IsPlan }
     ensures of_key { IfErr result IsOfKey }
 {
-    let settings = Settings {
-        system: field(table, Key::System)?,
-        regi: address(table, Key::Regi)?,
-        tsi: address_unlike(table, Key::Tsi, Key::Regi)?,
-        leave_bit: leave_bit_in(table)?,
-        aloha_sync: bit(table, Key::AlohaSync)?,
-        aloha_version: field(table, Key::AlohaVersion)?,
-        aloha_offset: bit(table, Key::AlohaOffset)?,
-        aloha_active: bit(table, Key::AlohaActive)?,
-        nrand_wait: field(table, Key::NrandWait)?,
-        hang: number(table, Key::Hang)? as u16,
-        maximum: number(table, Key::Maximum)? as u16,
-        ahoy_wait: number(table, Key::AhoyWait)? as u16,
-        ahoy_tries: number(table, Key::AhoyTries)? as u8,
-        grant_copies: number(table, Key::GrantCopies)? as u8,
-        clear_copies: number(table, Key::ClearCopies)? as u8,
-        backoff_low: number(table, Key::BackoffLow)? as u8,
-        backoff_high: number_from(table, Key::BackoffHigh, Key::BackoffLow)? as u8,
-        tick_ms: number(table, Key::TickMs)? as u16,
-        silence: number(table, Key::Silence)? as u16,
-        term_entries: number(table, Key::TermEntries)?,
-        link_version: number(table, Key::LinkVersion)? as u8,
-        address: address_in(table)?,
-        console_port: number(table, Key::ConsolePort)? as u16,
-        radios: radios_in(table)?,
-        groups: groups_in(table)?,
-        carriers: carriers_in(table)?,
-        control: CarrierNo::new(number(table, Key::Control)?),
-    };
-    if !has_number(settings.carriers.as_slice(), settings.control) {
-        return Err(PlanFault::OutOfRange(Key::Control));
-    }
-    Ok(settings)
+    let system = system_in(table)?;
+    let aloha = aloha_in(table)?;
+    let calls = calls_in(table)?;
+    let serving = serving_in(table)?;
+    let lists = lists_in(table)?;
+    let address = serving.address;
+    Ok(Settings {
+        system: system.system,
+        regi: system.regi,
+        tsi: system.tsi,
+        leave_bit: system.leave_bit,
+        aloha_sync: aloha.sync,
+        aloha_version: aloha.version,
+        aloha_offset: aloha.offset,
+        aloha_active: aloha.active,
+        nrand_wait: aloha.nrand_wait,
+        hang: calls.hang,
+        maximum: calls.maximum,
+        ahoy_wait: calls.ahoy_wait,
+        ahoy_tries: calls.ahoy_tries,
+        grant_copies: calls.grant_copies,
+        clear_copies: calls.clear_copies,
+        backoff_low: calls.backoff_low,
+        backoff_high: calls.backoff_high,
+        tick_ms: serving.tick_ms,
+        silence: serving.silence,
+        term_entries: serving.term_entries,
+        link_version: serving.link_version,
+        address,
+        console_port: lists.console_port,
+        radios: lists.radios,
+        groups: lists.groups,
+        carriers: lists.carriers,
+        control: lists.control,
+    })
 }

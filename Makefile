@@ -1,6 +1,6 @@
 # `make` alone says what there is.
 .DEFAULT_GOAL := help
-.PHONY: help demo build check fmt test gate check-fast check-programs tools-check wrong-bodies bench bench-instructions soak serve-check serve-hostile refuse-memory pictures package package-check maps trusted install
+.PHONY: help demo build check fmt test gate check-fast check-programs tools-check wrong-bodies bench bench-instructions soak serve-check serve-hostile refuse-memory pictures package package-check release maps trusted install
 
 PREFIX ?= /usr/local
 DESTDIR ?=
@@ -9,6 +9,8 @@ VERSION = $(shell ci/version)
 PYTHON_LIB = $(PREFIX)/lib/python3/dist-packages
 DOC = $(PREFIX)/share/doc/dmr_trunk
 MAN = $(PREFIX)/share/man
+# the folder in which bash-completion looks for the words of a command
+COMPLETIONS = $(PREFIX)/share/bash-completion/completions
 # the folder of Debian's Wireshark for dissectors in Lua, if the prefix is /usr (`tshark -G folders`)
 WIRESHARK_PLUGINS = $(PREFIX)/lib/$(shell uname -m)-linux-gnu/wireshark/plugins
 
@@ -109,6 +111,9 @@ package: build/dmr_trunk build/dmr_decode ## a Debian package of the proved prog
 package-check: package ## installs the package in a clean root and serves a site there (as root; wants debootstrap and a network)
 	ci/check-package build/dmr-trunk_$(VERSION)_*.deb
 
+release: ## a release of what is committed, at release/: proved and checked in a fresh clone, with the record (docs/RELEASING.md; many hours)
+	@ci/release
+
 install: build/dmr_trunk build/dmr_decode ## the programs, tools, manual pages, units, dissector, examples and documents [PREFIX=/usr/local] [DESTDIR=]
 	install -D -m 755 build/dmr_trunk $(DESTDIR)$(PREFIX)/bin/dmr_trunk
 	install -D -m 755 build/dmr_decode $(DESTDIR)$(PREFIX)/bin/dmr_decode
@@ -121,6 +126,8 @@ install: build/dmr_trunk build/dmr_decode ## the programs, tools, manual pages, 
 	for section in 1 5 8; do install -d $(DESTDIR)$(MAN)/man$$section && for page in deploy/man/*.$$section; do sed -e 's|@VERSION@|$(VERSION)|' -e 's|@PREFIX@|$(PREFIX)|' $$page >$(DESTDIR)$(MAN)/man$$section/$${page##*/} || exit; done || exit; done
 	install -D -m 644 deploy/wireshark/dmr_link.lua $(DESTDIR)$(WIRESHARK_PLUGINS)/dmr_link.lua
 	ln -sf ../man8/dmr_trunk.8 $(DESTDIR)$(MAN)/man1/dmr_trunk.1
+	install -D -m 644 deploy/completion/dmr.bash $(DESTDIR)$(COMPLETIONS)/dmr_trunk
+	for command in decode siteview timeline capture carriers check hub console; do ln -sf dmr_trunk $(DESTDIR)$(COMPLETIONS)/dmr_$$command || exit; done
 	for unit in dmr_trunk dmr_hub; do sed 's|@PREFIX@|$(PREFIX)|' deploy/$$unit.service >$(DESTDIR)$(PREFIX)/lib/systemd/system/$$unit.service || exit; done
 	install -m 644 docs/OPERATING.md docs/HUB.md docs/SITE_FILE.md docs/FORMATS.md docs/LINK.md docs/GLOSSARY.md docs/GUARANTEES.md docs/ASSURANCE.md CHANGELOG.md LICENSE-APACHE LICENSE-MIT $(DESTDIR)$(DOC)
 	install -m 644 docs/pictures/*.svg docs/pictures/*.png $(DESTDIR)$(DOC)/pictures

@@ -1,0 +1,111 @@
+"""The record of a release: what was built from which sources, with what, what was proved, and what each step printed at its end."""
+import hashlib
+import os
+import pathlib
+import platform
+import re
+import subprocess
+from collections.abc import Sequence
+from typing import NamedTuple
+
+from releasing.promises import Promise
+from releasing.steps import Outcome, log_name
+
+
+class Source(NamedTuple):
+    """The sources of a release."""
+    version: str
+    commit: str
+    date: str
+    # the SHA-256 of SOURCES.sha256, which has the SHA-256 of each file
+    digest: str
+    # the number of files
+    count: int
+
+
+def digest_of(path: pathlib.Path) -> str:
+    """The SHA-256 of a file."""
+    with path.open("rb") as it:
+        return hashlib.file_digest(it, "sha256").hexdigest()
+
+
+def sums_of(folder: pathlib.Path, names: Sequence[str]) -> str:
+    """A line for each file, as `sha256sum -c` reads them."""
+    return "".join(f"{digest_of(folder / name)}  {name}\n" for name in names)
+
+
+def git(clone: pathlib.Path, *words: str) -> str:
+    """What a command of git prints in the clone."""
+    return subprocess.run(["git", "-C", str(clone), *words], capture_output=True, text=True, check=True).stdout
+
+
+def read_source(clone: pathlib.Path, to: pathlib.Path) -> Source:
+    """Writes SOURCES.sha256, and returns what the sources are."""
+    names = [it for it in git(clone, "ls-files", "-z").split("\0") if it and (clone / it).is_file()]
+    (to / "SOURCES.sha256").write_text(sums_of(clone, names), encoding="utf-8")
+    version = subprocess.run([str(clone / "ci/version")], capture_output=True, text=True, check=True).stdout.strip()
+    commit, date = git(clone, "log", "-1", "--format=%H %cs").split()
+    return Source(version, commit, date, digest_of(to / "SOURCES.sha256"), len(names))
+
+
+def describe_machine() -> list[str]:
+    """What the machine is: processor, memory, system, C library. It has no name of a host."""
+    with open("/proc/cpuinfo", encoding="utf-8") as it:
+        models = re.findall(r"^model name\s*: (.*)$", it.read(), re.M)
+    with open("/proc/meminfo", encoding="ascii") as it:
+        memory = int(it.readline().split()[1]) // (1 << 20)
+    libc = " ".join(platform.libc_ver())
+    system = platform.freedesktop_os_release().get("PRETTY_NAME", "Linux")
+    return [f"{len(os.sched_getaffinity(0))} processors: {models[0] if models else platform.machine()}", f"{memory} GiB of memory", f"{system}, Linux {platform.release()}, {libc}"]
+
+
+def minutes(seconds: float) -> str:
+    """A time for people."""
+    return f"{seconds:.0f} s" if seconds < 120 else f"{seconds / 60:.0f} min"
+
+
+def table_of(outcomes: Sequence[Outcome]) -> list[str]:
+    """The table of the steps."""
+    rows = ["| step | outcome | time | its last line | log |", "|---|---|---|---|---|"]
+    for number, it in enumerate(outcomes, 1):
+        log = "" if it.status is None else f"`logs/{log_name(number, it.step)}`"
+        rows.append(f"| {it.step.name} | {it.word()} | {minutes(it.seconds)} | {it.last[:160].replace('|', '/')} | {log} |")
+    return rows
+
+
+def theorems_of(promises: Sequence[Promise]) -> list[str]:
+    """The theorems, each with its text."""
+    lines = []
+    for it in promises:
+        lines += [f"### `{it.function}`", "", f"{it.says}.", "", "```rust", it.contract.strip("\n"), "```", ""]
+    return lines
+
+
+def record_of(source: Source, short: bool, toolchain: str, outcomes: Sequence[Outcome], same_twice: bool | None, promises: Sequence[Promise]) -> str:
+    """The text of RECORD.md."""
+    failed = [it for it in outcomes if it.status]
+    left_out = [it for it in outcomes if it.status is None]
+    twice = {True: "yes", False: "NO", None: "not tried: a step before it failed"}[same_twice]
+    lines = [f"# dmr_trunk {source.version}: the record of its making", ""]
+    if short:
+        lines += ["**This was a short run, and is not a release.** Steps that take hours took a minute, and the proof may have been kept from an earlier run.", ""]
+    if failed or same_twice is False:
+        lines += [f"**This is not a release: {len(failed)} steps failed.**", ""]
+    lines += [
+        "| | |", "|---|---|",
+        f"| commit | `{source.commit}`, {source.date} |",
+        f"| sources | {source.count} files; the SHA-256 of `SOURCES.sha256`, which has that of each, is `{source.digest}` |",
+        f"| toolchain | {toolchain} |",
+        *(f"| machine | {it} |" for it in describe_machine()),
+        f"| the same programs from two folders | {twice} |",
+        f"| steps | {sum(it.passed() for it in outcomes)} passed, {len(failed)} failed, {len(left_out)} left out |",
+        "",
+        "`SHA256SUMS` has the digests of the programs, the package and these files. `docs/RELEASING.md` in the sources says how a third party checks a release.",
+        "", "## The steps", "",
+        *table_of(outcomes),
+        "", "## What was proved", "",
+        "The gate proved each crate: each function meets its contract, for every input. These are the contracts of the functions that carry the promises. `docs/TRUSTED.md`"
+        " lists the definitions that they depend on, and `docs/GUARANTEES.md` says in words what they mean.", "",
+        *theorems_of(promises),
+    ]
+    return "\n".join(lines).rstrip("\n") + "\n"

@@ -1,0 +1,92 @@
+"""The steps of a release: the commands that check a clone, in their order, and what each of them printed."""
+import os
+import pathlib
+import subprocess
+import time
+from collections.abc import Iterator, Sequence
+from typing import NamedTuple
+
+# a soak plays as many inputs for each of two sites, in both versions of the link
+SOAK_INPUTS = 10_000_000
+SOAKS = 4
+SITE = "sites/sixteen_carriers.toml"
+HOUR = 3600
+
+
+class Step(NamedTuple):
+    """A step: its name, its command in the clone, and whether it needs root."""
+    name: str
+    words: Sequence[str]
+    needs_root: bool = False
+
+
+class Outcome(NamedTuple):
+    """What a step did. `status` is None if it was left out; then `last` says why."""
+    step: Step
+    status: int | None
+    seconds: float
+    last: str
+
+    def passed(self) -> bool:
+        """Whether the step was done, and ended with status 0."""
+        return self.status == 0
+
+    def word(self) -> str:
+        """The outcome in a word."""
+        if self.status is None:
+            return "left out"
+        return "passed" if self.status == 0 else f"FAILED, status {self.status}"
+
+
+def carriers(*words: str) -> list[str]:
+    """The command that plays carriers against the proved program."""
+    return ["tools/carriers", "--site", SITE, "--program", "build/dmr_trunk", *words]
+
+
+def all_steps(short: bool) -> list[Step]:
+    """The steps, in order. A short run has the same steps; those that take hours take a minute."""
+    seconds = str(60 if short else HOUR)
+    inputs = (SOAK_INPUTS // 100 if short else SOAK_INPUTS) // SOAKS
+    wrong_bodies = ["ci/wrong-bodies", "--outside", *(["--part", "1/100"] if short else [])]
+    return [
+        Step("checks without a proof", ["ci/check", "fast"]),
+        Step("the prover's gate, from nothing", ["ci/gate", *([] if short else ["--anew"])]),
+        Step("the programs", ["make", "build"]),
+        Step("checks over the programs", ["ci/check", "programs"]),
+        Step("wrong bodies outside the gate", wrong_bodies),
+        Step(f"a soak of {inputs * SOAKS:,} inputs", ["build/dmr_soak", "--inputs", str(inputs), "--counts"]),
+        Step(f"served for {seconds} s", carriers("--seconds", seconds)),
+        Step(f"served in trouble for {seconds} s", carriers("--faults", "--seconds", seconds)),
+        Step("each allocation refused", ["trials/refuse-memory"]),
+        Step("served to peers that behave badly", ["trials/serve-hostile", "build/dmr_trunk"]),
+        Step("times beside C", ["make", "bench"]),
+        Step("instructions beside C", ["make", "bench-instructions"]),
+        Step("the package", ["make", "package"]),
+        Step("the package in a clean root", ["make", "package-check"], needs_root=True),
+    ]
+
+
+def log_name(number: int, step: Step) -> str:
+    """The name of the file with what a step printed."""
+    return f"{number:02}-" + "".join(it if it.isalnum() else "-" for it in step.name.lower()).strip("-") + ".txt"
+
+
+def run_step(step: Step, clone: pathlib.Path, log: pathlib.Path) -> Outcome:
+    """Runs a step in the clone. What it prints goes to the log."""
+    began = time.monotonic()
+    if step.needs_root and os.geteuid():
+        return Outcome(step, None, 0, "it needs root")
+    with log.open("w", encoding="utf-8") as out:
+        try:
+            status = subprocess.run(step.words, cwd=clone, stdin=subprocess.DEVNULL, stdout=out, stderr=subprocess.STDOUT, check=False).returncode
+        except OSError as fault:
+            out.write(f"{step.words[0]}: {fault.strerror}\n")
+            status = 127
+    lines = log.read_text(encoding="utf-8", errors="replace").strip().splitlines()
+    return Outcome(step, status, time.monotonic() - began, lines[-1] if lines else "")
+
+
+def run_all(steps: Sequence[Step], clone: pathlib.Path, logs: pathlib.Path) -> Iterator[Outcome]:
+    """Runs the steps one after another, and yields the outcome of each. A step that fails does not end the run."""
+    for number, step in enumerate(steps, 1):
+        yield run_step(step, clone, logs / log_name(number, step))

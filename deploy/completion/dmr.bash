@@ -1,0 +1,58 @@
+# Completion for bash of the words that the commands of this package take. bash-completion loads it by the name of a command; by hand: `. dmr.bash`.
+
+# Prints the options of a command.
+_dmr_options() {
+    case $1 in
+        dmr_trunk) echo --site --script --serve --terms --version --help ;;
+        dmr_decode) echo --help ;;
+        dmr_siteview) echo --site --hub --console --once --every --help ;;
+        dmr_timeline) echo --site --script --printed --program --out --start --from --to --page --calls --help ;;
+        dmr_capture) echo --site --program --out --running --shift --seconds --pcap --unfinished --help ;;
+        dmr_carriers) echo --site --program --pid --port --carriers --link-version --radios --seconds --polls --fast --seed --faults --troubles --help ;;
+        dmr_check) echo --explain --strict --json --link-version --controller --no-controller --help ;;
+        dmr_hub) echo --config --check --help ;;
+        dmr_console) echo --socket --tcp --seconds --help ;;
+    esac
+}
+
+# Prints the words that may stand where no option does.
+_dmr_words() {
+    case $1 in
+        dmr_decode) [ "$2" -eq 1 ] && echo carrier site word pdu replay script write ;;
+        dmr_console) echo status radios calls lines slots drop end move stay help history who ;;
+    esac
+}
+
+# Completes a file: all of them, or directories and those of one kind.
+_dmr_files() {
+    local kind=$1 word=$2
+    compopt -o filenames
+    if [ -n "$kind" ]; then
+        mapfile -t COMPREPLY < <(compgen -d -- "$word"; compgen -f -X "!*.$kind" -- "$word")
+    else
+        mapfile -t COMPREPLY < <(compgen -f -- "$word")
+    fi
+}
+
+_dmr() {
+    local command=${1##*/} word=$2 before=$3
+    case $before in
+        --site) _dmr_files toml "$word" ;;
+        --config) _dmr_files toml "$word" ;;
+        --script | --printed | --unfinished) _dmr_files txt "$word" ;;
+        --out | --pcap | --socket | --hub) _dmr_files "" "$word" ;;
+        --program | --controller) mapfile -t COMPREPLY < <(compgen -c -- "$word") ;;
+        --link-version) mapfile -t COMPREPLY < <(compgen -W "1 2" -- "$word") ;;
+        --calls) mapfile -t COMPREPLY < <(compgen -W "text csv json" -- "$word") ;;
+        --terms | --every | --seconds | --polls | --seed | --radios | --carriers | --port | --pid | --shift | --page | --troubles | --start | --from | --to | --tcp | --console) COMPREPLY=() ;;
+        *)
+            if [ "$command" = dmr_check ] && [ "${word#-}" = "$word" ]; then
+                _dmr_files toml "$word"
+            else
+                mapfile -t COMPREPLY < <(compgen -W "$(_dmr_options "$command") $(_dmr_words "$command" "$COMP_CWORD")" -- "$word")
+            fi
+            ;;
+    esac
+}
+
+complete -F _dmr dmr_trunk dmr_decode dmr_siteview dmr_timeline dmr_capture dmr_carriers dmr_check dmr_hub dmr_console

@@ -1,0 +1,62 @@
+"""The completion for bash: it knows each command, and each option that the command's manual page has."""
+import pathlib
+import re
+import shutil
+import subprocess
+import unittest
+
+TOP = pathlib.Path(__file__).resolve().parent.parent.parent
+FILE = TOP / "deploy" / "completion" / "dmr.bash"
+MANUAL = TOP / "deploy" / "man"
+COMMANDS = ("dmr_trunk", "dmr_decode", "dmr_siteview", "dmr_timeline", "dmr_capture", "dmr_carriers", "dmr_check", "dmr_hub", "dmr_console")
+
+
+def completed(words: list[str], within: pathlib.Path = TOP) -> list[str]:
+    """What bash offers for the last of these words."""
+    before = words[-2] if len(words) > 1 else ""
+    script = f'. "{FILE}"; compopt() {{ :; }}; COMP_WORDS=("$@"); COMP_CWORD=$(($# - 1)); COMPREPLY=(); _dmr "$1" "${{!#}}" "{before}"; printf "%s\\n" "${{COMPREPLY[@]}}"'
+    return subprocess.run(["bash", "-c", script, "bash", *words], cwd=within, capture_output=True, text=True, check=True).stdout.split()
+
+
+def options_in_manual(command: str) -> set[str]:
+    """The long options that a command's manual page names, its own: not those of other commands in examples."""
+    page = next(it for it in MANUAL.iterdir() if it.stem == command and it.suffix in (".1", ".8"))
+    text = page.read_text(encoding="utf-8").replace("\\-", "-")
+    part = re.search(r"^\.SH OPTIONS\n(.*?)(?=^\.SH )", text, re.M | re.S) or re.search(r"^\.SH SYNOPSIS\n(.*?)(?=^\.SH DESCRIPTION)", text, re.M | re.S)
+    assert part
+    return set(re.findall(r"(?<![\w-])--[a-z][a-z-]*", part[1]))
+
+
+@unittest.skipUnless(shutil.which("bash"), "there is no bash")
+class Completion(unittest.TestCase):
+    """Words that bash offers."""
+
+    def test_options(self) -> None:
+        """Each option of the manual page is offered."""
+        for command in COMMANDS:
+            with self.subTest(command):
+                self.assertLessEqual(options_in_manual(command), set(completed([command, "--"])) | {"--version"})
+
+    def test_words(self) -> None:
+        """Tasks of the decoder, commands of the console, and values of options."""
+        for words, offered in (
+            (["dmr_decode", "w"], ["word", "write"]),
+            (["dmr_decode", "word", "w"], []),
+            (["dmr_console", "s"], ["status", "slots", "stay"]),
+            (["dmr_carriers", "--link-version", ""], ["1", "2"]),
+            (["dmr_timeline", "--calls", "c"], ["csv"]),
+            (["/usr/bin/dmr_hub", "--ch"], ["--check"]),
+            (["dmr_trunk", "--terms", ""], []),
+        ):
+            with self.subTest(words):
+                self.assertEqual(completed(words), offered)
+
+    def test_files(self) -> None:
+        """A site file is completed after `--site`, and as the word that dmr_check takes."""
+        for words in (["dmr_trunk", "--site", "sites/two"], ["dmr_check", "sites/two"]):
+            with self.subTest(words):
+                self.assertEqual(completed(words), ["sites/two_carriers.toml"])
+
+
+if __name__ == "__main__":
+    unittest.main()

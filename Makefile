@@ -1,6 +1,6 @@
 # `make` alone says what there is.
 .DEFAULT_GOAL := help
-.PHONY: help demo build check fmt test gate check-fast check-programs tools-check wrong-bodies bench bench-instructions soak serve-check serve-hostile refuse-memory pictures package package-check release maps trusted install
+.PHONY: help demo build check fmt test gate check-fast check-programs tools-check wrong-bodies bench bench-instructions soak serve-check serve-hostile network-recipes refuse-memory pictures package package-check release maps trusted install
 
 PREFIX ?= /usr/local
 DESTDIR ?=
@@ -27,6 +27,7 @@ help: ## this list
 	@echo "trials/serve-hostile plays carriers and strangers that behave badly"
 	@echo "trials/long-replay   how long a long replay takes"
 	@echo "trials/refuse-memory refuses each allocation of the programs in turn"
+	@echo "trials/network-recipes tries firewall and tunnels, in network namespaces"
 	@echo "each says more with --help, or in its first lines; docs/OPERATING.md has those for operators"
 
 demo: ## builds the program without its proofs and replays one registration (about a minute)
@@ -90,6 +91,9 @@ endif
 serve-hostile: build/dmr_trunk ## the proved program served to carriers and strangers that behave badly (some minutes)
 	trials/serve-hostile build/dmr_trunk
 
+network-recipes: build/dmr_trunk ## firewall, tunnels and units of deploy/ in network namespaces, with the proved program (a minute; as root, with nftables, wireguard-tools, stunnel4, apparmor)
+	trials/network-recipes build/dmr_trunk
+
 refuse-memory: build/dmr_trunk build/dmr_refusals ## each allocation of two replays, of each call and of a served term refused in turn, in the proved programs (a minute)
 	trials/refuse-memory
 
@@ -128,9 +132,10 @@ install: build/dmr_trunk build/dmr_decode ## the programs, tools, manual pages, 
 	ln -sf ../man8/dmr_trunk.8 $(DESTDIR)$(MAN)/man1/dmr_trunk.1
 	install -D -m 644 deploy/completion/dmr.bash $(DESTDIR)$(COMPLETIONS)/dmr_trunk
 	for command in decode siteview timeline capture carriers check hub console; do ln -sf dmr_trunk $(DESTDIR)$(COMPLETIONS)/dmr_$$command || exit; done
-	for unit in dmr_trunk dmr_hub; do sed 's|@PREFIX@|$(PREFIX)|' deploy/$$unit.service >$(DESTDIR)$(PREFIX)/lib/systemd/system/$$unit.service || exit; done
-	install -m 644 docs/OPERATING.md docs/HUB.md docs/SITE_FILE.md docs/FORMATS.md docs/LINK.md docs/GLOSSARY.md docs/GUARANTEES.md docs/ASSURANCE.md CHANGELOG.md LICENSE-APACHE LICENSE-MIT $(DESTDIR)$(DOC)
+	for unit in dmr_trunk dmr_hub dmr_trunk@ dmr_hub@; do sed 's|@PREFIX@|$(PREFIX)|' deploy/$$unit.service >$(DESTDIR)$(PREFIX)/lib/systemd/system/$$unit.service || exit; done
+	install -m 644 docs/OPERATING.md docs/SECURITY.md docs/ALARMS.md docs/HUB.md docs/SITE_FILE.md docs/FORMATS.md docs/LINK.md docs/GLOSSARY.md docs/GUARANTEES.md docs/ASSURANCE.md CHANGELOG.md LICENSE-APACHE LICENSE-MIT $(DESTDIR)$(DOC)
 	install -m 644 docs/pictures/*.svg docs/pictures/*.png $(DESTDIR)$(DOC)/pictures
 	install -m 644 sites/*.toml deploy/hub.toml $(DESTDIR)$(DOC)/examples
+	for kind in nftables wireguard stunnel systemd apparmor prometheus grafana; do install -d $(DESTDIR)$(DOC)/examples/$$kind && install -m 644 deploy/$$kind/* $(DESTDIR)$(DOC)/examples/$$kind || exit; done
 	install -m 644 examples/scripts/*.txt $(DESTDIR)$(DOC)/examples/scripts
 	install -m 644 examples/expected/*.txt $(DESTDIR)$(DOC)/examples/expected

@@ -80,16 +80,23 @@ class Console:
 
     def exchange(self, line: bytes) -> list[bytes]:
         """All lines of the reply to a line, the `end` of a list too."""
-        try:
-            self.stream.sendall(line + b"\n")
-        except OSError as fault:
-            raise ConsoleFault(f"the console {self.name} broke off: {fault.strerror or fault}") from fault
-        frame, reply = ReplyFrame(line, self.lists), [self.line()]
+        frame, reply = ReplyFrame(line, self.lists), [self._first_line(line)]
         while not frame.take(reply[-1]):
             if len(reply) > MOST_LINES:
                 raise ConsoleFault(f"the console {self.name} sends a list without an end")
             reply.append(self.line())
         return reply
+
+    def _first_line(self, line: bytes) -> bytes:
+        """Sends a line. The first line of the reply, also if it came before, as the reason why the other side has closed the connection."""
+        try:
+            self.stream.sendall(line + b"\n")
+        except OSError as fault:
+            try:
+                return self.line()
+            except ConsoleFault:
+                raise ConsoleFault(f"the console {self.name} broke off: {fault.strerror or fault}") from fault
+        return self.line()
 
     def ask(self, line: str) -> list[str]:
         """The lines of the reply to a line; the `end` of a list is left out."""

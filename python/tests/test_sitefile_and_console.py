@@ -1,4 +1,5 @@
 """The site file and the console."""
+import os
 import pathlib
 import re
 import socket
@@ -8,6 +9,7 @@ import tomllib
 import unittest
 
 from temzaar.console import Console, ConsoleFault, Parties, Status, read_calls, read_lines, read_radios, read_slots
+from temzaar.hubconsole import HubConsole
 from temzaar.sitefile import ConsolePlace, Site, SiteFault, read_console_place
 from tests.support import TWO_CARRIERS
 
@@ -117,6 +119,17 @@ class Connection(unittest.TestCase):
     def test_an_end_within_a_reply(self) -> None:
         with Console("127.0.0.1", self.serve(b"stat")) as console:
             self.assertRaisesRegex(ConsoleFault, "ended the connection", console.ask, "status")
+
+    def test_a_refusal_that_came_before_the_line(self) -> None:
+        with tempfile.TemporaryDirectory() as folder, socket.socket(socket.AF_UNIX) as listener:
+            listener.bind(os.path.join(folder, "console.sock"))
+            listener.listen()
+            with HubConsole(os.path.join(folder, "console.sock")) as console:
+                stream, _ = listener.accept()
+                with stream:
+                    stream.sendall(b"error the user x has no role here\n")
+                self.assertEqual(console.ask("status"), ["error the user x has no role here"])
+                self.assertRaisesRegex(ConsoleFault, "broke off", console.ask, "status")
 
     def test_nobody_listens(self) -> None:
         with socket.create_server(("127.0.0.1", 0)) as listener:

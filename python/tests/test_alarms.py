@@ -1,0 +1,162 @@
+"""The rules for Prometheus and the dashboard for Grafana: they use the hub's metrics alone, and docs/ALARMS.md has each alarm."""
+import json
+import pathlib
+import re
+import shutil
+import subprocess
+import tempfile
+import unittest
+from typing import Any
+
+from tests.support import TOP, read_document, table_rows
+
+RULES = TOP / "deploy" / "prometheus" / "dmr_site.rules.yml"
+TESTS = TOP / "deploy" / "prometheus" / "dmr_site.test.yml"
+DASHBOARD = TOP / "deploy" / "grafana" / "dmr_site.json"
+ALARMS = read_document("ALARMS.md")
+# The metrics of the hub with their labels, and the one that Prometheus adds of its own.
+LABELS = {row[0]: set(filter(None, row[2].split(", "))) for row in table_rows(read_document("HUB.md"), "| metric | type")}
+HISTOGRAMS = [row[0] for row in table_rows(read_document("HUB.md"), "| metric | type") if row[1] == "histogram"]
+METRICS = {**LABELS, "up": set(), **{f"{name}_bucket": {"le"} for name in HISTOGRAMS}}
+# Labels that each series has in Prometheus.
+OF_PROMETHEUS = {"job", "instance"}
+# The words of PromQL that the expressions use.
+WORDS = {"and", "or", "sum", "rate", "increase", "absent", "time", "histogram_quantile", "max_over_time"}
+CLAUSES = r"\b(?:by|without|ignoring)\s*\(([^)]*)\)"
+# The lines of the part of YAML that the rules and their tests are written in.
+YAML_LINE = re.compile(r"( *)(- )?(?:([a-z_]+):(?: (.*))?|(.+))")
+
+
+def quoted(text: str) -> bool:
+    """Whether a value is one that YAML reads as its text: in single quotes, or plain without a character that has a meaning."""
+    return re.fullmatch(r"'(?:[^']|'')*'|[A-Za-z0-9_./][A-Za-z0-9_./ ,-]*", text) is not None
+
+
+def alerts() -> dict[str, dict[str, str]]:
+    """The alerts of the rules, each with its keys."""
+    found = {}
+    for part in RULES.read_text(encoding="utf-8").split("- alert: ")[1:]:
+        found[part.split("\n", 1)[0]] = {key: value.strip("'") for key, value in re.findall(r"^ +(expr|for|severity|summary): (.*)$", part, re.M)}
+    return found
+
+
+def dashboard() -> dict[str, Any]:
+    """The dashboard."""
+    board: dict[str, Any] = json.loads(DASHBOARD.read_text(encoding="utf-8"))
+    return board
+
+
+def expressions() -> dict[str, str]:
+    """Every expression, by its place."""
+    found = {name: keys["expr"] for name, keys in alerts().items()}
+    for panel in dashboard()["panels"]:
+        for target in panel["targets"]:
+            found[f"panel {panel['title']}, {target['refId']}"] = target["expr"]
+    return found
+
+
+def names_in(expression: str) -> tuple[set[str], set[str]]:
+    """The metrics that an expression names, and the labels."""
+    bare = re.sub(r'"[^"]*"', '""', expression)
+    labels = set(re.findall(r"(\w+)\s*(?:=~|!~|!=|=)\s*\"\"", bare))
+    labels |= {it.strip() for inner in re.findall(CLAUSES, bare) for it in inner.split(",")}
+    bare = re.sub(r"\{[^}]*\}|\[[^]]*\]", "", re.sub(CLAUSES, "", bare))
+    return set(re.findall(r"[A-Za-z_]\w*", bare)) - WORDS, labels
+
+
+class Named(unittest.TestCase):
+    """The metrics and labels of all expressions."""
+
+    def test_metrics_are_the_hubs(self) -> None:
+        self.assertGreater(len(expressions()), 30)
+        for place, expression in expressions().items():
+            with self.subTest(place):
+                metrics, labels = names_in(expression)
+                self.assertTrue(metrics)
+                self.assertEqual(metrics - set(METRICS), set())
+                self.assertEqual(labels - set().union(*(METRICS[it] for it in metrics)) - OF_PROMETHEUS, set())
+
+    def test_what_is_read_of_an_expression(self) -> None:
+        self.assertEqual(names_in('sum without (a, b) (increase(x_total{c="no up"}[5m])) > 3 and ignoring (d) time() - y > 0'), ({"x_total", "y"}, {"a", "b", "c", "d"}))
+
+
+class Rules(unittest.TestCase):
+    """The alerts, their tests and their document."""
+
+    def test_each_alert_has_its_paragraph(self) -> None:
+        headings = re.findall(r"^### (\w+)$", ALARMS, re.M)
+        self.assertEqual(len(headings), len(set(headings)))
+        self.assertEqual(set(headings), set(alerts()))
+        rows = {row[0]: row[1] for row in table_rows(ALARMS, "| alarm | severity")}
+        self.assertEqual(rows, {name: keys["severity"] for name, keys in alerts().items()})
+        for name in alerts():
+            text = re.split(r"^#", ALARMS[ALARMS.index(f"### {name}\n") + 4:], maxsplit=1, flags=re.M)[0]
+            self.assertGreater(len(text.split()), 30, name)
+
+    def test_each_alert_has_its_tests(self) -> None:
+        parts = re.split(r"^  - name: ", TESTS.read_text(encoding="utf-8"), flags=re.M)[1:]
+        for name in alerts():
+            raised = [part for part in parts if part.startswith(f"{name}\n")]
+            self.assertEqual(len(raised), 1, name)
+            self.assertEqual(re.findall(r"alertname: (\w+)", raised[0]), [name, name])
+            self.assertIn("exp_alerts:", raised[0].rpartition("alertname:")[2])
+        self.assertEqual(set(re.findall(r"alertname: (\w+)", parts[-1])), set(alerts()))
+        self.assertNotIn("exp_alerts:", parts[-1])
+
+    def test_form(self) -> None:
+        for path in (RULES, TESTS):
+            text = path.read_text(encoding="utf-8")
+            self.assertTrue(text.isascii() and "\t" not in text)
+            depth = 0
+            for number, line in enumerate(text.splitlines(), 1):
+                if not line.strip() or line.lstrip().startswith("#"):
+                    continue
+                found = YAML_LINE.fullmatch(line)
+                assert found, f"{path.name}:{number}"
+                indent = len(found[1])
+                # a line is at most one level deeper than the one before it; an item of a list is one level by itself
+                self.assertTrue(indent % 2 == 0 and indent <= depth + 2, f"{path.name}:{number}")
+                depth = indent + (2 if found[2] else 0)
+                value = found[4] if found[3] else found[5]
+                self.assertTrue(value is None or quoted(value), f"{path.name}:{number}: {value}")
+
+    def test_promtool(self) -> None:
+        if not shutil.which("promtool"):
+            self.skipTest("there is no promtool: the package prometheus has it")
+        for words in (["check", "rules", str(RULES)], ["test", "rules", str(TESTS)]):
+            done = subprocess.run(["promtool", *words], capture_output=True, text=True, check=False)
+            self.assertEqual(done.returncode, 0, done.stdout + done.stderr)
+
+
+class Dashboard(unittest.TestCase):
+    """The panels."""
+
+    def test_panels(self) -> None:
+        panels = dashboard()["panels"]
+        self.assertEqual(len({panel["id"] for panel in panels}), len(panels))
+        cells: set[tuple[int, int]] = set()
+        for panel in panels:
+            at = panel["gridPos"]
+            own = {(x, y) for x in range(at["x"], at["x"] + at["w"]) for y in range(at["y"], at["y"] + at["h"])}
+            self.assertFalse(own & cells, panel["title"])
+            self.assertLessEqual(at["x"] + at["w"], 24)
+            cells |= own
+            self.assertTrue(panel["description"].endswith("."))
+
+    def test_variables(self) -> None:
+        self.assertEqual([it["name"] for it in dashboard()["templating"]["list"]], ["datasource", "instance"])
+        used = set(re.findall(r"\$\{?(\w+)", DASHBOARD.read_text(encoding="utf-8")))
+        self.assertEqual(used, {"datasource", "instance", "__rate_interval", "__all"})
+        for place, expression in expressions().items():
+            if place.startswith("panel "):
+                self.assertEqual(expression.count('instance=~"$instance"'), expression.count("{"), place)
+
+    def test_promtool_reads_the_expressions(self) -> None:
+        if not shutil.which("promtool"):
+            self.skipTest("there is no promtool: the package prometheus has it")
+        rules = "".join(f"      - record: panel:{number}\n        expr: '{it}'\n" for number, it in enumerate(expressions().values())).replace("$__rate_interval", "5m")
+        with tempfile.TemporaryDirectory() as folder:
+            path = pathlib.Path(folder, "panels.yml")
+            path.write_text(f"groups:\n  - name: panels\n    rules:\n{rules}", encoding="utf-8")
+            done = subprocess.run(["promtool", "check", "rules", str(path)], capture_output=True, text=True, check=False)
+        self.assertEqual(done.returncode, 0, done.stdout + done.stderr)

@@ -152,7 +152,7 @@ class Finder:
                             "and an operator's connection ends as soon",
                             f"set `silence` to some seconds: {5000 // WAIT_MS} is 5 s")
         if time is not None and time > LONGEST_SILENCE_MS:
-            yield self.risk("long-silence", ("silence",), f"a base station that loses its power keeps its port and its calls for {seconds_in_words(time)}, and cannot come back before",
+            yield self.risk("long-silence", ("silence",), f"a base station that loses its power keeps its calls for {seconds_in_words(time)}, unless it comes back before",
                             f"set `silence` to at most {LONGEST_SILENCE_MS // WAIT_MS}, {seconds_in_words(LONGEST_SILENCE_MS)}")
 
     def term_risks(self) -> Iterator[Risk]:

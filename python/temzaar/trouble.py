@@ -29,9 +29,9 @@ MOST_AWAITED = 100
 SOON = 10.0
 # Seconds within which the buffers of the controller's system are full of DONEs, two octets for each poll.
 FLOOD = 180.0
-# How many times longer silence may take than the plan's time. The controller counts silence in parts of 25 ms that a worker has waited. While a carrier
-# floods the site, terms of 5,000 entries end some 15 times a second, and a waiting worker completes one or two parts in each.
-SLOWED = 4
+# How many times longer silence may take than the plan's time. The controller counts the time that a port waits, and none does while a term ends. While a
+# carrier floods the site, terms of 5,000 entries end about once a second.
+SLOWED = 2
 
 NO_FRAMES = (
     b"\x06", b"\x01\x01", POLL[:1] + b"\x01", b"\x04\x01\x02", hello(0, 1), b"\xff" * 300,
@@ -387,7 +387,7 @@ class TroubledPlay(Play):
             self.next_trouble = now + self.random.expovariate(self.options.troubles)
             carrier = self.random.choice(carriers)
             kind = self.random.choice(carrier.KINDS)
-            # one at a time floods the site: more would make terms so short that silence, which is counted in waits, takes minutes
+            # one at a time floods the site: more would make terms so short that ports seldom wait, and silence takes longer than the tool allows
             flooded = kind == "never reads" and any(it.trouble == kind for it in carriers)
             if carrier.welcomed and carrier.trouble is None and carrier.stranger is None and not flooded:
                 carrier.begin_trouble(kind, now)

@@ -67,6 +67,10 @@ class Closings(unittest.TestCase):
                     stream.shutdown(socket.SHUT_WR)
                 while stream.recv(4096):
                     pass
+        return self.noted_cause(whose, since)
+
+    def noted_cause(self, whose: str, since: int) -> str:
+        """The cause of the one end of a connection that is noted from note number `since` on."""
         ending = rf"\] {whose}: 127\.0\.0\.1:\d+ disconnected: (.*)"
         self.assertTrue(self.controller.wait_for(ending, seconds=PATIENCE, since=since), self.controller.notes[since:])
         found = [it[1] for note in self.controller.notes[since:] if (it := re.search(ending, note))]
@@ -96,6 +100,42 @@ class Closings(unittest.TestCase):
     def test_operators(self) -> None:
         self.serve(LONG)
         self.check(self.cause_of("console", self.site.console_port, b"status\n", "end"), "end of input")
+        self.check(self.cause_of("console", self.site.console_port, b"POST / HTTP/1.1\r\n\r\nmove 7\n"), "a request of HTTP")
+        with connect("127.0.0.1", self.site.console_port) as stream:
+            stream.sendall(b"status\n")
+            self.assertTrue(stream.recv(4096).endswith(b" fill aloha\n"))
+
+    def test_an_octet_now_and_then(self) -> None:
+        """Octets that come more often than `silence` do not keep a connection without a whole HELLO, or a line without an end."""
+        self.serve(10)
+        for whose, port, octets, wanted in (("carrier 1", self.site.row(CARRIER)["port"], UP[:-1], "no HELLO"), ("console", self.site.console_port, b"status", "a line did not end")):
+            since = len(self.controller.notes)
+            with self.subTest(wanted), connect("127.0.0.1", port) as stream:
+                stream.settimeout(0.3)
+                for octet in octets:
+                    try:
+                        stream.sendall(bytes([octet]))
+                        if not stream.recv(4096):
+                            break
+                    except TimeoutError:
+                        continue
+                    except OSError:
+                        break
+                self.check(self.noted_cause(whose, since), wanted)
+
+    def test_a_newcomer(self) -> None:
+        """A connection that is quiet for a second is displaced by one with the carrier's HELLO; one that waits with something else is not served before."""
+        self.serve(LONG)
+        port, since = self.site.row(CARRIER)["port"], len(self.controller.notes)
+        with connect("127.0.0.1", port) as first, connect("127.0.0.1", port) as other, connect("127.0.0.1", port) as second:
+            first.sendall(UP)
+            self.assertEqual(first.recv(3), bytes.fromhex("810101"))
+            other.sendall(hello(CARRIER, LPCN + 1))
+            second.settimeout(PATIENCE)
+            second.sendall(UP)
+            self.assertEqual(second.recv(3), bytes.fromhex("810101"))
+            self.check(self.noted_cause(f"carrier {CARRIER}", since), "displaced by a newcomer")
+            self.assertTrue(self.controller.wait_for(r"yields its place to 127\.0\.0\.1:\d+, quiet for 1\d\d\d ms", since=since), self.controller.notes[since:])
 
     def test_silence(self) -> None:
         self.serve(5)

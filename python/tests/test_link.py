@@ -75,7 +75,8 @@ class Tables(unittest.TestCase):
 
     def test_causes_are_those_of_operating(self) -> None:
         ours = [cause for row in table_rows(LINK, "## How a connection ends") if not row[0].startswith("none") for cause in row[0].split(", ")]
-        self.assertEqual(sorted(ours), sorted(row[0].partition(",")[0] for row in table_rows(read_document("OPERATING.md"), "### Why a connection ended")))
+        theirs = table_rows(read_document("OPERATING.md"), "### Why a connection ended")
+        self.assertEqual(sorted(ours), sorted(row[0].partition(",")[0] for row in theirs if not row[1].startswith("at the console: ")))
 
 
 class Charts(unittest.TestCase):

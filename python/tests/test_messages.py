@@ -33,15 +33,32 @@ def function(text: str, name: str) -> str:
     return text[begins:text.index("\n}", begins)]
 
 
-def notes() -> list[str]:
-    """The notes: the texts that the program's log receives, with its own name."""
-    found = literals(source("dmr_trunk/src/notes.rt"), r"(?:info|warn)!\(\*self\.rt; target: TARGET, ")
-    return [it.replace("{TARGET}", "dmr_trunk").replace("{noun}", "carriers") for it in found]
+def written(text: str) -> str:
+    """The text that a function writes by several `write!`, as one format."""
+    return "".join(literals(text, r"write!\(\s*f,\s*"))
+
+
+def notes() -> dict[str, str]:
+    """The notes: the texts that the program's log receives, with its own name, and the level of each."""
+    own = source("dmr_trunk/src/notes.rt")
+    found: dict[str, str] = {}
+    for level in ("info", "warn"):
+        for note in literals(own, rf"{level}!\(\*(?:self\.)?rt; target: TARGET, "):
+            found[note.replace("{TARGET}", "dmr_trunk").replace("{noun}", "carriers")] = level.upper()
+    # what a port notes, after its owner; and the counts of terms
+    of_ports = literals(function(source("dmr_port/src/notes.rt"), "impl fmt::Display for Note<"), r"=> (?:\{\s*)?write!\(f, ")
+    for note in ("{whose}: {note}", "{count} more notes: {kind}"):
+        del found[note]
+    # a note that somebody waits says for whom, in the program's own words
+    of_ports.remove("{from} waits, {count} waiting")
+    found |= {"{whose}: " + note: "WARN" if note.startswith("cannot") else "INFO" for note in of_ports}
+    counts = written(function(source("dmr_trunk/src/term_log.rt"), "impl fmt::Display for TermCounts"))
+    return {note.replace("{term}", counts).replace("{terms}", counts): level for note, level in found.items()}
 
 
 def causes() -> list[str]:
     """The causes of a connection's end: the plain ones, and each fault of the link with the numbers that follow it."""
-    text = source("dmr_trunk/src/cause.rt")
+    text = source("dmr_port/src/cause.rt")
     plain = [it for it in literals(function(text, "impl fmt::Display for Cause"), r'write!\(f, ') if "{" not in it and it != ")"]
     with_both, with_version = literals(function(text, "fn write_numbers"), r"write!\(\s*f,\s*")
     faults = literals(function(source("dmr_frames/src/frame.rt"), "impl fmt::Display for Cause"), r"=> ")
@@ -82,17 +99,15 @@ class Messages(unittest.TestCase):
                 self.assertTrue(any(re.fullmatch(as_pattern(it), text) for text in documented), f"not documented: {it}")
 
     def test_notes(self) -> None:
-        self.assertEqual(len(notes()), 7)
-        self.compare(column_of("## Notes", 1), notes())
+        self.assertEqual(len(notes()), 16)
+        self.compare(column_of("## Notes", 1), list(notes()))
 
     def test_levels(self) -> None:
-        text = source("dmr_trunk/src/notes.rt")
         for level, note in ((row[0], row[1]) for row in table_rows(OPERATING, "## Notes")):
-            found = [it.replace("{TARGET}", "dmr_trunk").replace("{noun}", "carriers") for it in literals(text, rf"{level.lower()}!\(\*self\.rt; target: TARGET, ")]
-            self.assertTrue(any(re.fullmatch(as_pattern(it), note) for it in found), note)
+            self.assertTrue(any(re.fullmatch(as_pattern(it), note) for it, its in notes().items() if its == level), note)
 
     def test_causes(self) -> None:
-        self.assertEqual(len(causes()), 15)
+        self.assertEqual(len(causes()), 19)
         self.compare(column_of("### Why a connection ended", 0), causes())
 
     def test_messages(self) -> None:

@@ -74,7 +74,7 @@ class Listening(unittest.TestCase):
             self.assertEqual(controller.process.wait(60), 0, controller.notes)
 
     def test_a_port_that_is_taken(self) -> None:
-        """The text names the port, the status is 1, and nothing is served."""
+        """A note has the system's reason, the text names the port, the status is 1, and nothing is served."""
         built, site = program("dmr_trunk"), Site(TWO_CARRIERS, first_port=PORT + 15)
         port = site.row(1)["port"]
         with tempfile.TemporaryDirectory() as folder, socket.create_server(("127.0.0.1", port)):
@@ -82,7 +82,8 @@ class Listening(unittest.TestCase):
             with open(path, "w", encoding="utf-8") as it:
                 it.write(site.text())
             done = subprocess.run([built, "--site", path, "--serve", "--terms", "1"], capture_output=True, text=True, check=False, timeout=60)
-        self.assertEqual((done.returncode, done.stdout, done.stderr.splitlines()[1:]), (1, "", [f"dmr_trunk: cannot listen on port {port}"]), done.stderr)
+        reason = f"[WARN  dmr_trunk] carrier 1: cannot listen on 127.0.0.1:{port}: Address already in use (os error 98)"
+        self.assertEqual((done.returncode, done.stdout, done.stderr.splitlines()[1:]), (1, "", [reason, f"dmr_trunk: cannot listen on port {port}"]), done.stderr)
 
 
 class View(unittest.TestCase):

@@ -1,2 +1,3 @@
+pub mod Beat
 pub mod Replay
-pub mod Unsent
+pub mod Tally

@@ -4,19 +4,23 @@
 //! `dmr_trunk --site FILE --serve` serves the site over TCP.
 //!
 //! `dmr_command` reads the words, and `files` reads the files. `dmr_replay` runs a script's inputs through the engine of `dmr_link`.
-//! `serve` opens a `port` for each carrier and for operators, has a `pacer` for the ticks, and runs terms of `dmr_desk` over them. `notes`
-//! writes the log, and `cause` says why a connection ended.
+//! `serve` opens a port of `dmr_port` for each carrier and for operators, over `mio_sockets`. It has a `pacer` for the ticks: `beat` decides
+//! when one is due, and `clock` reads the time. It runs terms of `dmr_desk` over them. `notes` writes the log: `port_watch` has the notes of a
+//! port, and `term_log` those of terms. `tally` counts what a journal shows, and `ends` what happens at the ports.
 #![tactic(auto)]
 
-mod cause;
-mod connection;
+mod beat;
+mod clock;
+mod ends;
 mod files;
+mod mio_sockets;
 mod notes;
 mod pacer;
-mod port;
+mod port_watch;
 mod serve;
 mod serving;
-mod unsent;
+mod tally;
+mod term_log;
 
 ghost use Rattle.std.specs.Prelude.{◌≡◌, IfOk, map, string_bytes};
 ghost use Rattle.dmr_trunk.specs.Replay.{AreReplayed, HasPlan, IsJobDone, IsReplayed, IsReplayedBySome, IsStatus};

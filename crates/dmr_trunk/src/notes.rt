@@ -1,39 +1,22 @@
 //! Notes: the serving program's log, on standard error.
 
-use crate::cause::Cause;
+use crate::term_log::TermCounts;
 use dmr_command::VERSION;
-use dmr_pdu::{CarrierNo, Lpcn, OutOfMemory};
+use dmr_pdu::OutOfMemory;
+use dmr_port::{Note, Whose};
 use log::{Log, info, warn};
 use mio::unix::SourceFd;
 use mio::{Events, Interest, Poll, Token};
 use std::alloc::Global;
+use std::io;
 use std::net::{Net, SocketAddr};
 use std::time::Duration;
-use std::{fmt, io};
 
 /// The descriptor of standard error.
 const STANDARD_ERROR: i32 = 2;
 
 /// The target of the notes in the log.
 const TARGET: &str = "dmr_trunk";
-
-/// The owner of a port.
-#[derive(Clone, Copy, Debug, PartialEq, Eq)]
-pub enum Whose {
-    /// A carrier: its number within the site, and the channel number of its slots, as the site file has them.
-    Carrier { number: CarrierNo, lpcn: Lpcn },
-    /// The operators.
-    Console,
-}
-
-impl fmt::Display for Whose {
-    fn fmt<W: fmt::Write>(&self, f: &mut fmt::Formatter<W>) -> fmt::Result {
-        match self {
-            Whose::Carrier { number, lpcn: _ } => write!(f, "carrier {number}"),
-            Whose::Console => write!(f, "console"),
-        }
-    }
-}
 
 /// Writes notes to standard error, by the runtime's log. A note is written only if standard error takes it at once; otherwise it is
 /// dropped. So a reader of notes that is slow, or does not read, does not delay the program.
@@ -47,14 +30,19 @@ pub struct Notes<'a, R> {
 }
 
 impl<'a, R: Log> Notes<'a, R> {
-    /// Allocates memory for the polling of standard error. `None` if there is no poll.
+    /// Allocates memory for the polling of standard error. `None` if there is no poll; it is noted why.
     pub fn new(rt: &'a R, alloc: Global) -> Result<Option<Notes<'a, R>>, OutOfMemory>
     where
         R: Net,
     {
         let events = Events::with_capacity(alloc, 1)?;
-        let Ok(poll) = Poll::new(rt) else {
-            return Ok(None);
+        let poll = match Poll::new(rt) {
+            Ok(poll) => poll,
+            Err(error) => {
+                // Nobody is served yet, so nobody waits if standard error does not take this.
+                warn!(*rt; target: TARGET, "cannot poll: {error}");
+                return Ok(None);
+            }
         };
         let waits = poll
             .registry()
@@ -107,38 +95,69 @@ impl<'a, R: Log> Notes<'a, R> {
         }
     }
 
-    /// Notes that a connection came.
-    pub fn connected(&mut self, whose: Whose, from: SocketAddr) {
+    /// Notes why the program has no poll.
+    pub fn cannot_poll(&mut self, error: &io::Error) {
         if self.is_ready() {
-            info!(*self.rt; target: TARGET, "{whose}: {from} connected");
+            warn!(*self.rt; target: TARGET, "cannot poll: {error}");
         }
     }
 
-    /// Notes that a connection has ended, for this cause.
-    pub fn ended(&mut self, whose: Whose, from: SocketAddr, cause: Cause) {
+    /// Notes why the program cannot listen at an address.
+    pub fn cannot_listen(&mut self, whose: Whose, address: SocketAddr, error: &io::Error) {
         if self.is_ready() {
-            info!(*self.rt; target: TARGET, "{whose}: {from} disconnected: {cause}");
+            warn!(*self.rt; target: TARGET, "{whose}: cannot listen on {address}: {error}");
         }
     }
 
-    /// Notes that connections cannot be accepted for now.
-    pub fn cannot_accept(&mut self, whose: Whose, error: &io::Error) {
+    /// Notes what a port reports.
+    pub fn of_port(&mut self, whose: Whose, note: &Note<'_>) {
         if self.is_ready() {
-            warn!(*self.rt; target: TARGET, "{whose}: cannot take connections: {error}");
+            match note {
+                Note::CannotAccept(_) => warn!(*self.rt; target: TARGET, "{whose}: {note}"),
+                _ => info!(*self.rt; target: TARGET, "{whose}: {note}"),
+            }
         }
     }
 
-    /// Notes that connections can be accepted again.
-    pub fn accepts_again(&mut self, whose: Whose) {
+    /// Notes that a connection is served that had to wait.
+    pub fn connected_after(&mut self, whose: Whose, from: SocketAddr, milliseconds: u64) {
         if self.is_ready() {
-            info!(*self.rt; target: TARGET, "{whose}: takes connections again");
+            info!(*self.rt; target: TARGET, "{whose}: {from} connected, waited {milliseconds} ms");
+        }
+    }
+
+    /// Notes that a newcomer waits for the connection that is served, and how many wait with it.
+    pub fn waits_for(&mut self, whose: Whose, from: SocketAddr, served: SocketAddr, count: usize) {
+        if self.is_ready() {
+            info!(*self.rt; target: TARGET, "{whose}: {from} waits for {served}, {count} waiting");
+        }
+    }
+
+    /// Notes that notes of a kind were not written, since there were too many.
+    pub fn more(&mut self, count: u32, kind: &str) {
+        if self.is_ready() {
+            info!(*self.rt; target: TARGET, "{count} more notes: {kind}");
+        }
+    }
+
+    /// Notes by how many milliseconds a tick was late. The ticks that were missed meanwhile are dropped.
+    pub fn clock_delayed(&mut self, milliseconds: u64) {
+        if self.is_ready() {
+            warn!(*self.rt; target: TARGET, "the clock was delayed by {milliseconds} ms, and goes on from now");
         }
     }
 
     /// Notes that a term was audited.
-    pub fn term_ended(&mut self, entries: usize) {
+    pub fn term_ended(&mut self, term: &TermCounts) {
         if self.is_ready() {
-            info!(*self.rt; target: TARGET, "term ended: {entries} entries");
+            info!(*self.rt; target: TARGET, "term ended: {term}");
+        }
+    }
+
+    /// Notes that terms were audited that were not noted, with their counts together.
+    pub fn more_terms_ended(&mut self, count: u32, terms: &TermCounts) {
+        if self.is_ready() {
+            info!(*self.rt; target: TARGET, "{count} more terms ended: {terms}");
         }
     }
 }

@@ -2,62 +2,82 @@
 
 ghost use Rattle.std.specs.Prelude.{◌≡◌, None};
 
+use crate::beat::{Beat, MILLISECOND, Ticks};
+use crate::clock::nanoseconds;
+use crate::notes::Notes;
 use dmr_desk::{Pace, Pacer};
+use dmr_port::{NoteLimit, Verdict};
+use log::Log;
 use std::thread;
-use std::time::{Clock, Duration, Instant};
+use std::time::{Clock, Duration};
 
-/// The most milliseconds that the clock sleeps at once, so that a term's end does not wait much longer for it.
-const NAP: u64 = 25;
+/// The most nanoseconds that the clock sleeps at once, so that a term's end does not wait much longer for it.
+const NAP: u64 = 25 * MILLISECOND;
 
-/// Reports a tick each time that the time of one has passed, by the system's monotonic clock. Each tick is due one tick's time after the
-/// one before it was due, even if that one was asked for late. No time is lost, and missed ticks follow directly after one another.
+/// Reports a tick each time that the time of one has passed, by the system's monotonic clock ([`Ticks::ask`]). If the clock was delayed, for
+/// example because the process was stopped, it notes for how long.
 #[derive(Drop)]
 pub struct ClockPacer<'a, R> {
     rt: &'a R,
-    tick: Duration,
-    due: Option<Instant>,
+    ticks: Ticks,
+    notes: Notes<'a, R>,
+    limit: NoteLimit,
 }
 
-impl<'a, R: Clock> ClockPacer<'a, R> {
+impl<'a, R: Clock + Log> ClockPacer<'a, R> {
     /// Makes a pacer with ticks of `tick_ms` milliseconds. The first is due one tick after the first call.
-    pub fn new(rt: &'a R, tick_ms: u16) -> ClockPacer<'a, R> {
+    pub fn new(rt: &'a R, tick_ms: u16, notes: Notes<'a, R>) -> ClockPacer<'a, R> {
         ClockPacer {
             rt,
-            tick: Duration::from_millis(u64::from(tick_ms)),
-            due: None,
+            ticks: Ticks::new(tick_ms),
+            notes,
+            limit: NoteLimit::new(),
         }
     }
 
-    /// Sleeps for the time that is left, or for a nap if that is shorter.
-    fn sleep(&self, left: Duration) {
-        thread::sleep(self.rt, left.min(Duration::from_millis(NAP)));
+    /// Sleeps for these nanoseconds, or for a nap if that is shorter.
+    fn sleep(&self, left: u64) {
+        thread::sleep(self.rt, Duration::from_nanos(left.min(NAP)));
+    }
+
+    /// Notes how late a tick is, in nanoseconds, unless there were too many such notes.
+    fn note_delay(&mut self, now: u64, late: u64) {
+        let milliseconds = late / MILLISECOND;
+        match self.limit.count(now / MILLISECOND) {
+            Verdict::Write => self.notes.clock_delayed(milliseconds),
+            Verdict::WriteAfter(count) => {
+                self.notes.more(count, "the clock");
+                self.notes.clock_delayed(milliseconds);
+            }
+            Verdict::Drop => {}
+        }
     }
 
     /// The pacer's answer at a time.
-    fn pace_at(&mut self, now: Instant) -> Pace {
-        let due = self.due.unwrap_or(now);
-        if self.due.is_none() {
-            self.due = now.checked_add(self.tick);
-            return Pace::NotYet;
+    fn pace_at(&mut self, now: u64) -> Pace {
+        match self.ticks.ask(now) {
+            Beat::NotYet(left) => {
+                self.sleep(left);
+                Pace::NotYet
+            }
+            Beat::Tick => Pace::Tick,
+            Beat::Delayed(late) => {
+                self.note_delay(now, late);
+                Pace::Tick
+            }
         }
-        if now < due {
-            self.sleep(due - now);
-            return Pace::NotYet;
-        }
-        self.due = due.checked_add(self.tick);
-        Pace::Tick
     }
 }
 
-impl<R: Clock> Pacer for ClockPacer<'_, R> {
+impl<R: Clock + Log> Pacer for ClockPacer<'_, R> {
     ghost paced = { λ pacer. None };
 
     fn next(&mut self) -> Pace {
-        match Instant::now(self.rt) {
-            Ok(now) => self.pace_at(now),
+        match nanoseconds(self.rt) {
+            Some(now) => self.pace_at(now),
             // If the clock cannot be read, the pacer sleeps for the time of a tick.
-            Err(_) => {
-                thread::sleep(self.rt, self.tick);
+            None => {
+                thread::sleep(self.rt, Duration::from_nanos(self.ticks.tick));
                 Pace::Tick
             }
         }

@@ -1,0 +1,396 @@
+//! Sockets in memory: peers that do what a script says, when it says it.
+
+ghost use Rattle.std.specs.Prelude.{◌≡◌, ◌<◌, ◌≤◌, None, IfOk, length};
+ghost use Rattle.std.specs.Option.{is_some};
+ghost use Rattle.arrayvec.specs.ArrayVec.{array_vec_len};
+
+use super::script::{Deed, Event};
+use arrayvec::ArrayVec;
+use dmr_pdu::OutOfMemory;
+use dmr_port::{Accepted, Peeked, Ready, Sockets};
+use dmr_wire::{Got, Put};
+use std::alloc::Global;
+use std::collections::VecDeque;
+use std::io;
+use std::net::{IpAddr, Ipv4Addr, SocketAddr};
+
+/// The system's number for "too many open files".
+const TOO_MANY_OPEN_FILES: i32 = 24;
+
+/// HELLO of version 1 for carrier 0 with LPCN 1.
+const HELLO: &[u8] = &[0x01, 0x04, 0x01, 0x00, 0x00, 0x01];
+
+/// HELLO of version 1 for carrier 1 with LPCN 1.
+const OTHER: &[u8] = &[0x01, 0x04, 0x01, 0x01, 0x00, 0x01];
+
+/// POLL.
+const POLL: &[u8] = &[0x03, 0x00];
+
+/// The other side of a connection.
+#[derive(Debug, Drop)]
+struct Peer {
+    /// The octets that it sent, and how many of them were read.
+    octets: Vec<u8>,
+    read: usize,
+    has_ended: bool,
+    has_reset: bool,
+    /// How many octets it still takes.
+    room: usize,
+}
+
+impl Peer {
+    /// The octets that were not read.
+    fn unread(&self) -> &[u8] {
+        self.octets.get(self.read..).unwrap_or(&[])
+    }
+}
+
+/// A listening socket, its connections, and a clock that goes on in waits, up to `until`. As with edge-triggered sockets of the system, a
+/// wait reports a change once.
+#[derive(Debug, Drop)]
+pub struct MemorySockets {
+    clock: u64,
+    until: u64,
+    events: Vec<Event>,
+    next: usize,
+    peers: Vec<Peer>,
+    backlog: VecDeque<usize>,
+    newcomers: ArrayVec<usize, 9>,
+    connection: Option<usize>,
+    /// What the next wait reports, for reading and for writing.
+    reads: Ready,
+    writes: bool,
+    sends: bool,
+    refuses: bool,
+    interrupts: [bool; 3],
+    /// The numbers of reads and of writes that the port asked for.
+    pub asked: (usize, usize),
+}
+
+/// Nothing is ready.
+const NOTHING: Ready = Ready {
+    connection: false,
+    input_closed: false,
+    newcomers: false,
+};
+
+impl MemorySockets {
+    /// Makes sockets for `count` peers, and for these events, earliest first.
+    pub fn new(
+        alloc: Global,
+        events: Vec<Event>,
+        count: usize,
+        until: u64,
+    ) -> Result<MemorySockets, OutOfMemory>
+        ensures closed { IfOk result (λ s. s.connection ≡ None) }
+        ensures empty { IfOk result (λ s. array_vec_len s.newcomers ≡ 0) }
+    {
+        let mut peers = Vec::new(alloc);
+        for _ in 0..count {
+            peers.push(Peer {
+                octets: Vec::new(alloc),
+                read: 0,
+                has_ended: false,
+                has_reset: false,
+                room: usize::MAX,
+            })?;
+        }
+        Ok(MemorySockets {
+            clock: 0,
+            until,
+            events,
+            next: 0,
+            peers,
+            backlog: VecDeque::new(alloc),
+            newcomers: ArrayVec::new(),
+            connection: None,
+            reads: NOTHING,
+            writes: false,
+            sends: false,
+            refuses: false,
+            interrupts: [false; 3],
+            asked: (0, 0),
+        })
+    }
+
+    /// Whether the call of a kind, 0 to 2, is interrupted, once.
+    fn is_interrupted(&mut self, kind: usize) -> bool
+        requires { kind < 3 }
+        ensures connection { self.new.connection ≡ self.old.connection }
+        ensures newcomers { self.new.newcomers ≡ self.old.newcomers }
+    {
+        let interrupted = self.interrupts[kind];
+        self.interrupts[kind] = false;
+        interrupted
+    }
+
+    /// Notes a change of a peer.
+    fn note_change(&mut self, peer: usize, closes: bool)
+        ensures connection { self.new.connection ≡ self.old.connection }
+        ensures newcomers { self.new.newcomers ≡ self.old.newcomers }
+    {
+        if self.connection == Some(peer) {
+            self.reads.connection = true;
+            self.writes = true;
+            if closes {
+                self.reads.input_closed = true;
+            }
+        } else {
+            self.reads.newcomers = true;
+        }
+    }
+
+    /// Adds octets that a peer sends. If an allocation is refused, it sends none.
+    fn send(&mut self, peer: usize, octets: &[u8])
+        ensures connection { self.new.connection ≡ self.old.connection }
+        ensures newcomers { self.new.newcomers ≡ self.old.newcomers }
+    {
+        if let Some(peer) = self.peers.get_mut(peer) {
+            let _ = peer.octets.extend_from_slice(octets);
+        }
+        self.note_change(peer, false);
+    }
+
+    /// Does what an event says.
+    fn apply(&mut self, event: Event)
+        ensures connection { self.new.connection ≡ self.old.connection }
+        ensures newcomers { self.new.newcomers ≡ self.old.newcomers }
+    {
+        let peer = event.peer;
+        match event.deed {
+            Deed::Comes => {
+                let _ = self.backlog.push_back(peer);
+                self.reads.newcomers = true;
+            }
+            Deed::Hello => self.send(peer, HELLO),
+            Deed::Other => self.send(peer, OTHER),
+            Deed::Polls => self.send(peer, POLL),
+            Deed::Sends(words) => self.send(peer, words.as_bytes()),
+            Deed::Says(words) => {
+                self.send(peer, words.as_bytes());
+                self.send(peer, b"\n");
+            }
+            Deed::Floods => self.send(peer, &[0; 4000]),
+            Deed::Takes(count) => {
+                if let Some(peer) = self.peers.get_mut(peer) {
+                    peer.room = count;
+                }
+                self.note_change(peer, false);
+            }
+            Deed::Ends => {
+                if let Some(peer) = self.peers.get_mut(peer) {
+                    peer.has_ended = true;
+                }
+                self.note_change(peer, true);
+            }
+            Deed::Resets => {
+                if let Some(peer) = self.peers.get_mut(peer) {
+                    peer.has_reset = true;
+                }
+                self.note_change(peer, true);
+            }
+            Deed::Refuses => self.refuses = true,
+            Deed::Accepts => self.refuses = false,
+            Deed::Interrupts => self.interrupts = [true; 3],
+            Deed::Stops(milliseconds) => self.clock = self.clock.saturating_add(milliseconds),
+            Deed::Unknown => {}
+        }
+    }
+
+    /// Does what the events of the clock's time say, and of times before it.
+    fn apply_due(&mut self)
+        ensures connection { self.new.connection ≡ self.old.connection }
+        ensures newcomers { self.new.newcomers ≡ self.old.newcomers }
+    {
+        for _ in self.next..self.events.len() {
+            let Some(event) = self.events.get(self.next).copied() else {
+                return;
+            };
+            if event.at > self.clock {
+                return;
+            }
+            self.next = self.next.saturating_add(1);
+            self.apply(event);
+        }
+    }
+
+    /// Takes what a wait reports.
+    fn take_ready(&mut self) -> Ready
+        ensures connection { self.new.connection ≡ self.old.connection }
+        ensures newcomers { self.new.newcomers ≡ self.old.newcomers }
+    {
+        let ready = Ready {
+            connection: if self.sends {
+                self.writes
+            } else {
+                self.reads.connection
+            },
+            input_closed: self.reads.input_closed,
+            newcomers: self.reads.newcomers,
+        };
+        self.reads = NOTHING;
+        self.writes = false;
+        ready
+    }
+}
+
+/// Whether a wait reports anything.
+fn is_any(ready: Ready) -> bool {
+    ready.connection || ready.input_closed || ready.newcomers
+}
+
+/// The address of a peer.
+fn address_of(peer: usize) -> SocketAddr {
+    SocketAddr::new(
+        IpAddr::V4(Ipv4Addr::new(10, 0, 0, 1)),
+        (peer % 65_536) as u16,
+    )
+}
+
+/// Copies octets to the front of a slice, as many as it holds, and returns their number.
+fn copy_front(from: &[u8], to: &mut [u8]) -> usize
+    ensures from { result ≤ length from.now }
+    ensures to { result ≤ length to.new }
+    ensures some { 0 < length from.now → 0 < length to.old → 0 < result }
+{
+    let count = from.len().min(to.len());
+    to[..count].copy_from_slice(&from[..count]);
+    count
+}
+
+impl Sockets for MemorySockets {
+    ghost is_open = { λ s. is_some s.connection };
+
+    ghost waiting = { λ s. array_vec_len s.newcomers };
+
+    ghost taken = { λ s. None };
+
+    fn accept(&mut self) -> Accepted {
+        self.apply_due();
+        if self.is_interrupted(0) {
+            return Accepted::Interrupted;
+        }
+        if self.backlog.is_empty() {
+            return Accepted::None;
+        }
+        if self.refuses {
+            return Accepted::Refused(io::Error::from_raw_os_error(TOO_MANY_OPEN_FILES));
+        }
+        match self.backlog.pop_front() {
+            Some(peer) => {
+                self.newcomers.push(peer);
+                Accepted::Came(address_of(peer))
+            }
+            None => Accepted::None,
+        }
+    }
+
+    fn peek(&mut self, place: usize, octets: &mut [u8]) -> Peeked {
+        let number = self.newcomers.as_slice()[place];
+        let Some(peer) = self.peers.get(number) else {
+            return Peeked::Ended;
+        };
+        if peer.has_reset {
+            return Peeked::Ended;
+        }
+        let unread = peer.unread();
+        if !unread.is_empty() {
+            return Peeked::Octets(copy_front(unread, octets));
+        }
+        if peer.has_ended {
+            Peeked::Ended
+        } else {
+            Peeked::Nothing
+        }
+    }
+
+    fn refuse(&mut self, place: usize) {
+        self.newcomers.remove(place);
+    }
+
+    fn take(&mut self, place: usize) -> io::Result<()> {
+        let peer = self.newcomers.remove(place);
+        self.connection = Some(peer);
+        self.note_change(peer, false);
+        Ok(())
+    }
+
+    fn read(&mut self, octets: &mut [u8]) -> Got {
+        self.asked.0 = self.asked.0.saturating_add(1);
+        if self.is_interrupted(1) {
+            return Got::Interrupted;
+        }
+        let Some(peer) = self.connection else {
+            return Got::Fault;
+        };
+        let Some(peer) = self.peers.get_mut(peer) else {
+            return Got::Fault;
+        };
+        if peer.has_reset {
+            return Got::Fault;
+        }
+        let unread = peer.unread();
+        if unread.is_empty() {
+            return if peer.has_ended { Got::End } else { Got::Block };
+        }
+        let count = copy_front(unread, octets);
+        peer.read = peer.read.saturating_add(count);
+        Got::Octets(count)
+    }
+
+    fn write(&mut self, octets: &[u8]) -> Put {
+        self.asked.1 = self.asked.1.saturating_add(1);
+        if self.is_interrupted(2) {
+            return Put::Interrupted;
+        }
+        let Some(peer) = self.connection else {
+            return Put::Fault;
+        };
+        let Some(peer) = self.peers.get_mut(peer) else {
+            return Put::Fault;
+        };
+        if peer.has_reset {
+            return Put::Fault;
+        }
+        let count = octets.len().min(peer.room);
+        if count == 0 {
+            return Put::Block;
+        }
+        peer.room -= count;
+        Put::Octets(count)
+    }
+
+    fn close(&mut self) {
+        self.connection = None;
+        self.reads.connection = false;
+        self.reads.input_closed = false;
+        self.writes = false;
+    }
+
+    fn now(&mut self) -> u64 {
+        self.clock
+    }
+
+    fn wait(&mut self, milliseconds: u64, sends: bool) -> Ready {
+        if sends != self.sends {
+            // Another interest: the system reports again what is ready.
+            self.sends = sends;
+            if let Some(peer) = self.connection {
+                self.note_change(peer, false);
+            }
+        }
+        self.apply_due();
+        let ready = self.take_ready();
+        if is_any(ready) {
+            return ready;
+        }
+        let end = self.clock.saturating_add(milliseconds).min(self.until);
+        let next = match self.events.get(self.next) {
+            Some(event) => event.at.min(end),
+            None => end,
+        };
+        self.clock = self.clock.max(next);
+        self.apply_due();
+        self.take_ready()
+    }
+}

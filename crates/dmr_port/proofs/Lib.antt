@@ -1,0 +1,4 @@
+pub mod FirstOctetsLemmas
+pub mod ReadingLemmas
+pub mod ServedLemmas
+pub mod UnsentLemmas

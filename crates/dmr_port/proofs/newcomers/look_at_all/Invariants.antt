@@ -1,0 +1,14 @@
+use Rattle.std.proofs.Common.{◌≡◌, ◌≤◌, ◌-◌}
+use Rattle.arrayvec.specs.ArrayVec.{array_vec_len}
+use Rattle.dmr_port.proofs.newcomers.look_at_all.Given as goal
+
+abbrev pub invariant-loop-place : goal.invariant-loop-place
+invariant-loop-place g l = record {
+  all : g.S.Sockets.waiting l.sockets ≡ array_vec_len l.room.newcomers;
+  few : array_vec_len l.room.newcomers ≤ array_vec_len l.initial.room.newcomers;
+  connection : g.S.Sockets.is_open l.sockets ≡ g.S.Sockets.is_open l.initial.sockets;
+  taken : g.S.Sockets.taken l.sockets ≡ g.S.Sockets.taken l.initial.sockets;
+}
+
+abbrev pub decreases-loop-place : goal.decreases-loop-place
+decreases-loop-place g l = array_vec_len l.room.newcomers - l.place

@@ -1,0 +1,13 @@
+use Rattle.std.proofs.Common.{◌≡◌, [], true, length}
+use Rattle.dmr_port.specs.Unsent.{PassesOctets}
+use Rattle.dmr_port.proofs.unsent.Unsent.send_all.Given as goal
+
+abbrev pub invariant-loop-self : goal.invariant-loop-self
+invariant-loop-self g l = record {
+  passes : PassesOctets (g.S.Sockets.taken l.initial.sockets) l.initial.self [] (g.S.Sockets.taken l.sockets) l.self;
+  connection : g.S.Sockets.is_open l.sockets ≡ true;
+  waiting : g.S.Sockets.waiting l.sockets ≡ g.S.Sockets.waiting l.initial.sockets;
+}
+
+abbrev pub decreases-loop-self : goal.decreases-loop-self
+decreases-loop-self g l = length l.self

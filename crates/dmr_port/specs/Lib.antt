@@ -1,0 +1,12 @@
+pub mod Sockets
+pub mod Unsent
+pub mod Budget
+pub mod Causes
+pub mod FirstOctets
+pub mod Settings
+pub mod Patience
+pub mod WaitingRoom
+pub mod Newcomers
+pub mod NoteLimit
+pub mod Served
+pub mod PortState

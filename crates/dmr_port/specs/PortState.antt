@@ -1,0 +1,144 @@
+-- A port, as its callers see it.
+use Rattle.std.specs.Prelude.{◌≡◌, ◌↔◌, ◌⊎◌, ℕ, ◌≤◌, ◌++◌, ◌==◌, ◌||◌, if◌then◌else◌, Bool, true, false, not, List, [], length, take, Option, Some, None, IsTrue, nat_eq}
+use Rattle.std.specs.Option.{option_or}
+use Rattle.dmr_wire.specs.declared.wire.Got.{Got}
+use Rattle.dmr_wire.specs.declared.wire.Got.TheVariants as got
+use Rattle.dmr_wire.specs.declared.port.Waited.{Waited}
+use Rattle.dmr_wire.specs.declared.port.Waited.TheVariants.{Again, Silent}
+use Rattle.dmr_wire.specs.declared.wire.Put.{Put}
+use Rattle.dmr_wire.specs.declared.wire.Put.TheVariants as put
+use Rattle.dmr_port.specs.declared.cause.Cause.{Cause}
+use Rattle.dmr_port.specs.declared.cause.Cause.TheVariants.{EndOfInput, Http, NotRead, ReadFault, WriteFault}
+use Rattle.dmr_port.specs.declared.patience.Patience.{Patience}
+use Rattle.dmr_port.specs.declared.served.Served.{Served}
+use Rattle.dmr_port.specs.declared.settings.PortSettings.{PortSettings}
+use Rattle.dmr_port.specs.Budget.{Window, fresh_window}
+use Rattle.dmr_port.specs.FirstOctets.{IsHello, begins_http}
+use Rattle.dmr_port.specs.Patience.{new_patience, patience_after_octets, patience_after_wait}
+use Rattle.dmr_port.specs.Served.{cause_of_served}
+use Rattle.dmr_port.specs.Settings.{is_carrier}
+use Rattle.dmr_port.specs.Sockets.{HasTakenNone}
+use Rattle.dmr_port.specs.Unsent.{PassesOctets}
+
+-- the connection that is served: how long the port has waited for it, its first eight octets, and why it ended, if that is known
+pub record Connection : Type 0 where
+  pub patience : Patience
+  pub first : List ℕ
+  pub ended : Option Cause
+
+-- the connection that callers see
+abbrev pub connection_of : Served → Connection
+connection_of s = record { patience = s.patience; first = s.first.octets.items; ended = s.ended }
+
+-- how long octets have been kept for a connection
+abbrev pub unread_of : Connection → ℕ
+unread_of c = c.patience.unread
+
+-- a connection that has just begun
+abbrev pub new_connection : Bool → Connection
+new_connection is_carrier = record { patience = new_patience is_carrier; first = []; ended = None }
+
+-- a port: its settings, its connection, if there is one, the octets that are kept for the connection, and those that it took, if they are
+-- known. Also the number of newcomers, and the octets that were given in the window
+pub record PortState : Type 0 where
+  pub settings : PortSettings
+  pub connection : Option Connection
+  pub unsent : List ℕ
+  pub taken : Option (List ℕ)
+  pub waiting : ℕ
+  pub window : Window
+
+-- a port that has done nothing
+abbrev pub empty_port : PortSettings → Option (List ℕ) → PortState
+empty_port settings taken =
+    record { settings = settings; connection = None; unsent = []; taken = taken; waiting = 0; window = fresh_window 0 }
+
+-- a port whose connection has just begun: nothing came, nothing is kept, and nothing was taken
+pub record IsFresh (port : PortState) : Type 0 where
+  pub begun : port.connection ≡ Some (new_connection (is_carrier port.settings.whose))
+  pub unsent : port.unsent ≡ []
+  pub taken : HasTakenNone port.taken
+
+-- these octets pass in order, after those that are kept
+abbrev pub Passes : PortState → List ℕ → PortState → Type 0
+Passes old octets new = PassesOctets old.taken old.unsent octets new.taken new.unsent
+
+-- the number of octets that came
+abbrev pub count_of : Got → ℕ
+count_of (got.Octets n) = n
+count_of other = 0
+
+-- octets came. The connection is no longer waited for with a HELLO if its first six octets are one. If octets were kept, they have been sent. On
+-- the operators' port the octets do not complete a request of HTTP
+pub record HasReadOctets (is_carrier : Bool) (old : Connection) (octets : List ℕ) (new : Connection) : Type 0 where
+  pub first : new.first ≡ take 8 (old.first ++ octets)
+  pub unread : ℕ
+  pub has_hello : Bool
+  pub hello : IsTrue has_hello ↔ IsHello (take 6 new.first)
+  pub patience : new.patience ≡ patience_after_octets octets has_hello (not is_carrier) (record old.patience { unread = unread })
+  pub admitted : is_carrier || not (begins_http new.first) ≡ true
+  pub ended : new.ended ≡ old.ended
+
+-- no octet came, and the connection goes on. If octets were kept, they may have been sent
+pub record HasReadNothing (old new : Connection) : Type 0 where
+  pub first : new.first ≡ old.first
+  pub unread : ℕ
+  pub patience : new.patience ≡ record old.patience { unread = unread }
+  pub ended : new.ended ≡ old.ended
+
+-- the connection after a read, which left these octets in the slice. The input has ended, or a request of HTTP ended the connection to the
+-- operators' port. A fault is that of a read, or of a write of kept octets
+abbrev pub HasReadFrom : Bool → Connection → Got → List ℕ → Connection → Type 0
+HasReadFrom is_carrier old (got.Octets n) octets new = HasReadOctets is_carrier old (take n octets) new
+HasReadFrom is_carrier old got.End octets new =
+    (new.ended ≡ Some EndOfInput) ⊎ ((is_carrier ≡ false) × (begins_http new.first ≡ true) × (new.ended ≡ Some Http))
+HasReadFrom is_carrier old got.Fault octets new = (new.ended ≡ Some ReadFault) ⊎ (new.ended ≡ Some WriteFault)
+HasReadFrom is_carrier old other octets new = HasReadNothing old new
+
+-- a read of a port. Without a connection it fails
+abbrev pub HasRead : Bool → Option Connection → Got → List ℕ → Option Connection → Type 0
+HasRead is_carrier None result octets None = result ≡ got.Fault
+HasRead is_carrier (Some old) result octets (Some new) = HasReadFrom is_carrier old result octets new
+HasRead is_carrier old result octets new = ⊥
+
+-- the link's answer to a write: it would block if there was no room for an octet
+abbrev pub answer_of_write : Put → Put
+answer_of_write (put.Octets n) = if n == 0 then put.Block else put.Octets n
+answer_of_write other = other
+
+-- the connection after a write. It ends if it failed, or if there was no room to keep octets
+abbrev pub connection_after_write : Put → Connection → Connection
+connection_after_write put.Block c = record c { ended = Some NotRead }
+connection_after_write put.Fault c = record c { ended = Some WriteFault }
+connection_after_write other c = c
+
+-- octets are kept for the connection
+abbrev pub keeps_octets : List ℕ → Bool
+keeps_octets unsent = not (nat_eq (length unsent) 0)
+
+-- the answer of a wait after which the connection is given up for a cause, or for none
+abbrev pub waited_by : Option Cause → Waited
+waited_by None = Again
+waited_by (Some cause) = Silent
+
+-- a wait of at most 25 ms with a connection, after which it is given up by the rules, or goes on. `ready`: it could then be read, or written if
+-- octets are kept. `is_claimed`: a newcomer has sent a HELLO for this carrier
+pub record HasWaitedFor (silence : ℕ) (keeps : Bool) (old new : Connection) (result : Waited) : Type 0 where
+  pub milliseconds : ℕ
+  pub within : milliseconds ≤ 25
+  pub ready : Bool
+  pub is_claimed : Bool
+  pub patience : new.patience ≡ patience_after_wait milliseconds keeps old.patience
+  pub first : new.first ≡ old.first
+  pub waited : result ≡ waited_by (cause_of_served silence keeps ready is_claimed new.patience)
+  pub ended : new.ended ≡ option_or (cause_of_served silence keeps ready is_claimed new.patience) old.ended
+
+-- a wait: without a connection it is silent
+abbrev pub HasWaited : ℕ → Bool → Option Connection → Option Connection → Waited → Type 0
+HasWaited silence keeps None None result = result ≡ Silent
+HasWaited silence keeps (Some old) (Some new) result = HasWaitedFor silence keeps old new result
+HasWaited silence keeps old new result = ⊥
+
+-- the cause is kept, unless the connection has one
+abbrev pub with_cause : Cause → Connection → Connection
+with_cause cause c = record c { ended = option_or c.ended (Some cause) }

@@ -1,0 +1,109 @@
+//! Causes: why a connection to a port ended, in words.
+
+ghost use Rattle.std.specs.Prelude.{◌≡◌};
+ghost use Rattle.dmr_port.specs.Causes.{cause_of_closing};
+
+use crate::whose::Whose;
+use dmr_frames::Cause as Fault;
+use dmr_wire::{Closing, Hello};
+use std::fmt;
+
+/// Why a connection ended.
+#[derive(Clone, Copy, Debug, PartialEq, Eq)]
+pub enum Cause {
+    /// The other side ended its output.
+    EndOfInput,
+    /// A read failed, for example because the other side reset the connection.
+    ReadFault,
+    /// A write failed.
+    WriteFault,
+    /// The other side did not read, and no more octets could be written to it.
+    NotRead,
+    /// No octet came for as long as the site file allows.
+    Silence,
+    /// No whole HELLO came for as long as the site file allows.
+    NoHello,
+    /// A line of an operator did not end for as long as the site file allows.
+    OpenLine,
+    /// A newcomer that sent this carrier's HELLO took the connection's place.
+    Displaced,
+    /// The first line on the operators' port was a request of HTTP.
+    Http,
+    /// The carrier said BYE.
+    Bye,
+    /// The carrier broke the link's rules.
+    LinkFault(Fault),
+    /// The carrier's HELLO, with these numbers, was refused on this port.
+    Refused {
+        fault: Fault,
+        hello: Hello,
+        whose: Whose,
+    },
+    /// The controller could not serve the connection.
+    Controller,
+}
+
+impl Cause {
+    /// Returns the cause for a link's report of how it closed the connection to a port.
+    pub fn of_closing(closing: Closing, whose: Whose) -> Cause
+        ensures { result ≡ cause_of_closing closing whose }
+    {
+        match closing {
+            Closing::Over => Cause::Controller,
+            Closing::Bye => Cause::Bye,
+            Closing::ReadFailed => Cause::ReadFault,
+            Closing::WriteFailed => Cause::WriteFault,
+            Closing::Bad(fault) => Cause::LinkFault(fault),
+            Closing::Refused(fault, hello) => Cause::Refused {
+                fault,
+                hello,
+                whose,
+            },
+        }
+    }
+}
+
+impl fmt::Display for Cause {
+    fn fmt<W: fmt::Write>(&self, f: &mut fmt::Formatter<W>) -> fmt::Result {
+        match self {
+            Cause::EndOfInput => write!(f, "end of input"),
+            Cause::ReadFault => write!(f, "a read failed"),
+            Cause::WriteFault => write!(f, "a write failed"),
+            Cause::NotRead => write!(f, "what was written was not read"),
+            Cause::Silence => write!(f, "silence"),
+            Cause::NoHello => write!(f, "no HELLO"),
+            Cause::OpenLine => write!(f, "a line did not end"),
+            Cause::Displaced => write!(f, "displaced by a newcomer"),
+            Cause::Http => write!(f, "a request of HTTP"),
+            Cause::Bye => write!(f, "BYE"),
+            Cause::LinkFault(fault) => write!(f, "link fault: {fault}"),
+            Cause::Refused {
+                fault,
+                hello,
+                whose,
+            } => {
+                write!(f, "link fault: {fault} (")?;
+                write_numbers(*fault, *hello, *whose, f)?;
+                write!(f, ")")
+            }
+            Cause::Controller => write!(f, "by the controller"),
+        }
+    }
+}
+
+/// Writes the numbers for which a HELLO was refused: its version; or its carrier and channel, and those of the port.
+fn write_numbers<W: fmt::Write>(
+    fault: Fault,
+    hello: Hello,
+    whose: Whose,
+    f: &mut fmt::Formatter<W>,
+) -> fmt::Result {
+    match (fault, whose) {
+        (Fault::WrongCarrier, Whose::Carrier { number, lpcn }) => write!(
+            f,
+            "carrier {}, LPCN {} came; carrier {number}, LPCN {lpcn} expected",
+            hello.carrier, hello.lpcn
+        ),
+        _ => write!(f, "version {} came", hello.version),
+    }
+}

@@ -1,0 +1,31 @@
+//! A port that nobody can hold: one connection at a time to its link, whatever other peers do.
+//!
+//! A [`ServingPort`] is a `dmr_wire::Port` over [`Sockets`]. It accepts newcomers while it serves a connection, and limits what a
+//! connection may send. It ends a connection that is silent, does not read, or is in the way of the base station. The rules are pure
+//! parts with exact contracts. The system is hidden by the trait [`Sockets`]. The port reports what happens to [`PortNotes`].
+#![tactic(auto)]
+
+mod budget;
+mod cause;
+mod first_octets;
+mod newcomers;
+mod note_limit;
+mod notes;
+mod patience;
+mod port_log;
+mod reading;
+mod served;
+mod serving_port;
+mod settings;
+mod sockets;
+mod unsent;
+mod waiting_room;
+mod whose;
+
+pub use cause::Cause;
+pub use note_limit::{NoteLimit, Verdict};
+pub use notes::{Note, NoteKind, PortNotes};
+pub use serving_port::ServingPort;
+pub use settings::PortSettings;
+pub use sockets::{Accepted, Peeked, Ready, Sockets};
+pub use whose::Whose;

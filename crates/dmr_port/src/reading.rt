@@ -1,0 +1,112 @@
+//! Reading from the connection that is served.
+
+ghost use Rattle.std.specs.Prelude.{◌≡◌, ◌≢◌, ◌≤◌, ◌<◌, ℕ, [], true, Some, length};
+ghost use Rattle.dmr_wire.specs.Told.{GotWithin};
+ghost use Rattle.dmr_port.specs.Budget.{Gives};
+ghost use Rattle.dmr_port.specs.PortState.{HasReadFrom, HasReadNothing, connection_of, count_of};
+ghost use Rattle.dmr_port.specs.Unsent.{PassesOctets};
+
+use crate::budget::Budget;
+use crate::cause::Cause;
+use crate::served::Served;
+use crate::sockets::Sockets;
+use crate::unsent::{Sent, Unsent};
+use dmr_wire::Got;
+
+/// Sends the octets that are kept, if there are any.
+#[tactic(auto, using(crate::proofs::ReadingLemmas::read_nothing, crate::proofs::ReadingLemmas::read_after_sending, crate::proofs::UnsentLemmas::passes_nothing))]
+fn send_kept<S: Sockets>(sockets: &mut S, unsent: &mut Unsent, served: &mut Served) -> Sent
+    requires { S.is_open sockets.old ≡ true }
+    ensures passes { PassesOctets (S.taken sockets.old) unsent.old [] (S.taken sockets.new) unsent.new }
+    ensures all { result ≡ Sent.All → unsent.new ≡ [] }
+    ensures goes { result ≢ Sent.Fault → HasReadNothing (connection_of served.old) (connection_of served.new) }
+    ensures fault { result ≡ Sent.Fault → served.new.ended ≡ Some Cause.WriteFault }
+    ensures unread { result ≢ Sent.All → served.new.patience.unread ≡ served.old.patience.unread }
+    ensures connection { S.is_open sockets.new ≡ true }
+    ensures waiting { S.waiting sockets.new ≡ S.waiting sockets.old }
+{
+    if unsent.is_empty() {
+        return Sent::All;
+    }
+    match unsent.send_all(sockets) {
+        Sent::All => {
+            served.note_all_sent();
+            Sent::All
+        }
+        Sent::Part => Sent::Part,
+        Sent::Fault => {
+            served.ended = Some(Cause::WriteFault);
+            Sent::Fault
+        }
+    }
+}
+
+/// Reads octets of the connection. The read would block if the window's octets have been returned, or if the system had no more at the last
+/// read and no wait has found any since.
+#[tactic(auto, using(crate::proofs::ReadingLemmas::read_nothing, crate::proofs::ReadingLemmas::read_blocked, crate::proofs::ReadingLemmas::read_octets, crate::proofs::ReadingLemmas::read_http))]
+fn read_sockets<S: Sockets>(
+    sockets: &mut S,
+    budget: &mut Budget,
+    served: &mut Served,
+    is_carrier: bool,
+    octets: &mut [u8],
+) -> Got
+    requires connection { S.is_open sockets.old ≡ true }
+    requires some { 0 < length octets.old }
+    ensures within { GotWithin result (length octets.new) }
+    ensures taken { S.taken sockets.new ≡ S.taken sockets.old }
+    ensures budget { Gives budget.old (count_of result) budget.new }
+    ensures reads { HasReadFrom is_carrier (connection_of served.old) result octets.new (connection_of served.new) }
+    ensures connection { S.is_open sockets.new ≡ true }
+    ensures waiting { S.waiting sockets.new ≡ S.waiting sockets.old }
+{
+    let now = sockets.now();
+    let asked = octets.len().min(usize::from(budget.left_at(now)));
+    if asked == 0 || !served.has_to_ask() {
+        return Got::Block;
+    }
+    let got = sockets.read(&mut octets[..asked]);
+    served.note_read(got, asked);
+    match got {
+        Got::Octets(count) => {
+            budget.spend(count);
+            if !served.note_octets(&octets[..count], is_carrier) {
+                return Got::End;
+            }
+            Got::Octets(count)
+        }
+        Got::End => Got::End,
+        Got::Interrupted => Got::Interrupted,
+        Got::Block => Got::Block,
+        Got::Fault => Got::Fault,
+    }
+}
+
+/// Reads octets of the connection, after sending those that are kept. If some of these are left, the read would block.
+#[tactic(auto, using(crate::proofs::ReadingLemmas::read_later))]
+pub fn read_connection<S: Sockets>(
+    sockets: &mut S,
+    unsent: &mut Unsent,
+    budget: &mut Budget,
+    served: &mut Served,
+    is_carrier: bool,
+    octets: &mut [u8],
+) -> Got
+    requires connection { S.is_open sockets.old ≡ true }
+    requires some { 0 < length octets.old }
+    requires budget { budget.old.given ≤ 512 }
+    ensures within { GotWithin result (length octets.new) }
+    ensures passes { PassesOctets (S.taken sockets.old) unsent.old [] (S.taken sockets.new) unsent.new }
+    ensures behind { (count : ℕ) → result ≡ Got.Octets count → unsent.new ≡ [] }
+    ensures budget { Gives budget.old (count_of result) budget.new }
+    ensures reads { HasReadFrom is_carrier (connection_of served.old) result octets.new (connection_of served.new) }
+    ensures unread { unsent.new ≢ [] → served.new.patience.unread ≡ served.old.patience.unread }
+    ensures connection { S.is_open sockets.new ≡ true }
+    ensures waiting { S.waiting sockets.new ≡ S.waiting sockets.old }
+{
+    match send_kept(sockets, unsent, served) {
+        Sent::All => read_sockets(sockets, budget, served, is_carrier, octets),
+        Sent::Part => Got::Block,
+        Sent::Fault => Got::Fault,
+    }
+}

@@ -1,0 +1,446 @@
+//! The port: a connection at a time for the link, over sockets.
+
+ghost use Rattle.std.specs.Prelude.{◌≡◌, ◌≢◌, ◌≤◌, ◌<◌, ◌+◌, ℕ, [], ◌∷◌, true, false, None, Some, length, option_map, IfOk, IfErr};
+ghost use Rattle.std.specs.Option.{is_some};
+ghost use Rattle.dmr_wire.specs.Told.{GotWithin, PutWithin, Tells, of_connect, of_read, of_wait, of_write};
+ghost use Rattle.dmr_port.specs.Budget.{Gives};
+ghost use Rattle.dmr_port.specs.Causes.{cause_of_closing};
+ghost use Rattle.dmr_port.specs.PortState.{HasRead, HasWaited, IsFresh, Passes, connection_after_write, count_of, empty_port, keeps_octets, unread_of, with_cause};
+ghost use Rattle.dmr_port.specs.Settings.{is_carrier};
+ghost use Rattle.dmr_port.specs.Sockets.{taken_by};
+
+use crate::budget::Budget;
+use crate::cause::Cause;
+use crate::newcomers::{look_at_all, make_room};
+use crate::notes::{Note, PortNotes};
+use crate::port_log::PortLog;
+use crate::reading::read_connection;
+use crate::served::Served;
+use crate::settings::PortSettings;
+use crate::sockets::{Accepted, Ready, Sockets};
+use crate::unsent::Unsent;
+use crate::waiting_room::{Newcomer, WaitingRoom};
+use dmr_pdu::OutOfMemory;
+use dmr_wire::{Closing, Connect, Got, Port, Put, Waited, Wire};
+use std::alloc::Global;
+use std::io;
+use std::marker::Model;
+use std::net::SocketAddr;
+
+/// The milliseconds of a part of a wait. After each part the worker asks whether its term is over. So at the end of a term the other workers
+/// do not wait long for the last one.
+const PART_MS: u64 = 25;
+
+/// The most connections that are accepted in one call.
+const MOST_ACCEPTS: usize = 16;
+
+/// A port over sockets. It serves one connection at a time to its link.
+///
+/// - In a window of 60 ms it returns at most 512 octets to the link; then a read would block.
+/// - A connection from which no octet came for `silence` waits of 100 ms is silent. So is, after as long, a carrier's connection without a
+///   whole HELLO, and an operator's connection with a line that did not end. Of each wait only the time that passed counts, and at most the time asked for.
+/// - Octets that the connection does not take at once are kept, at most 65,536, and sent before anything more is read. A connection that
+///   does not take them within 50 waits is given up.
+/// - While a connection is served, at most 8 newcomers wait. When a ninth comes, the oldest that has sent no HELLO for this carrier is
+///   closed. On the operators' port it is the ninth itself.
+/// - The next connection is the first newcomer that has sent a HELLO for this carrier, and if none has, the oldest.
+/// - If the connection has sent no whole HELLO, or no octet for 1 s, a newcomer with a HELLO for this carrier takes its place.
+/// - A connection to the operators' port that begins with a request of HTTP is ended.
+///
+/// The numbers are this project's profile.
+#[derive(Drop)]
+pub struct ServingPort<S: Sockets + Drop, N: PortNotes + Drop> {
+    sockets: S,
+    // What was written to the connection and is not yet sent, and what may still be read.
+    unsent: Unsent,
+    budget: Budget,
+    served: Option<Served>,
+    room: WaitingRoom,
+    log: PortLog<N>,
+    settings: PortSettings,
+    // The time up to which waits have been counted, by the sockets' clock.
+    counted: u64,
+    // There may be a connection to accept, or something to see of a newcomer.
+    has_news: bool,
+    // Connections cannot be accepted, and that has been noted.
+    refuses: bool,
+}
+
+impl<S: Sockets + Drop, N: PortNotes + Drop> Model for ServingPort<S, N> {
+    ghost use Rattle.std.specs.Prelude.{◌≡◌, ◌≤◌, [], false, option_map};
+    ghost use Rattle.std.specs.Option.{is_some};
+    ghost use Rattle.arrayvec.specs.ArrayVec.{array_vec_len};
+    ghost use Rattle.dmr_port.specs.PortState.{PortState, connection_of};
+
+    ghost Value = { PortState };
+
+    ghost view = { λ p. record {
+      settings = p.settings;
+      connection = option_map connection_of p.served;
+      unsent = p.unsent;
+      taken = S.taken p.sockets;
+      waiting = array_vec_len p.room.newcomers;
+      window = p.budget;
+    } };
+
+    ghost invariant = { λ p. (S.is_open p.sockets ≡ is_some p.served) × (S.waiting p.sockets ≡ array_vec_len p.room.newcomers)
+        × (array_vec_len p.room.newcomers ≤ 8) × (is_some p.served ≡ false → p.unsent ≡ []) × (p.budget.given ≤ 512) };
+}
+
+impl<S: Sockets + Drop, N: PortNotes + Drop> ServingPort<S, N> {
+    /// Makes a port over sockets that have no connection and no newcomer. On an error an allocation was refused; the error returns the
+    /// sockets and the notes.
+    pub fn new(
+        alloc: Global,
+        sockets: S,
+        notes: N,
+        settings: PortSettings,
+    ) -> Result<ServingPort<S, N>, (OutOfMemory, S, N)>
+        requires connection { S.is_open sockets ≡ false }
+        requires newcomers { S.waiting sockets ≡ 0 }
+        ensures ok { IfOk result (λ port. port ≡ empty_port settings (S.taken sockets)) }
+        ensures err { IfErr result (λ refused. (refused.1 ≡ sockets) × (refused.2 ≡ notes)) }
+    {
+        match Unsent::new(alloc) {
+            Ok(unsent) => Ok(ServingPort {
+                sockets,
+                unsent,
+                budget: Budget::new(),
+                served: None,
+                room: WaitingRoom::new(),
+                log: PortLog::new(notes),
+                settings,
+                counted: 0,
+                has_news: true,
+                refuses: false,
+            }),
+            Err(refused) => Err((refused, sockets, notes)),
+        }
+    }
+
+    /// Returns what the port writes its notes to.
+    pub fn notes(&self) -> &N {
+        self.log.notes()
+    }
+
+    /// Takes the port apart: returns the sockets, with the connection and the newcomers that they still have, and the notes. Kept octets are
+    /// lost.
+    pub fn into_parts(self) -> (S, N)
+        ensures { S.taken result.0 ≡ self.taken }
+    {
+        (self.sockets, self.log.into_notes())
+    }
+
+    /// Writes a note.
+    fn note(&mut self, note: &Note<'_>)
+        ensures { self.new ≡ self.old }
+    {
+        let now = self.sockets.now();
+        self.log.write(now, note);
+    }
+
+    /// Closes the connection that is served, if there is one. Kept octets that it does not take at once are lost.
+    fn let_go(&mut self)
+        ensures { self.new ≡ record self.old { connection = None; unsent = []; taken = self.new.taken } }
+    {
+        let Some(served) = self.served.take() else {
+            return;
+        };
+        let _ = self.unsent.send_all(&mut self.sockets);
+        self.unsent.clear();
+        self.sockets.close();
+        let cause = served.ended.unwrap_or(Cause::Controller);
+        self.note(&Note::Ended {
+            from: served.from,
+            cause,
+        });
+    }
+
+    /// Serves the newcomer at a place. Returns `false` if it cannot be polled; it is then closed.
+    fn serve(&mut self, place: usize) -> bool
+        requires place { place < self.old.waiting }
+        requires connection { self.old.connection ≡ None }
+        ensures fresh { result ≡ true → IsFresh self.new }
+        ensures none { result ≡ false → self.new.connection ≡ None }
+        ensures waiting { self.new.waiting + 1 ≡ self.old.waiting }
+        ensures settings { self.new.settings ≡ self.old.settings }
+        ensures window { self.new.window ≡ self.old.window }
+    {
+        let from = self.room.remove(place).from;
+        match self.sockets.take(place) {
+            Ok(()) => {
+                self.served = Some(Served::new(from, self.settings.is_carrier()));
+                self.counted = self.sockets.now();
+                self.note(&Note::Connected { from });
+                true
+            }
+            Err(error) => {
+                self.note(&Note::Connected { from });
+                self.note(&Note::CannotAccept(&error));
+                self.note(&Note::Ended {
+                    from,
+                    cause: Cause::Controller,
+                });
+                false
+            }
+        }
+    }
+
+    /// Notes that connections cannot be accepted, unless that has just been noted.
+    fn note_refusal(&mut self, error: &io::Error)
+        ensures { self.new ≡ self.old }
+    {
+        if !self.refuses {
+            self.refuses = true;
+            self.note(&Note::CannotAccept(error));
+        }
+    }
+
+    /// Notes that connections can be accepted again, if they could not.
+    fn note_no_refusal(&mut self)
+        ensures { self.new ≡ self.old }
+    {
+        if self.refuses {
+            self.refuses = false;
+            self.note(&Note::AcceptsAgain);
+        }
+    }
+
+    /// Notes that a newcomer came, and which was closed because of it, if one was.
+    fn note_newcomer(&mut self, from: SocketAddr, refused: Option<SocketAddr>)
+        ensures { self.new ≡ self.old }
+    {
+        self.note_no_refusal();
+        if let Some(from) = refused {
+            self.note(&Note::Refused { from });
+        }
+        if refused != Some(from) && self.served.is_some() {
+            let count = self.room.len();
+            self.note(&Note::Waits { from, count });
+        }
+    }
+
+    /// Accepts a connection, if one has come. Returns whether another may have come.
+    fn accept_one(&mut self) -> bool
+        ensures { self.new ≡ record self.old { waiting = self.new.waiting } }
+    {
+        match self.sockets.accept() {
+            Accepted::Came(from) => {
+                self.room.add(Newcomer {
+                    from,
+                    has_hello: false,
+                });
+                let refused = make_room(&mut self.sockets, &mut self.room, &self.settings);
+                self.note_newcomer(from, refused);
+                true
+            }
+            Accepted::None => {
+                self.note_no_refusal();
+                false
+            }
+            Accepted::Interrupted => true,
+            Accepted::Refused(error) => {
+                self.note_refusal(&error);
+                false
+            }
+        }
+    }
+
+    /// Accepts the connections that have come, and looks at what the newcomers have sent.
+    fn admit(&mut self)
+        ensures { self.new ≡ record self.old { waiting = self.new.waiting } }
+    {
+        let mut more = true;
+        for _ in 0..MOST_ACCEPTS {
+            if !self.accept_one() {
+                more = false;
+                break;
+            }
+        }
+        look_at_all(&mut self.sockets, &mut self.room, &self.settings);
+        self.has_news = more || self.refuses;
+    }
+
+    /// Returns for how many milliseconds the next wait asks: for none if more connections may have come than were accepted. If the connection
+    /// has to be read and the window's octets have been given, the wait ends with the window.
+    fn milliseconds_to_wait(&self, now: u64) -> u64
+        ensures { result ≤ 25 }
+    {
+        if self.has_news && !self.refuses {
+            return 0;
+        }
+        let Some(served) = &self.served else {
+            return PART_MS;
+        };
+        if served.has_to_ask() && self.budget.is_spent() {
+            return self.budget.ms_until_next(now).min(PART_MS);
+        }
+        PART_MS
+    }
+
+    /// Returns how many milliseconds have passed since waits were last counted, at most those of a part. A wait that ends at once is counted
+    /// with the next one, so that newcomers cannot stop the time of a silent connection. A time in which the program was stopped counts as
+    /// one part.
+    fn count_time(&mut self) -> u32
+        ensures within { result ≤ 25 }
+        ensures port { self.new ≡ self.old }
+    {
+        let now = self.sockets.now();
+        let passed = now.saturating_sub(self.counted).min(PART_MS);
+        self.counted = now;
+        passed as u32
+    }
+
+    /// Waits for a part of a wait, and accepts newcomers if there is news of some. Returns what the wait found, and the milliseconds to count.
+    fn wait_and_admit(&mut self, keeps: bool) -> (Ready, u32)
+        ensures within { result.1 ≤ 25 }
+        ensures port { self.new ≡ record self.old { waiting = self.new.waiting } }
+    {
+        let now = self.sockets.now();
+        let asked = self.milliseconds_to_wait(now);
+        let ready = self.sockets.wait(asked, keeps);
+        let milliseconds = self.count_time();
+        if ready.newcomers || self.has_news {
+            self.admit();
+        }
+        (ready, milliseconds)
+    }
+
+    /// Notes that the connection yields its place to a claimant, if it was given up for that.
+    fn note_displaced(&mut self, cause: Cause, from: SocketAddr, quiet: u32)
+        ensures { self.new ≡ self.old }
+    {
+        if cause != Cause::Displaced {
+            return;
+        }
+        if let Some(place) = self.room.place_of_claimant() {
+            let by = self.room.at(place).from;
+            self.note(&Note::Displaced { from, by, quiet });
+        }
+    }
+
+    /// Decides after a wait of this many milliseconds whether the connection goes on. `keeps`: octets were kept for it during the wait.
+    fn judge(&mut self, ready: Ready, milliseconds: u32, keeps: bool) -> Waited
+        requires { milliseconds ≤ 25 }
+        ensures judged { HasWaited self.old.settings.silence keeps self.old.connection self.new.connection result }
+        ensures port { self.new ≡ record self.old { connection = self.new.connection } }
+        ensures few { self.new.waiting ≤ 8 }
+    {
+        let is_claimed = self.room.place_of_claimant().is_some();
+        let silence = self.settings.silence;
+        let Some(served) = &mut self.served else {
+            return Waited::Silent;
+        };
+        match served.end_wait(ready, milliseconds, keeps, silence, is_claimed) {
+            None => Waited::Again,
+            Some(cause) => {
+                let from = served.from;
+                let quiet = served.patience.quiet;
+                self.note_displaced(cause, from, quiet);
+                Waited::Silent
+            }
+        }
+    }
+}
+
+impl<S: Sockets + Drop, N: PortNotes + Drop> Wire for ServingPort<S, N> {
+    ghost told = { λ port. None };
+
+    /// Reads octets of the connection, after sending those that are kept. The read would block if some of these are left, or if the window's
+    /// octets have been returned. It would also block if the system had no more at the last read, and no wait has found any since. Without a
+    /// connection it fails.
+    fn read(&mut self, octets: &mut [u8]) -> Got
+        requires { 0 < length octets.old }
+        ensures within { GotWithin result (length octets.new) }
+        ensures told { Tells None (of_read result octets.new ∷ []) None }
+        ensures passes { Passes self.old [] self.new }
+        ensures behind { (count : ℕ) → result ≡ Got.Octets count → self.new.unsent ≡ [] }
+        ensures budget { Gives self.old.window (count_of result) self.new.window }
+        ensures unread { self.new.unsent ≢ [] → option_map unread_of self.new.connection ≡ option_map unread_of self.old.connection }
+        ensures connection { HasRead (is_carrier self.old.settings.whose) self.old.connection result octets.new self.new.connection }
+        ensures settings { self.new.settings ≡ self.old.settings }
+        ensures waiting { self.new.waiting ≡ self.old.waiting }
+    {
+        let Some(served) = &mut self.served else {
+            return Got::Fault;
+        };
+        let is_carrier = self.settings.is_carrier();
+        read_connection(
+            &mut self.sockets,
+            &mut self.unsent,
+            &mut self.budget,
+            served,
+            is_carrier,
+            octets,
+        )
+    }
+
+    /// Writes octets to the connection. Those that it does not take at once are kept, if there is room. Without room the write would block,
+    /// and without a connection it fails.
+    fn write(&mut self, octets: &[u8]) -> Put
+        requires { 0 < length octets.now }
+        ensures within { PutWithin result (length octets.now) }
+        ensures told { Tells None (of_write result octets.now ∷ []) None }
+        ensures passes { Passes self.old (taken_by result octets.now) self.new }
+        ensures connection { self.new.connection ≡ option_map (connection_after_write result) self.old.connection }
+        ensures window { self.new.window ≡ self.old.window }
+        ensures settings { self.new.settings ≡ self.old.settings }
+        ensures waiting { self.new.waiting ≡ self.old.waiting }
+    {
+        let Some(served) = &mut self.served else {
+            return Put::Fault;
+        };
+        let put = self.unsent.write(&mut self.sockets, octets);
+        served.note_write(put)
+    }
+}
+
+impl<S: Sockets + Drop, N: PortNotes + Drop> Port for ServingPort<S, N> {
+    /// Closes the connection that is served, and serves the next newcomer. If nobody waits, it waits for a part of a wait.
+    fn connect(&mut self) -> Connect
+        ensures told { Tells None (of_connect result ∷ []) None }
+        ensures ready { result ≡ Connect.Ready → IsFresh self.new }
+        ensures none { result ≡ Connect.NotYet → self.new.connection ≡ None }
+        ensures goes { result ≢ Connect.Finished }
+        ensures few { self.new.waiting ≤ 8 }
+        ensures settings { self.new.settings ≡ self.old.settings }
+        ensures window { self.new.window ≡ self.old.window }
+    {
+        self.let_go();
+        self.admit();
+        match self.room.place_of_next() {
+            Some(place) => {
+                if self.serve(place) {
+                    return Connect::Ready;
+                }
+            }
+            None => {
+                let _ = self.sockets.wait(PART_MS, false);
+            }
+        }
+        Connect::NotYet
+    }
+
+    /// Waits until the connection can be read, or written if octets are kept, at most for a part of a wait. Accepts newcomers meanwhile.
+    /// `Silent`: the connection is given up, or there is none.
+    fn wait(&mut self) -> Waited
+        ensures told { Tells None (of_wait result ∷ []) None }
+        ensures judged { HasWaited self.old.settings.silence (keeps_octets self.old.unsent) self.old.connection self.new.connection result }
+        ensures few { self.new.waiting ≤ 8 }
+        ensures port { self.new ≡ record self.old { connection = self.new.connection; waiting = self.new.waiting } }
+    {
+        let keeps = !self.unsent.is_empty();
+        let (ready, milliseconds) = self.wait_and_admit(keeps);
+        self.judge(ready, milliseconds, keeps)
+    }
+
+    /// Keeps why the link closed the connection, unless the port has already noted its end.
+    fn closed(&mut self, closing: Closing)
+        ensures port { self.new ≡ record self.old { connection = option_map (with_cause (cause_of_closing closing self.old.settings.whose)) self.old.connection } }
+    {
+        let cause = Cause::of_closing(closing, self.settings.whose);
+        if let Some(served) = &mut self.served {
+            served.keep_cause(cause);
+        }
+    }
+}

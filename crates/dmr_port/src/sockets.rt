@@ -1,0 +1,133 @@
+//! What a port needs of the system: a listening socket, the connection that is served, the newcomers that wait, and a poll over all of
+//! them. No code here calls the system.
+
+ghost use Rattle.std.specs.Prelude.{◌≡◌, ℕ, ◌+◌, ◌<◌, Bool, true, false, List, Option, length, OnOk, OnErr};
+ghost use Rattle.std.specs.Io.KnownBytes.{Appends};
+ghost use Rattle.dmr_wire.specs.Told.{GotWithin, PutWithin};
+ghost use Rattle.dmr_port.specs.Sockets.{HasTakenNone, PeekedWithin, taken_by, waiting_after};
+
+use dmr_wire::{Got, Put};
+use std::io;
+use std::net::SocketAddr;
+
+/// The answer to an accept.
+#[derive(Debug, Drop)]
+pub enum Accepted {
+    /// A connection came from this address. It is the newest newcomer, at the last place.
+    Came(SocketAddr),
+    /// No connection has come. Ask again after a wait that reports newcomers.
+    None,
+    /// The accept was interrupted. It may be repeated at once.
+    Interrupted,
+    /// Connections cannot be accepted now, for this reason, for example because no descriptor is left.
+    Refused(io::Error),
+}
+
+/// The answer to a look at a newcomer's octets.
+#[derive(Clone, Copy, Debug, PartialEq, Eq)]
+pub enum Peeked {
+    /// This many octets, at least one, are the first of the slice. They were not taken: a read finds them again.
+    Octets(usize),
+    /// No octet has come.
+    Nothing,
+    /// The connection has ended without an octet, or has failed.
+    Ended,
+}
+
+/// What a wait found.
+#[derive(Clone, Copy, Debug, PartialEq, Eq)]
+pub struct Ready {
+    /// The connection can be read; or, if the wait was for sending, can be written.
+    pub connection: bool,
+    /// The other side of the connection has ended its output, or the connection has failed.
+    pub input_closed: bool,
+    /// A connection came, or octets or the end of a newcomer.
+    pub newcomers: bool,
+}
+
+/// A port's sockets: the listening one, the connection that is served, if there is one, and the newcomers. A newcomer is a connection that
+/// was accepted and is not yet served. Newcomers have places from 0 on, oldest first.
+///
+/// They are one object, so that its answers have one order. No call except [`Sockets::wait`] waits.
+pub trait Sockets {
+    /// Whether there is a connection that is served.
+    ghost is_open: { Self → Bool };
+
+    /// The number of newcomers.
+    ghost waiting: { Self → ℕ };
+
+    /// The octets that the connection took, oldest first, if they are known. Sockets of the system do not know them.
+    ghost taken: { Self → Option (List ℕ) };
+
+    /// Accepts a connection, if one has come, as the newest newcomer.
+    fn accept(&mut self) -> Accepted
+        requires { waiting self.old < 9 }
+        ensures waiting { waiting self.new ≡ waiting_after (waiting self.old) result }
+        ensures connection { is_open self.new ≡ is_open self.old }
+        ensures taken { taken self.new ≡ taken self.old };
+
+    /// Looks at the first octets that a newcomer has sent, at most as many as the slice holds, and leaves them to be read. The rest of the
+    /// slice then holds anything.
+    fn peek(&mut self, place: usize, octets: &mut [u8]) -> Peeked
+        requires place { place < waiting self.old }
+        requires some { 0 < length octets.old }
+        ensures within { PeekedWithin result (length octets.new) }
+        ensures waiting { waiting self.new ≡ waiting self.old }
+        ensures connection { is_open self.new ≡ is_open self.old }
+        ensures taken { taken self.new ≡ taken self.old };
+
+    /// Closes a newcomer and forgets it. Those after it move one place to the front.
+    fn refuse(&mut self, place: usize)
+        requires { place < waiting self.old }
+        ensures waiting { waiting self.new + 1 ≡ waiting self.old }
+        ensures connection { is_open self.new ≡ is_open self.old }
+        ensures taken { taken self.new ≡ taken self.old };
+
+    /// Makes a newcomer the connection that is served. Those after it move one place to the front. On an error the newcomer cannot be
+    /// polled; it is then closed, and there is no connection.
+    fn take(&mut self, place: usize) -> io::Result<()>
+        requires place { place < waiting self.old }
+        requires connection { is_open self.old ≡ false }
+        ensures waiting { waiting self.new + 1 ≡ waiting self.old }
+        ensures ok { OnOk result (is_open self.new ≡ true) }
+        ensures err { OnErr result (is_open self.new ≡ false) }
+        ensures taken { HasTakenNone (taken self.new) };
+
+    /// Reads octets of the connection, at most as many as the slice holds, to its front. The rest of the slice then holds anything.
+    fn read(&mut self, octets: &mut [u8]) -> Got
+        requires connection { is_open self.old ≡ true }
+        requires some { 0 < length octets.old }
+        ensures within { GotWithin result (length octets.new) }
+        ensures waiting { waiting self.new ≡ waiting self.old }
+        ensures connection { is_open self.new ≡ true }
+        ensures taken { taken self.new ≡ taken self.old };
+
+    /// Writes octets to the connection, from the front of the slice on, as many as it takes at once.
+    fn write(&mut self, octets: &[u8]) -> Put
+        requires connection { is_open self.old ≡ true }
+        requires some { 0 < length octets.now }
+        ensures within { PutWithin result (length octets.now) }
+        ensures waiting { waiting self.new ≡ waiting self.old }
+        ensures connection { is_open self.new ≡ true }
+        ensures taken { Appends (taken self.old) (taken self.new) (taken_by result octets.now) };
+
+    /// Closes the connection. Ends the output first, and reads the octets that came and were not read. A close with unread octets would reset
+    /// the connection, and the other side might then lose the last octets written to it.
+    fn close(&mut self)
+        requires { is_open self.old ≡ true }
+        ensures waiting { waiting self.new ≡ waiting self.old }
+        ensures connection { is_open self.new ≡ false };
+
+    /// Returns the milliseconds of a clock that does not go back.
+    fn now(&mut self) -> u64
+        ensures waiting { waiting self.new ≡ waiting self.old }
+        ensures connection { is_open self.new ≡ is_open self.old }
+        ensures taken { taken self.new ≡ taken self.old };
+
+    /// Waits until something is ready, at most this many milliseconds. If `sends`, the connection is ready when it can be written, and
+    /// otherwise when it can be read. If the system cannot wait, this returns at once with nothing ready.
+    fn wait(&mut self, milliseconds: u64, sends: bool) -> Ready
+        ensures waiting { waiting self.new ≡ waiting self.old }
+        ensures connection { is_open self.new ≡ is_open self.old }
+        ensures taken { taken self.new ≡ taken self.old };
+}

@@ -1,0 +1,19 @@
+//! The system's monotonic clock, in whole numbers.
+
+use std::time::Clock;
+
+/// Reads the clock: nanoseconds since any start. `None` if it cannot be read.
+pub fn nanoseconds<R: Clock>(rt: &R) -> Option<u64> {
+    match rt.monotonic() {
+        Ok(since) => u64::try_from(since.as_nanos()).ok(),
+        Err(_) => None,
+    }
+}
+
+/// Reads the clock: milliseconds since any start. `None` if it cannot be read.
+pub fn milliseconds<R: Clock>(rt: &R) -> Option<u64> {
+    match rt.monotonic() {
+        Ok(since) => u64::try_from(since.as_millis()).ok(),
+        Err(_) => None,
+    }
+}

@@ -1,0 +1,113 @@
+//! What is noted and counted of a port.
+
+use crate::clock::milliseconds;
+use crate::ends::Connections;
+use crate::notes::Notes;
+use dmr_port::{Note, PortNotes, PortSettings, Whose};
+use log::Log;
+use std::alloc::Global;
+use std::net::SocketAddr;
+use std::time::Clock;
+
+/// The most newcomers that are remembered.
+const NEWCOMERS: usize = 9;
+
+/// A newcomer that waits, and the milliseconds of the clock when it began to.
+#[derive(Clone, Copy, Debug)]
+struct Waiting {
+    from: SocketAddr,
+    since: u64,
+}
+
+/// Writes the notes of a port, and counts its connections for the notes of terms.
+#[derive(Drop)]
+pub struct PortWatch<'a, R> {
+    /// The owner of the port.
+    pub whose: Whose,
+    /// The address at which the port listens, if the system reports it.
+    pub address: Option<SocketAddr>,
+    /// All connections so far.
+    pub connections: Connections,
+    rt: &'a R,
+    notes: Notes<'a, R>,
+    // The connection that is served.
+    served: Option<SocketAddr>,
+    // For how many milliseconds it waited before that, if it had to.
+    waited: Option<u64>,
+    // The newcomers that wait, oldest first. One that has ended stays until there is no room for another.
+    waiting: Vec<Waiting>,
+}
+
+impl<'a, R: Log + Clock> PortWatch<'a, R> {
+    /// Makes the watch of a port with these settings that listens at an address.
+    pub fn new(
+        rt: &'a R,
+        alloc: Global,
+        settings: &PortSettings,
+        address: Option<SocketAddr>,
+        notes: Notes<'a, R>,
+    ) -> PortWatch<'a, R> {
+        PortWatch {
+            whose: settings.whose,
+            address,
+            connections: Connections::NONE,
+            rt,
+            notes,
+            served: None,
+            waited: None,
+            waiting: Vec::new(alloc),
+        }
+    }
+
+    /// Reads the clock in milliseconds; 0 if it cannot be read.
+    fn now(&self) -> u64 {
+        milliseconds(self.rt).unwrap_or(0)
+    }
+
+    /// Remembers that a newcomer begins to wait.
+    fn begin_wait(&mut self, from: SocketAddr) {
+        let since = self.now();
+        if self.waiting.len() >= NEWCOMERS {
+            self.waiting.remove(0);
+        }
+        // If memory is out, the note that it is served will not say how long it waited.
+        let _ = self.waiting.push(Waiting { from, since });
+    }
+
+    /// Forgets a newcomer. Returns for how many milliseconds it waited, if it had to.
+    fn end_wait(&mut self, from: SocketAddr) -> Option<u64> {
+        let place = self.waiting.iter().position(|it| it.from == from)?;
+        let since = self.waiting.remove(place).since;
+        Some(self.now().saturating_sub(since))
+    }
+}
+
+impl<R: Log + Clock> PortNotes for PortWatch<'_, R> {
+    fn count(&mut self, note: &Note<'_>) {
+        self.connections.add(note);
+        match note {
+            Note::Connected { from } => {
+                self.waited = self.end_wait(*from);
+                self.served = Some(*from);
+            }
+            Note::Waits { from, .. } => self.begin_wait(*from),
+            Note::Refused { from } => {
+                self.end_wait(*from);
+            }
+            Note::Ended { .. } => self.served = None,
+            _ => {}
+        }
+    }
+
+    fn write(&mut self, note: &Note<'_>) {
+        match (note, self.waited, self.served) {
+            (Note::Connected { from }, Some(waited), _) => {
+                self.notes.connected_after(self.whose, *from, waited);
+            }
+            (Note::Waits { from, count }, _, Some(served)) => {
+                self.notes.waits_for(self.whose, *from, served, *count);
+            }
+            _ => self.notes.of_port(self.whose, note),
+        }
+    }
+}

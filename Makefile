@@ -28,6 +28,7 @@ help: ## this list
 	@echo "trials/long-replay   how long a long replay takes"
 	@echo "trials/refuse-memory refuses each allocation of the programs in turn"
 	@echo "trials/network-recipes tries firewall and tunnels, in network namespaces"
+	@echo "trials/page-pictures takes the pictures of the hub's page"
 	@echo "each says more with --help, or in its first lines; docs/OPERATING.md has those for operators"
 
 demo: ## builds the program without its proofs and replays one registration (about a minute)
@@ -122,10 +123,11 @@ install: build/dmr_trunk build/dmr_decode ## the programs, tools, manual pages, 
 	install -D -m 755 build/dmr_trunk $(DESTDIR)$(PREFIX)/bin/dmr_trunk
 	install -D -m 755 build/dmr_decode $(DESTDIR)$(PREFIX)/bin/dmr_decode
 	install -d $(DESTDIR)$(PREFIX)/lib/systemd/system $(DESTDIR)$(DOC)/examples/scripts $(DESTDIR)$(DOC)/examples/expected $(DESTDIR)$(DOC)/pictures
-	install -d $(DESTDIR)$(PYTHON_LIB)/temzaar/cli $(DESTDIR)$(PYTHON_LIB)/temzaar/hub
+	install -d $(DESTDIR)$(PYTHON_LIB)/temzaar/cli $(DESTDIR)$(PYTHON_LIB)/temzaar/hub/page
 	install -m 644 python/temzaar/*.py $(DESTDIR)$(PYTHON_LIB)/temzaar
 	install -m 644 python/temzaar/cli/*.py $(DESTDIR)$(PYTHON_LIB)/temzaar/cli
 	install -m 644 python/temzaar/hub/*.py $(DESTDIR)$(PYTHON_LIB)/temzaar/hub
+	install -m 644 python/temzaar/hub/page/* $(DESTDIR)$(PYTHON_LIB)/temzaar/hub/page
 	for tool in siteview timeline capture carriers check hub console; do sed -e "s|@TOOL@|$$tool|" -e 's|@PYTHON_LIB@|$(PYTHON_LIB)|' python/launcher.in >$(DESTDIR)$(PREFIX)/bin/dmr_$$tool && chmod 755 $(DESTDIR)$(PREFIX)/bin/dmr_$$tool || exit; done
 	for section in 1 5 8; do install -d $(DESTDIR)$(MAN)/man$$section && for page in deploy/man/*.$$section; do sed -e 's|@VERSION@|$(VERSION)|' -e 's|@PREFIX@|$(PREFIX)|' $$page >$(DESTDIR)$(MAN)/man$$section/$${page##*/} || exit; done || exit; done
 	install -D -m 644 deploy/wireshark/dmr_link.lua $(DESTDIR)$(WIRESHARK_PLUGINS)/dmr_link.lua

@@ -4,9 +4,15 @@ import re
 import tomllib
 import unittest
 
+from temzaar.console import Parties
+from temzaar.hub.boardviews import CALL_KEYS, call_view
 from temzaar.hub.config import Config, RoleKeys, read_config
 from temzaar.hub.counts import Histogram
 from temzaar.hub.lines import OWN
+from temzaar.hub.moment import Moment
+from temzaar.hub.pagefiles import load_page
+from temzaar.hub.samples import FIGURES, Samples
+from temzaar.hub.seencalls import MOST_ENDED, CallLog, SeenCall
 from temzaar.hub.session import HELP
 from tests.hub_support import HubCase, wait_until
 from tests.support import TOP, read_document, table_rows
@@ -47,6 +53,19 @@ class Documented(unittest.TestCase):
                      if getattr(getattr(config, name), field.name) != field.default}
         self.assertEqual(differing, {("roles", "full_users"), ("audit", "max_octets")})
         self.assertEqual(RoleKeys().full_users, ())
+
+    def test_the_page(self) -> None:
+        """Queries, keys and figures of the page's paths, and how much memory they take."""
+        self.assertEqual([(row[0], row[1]) for row in table_rows(HUB, "| key of the query")], [(name, kind.says) for name, kind in CALL_KEYS.items()])
+        self.assertEqual([row[0] for row in table_rows(HUB, "| figure | what it is")], [*FIGURES])
+        call = call_view(SeenCall(1, (0, 1), Parties("group", 91, 1001), Moment(0, 0), False))
+        named = " ".join(cell for row in table_rows(HUB[HUB.index("### Seen calls"):], "| key | value") for cell in row)
+        self.assertEqual([name for name in call if not re.search(rf"\b{name}\b", named)], [])
+        samples = sum(span.octets() for span in Samples().spans.values())
+        for text in (f"The samples take {samples:,} octets", f"The last {MOST_ENDED:,} calls that ended take {len(CallLog().ended.octets):,} octets", f"at most, {MOST_ENDED:,}"):
+            self.assertIn(text, HUB)
+        self.assertEqual(round(sum(len(it.body) for it in load_page().values()), -4), 50_000)
+        self.assertIn("The page's files, about 50,000 octets", HUB.replace("\n", " "))
 
     def test_own_commands(self) -> None:
         self.assertEqual({row[0].split()[0].rstrip(",") for row in table_rows(HUB, "| line | reply")}, set(OWN))

@@ -211,7 +211,7 @@ class Harmless(WebCase):
 
     async def test_a_client_that_does_not_read(self) -> None:
         hub = await self.serve(request_seconds=60)
-        hub.web_port.views["/v1/site.json"] = lambda: Response(b"x" * 30_000_000)  # type: ignore[index]
+        hub.web_port.views["/v1/site.json"] = lambda _: Response(b"x" * 30_000_000)  # type: ignore[index]
         _, writer = await asyncio.open_connection("127.0.0.1", self.port, limit=1024)
         writer.transport.pause_reading()  # type: ignore[attr-defined]
         writer.write(GET.format("/v1/site.json", self.port).encode())
@@ -222,7 +222,7 @@ class Harmless(WebCase):
 
     async def test_a_client_that_does_not_read_is_cut_off(self) -> None:
         hub = await self.serve(request_seconds=0.5)
-        hub.web_port.views["/healthz"] = lambda: Response(b"x" * 30_000_000)  # type: ignore[index]
+        hub.web_port.views["/healthz"] = lambda _: Response(b"x" * 30_000_000)  # type: ignore[index]
         _, writer = await asyncio.open_connection("127.0.0.1", self.port, limit=1024)
         writer.transport.pause_reading()  # type: ignore[attr-defined]
         writer.write(GET.format("/healthz", self.port).encode())

@@ -1,4 +1,4 @@
-"""Holds the console of a controller, and serves it to many operators, over a unix socket.
+"""Holds the console of a controller, and serves it to many operators, over a unix socket; shows the site in browsers, over HTTP on loopback.
 
     hub                          with /etc/dmr_trunk/hub.toml
     hub --config hub.toml        with this config file

@@ -8,6 +8,8 @@ Modules, lowest first:
     counts     counters, gauges and histograms, and their text for Prometheus
     fairqueue  a queue in which those who ask take turns
     link       the connection to the controller's console
+    seencalls  the calls that the hub has seen, in memory of a fixed size
+    samples    figures of the last hour and the last day, in memory of a fixed size
     model      the state of the site, as the last answers had it
     poller     keeps the model up to date
     lines      the lines of operators
@@ -18,5 +20,8 @@ Modules, lowest first:
     lineport   the port that operators connect to
     views      the site as JSON and as metrics, and whether all is well
     web        the HTTP port
+    query      the queries of HTTP paths
+    boardviews the site's parts, seen calls and samples as JSON
+    pagefiles  the files of the operators' page, which are in page/
     service    all of it together, from start to stop
 """

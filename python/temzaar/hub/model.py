@@ -1,8 +1,13 @@
-"""The state of the site, as the last answers of the controller had it."""
+"""The state of the site, as the last answers of the controller had it, and what earlier ones had."""
 from dataclasses import dataclass, field
 
 from temzaar.hub.moment import Moment
+from temzaar.hub.samples import Samples
+from temzaar.hub.seencalls import CallLog
 from temzaar.picture import Ages, Picture, RadioList
+
+# The states of a slot that can have no call.
+NO_TRAFFIC = ("control", "down")
 
 
 @dataclass(frozen=True)
@@ -14,13 +19,16 @@ class CarrierState:
 
 @dataclass
 class SiteModel:
-    """The last picture and the last list of radios, each with its time. They are kept while the controller is away."""
+    """The last picture and the last list of radios, each with its time. They are kept while the controller is away, as are calls and samples of earlier ones."""
     picture: Picture | None = None
     seen: Moment | None = None
     ages: Ages = field(default_factory=Ages)
     carriers: dict[int, CarrierState] = field(default_factory=dict)
     radios: RadioList | None = None
     radios_seen: Moment | None = None
+    radios_changed: Moment | None = None
+    calls: CallLog = field(default_factory=CallLog)
+    samples: Samples = field(default_factory=Samples)
 
     def take_picture(self, picture: Picture, now: Moment) -> None:
         """A picture was taken."""
@@ -32,11 +40,28 @@ class SiteModel:
             state = CarrierState(picture.is_up(number), now)
             known = before.get(number)
             self.carriers[number] = known if known and known.is_up == state.is_up else state
+        self.calls.look(picture.calls, now)
+        self.samples.add(self._figures(picture, now), now)
+
+    def _figures(self, picture: Picture, now: Moment) -> dict[str, float]:
+        """The figures of a picture of which samples are kept."""
+        states, counts = [*picture.slots.values()], picture.status.counts
+        return {"slots_in_use": states.count("call"), "slots_up": sum(it not in NO_TRAFFIC for it in states), "queue_length": counts["lines"],
+                "longest_wait_seconds": self.longest_wait(picture, now), "registered_radios": counts["radios"],
+                "carriers_up": sum(it.is_up for it in self.carriers.values())}
+
+    def longest_wait(self, picture: Picture, now: Moment) -> float:
+        """How many seconds the hub has seen the request that has waited longest; 0 if none waits."""
+        ages = [age.seconds for parties in picture.lines if (age := self.ages.find(("line", None, parties), now.steady))]
+        return max(ages, default=0.0)
 
     def take_radios(self, radios: RadioList, now: Moment) -> None:
         """The registered radios were listed."""
+        if radios != self.radios:
+            self.radios_changed = now
         self.radios, self.radios_seen = radios, now
 
     def begin(self) -> None:
         """A new connection begins. The site may be another one since a restart, so the ages of what it shows are not known."""
         self.ages = Ages()
+        self.calls.begin()

@@ -4,7 +4,9 @@ import contextlib
 import signal
 from http import HTTPStatus
 
+from temzaar.faults import ToolFault
 from temzaar.hub.audit import AuditFault, AuditLog
+from temzaar.hub.boardviews import BoardViews
 from temzaar.hub.config import Config
 from temzaar.hub.counts import HubCounts
 from temzaar.hub.lineport import STOP_SECONDS, LinePort
@@ -12,11 +14,12 @@ from temzaar.hub.link import ConsoleLink
 from temzaar.hub.model import SiteModel
 from temzaar.hub.moment import Moment
 from temzaar.hub.notes import note, notify_systemd, warn
+from temzaar.hub.pagefiles import PREFIX, load_page
 from temzaar.hub.poller import Poller
 from temzaar.hub.roles import Rules
 from temzaar.hub.session import Desk
 from temzaar.hub.views import Views
-from temzaar.hub.web import JSON, METRICS, TEXT, Response, WebPort
+from temzaar.hub.web import JSON, METRICS, TEXT, Request, Response, View, WebPort
 from temzaar.sitefile import ConsolePlace, read_console_place
 
 
@@ -31,15 +34,31 @@ class Hub:
         self.desk = Desk(self.link, self.audit, config.line_port, self.counts, self.poller.hurry)
         self.line_port = LinePort(self.desk, rules)
         self.views = Views(config, self.link, self.model, self.counts, self.desk.sessions, Moment.now())
-        paths = {"/v1/site.json": lambda: Response(self.views.site_json(), JSON), "/metrics": lambda: Response(self.views.metrics(), METRICS), "/healthz": self._health}
-        self.web_port = WebPort(config.http, paths, self.counts)
+        views = {**self._load_page(), **self._views_for_machines()}
+        self.web_port = WebPort(config.http, views, self.counts, [path for path in views if not path.startswith(PREFIX)])
         self.stopping = asyncio.Event()
+
+    def _views_for_machines(self) -> dict[str, View]:
+        """The views for machines, by their paths."""
+        board = BoardViews(self.views)
+        return {"/v1/site.json": lambda _: Response(self.views.site_json(), JSON), "/v1/state.json": board.state_json, "/v1/radios.json": board.radios_json,
+                "/v1/calls.json": board.calls_json, "/v1/history.json": board.history_json,
+                "/metrics": lambda _: Response(self.views.metrics(), METRICS), "/healthz": self._health}
+
+    def _load_page(self) -> dict[str, View]:
+        """The files of the page as views, by their paths. There are none without an HTTP port, or if they cannot be read: the hub does its other work then."""
+        try:
+            files = load_page() if self.config.http.port else {}
+        except ToolFault as fault:
+            warn(f"page: cannot read {fault}")
+            files = {}
+        return {path: constant_view(response) for path, response in files.items()}
 
     def _read_place(self) -> ConsolePlace:
         """The console that the site file names now."""
         return read_console_place(self.config.controller.site_file)
 
-    def _health(self) -> Response:
+    def _health(self, _: Request) -> Response:
         """Whether all is well, as a response."""
         faults = self.views.health_faults()
         return Response("".join(f"{it}\n" for it in faults or ["ok"]).encode("ascii", "replace"), TEXT, HTTPStatus.SERVICE_UNAVAILABLE if faults else HTTPStatus.OK)
@@ -98,3 +117,8 @@ class Hub:
         """Closes the ports, and ends the connections."""
         await self.web_port.close()
         await self.line_port.close()
+
+
+def constant_view(response: Response) -> View:
+    """A view that is always the same."""
+    return lambda _: response

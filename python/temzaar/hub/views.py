@@ -32,16 +32,18 @@ class Views:
 
     def site_json(self) -> bytes:
         """The state of the site as JSON (docs/HUB.md)."""
-        now, state = Moment.now(), self.link.state
-        view = {
+        return json_octets(self.site_view(Moment.now()))
+
+    def site_view(self, now: Moment) -> dict[str, Any]:
+        """The state of the site."""
+        state = self.link.state
+        return {
             "time": utc_text(now.wall, decimals=True),
             "controller": {"up": state.is_up, "console": self.link.place.name if self.link.place else None, "since": utc_text(state.since.wall, decimals=True),
                            "reason": state.reason or None},
             "state": self._state_view(now),
             "radios": self._radios_view(now),
         }
-        # without an indent, which takes Python a hundred times as long
-        return json.dumps(view).encode("ascii") + b"\n"
 
     def _state_view(self, now: Moment) -> dict[str, Any] | None:
         """The last picture; None if there is none yet."""
@@ -107,8 +109,7 @@ class Views:
         yield gauge("dmr_site_pending_asks", "Called radios that have not answered yet.", counts["asks"])
         yield gauge("dmr_site_waiting_requests", "Requests that wait for a slot.", counts["lines"])
         yield gauge("dmr_site_active_calls", "Calls.", counts["calls"])
-        ages = [age.seconds for parties in picture.lines if (age := self.model.ages.find(("line", None, parties), now.steady))]
-        yield gauge("dmr_site_oldest_waiting_request_seconds", "How long the hub has seen the request that has waited longest; 0 if none waits.", max(ages, default=0))
+        yield gauge("dmr_site_oldest_waiting_request_seconds", "How long the hub has seen the request that has waited longest; 0 if none waits.", self.model.longest_wait(picture, now))
         channel = picture.status.fill.removeprefix("move ")
         yield gauge("dmr_site_move_channel", "The channel that radios are sent to by `move`; 0 if they are not.", int(channel) if channel.isdecimal() else 0)
 
@@ -152,6 +153,12 @@ def gauge(name: str, about: str, value: float) -> Series:
     series = Series(name, about)
     series.set(value)
     return series
+
+
+def json_octets(view: Any) -> bytes:
+    """A view as a line of JSON."""
+    # without an indent, which takes Python a hundred times as long
+    return json.dumps(view).encode("ascii") + b"\n"
 
 
 def rounded(seconds: float) -> float:

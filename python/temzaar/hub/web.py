@@ -2,8 +2,9 @@
 import asyncio
 import contextlib
 import email.utils
+import hashlib
 import re
-from collections.abc import Callable, Mapping
+from collections.abc import Callable, Iterable, Iterator, Mapping
 from dataclasses import dataclass, field
 from http import HTTPStatus
 
@@ -18,6 +19,15 @@ MOST_HEADERS = 64
 LINGER_SECONDS, LINGER_OCTETS = 0.5, 65536
 TEXT, JSON, METRICS = "text/plain; charset=utf-8", "application/json", "text/plain; version=0.0.4; charset=utf-8"
 REQUEST = re.compile(r"([!-~]+) ([!-~]+) HTTP/(\d\.\d)")
+# What a browser may do with a response: load nothing but the page's own files, from here, and send nothing to anywhere else.
+CONTENT_POLICY = ("default-src 'none'; script-src 'self'; style-src 'self'; connect-src 'self'; img-src 'self'; "
+                  "base-uri 'none'; form-action 'none'; frame-ancestors 'none'")
+BROWSER_RULES = {"X-Content-Type-Options": "nosniff", "Content-Security-Policy": CONTENT_POLICY, "Referrer-Policy": "no-referrer",
+                 "Cross-Origin-Resource-Policy": "same-origin"}
+TAG_DIGITS = 32
+TAG = re.compile(r'(?:W/)?("[^"]*")|(\*)')
+# The statuses after which the hub has read the whole request, and need not read on.
+WHOLE = (HTTPStatus.OK, HTTPStatus.NOT_MODIFIED, HTTPStatus.SERVICE_UNAVAILABLE)
 HEADER = re.compile(r"([!#$%&'*+.^_`|~0-9A-Za-z-]+):[ \t]*(.*?)[ \t]*")
 
 
@@ -30,6 +40,12 @@ class Response:
     headers: Mapping[str, str] = field(default_factory=dict)
 
 
+def tagged_response(body: bytes, kind: str, is_stored: bool = False) -> Response:
+    """A response with a tag, by which a client that has the same one already is answered 304. A browser keeps it on its disk only if `is_stored`."""
+    tag = f'"{hashlib.sha256(body).hexdigest()[:TAG_DIGITS]}"'
+    return Response(body, kind, HTTPStatus.OK, {"Cache-Control": "no-cache" if is_stored else "no-store", "ETag": tag})
+
+
 class BadRequest(Exception):
     """A request that is refused, with the response to it."""
 
@@ -40,9 +56,11 @@ class BadRequest(Exception):
 
 @dataclass(frozen=True)
 class Request:
-    """What the hub needs of a request."""
+    """What the hub needs of a request: its path and query, and the tags of the responses that the client has."""
     is_head: bool
     path: str
+    query: str = ""
+    tags: tuple[str, ...] = ()
 
     @classmethod
     def read(cls, octets: bytes, hosts: tuple[str | int, ...]) -> "Request":
@@ -56,10 +74,17 @@ class Request:
             raise BadRequest(HTTPStatus.HTTP_VERSION_NOT_SUPPORTED, "HTTP/1.0 or HTTP/1.1")
         if method not in ("GET", "HEAD"):
             raise BadRequest(HTTPStatus.METHOD_NOT_ALLOWED, "only GET and HEAD", {"Allow": "GET, HEAD"})
-        check_headers(read_headers(lines[1:]), version, hosts)
+        headers = read_headers(lines[1:])
+        check_headers(headers, version, hosts)
         if not target.startswith("/"):
             raise BadRequest(HTTPStatus.BAD_REQUEST, "a path is needed")
-        return cls(method == "HEAD", target.partition("?")[0])
+        path, _, query = target.partition("?")
+        return cls(method == "HEAD", path, query, tuple(read_tags(headers)))
+
+    def has(self, response: Response) -> bool:
+        """Whether the client has this response already."""
+        tag = response.headers.get("ETag")
+        return tag is not None and ("*" in self.tags or tag in self.tags)
 
 
 def read_headers(lines: list[str]) -> list[tuple[str, str]]:
@@ -75,6 +100,13 @@ def read_headers(lines: list[str]) -> list[tuple[str, str]]:
     return headers
 
 
+def read_tags(headers: list[tuple[str, str]]) -> Iterator[str]:
+    """The tags of the responses that a client has."""
+    for name, value in headers:
+        if name == "if-none-match":
+            yield from (found[1] or found[2] for found in TAG.finditer(value))
+
+
 def check_headers(headers: list[tuple[str, str]], version: str, hosts: tuple[str | int, ...]) -> None:
     """Checks the host, by which a web page of elsewhere is kept from reading the site through a browser here. BadRequest: it or a body is refused."""
     named = [value for name, value in headers if name == "host"]
@@ -86,11 +118,16 @@ def check_headers(headers: list[tuple[str, str]], version: str, hosts: tuple[str
         raise BadRequest(HTTPStatus.BAD_REQUEST, "a request has no body here")
 
 
-class WebPort:
-    """The port. `views` has the response of each path."""
+# A path's response to a request. BadRequest: its query is refused.
+View = Callable[[Request], Response]
 
-    def __init__(self, keys: HttpKeys, views: Mapping[str, Callable[[], Response]], counts: HubCounts) -> None:
+
+class WebPort:
+    """The port. `views` has the view of each path, and `listed` the paths that are named to those who ask for another."""
+
+    def __init__(self, keys: HttpKeys, views: Mapping[str, View], counts: HubCounts, listed: Iterable[str]) -> None:
         self.keys, self.views, self.counts = keys, views, counts
+        self.listed = tuple(listed)
         self.tasks: set[asyncio.Task[None]] = set()
         self.server: asyncio.Server | None = None
 
@@ -139,7 +176,7 @@ class WebPort:
         try:
             async with asyncio.timeout(self.keys.request_seconds):
                 request = Request.read(await reader.readuntil(b"\r\n\r\n"), self.keys.hosts)
-            is_head, response = request.is_head, self._respond(request.path)
+            is_head, response = request.is_head, self._respond(request)
         except BadRequest as fault:
             response = fault.response
         except asyncio.LimitOverrunError:
@@ -154,7 +191,7 @@ class WebPort:
         writer.write(response_octets(response, is_head))
         async with asyncio.timeout(self.keys.request_seconds):
             await writer.drain()
-            if response.status not in (HTTPStatus.OK, HTTPStatus.SERVICE_UNAVAILABLE):
+            if response.status not in WHOLE:
                 await self._linger(reader, writer)
             writer.close()
             await writer.wait_closed()
@@ -168,18 +205,21 @@ class WebPort:
                 while left > 0 and (piece := await reader.read(4096)):
                     left -= len(piece)
 
-    def _respond(self, path: str) -> Response:
-        """The response of a path. BadRequest: there is none."""
-        view = self.views.get(path)
+    def _respond(self, request: Request) -> Response:
+        """The response to a request, without a body if the client has it. BadRequest: there is none."""
+        view = self.views.get(request.path)
         if view is None:
-            raise BadRequest(HTTPStatus.NOT_FOUND, "there is " + ", ".join(self.views))
-        return view()
+            raise BadRequest(HTTPStatus.NOT_FOUND, "there is " + ", ".join(self.listed))
+        response = view(request)
+        return Response(b"", response.kind, HTTPStatus.NOT_MODIFIED, response.headers) if request.has(response) else response
 
 
 def response_octets(response: Response, is_head: bool) -> bytes:
     """A response as octets, to HEAD without its body."""
     status = response.status
-    headers = {"Date": email.utils.formatdate(usegmt=True), "Server": "dmr_hub", "Content-Type": response.kind, "Content-Length": str(len(response.body)),
-               "Cache-Control": "no-store", "X-Content-Type-Options": "nosniff", **response.headers, "Connection": "close"}
+    # 304 has no body, and no headers of one
+    content = {} if status == HTTPStatus.NOT_MODIFIED else {"Content-Type": response.kind, "Content-Length": str(len(response.body))}
+    headers = {"Date": email.utils.formatdate(usegmt=True), "Server": "dmr_hub", **content, "Cache-Control": "no-store", **BROWSER_RULES, **response.headers,
+               "Connection": "close"}
     head = f"HTTP/1.1 {status.value} {status.phrase}\r\n" + "".join(f"{name}: {value}\r\n" for name, value in headers.items()) + "\r\n"
     return head.encode("latin-1") + (b"" if is_head else response.body)

@@ -1,0 +1,82 @@
+"""What the hub shows to its page, and to other readers of parts: the state without radios, the radios, the seen calls, and the samples, as JSON."""
+from dataclasses import dataclass
+from typing import Any
+
+from temzaar.hub.keys import Choice, Whole
+from temzaar.hub.model import SiteModel
+from temzaar.hub.moment import Moment, utc_text
+from temzaar.hub.query import read_query
+from temzaar.hub.samples import FIGURES, SPANS, Span, Summary
+from temzaar.hub.seencalls import CallFilter, SeenCall
+from temzaar.hub.views import Views, json_octets, rounded
+from temzaar.hub.web import JSON, Request, Response, tagged_response
+from temzaar.picture import LAST_RADIO
+
+# How many calls a response has, if the query does not say, and at most.
+USUAL_CALLS, MOST_CALLS = 100, 1000
+CALL_KEYS = {"radio": Whole(1, LAST_RADIO), "group": Whole(1, LAST_RADIO), "last": Whole(1, MOST_CALLS)}
+HISTORY_KEYS = {"span": Choice(*SPANS)}
+
+
+@dataclass
+class BoardViews:
+    """The views of the page."""
+    views: Views
+
+    @property
+    def model(self) -> SiteModel:
+        """The state of the site."""
+        return self.views.model
+
+    def state_json(self, _: Request) -> Response:
+        """The state of the site, with the number of registered radios in place of their list."""
+        view = self.views.site_view(Moment.now())
+        if view["radios"]:
+            view["radios"]["count"] = len(view["radios"].pop("registered"))
+        return Response(json_octets(view), JSON)
+
+    def radios_json(self, _: Request) -> Response:
+        """The registered radios. The response stays the same until the list changes."""
+        radios, changed = self.model.radios, self.model.radios_changed
+        view = {"changed": utc_text(changed.wall, decimals=True), "complete": radios.is_complete, "registered": radios.radios} if radios and changed else None
+        return tagged_response(json_octets(view), JSON)
+
+    def calls_json(self, request: Request) -> Response:
+        """Calls that the hub has seen, by the query. The response stays the same until a call begins or ends. BadRequest: the query is refused."""
+        query, log = read_query(request.query, CALL_KEYS), self.model.calls
+        found = log.find(CallFilter(query.get("radio"), query.get("group")), query.get("last", USUAL_CALLS))
+        view = {"since": utc_text(self.views.begun.wall, decimals=True), "poll_seconds": self.views.config.poll.state_seconds, "seen": log.count, "kept": log.ended.size,
+                "calls": [call_view(it) for it in found]}
+        return tagged_response(json_octets(view), JSON)
+
+    def history_json(self, request: Request) -> Response:
+        """The samples of a span. BadRequest: the query is refused."""
+        name = read_query(request.query, HISTORY_KEYS).get("span", next(iter(SPANS)))
+        return Response(json_octets(span_view(name, self.model.samples.spans[name], Moment.now())), JSON)
+
+
+def call_view(call: SeenCall) -> dict[str, Any]:
+    """A call that was seen."""
+    carrier, slot = call.slot
+    return {"number": call.number, "carrier": carrier, "slot": slot, "kind": call.parties.kind, "target": call.parties.target, "source": call.parties.source,
+            "began": utc_text(call.began.wall, decimals=True), "older": call.is_older, "ended": utc_text(call.ended.wall, decimals=True) if call.ended else None,
+            "end_seen": call.is_end_seen if call.ended else None, "seconds": rounded(call.seconds) if call.seconds is not None else None}
+
+
+def span_view(name: str, span: Span, now: Moment) -> dict[str, Any]:
+    """The samples of a span, oldest first; null for a sample without a picture."""
+    places = span.places(now)
+    return {"time": utc_text(now.wall, decimals=True), "span": name, "step_seconds": span.step, "begins": utc_text(span.begins(now), decimals=True),
+            "pictures": [0 if at is None else span.pictures[at] for at in places],
+            "figures": {figure: columns_view([*span.summaries(figure, places)]) for figure in FIGURES}}
+
+
+def columns_view(summaries: list[Summary | None]) -> dict[str, list[float | None]]:
+    """Summaries as columns."""
+    return {"min": [short(it.least) if it else None for it in summaries], "mean": [short(it.mean) if it else None for it in summaries],
+            "max": [short(it.greatest) if it else None for it in summaries]}
+
+
+def short(value: float) -> float:
+    """A number to the thousandth, a whole one without decimals."""
+    return int(value) if value == int(value) else rounded(value)

@@ -1,0 +1,263 @@
+// The charts: a figure over the last hour or day, as an SVG that is drawn here, with a cursor for the mouse and for the keyboard.
+
+import { ageText, byId, clockText, makeElement, makeSvg, setText } from "./elements.js";
+
+const HEIGHT = 128;
+const LEFT = 40;
+const RIGHT = 10;
+const TOP = 8;
+const BOTTOM = 22;
+// The least width of a chart, and that of a label on the axis of time.
+const LEAST_WIDTH = 220;
+const LABEL_WIDTH = 56;
+// Distances of marks on the axis of time, in minutes, and those of the greatest value of an axis: both the first that fits.
+const MINUTES = [5, 10, 15, 30, 60, 120, 180, 240, 360, 720];
+const TOPS = [2, 4, 6, 8, 10, 12, 16];
+const PAGE_STEPS = 60;
+
+const asCount = (value) => (Number.isInteger(value) ? String(value) : value.toFixed(1));
+
+// The charts: the figure, its name, how a value is written, and the figure whose greatest value is drawn as a limit.
+const CHARTS = [
+  { figure: "slots_in_use", title: "Slots in use", text: asCount, limit: "slots_up", limitTitle: "slots that are up" },
+  { figure: "queue_length", title: "Requests that wait", text: asCount },
+  { figure: "longest_wait_seconds", title: "Longest wait", text: ageText },
+  { figure: "registered_radios", title: "Registered radios", text: asCount },
+  { figure: "carriers_up", title: "Carriers up", text: asCount },
+];
+
+const charts = new Map();
+let history = null;
+
+/** A chart: its elements, and the sample under its cursor. */
+class Chart {
+  constructor(spec) {
+    this.spec = spec;
+    this.cursor = null;
+    this.summary = makeElement("p", { class: "summary" });
+    this.readout = makeElement("p", { class: "readout", "aria-hidden": "true" });
+    this.plot = makeElement("div", { class: "plot", tabindex: 0, role: "slider", "aria-label": `${spec.title}: time of a sample`, "aria-valuemin": 0, "aria-valuemax": 0, "aria-valuenow": 0,
+      "aria-valuetext": "no samples yet" });
+    this.element = makeElement("figure", { id: `chart-${spec.figure}` }, makeElement("figcaption", {}, makeElement("h3", {}, spec.title), this.summary), this.plot, this.readout);
+    this.plot.addEventListener("pointermove", (event) => this.pointTo(event));
+    this.plot.addEventListener("pointerleave", () => this.moveTo(null));
+    this.plot.addEventListener("blur", () => this.moveTo(null));
+    this.plot.addEventListener("keydown", (event) => this.pressKey(event));
+  }
+
+  get values() {
+    return history.figures[this.spec.figure];
+  }
+
+  get count() {
+    return history.pictures.length;
+  }
+
+  get innerWidth() {
+    return this.width - LEFT - RIGHT;
+  }
+
+  x(place) {
+    return LEFT + (this.innerWidth * place) / this.count;
+  }
+
+  y(value) {
+    return TOP + (HEIGHT - TOP - BOTTOM) * (1 - value / this.top);
+  }
+
+  timeOf(place) {
+    return new Date(Date.parse(history.begins) + place * history.step_seconds * 1000);
+  }
+
+  /** Draws all of it. */
+  draw() {
+    this.width = Math.max(LEAST_WIDTH, this.plot.clientWidth);
+    const limits = this.spec.limit ? history.figures[this.spec.limit].max : [];
+    this.top = niceTop(Math.max(0, ...this.values.max.filter(isKnown), ...limits.filter(isKnown)));
+    this.runs = knownRuns(this.values.mean);
+    this.pointer = makeSvg("g", { class: "cursor" });
+    const svg = makeSvg("svg", { viewBox: `0 0 ${this.width} ${HEIGHT}`, width: this.width, height: HEIGHT, "aria-hidden": "true" },
+      ...this.gaps(), ...this.grid(), ...this.times(), ...this.bands(), ...this.lines(limits), this.pointer);
+    this.plot.replaceChildren(svg);
+    this.plot.setAttribute("aria-valuemax", this.count - 1);
+    setText(this.summary, this.summaryText());
+    this.moveTo(this.cursor);
+  }
+
+  /** Grey, where there was no picture. */
+  gaps() {
+    const edges = [0, ...this.runs.flat(), this.count];
+    const gaps = [];
+    for (let place = 0; place < edges.length; place += 2) {
+      const [from, to] = [edges[place], edges[place + 1]];
+      if (to > from) {
+        gaps.push(makeSvg("rect", { class: "gap", x: this.x(from), y: TOP, width: this.x(to) - this.x(from), height: HEIGHT - TOP - BOTTOM }));
+      }
+    }
+    return gaps;
+  }
+
+  /** The lines of the grid, with their values. */
+  grid() {
+    return [0, this.top / 2, this.top].flatMap((value) => [
+      makeSvg("line", { class: "grid", x1: LEFT, x2: this.width - RIGHT, y1: this.y(value), y2: this.y(value) }),
+      makeSvg("text", { class: "label", x: LEFT - 6, y: this.y(value) + 4, "text-anchor": "end" }, this.spec.text(value)),
+    ]);
+  }
+
+  /** The marks of the axis of time. */
+  times() {
+    const minutes = (this.count * history.step_seconds) / 60;
+    const fitting = Math.max(1, Math.floor(this.innerWidth / LABEL_WIDTH));
+    const every = MINUTES.find((it) => minutes / it <= fitting) || MINUTES[MINUTES.length - 1];
+    const marks = [];
+    const first = this.timeOf(0);
+    const mark = new Date(first.getFullYear(), first.getMonth(), first.getDate());
+    const begins = first.getTime();
+    const ends = this.timeOf(this.count).getTime();
+    for (; mark.getTime() <= ends; mark.setMinutes(mark.getMinutes() + every)) {
+      if (mark.getTime() < begins) {
+        continue;
+      }
+      const x = LEFT + (this.innerWidth * (mark.getTime() - begins)) / (ends - begins);
+      const anchor = x > this.width - RIGHT - LABEL_WIDTH / 3 ? "end" : x < LEFT + LABEL_WIDTH / 4 ? "start" : "middle";
+      marks.push(makeSvg("line", { class: "grid", x1: x, x2: x, y1: HEIGHT - BOTTOM, y2: HEIGHT - BOTTOM + 4 }));
+      marks.push(makeSvg("text", { class: "label", x, y: HEIGHT - 6, "text-anchor": anchor }, clockText(mark, true)));
+    }
+    return marks;
+  }
+
+  /** The bands from the least to the greatest values. */
+  bands() {
+    return this.runs.map(([from, to]) => {
+      const upper = this.corners(this.values.max, from, to);
+      const lower = this.corners(this.values.min, from, to).reverse();
+      return makeSvg("polygon", { class: "band", points: [...upper, ...lower].join(" ") });
+    });
+  }
+
+  /** The lines of the means, and of the limit. */
+  lines(limits) {
+    const means = this.runs.map(([from, to]) => makeSvg("polyline", { class: "mean", points: this.corners(this.values.mean, from, to).join(" ") }));
+    const bounds = limits.length ? this.runs.map(([from, to]) => makeSvg("polyline", { class: "limit", points: this.corners(limits, from, to).join(" ") })) : [];
+    return [...bounds, ...means];
+  }
+
+  /** The points of the values of a run: each sample is as wide as its time. */
+  corners(values, from, to) {
+    const points = [];
+    for (let place = from; place < to; place += 1) {
+      const y = this.y(values[place]).toFixed(1);
+      points.push(`${this.x(place).toFixed(1)},${y}`, `${this.x(place + 1).toFixed(1)},${y}`);
+    }
+    return points;
+  }
+
+  summaryText() {
+    const { text, limitTitle, limit } = this.spec;
+    const known = this.values.mean.filter(isKnown);
+    if (!known.length) {
+      return "no samples yet";
+    }
+    const last = this.values.mean.findLastIndex(isKnown);
+    const mean = known.reduce((sum, value) => sum + value, 0) / known.length;
+    const limited = limit ? ` of ${text(history.figures[limit].max[last])} ${limitTitle}` : "";
+    return `now ${text(this.values.max[last])}${limited}; least ${text(Math.min(...this.values.min.filter(isKnown)))}, mean ${text(mean)}, greatest ${text(Math.max(...this.values.max.filter(isKnown)))}`;
+  }
+
+  /** Moves the cursor to a sample; null takes it away. */
+  moveTo(place) {
+    if (!history) {
+      return;
+    }
+    this.cursor = place === null ? null : Math.min(this.count - 1, Math.max(0, place));
+    this.pointer.replaceChildren();
+    if (this.cursor === null) {
+      setText(this.readout, "");
+      this.setValue(this.count - 1, this.summary.textContent);
+      return;
+    }
+    const said = `${clockText(this.timeOf(this.cursor))}: ${this.sampleText(this.cursor)}`;
+    setText(this.readout, said);
+    this.setValue(this.cursor, said);
+    const x = this.x(this.cursor + 0.5);
+    this.pointer.append(makeSvg("line", { x1: x, x2: x, y1: TOP, y2: HEIGHT - BOTTOM }));
+  }
+
+  /** Sets what a screen reader reads of the cursor. */
+  setValue(place, said) {
+    this.plot.setAttribute("aria-valuenow", place);
+    this.plot.setAttribute("aria-valuetext", said);
+  }
+
+  sampleText(place) {
+    const { text } = this.spec;
+    const [least, mean, most] = [this.values.min, this.values.mean, this.values.max].map((column) => column[place]);
+    if (!isKnown(mean)) {
+      return "no picture";
+    }
+    return least === most ? text(most) : `mean ${text(mean)}, from ${text(least)} to ${text(most)}`;
+  }
+
+  pointTo(event) {
+    if (history) {
+      const box = this.plot.getBoundingClientRect();
+      this.moveTo(Math.floor(((event.clientX - box.left - LEFT) / this.innerWidth) * this.count));
+    }
+  }
+
+  pressKey(event) {
+    if (!history) {
+      return;
+    }
+    const steps = { ArrowLeft: -1, ArrowRight: 1, ArrowDown: -1, ArrowUp: 1, PageDown: -PAGE_STEPS, PageUp: PAGE_STEPS, Home: -this.count, End: this.count };
+    if (event.key in steps) {
+      event.preventDefault();
+      this.moveTo((this.cursor ?? this.count - 1) + (this.cursor === null ? 0 : steps[event.key]));
+    }
+  }
+}
+
+function isKnown(value) {
+  return value !== null;
+}
+
+/** The greatest value of an axis: an even number, at least as great as all that is drawn. */
+function niceTop(greatest) {
+  for (let scale = 1; ; scale *= 10) {
+    const found = TOPS.find((it) => it * scale >= greatest);
+    if (found) {
+      return found * scale;
+    }
+  }
+}
+
+/** The runs of samples that are known: from each first one to the one after its last. */
+function knownRuns(values) {
+  const runs = [];
+  values.forEach((value, place) => {
+    if (isKnown(value) && (place === 0 || !isKnown(values[place - 1]))) {
+      runs.push([place, place + 1]);
+    } else if (isKnown(value)) {
+      runs[runs.length - 1][1] = place + 1;
+    }
+  });
+  return runs;
+}
+
+/** Makes the charts, and draws them again when their width changes. */
+export function makeCharts() {
+  for (const spec of CHARTS) {
+    charts.set(spec.figure, new Chart(spec));
+  }
+  byId("charts-grid").append(...[...charts.values()].map((chart) => chart.element));
+  new ResizeObserver(() => drawCharts()).observe(byId("charts-grid"));
+}
+
+/** Draws the samples of a span. */
+export function drawCharts(view = history) {
+  history = view;
+  if (history) {
+    charts.forEach((chart) => chart.draw());
+  }
+}

@@ -1,0 +1,176 @@
+// The parts of the board that show one picture: figures, carriers with their slots, the queue, calls and radios.
+
+import { ageText, byId, makeElement, refillElement, setText, syncRows, timeElement } from "./elements.js";
+
+// How many radios are listed at once: the filter finds the others.
+const MOST_RADIOS = 200;
+// The states of slots: a mark that says the same as the colour, and the words for it.
+const STATES = {
+  control: ["◆", "control"],
+  call: ["▶", "call"],
+  free: ["○", "free"],
+  waiting: ["◐", "waiting for a burst to be sent"],
+  down: ["✕", "down"],
+};
+
+let openHistory = () => {};
+
+/** Sets what a click on a radio or a group does. */
+export function onParty(open) {
+  openHistory = open;
+}
+
+/** A button with the name of a radio or a group, which opens its history; with the number alone if `isShort`. */
+function partyButton(kind, number, isShort = false) {
+  const name = `${kind} ${number}`;
+  return makeElement("button", { type: "button", class: "party", title: `Calls of ${name}`, "aria-label": name, click: () => openHistory(kind, number) }, isShort ? String(number) : name);
+}
+
+/** An element for an age, which `updateAges` keeps up to date. `seconds` is the age when the state came; null if it is not known. */
+function ageElement(seconds, isOlder) {
+  const age = makeElement("span", { class: "age", "data-age": seconds ?? "" });
+  if (isOlder) {
+    age.dataset.older = "";
+  }
+  return age;
+}
+
+/** Writes all ages, `passed` seconds after the state came. */
+export function updateAges(passed) {
+  for (const age of document.querySelectorAll("[data-age]")) {
+    const known = age.dataset.age !== "";
+    setText(age, known ? `${"older" in age.dataset ? ">" : ""}${ageText(Number(age.dataset.age) + passed)}` : "");
+  }
+}
+
+function setAge(element, seconds) {
+  const age = element.querySelector("[data-age]");
+  if (age) {
+    age.dataset.age = seconds ?? "";
+  }
+}
+
+function setFigure(name, value, more = "", level = "") {
+  const figure = byId(`figure-${name}`);
+  figure.dataset.level = level;
+  refillElement(figure.querySelector("dd"), `${value}|${more}`, () => [makeElement("strong", {}, String(value)), " ", ...(more ? [makeElement("span", { class: "more" }, more)] : [])]);
+}
+
+/** Shows the figures of a state. */
+export function showFigures(state, radios) {
+  const slots = state.carriers.flatMap((carrier) => carrier.slots);
+  const usable = slots.filter((slot) => slot.state !== "control" && slot.state !== "down").length;
+  const used = slots.filter((slot) => slot.state === "call").length;
+  const down = state.carriers.filter((carrier) => !carrier.up).length;
+  const longest = Math.max(0, ...state.queue.map((request) => request.age_seconds ?? 0));
+  setFigure("carriers", `${state.carriers.length - down}`, `of ${state.carriers.length}`, down ? "bad" : "good");
+  setFigure("slots", used, `of ${usable}`, usable && used === usable ? "warn" : "");
+  setFigure("queue", state.counts.lines, state.counts.lines ? `longest ${ageText(longest)}` : "", state.counts.lines ? "warn" : "");
+  setFigure("radios", state.counts.radios, radios && !radios.complete ? "list not whole" : "");
+  setFigure("asks", state.counts.asks);
+  setFigure("fill", state.fill.kind === "move" ? "C_MOVE" : "C_ALOHA", state.fill.kind === "move" ? `to ${state.fill.channel}` : "", state.fill.kind === "move" ? "warn" : "");
+}
+
+function callElements(call) {
+  return [
+    makeElement("span", { class: "parties" }, partyButton(call.kind, call.target), makeElement("span", { class: "from" }, " from ", partyButton("radio", call.source, true))),
+    " ",
+    ageElement(call.age_seconds, call.older),
+  ];
+}
+
+function slotElements(slot) {
+  const [mark, words] = STATES[slot.state] || ["?", slot.state];
+  const shown = [makeElement("span", { class: "mark", "aria-hidden": "true" }, mark), " "];
+  return slot.call ? [...shown, makeElement("span", { class: "unseen" }, "call "), ...callElements(slot.call)] : [...shown, makeElement("span", { class: "words" }, words)];
+}
+
+function fillCarrier(row, carrier) {
+  if (!row.children.length) {
+    row.append(makeElement("th", { scope: "row" }), ...carrier.slots.map(() => makeElement("td")));
+  }
+  row.classList.toggle("down", !carrier.up);
+  refillElement(row.children[0], `${carrier.number}|${carrier.up}|${carrier.since}`, () => [
+    makeElement("span", { class: "carrier" }, String(carrier.number)),
+    " ",
+    carrier.up ? makeElement("span", { class: "state" }, "up") : makeElement("span", { class: "state" }, "✕ DOWN since ", timeElement(carrier.since)),
+  ]);
+  carrier.slots.forEach((slot, place) => {
+    const cell = row.children[place + 1];
+    const call = slot.call;
+    cell.className = `slot ${slot.state}`;
+    refillElement(cell, `${slot.state}|${call ? [call.kind, call.target, call.source, call.older] : ""}`, () => slotElements(slot));
+    setAge(cell, call?.age_seconds);
+  });
+}
+
+/** Shows the carriers with their slots. */
+export function showCarriers(carriers) {
+  byId("carriers-empty").hidden = carriers.length > 0;
+  syncRows(byId("carriers-rows"), carriers, (carrier) => carrier.number, fillCarrier);
+}
+
+function fillRequest(row, request) {
+  refillElement(row, `${request.place}|${request.kind}|${request.target}|${request.source}`, () => [
+    makeElement("th", { scope: "row" }, String(request.place)),
+    makeElement("td", {}, partyButton(request.kind, request.target)),
+    makeElement("td", {}, partyButton("radio", request.source, true)),
+    makeElement("td", { class: "number" }, ageElement(request.age_seconds, request.older)),
+  ]);
+  setAge(row, request.age_seconds);
+}
+
+/** Shows the queue. */
+export function showQueue(queue) {
+  byId("queue-empty").hidden = queue.length > 0;
+  byId("queue").querySelector("table").hidden = queue.length === 0;
+  syncRows(byId("queue-rows"), queue, (request) => `${request.kind} ${request.target} ${request.source}`, fillRequest);
+}
+
+function lastedElements(call) {
+  if (call.ended === null) {
+    return [makeElement("span", { class: "active" }, "▶ active")];
+  }
+  const isAtLeast = call.older || !call.end_seen;
+  const why = !call.end_seen ? "the hub lost sight of it" : call.older ? "it was there when the hub connected" : null;
+  return [makeElement("span", { title: why }, `${isAtLeast ? ">" : ""}${ageText(call.seconds)}`)];
+}
+
+function fillCall(row, call) {
+  row.classList.toggle("active-call", call.ended === null);
+  refillElement(row, `${call.ended}`, () => [
+    makeElement("td", {}, timeElement(call.began)),
+    makeElement("td", {}, partyButton(call.kind, call.target)),
+    makeElement("td", {}, partyButton("radio", call.source, true)),
+    makeElement("td", {}, makeElement("span", { class: "unseen" }, "carrier "), String(call.carrier), makeElement("span", { class: "unseen" }, ", slot "),
+      makeElement("span", { "aria-hidden": "true" }, "/"), String(call.slot)),
+    makeElement("td", { class: "number" }, ...lastedElements(call)),
+  ]);
+}
+
+/** Shows seen calls in the rows of a table. */
+export function showCalls(body, calls) {
+  body.closest("table").hidden = calls.length === 0;
+  syncRows(body, calls, (call) => call.number, fillCall);
+}
+
+/** Shows the registered radios whose numbers begin with the filter's digits. */
+export function showRadios(radios, filter) {
+  const found = radios ? radios.registered.filter((radio) => String(radio).startsWith(filter)) : [];
+  const shown = found.slice(0, MOST_RADIOS);
+  syncRows(byId("radios-list"), shown, (radio) => radio, (item, radio) => {
+    if (!item.children.length) {
+      item.append(partyButton("radio", radio, true));
+    }
+  });
+  setText(byId("radios-note"), radiosNote(radios, filter, found.length, shown.length));
+}
+
+function radiosNote(radios, filter, found, shown) {
+  if (!radios) {
+    return "No list of radios yet.";
+  }
+  const all = radios.complete ? `${radios.registered.length} registered` : `more than ${radios.registered.length} registered`;
+  const matching = filter ? `, ${found} begin with ${filter}` : "";
+  return `${all}${matching}${shown < found ? `; the first ${shown} are listed` : ""}.`;
+}

@@ -1,0 +1,120 @@
+"""A served site with a hub before it, and carriers and radios that do what a test says: the scene of the page's tests and pictures."""
+import os
+import queue
+import shutil
+import socket
+import subprocess
+import tempfile
+import threading
+import time
+import urllib.error
+import urllib.request
+
+from temzaar import code, pdus
+from temzaar.frames import POLL, active
+from temzaar.process import Controller, ends_with_parent
+from temzaar.sitefile import Site
+from tests.support import tool_words
+from tests.test_served import Carrier
+
+# Seconds between two polls of a carrier, as on the air.
+PERIOD = 0.060
+
+
+class Player(threading.Thread):
+    """Carriers that poll each 60 ms. `send` has bursts for the control slot, one a poll; `talking` the carriers and slots on which somebody talks."""
+
+    def __init__(self, site: Site) -> None:
+        super().__init__(daemon=True)
+        self.site, self.carriers = site, {}  # type: Site, dict[int, Carrier]
+        self.bursts: queue.SimpleQueue[bytes] = queue.SimpleQueue()
+        self.talking: set[tuple[int, int]] = set()
+        self.guard, self.is_stopped = threading.Lock(), False
+        self.fault: OSError | None = None
+
+    def join_carrier(self, number: int) -> None:
+        """A carrier connects."""
+        with self.guard:
+            self.carriers[number] = Carrier(self.site.row(number), self.site.link_version)
+
+    def lose_carrier(self, number: int) -> None:
+        """A carrier's connection ends."""
+        with self.guard:
+            self.carriers.pop(number).stream.close()
+
+    def register(self, radio: int) -> None:
+        """A radio registers."""
+        self.bursts.put(pdus.random_access(pdus.REGISTRATION, self.site.plan["regi"], radio, self.site.register_options()))
+
+    def call_group(self, group: int, radio: int) -> None:
+        """A radio calls a talkgroup."""
+        self.bursts.put(pdus.random_access(pdus.TALKGROUP_VOICE, group, radio))
+
+    def run(self) -> None:
+        try:
+            while not self.is_stopped:
+                with self.guard:
+                    self._poll()
+                time.sleep(PERIOD)
+        except OSError as fault:
+            self.fault = fault
+
+    def _poll(self) -> None:
+        """Polls each carrier once."""
+        for number, carrier in self.carriers.items():
+            octets = b"".join(active(slot) for at, slot in sorted(self.talking) if at == number)
+            if number == self.site.control and not self.bursts.empty():
+                octets += carrier.link.rx(0, code.burst_of(self.bursts.get()))
+            carrier.ask(octets + POLL)
+
+    def stop(self) -> None:
+        """Ends it, and the connections."""
+        self.is_stopped = True
+        self.join(10)
+        for carrier in self.carriers.values():
+            carrier.stream.close()
+
+
+class Scene:
+    """The controller, the hub with an HTTP port, and the player. `base` is the address of the page."""
+
+    def __init__(self, program: str, site: Site, state_seconds: float = 0.25) -> None:
+        self.folder = tempfile.mkdtemp()
+        self.controller = Controller(program, site)
+        self.controller.wait_until_served()
+        with socket.create_server(("127.0.0.1", 0)) as free:
+            self.port = int(free.getsockname()[1])
+        self.base = f"http://127.0.0.1:{self.port}/"
+        self.hub = self._start_hub(site, state_seconds)
+        self.player = Player(site)
+        self.player.start()
+
+    def _start_hub(self, site: Site, state_seconds: float) -> subprocess.Popen[bytes]:
+        """Starts the hub, and waits until it serves the page."""
+        plan, config = os.path.join(self.folder, "site.toml"), os.path.join(self.folder, "hub.toml")
+        with open(plan, "w", encoding="utf-8") as it:
+            it.write(site.text())
+        with open(config, "w", encoding="utf-8") as it:
+            it.write(f'[controller]\nsite_file = "{plan}"\nreconnect_seconds = 0.5\n[poll]\nstate_seconds = {state_seconds}\nradios_seconds = 1\n[http]\nport = {self.port}\n'
+                     f'[line_port]\nsocket = "{self.folder}/console.sock"\n[audit]\nfile = "{self.folder}/audit.jsonl"\n')
+        hub = subprocess.Popen(tool_words("hub", "--config", config), stderr=subprocess.DEVNULL, preexec_fn=ends_with_parent())
+        until = time.monotonic() + 30
+        while True:
+            try:
+                with urllib.request.urlopen(self.base + "v1/state.json", timeout=5):
+                    return hub
+            except (urllib.error.URLError, OSError):
+                assert hub.poll() is None and time.monotonic() < until, "the hub does not serve"
+                time.sleep(0.1)
+
+    def stop_hub(self) -> None:
+        """Ends the hub."""
+        self.hub.terminate()
+        self.hub.wait(20)
+
+    def close(self) -> None:
+        """Ends all of it."""
+        self.player.stop()
+        self.stop_hub()
+        self.controller.stop()
+        shutil.rmtree(self.folder, ignore_errors=True)

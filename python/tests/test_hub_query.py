@@ -1,0 +1,30 @@
+"""Queries of HTTP paths: values of each kind, and refusals that name the key."""
+import unittest
+
+from temzaar.hub.boardviews import CALL_KEYS, HISTORY_KEYS
+from temzaar.hub.query import read_query
+from temzaar.hub.web import BadRequest
+
+
+class Read(unittest.TestCase):
+    """Queries that are accepted, and others."""
+
+    def test_values(self) -> None:
+        self.assertEqual(read_query("", CALL_KEYS), {})
+        self.assertEqual(read_query("radio=1001&group=91&last=7", CALL_KEYS), {"radio": 1001, "group": 91, "last": 7})
+        self.assertEqual(read_query("&radio=0001&", CALL_KEYS), {"radio": 1})
+        self.assertEqual(read_query("span=day", HISTORY_KEYS), {"span": "day"})
+
+    def test_refusals(self) -> None:
+        for query, said in (("colour=red", "colour: unknown key: there is radio, group, last"), ("radio=1&radio=2", "radio: given twice"), ("radio", "radio: not a whole number: 1 to 16777215"),
+                            ("radio=", "radio: not a whole number: 1 to 16777215"), ("radio=0", "radio: out of range: 1 to 16777215"), ("radio=16777216", "radio: out of range: 1 to 16777215"),
+                            ("radio=-1", "radio: not a whole number: 1 to 16777215"), ("radio=1e3", "radio: not a whole number: 1 to 16777215"), ("radio=%31", "radio: not a whole number: 1 to 16777215"),
+                            ("last=1001", "last: out of range: 1 to 1000"), ("group=91;last=2", "group: not a whole number: 1 to 16777215"), ("last=" + "9" * 5000, "last: not a whole number: 1 to 1000"),
+                            ("x" * 5000, "x" * 40 + ": unknown key: there is radio, group, last"), ("=5", ": unknown key: there is radio, group, last"),
+                            ("radio=\xb2", "radio: not a whole number: 1 to 16777215")):
+            with self.subTest(query[:40]), self.assertRaises(BadRequest) as refused:
+                read_query(query, CALL_KEYS)
+            self.assertEqual((refused.exception.response.status, refused.exception.response.body.decode()), (400, f"{said}\n"))
+        with self.assertRaises(BadRequest) as refused:
+            read_query("span=week", HISTORY_KEYS)
+        self.assertEqual(str(refused.exception), 'span: not "hour" or "day"')

@@ -36,7 +36,7 @@ struct Row {
     reads: Option<usize>,
 }
 
-static CARRIERS_PORT: [Row; 18] = [
+static CARRIERS_PORT: [Row; 19] = [
     Row {
         name: "a base station polls: a read for each poll, and two at the beginning",
         silence: 10,
@@ -73,6 +73,22 @@ static CARRIERS_PORT: [Row; 18] = [
         script: "\
 0 1 comes
 0 1 hello
+",
+        notes: "\
+10.0.0.1:1 connected
+10.0.0.1:1 disconnected: silence
+",
+        got: 6,
+        reads: None,
+    },
+    Row {
+        name: "waits that end at once are counted",
+        silence: 10,
+        until: 1000,
+        script: "\
+0 1 comes
+0 1 hello
+0 0 storms 4000
 ",
         notes: "\
 10.0.0.1:1 connected

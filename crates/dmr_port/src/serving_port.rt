@@ -38,7 +38,7 @@ const MOST_ACCEPTS: usize = 16;
 ///
 /// - In a window of 60 ms it returns at most 512 octets to the link; then a read would block.
 /// - A connection from which no octet came for `silence` waits of 100 ms is silent. So is, after as long, a carrier's connection without a
-///   whole HELLO, and an operator's connection with a line that did not end. Of each wait only the time that passed counts, and at most the time asked for.
+///   whole HELLO, and an operator's connection with a line that did not end. Between the ends of two waits at most 25 ms count.
 /// - Octets that the connection does not take at once are kept, at most 65,536, and sent before anything more is read. A connection that
 ///   does not take them within 50 waits is given up.
 /// - While a connection is served, at most 8 newcomers wait. When a ninth comes, the oldest that has sent no HELLO for this carrier is
@@ -58,12 +58,12 @@ pub struct ServingPort<S: Sockets + Drop, N: PortNotes + Drop> {
     room: WaitingRoom,
     log: PortLog<N>,
     settings: PortSettings,
-    // The time up to which waits have been counted, by the sockets' clock.
-    counted: u64,
     // There may be a connection to accept, or something to see of a newcomer.
     has_news: bool,
     // Connections cannot be accepted, and that has been noted.
     refuses: bool,
+    // The time up to which waits for the connection have been counted.
+    counted: u64,
 }
 
 impl<S: Sockets + Drop, N: PortNotes + Drop> Model for ServingPort<S, N> {
@@ -110,9 +110,9 @@ impl<S: Sockets + Drop, N: PortNotes + Drop> ServingPort<S, N> {
                 room: WaitingRoom::new(),
                 log: PortLog::new(notes),
                 settings,
-                counted: 0,
                 has_news: true,
                 refuses: false,
+                counted: 0,
             }),
             Err(refused) => Err((refused, sockets, notes)),
         }
@@ -278,32 +278,22 @@ impl<S: Sockets + Drop, N: PortNotes + Drop> ServingPort<S, N> {
         PART_MS
     }
 
-    /// Returns how many milliseconds have passed since waits were last counted, at most those of a part. A wait that ends at once is counted
-    /// with the next one, so that newcomers cannot stop the time of a silent connection. A time in which the program was stopped counts as
-    /// one part.
-    fn count_time(&mut self) -> u32
-        ensures within { result ≤ 25 }
-        ensures port { self.new ≡ self.old }
-    {
-        let now = self.sockets.now();
-        let passed = now.saturating_sub(self.counted).min(PART_MS);
-        self.counted = now;
-        passed as u32
-    }
-
-    /// Waits for a part of a wait, and accepts newcomers if there is news of some. Returns what the wait found, and the milliseconds to count.
+    /// Waits for a part of a wait, and accepts newcomers if there is news of some. Returns what the wait found, and how many milliseconds
+    /// passed since the end of the wait before, at most a part. Counted from there, waits that end at once add up.
     fn wait_and_admit(&mut self, keeps: bool) -> (Ready, u32)
         ensures within { result.1 ≤ 25 }
         ensures port { self.new ≡ record self.old { waiting = self.new.waiting } }
     {
-        let now = self.sockets.now();
-        let asked = self.milliseconds_to_wait(now);
+        let before = self.sockets.now();
+        let asked = self.milliseconds_to_wait(before);
         let ready = self.sockets.wait(asked, keeps);
-        let milliseconds = self.count_time();
+        let now = self.sockets.now();
+        let passed = now.saturating_sub(self.counted).min(PART_MS);
+        self.counted = now;
         if ready.newcomers || self.has_news {
             self.admit();
         }
-        (ready, milliseconds)
+        (ready, passed as u32)
     }
 
     /// Notes that the connection yields its place to a claimant, if it was given up for that.

@@ -37,6 +37,8 @@ pub enum Deed {
     Interrupts,
     /// `stops N`: the program is stopped for N milliseconds.
     Stops(u64),
+    /// `storms N`: the next N waits end at once with newcomers, and each fourth takes a millisecond.
+    Storms(usize),
     /// `?`: unknown words.
     Unknown,
 }
@@ -69,6 +71,7 @@ fn deed_of(words: &'static str) -> Deed {
         "refuses" => Deed::Refuses,
         "accepts" => Deed::Accepts,
         "interrupts" => Deed::Interrupts,
+        "storms" => Deed::Storms(rest.parse::<usize>().unwrap_or(0)),
         "stops" => Deed::Stops(rest.parse::<u64>().unwrap_or(0)),
         _ => Deed::Unknown,
     }

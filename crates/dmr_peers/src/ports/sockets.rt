@@ -63,6 +63,8 @@ pub struct MemorySockets {
     sends: bool,
     refuses: bool,
     interrupts: [bool; 3],
+    /// The number of waits that end at once.
+    storm: usize,
     /// The numbers of reads and of writes that the port asked for.
     pub asked: (usize, usize),
 }
@@ -109,6 +111,7 @@ impl MemorySockets {
             sends: false,
             refuses: false,
             interrupts: [false; 3],
+            storm: 0,
             asked: (0, 0),
         })
     }
@@ -193,6 +196,7 @@ impl MemorySockets {
             Deed::Accepts => self.refuses = false,
             Deed::Interrupts => self.interrupts = [true; 3],
             Deed::Stops(milliseconds) => self.clock = self.clock.saturating_add(milliseconds),
+            Deed::Storms(waits) => self.storm = waits,
             Deed::Unknown => {}
         }
     }
@@ -380,6 +384,16 @@ impl Sockets for MemorySockets {
             }
         }
         self.apply_due();
+        if self.storm > 0 {
+            self.storm -= 1;
+            if self.storm % 4 == 0 {
+                self.clock = self.clock.saturating_add(1);
+            }
+            return Ready {
+                newcomers: true,
+                ..NOTHING
+            };
+        }
         let ready = self.take_ready();
         if is_any(ready) {
             return ready;

@@ -135,7 +135,7 @@ install: build/dmr_trunk build/dmr_decode ## the programs, tools, manual pages, 
 	install -D -m 644 deploy/completion/dmr.bash $(DESTDIR)$(COMPLETIONS)/dmr_trunk
 	for command in decode siteview timeline capture carriers check hub console; do ln -sf dmr_trunk $(DESTDIR)$(COMPLETIONS)/dmr_$$command || exit; done
 	for unit in dmr_trunk dmr_hub dmr_trunk@ dmr_hub@; do sed 's|@PREFIX@|$(PREFIX)|' deploy/$$unit.service >$(DESTDIR)$(PREFIX)/lib/systemd/system/$$unit.service || exit; done
-	install -m 644 docs/OPERATING.md docs/SECURITY.md docs/ALARMS.md docs/HUB.md docs/SITE_FILE.md docs/FORMATS.md docs/LINK.md docs/GLOSSARY.md docs/GUARANTEES.md docs/ASSURANCE.md CHANGELOG.md LICENSE-APACHE LICENSE-MIT $(DESTDIR)$(DOC)
+	install -m 644 docs/OPERATING.md docs/SECURITY.md docs/ALARMS.md docs/CAPACITY.md docs/HUB.md docs/SITE_FILE.md docs/FORMATS.md docs/LINK.md docs/GLOSSARY.md docs/GUARANTEES.md docs/ASSURANCE.md CHANGELOG.md LICENSE-APACHE LICENSE-MIT $(DESTDIR)$(DOC)
 	install -m 644 docs/pictures/*.svg docs/pictures/*.png $(DESTDIR)$(DOC)/pictures
 	install -m 644 sites/*.toml deploy/hub.toml $(DESTDIR)$(DOC)/examples
 	for kind in nftables wireguard stunnel systemd apparmor prometheus grafana; do install -d $(DESTDIR)$(DOC)/examples/$$kind && install -m 644 deploy/$$kind/* $(DESTDIR)$(DOC)/examples/$$kind || exit; done

@@ -56,13 +56,13 @@ SendsOwn plan now (Send slot pdu) = IsOwn plan now pdu
 SendsOwn plan now (Fill slot pdu) = IsOwn plan now pdu × (is_grant pdu ≡ true → (call : Call) × (call_on now.calls call.slot ≡ Some call) × (is_own plan call pdu ≡ true) × (names (lpcn_of plan call.slot.carrier) call.slot.slot pdu ≡ true))
 SendsOwn plan now _ = Unit {0}
 
--- the carrier came up or was lost, and no call has begun on it since: by event
+-- whether the carrier came up or was lost, and no call has begun on it since, after an event; `b` says it of the time before
 abbrev pub reset_by_event : ℕ → Bool → Event → Bool
 reset_by_event c b (Up d) = b || (d == c)
 reset_by_event c b (Lost d) = b || (d == c)
 reset_by_event c b _ = b
 
--- the same by act: a call that begins on the carrier ends it
+-- the same after an act: false once a call begins on the carrier
 abbrev pub reset_by_act : ℕ → Bool → Act → Bool
 reset_by_act c b (Began call) = b && not (call.slot.carrier == c)
 reset_by_act c b _ = b
@@ -73,7 +73,7 @@ names_carrier plan c (PvGrant l s target source) = l == lpcn_of plan c
 names_carrier plan c (TvGrant l s late target source) = l == lpcn_of plan c
 names_carrier plan c _ = false
 
--- the act queues such a grant, or sends it as a Fill
+-- the act queues a grant that names a slot of the carrier, or sends one as a Fill
 abbrev pub grants_on : Settings → ℕ → Act → Bool
 grants_on plan c (Queue slot pdu) = names_carrier plan c pdu
 grants_on plan c (Fill slot pdu) = names_carrier plan c pdu
@@ -83,16 +83,17 @@ grants_on plan c _ = false
 abbrev pub has_call : List Standing → ℕ → Bool
 has_call calls c = list_any (λ s. s.call.slot.carrier == c) calls
 
--- while b is true, no call is active on the carrier, and no grant that is queued, or sent as a Fill, names a slot of it
+-- while b is true, no call is active on the carrier, and no act queues a grant that names a slot of it, or sends one as a Fill. A grant
+-- that was queued before may still be sent
 abbrev pub QuietActs : Settings → ℕ → Bool → Facts → List Act → Type 0
 QuietActs plan c b now [] = b ≡ true → has_call now.calls c ≡ false
 QuietActs plan c b now (act ∷ acts) = (b ≡ true → (has_call now.calls c ≡ false) × (grants_on plan c act ≡ false)) × QuietActs plan c (reset_by_act c b act) (facts_after_act now act) acts
 
--- the carrier came up or was lost in the journal, and no call has begun on it since
+-- whether the carrier came up or was lost in the journal, and no call has begun on it since
 abbrev pub is_reset : ℕ → List Entry → Bool
 is_reset c journal = since (reset_by_event c) (reset_by_act c) false journal
 
--- `QuietActs` holds at each entry, from the carrier's Up or Lost until a call begins on it
+-- `QuietActs` holds at each entry, with b true from the carrier's Up or Lost in the journal until a call begins on it
 abbrev pub QuietAfterReset : Settings → Facts → ℕ → List Entry → Type 0
 QuietAfterReset plan facts c [] = Unit {0}
 QuietAfterReset plan facts c (entry ∷ earlier) =

@@ -57,7 +57,7 @@ unfoldable pub clear : Settings → Call → List Act
 clear plan call =
     Ended call.slot ∷ replicate plan.clear_copies (Queue call.slot (Clear (lpcn_of plan plan.control) call.group call.target plan.tsi))
 
--- the call of a line on a slot
+-- the call that a line becomes on a slot
 abbrev pub call_of_line : Line → Slot → Call
 call_of_line line slot = record { slot = slot; source = line.source; target = line.target; group = line.group }
 

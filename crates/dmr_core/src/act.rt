@@ -1,6 +1,6 @@
 //! The acts of the site machine.
 
-ghost use Rattle.std.specs.Prelude.{◌≡◌, ◌↔◌, IsTrue, None};
+ghost use Rattle.std.specs.Prelude.{◌≡◌, ◌↔◌, [], IsTrue, None};
 
 use crate::reply::Reply;
 use dmr_calls::{Ask, Call, Line};
@@ -61,6 +61,23 @@ impl Acts {
         ensures { result ≡ record { list = list; said = None } }
     {
         Acts { list, said: None }
+    }
+
+    /// Makes an answer without acts and without a reply.
+    pub fn none() -> Acts
+        ensures { result ≡ record { list = []; said = None } }
+    {
+        Acts::without_reply(BoundedList::new())
+    }
+
+    /// Removes the acts and the reply. It writes only what is there, so it costs less than [`Acts::none`] if there is little.
+    pub fn clear(&mut self)
+        ensures { self.new ≡ record { list = []; said = None } }
+    {
+        self.list.clear();
+        if self.said.is_some() {
+            self.said = None;
+        }
     }
 
     /// Reports whether the two are the same answer: the same acts in the same order, and the same reply. It returns what `==`

@@ -1,9 +1,9 @@
 //! The parts of a site, and the effect of each event and act on them. The answers are in the modules below.
 
-ghost use Rattle.std.specs.Prelude.{◌≡◌, ◌≢◌, [], ◌∷◌, fold, IfOk};
+ghost use Rattle.std.specs.Prelude.{◌≡◌, ◌≢◌, ◌≤◌, ◌+◌, ◌++◌, [], ◌∷◌, None, fold, length, IfOk};
 ghost use Rattle.dmr_core.specs.declared.event.Event.TheVariants.{Up, Lost, Heard, Tick};
 ghost use Rattle.dmr_core.specs.Facts.{facts_after, facts_after_event, facts_after_act, no_facts};
-ghost use Rattle.dmr_core.specs.Rules.{acts_of};
+ghost use Rattle.dmr_core.specs.Rules.{acts_of, answer_to_command};
 ghost use Rattle.dmr_core.specs.Replies.{reply_to};
 ghost use Rattle.dmr_core.specs.Journal.{entry_by_nobody};
 ghost use Rattle.dmr_core.specs.declared.act.Act.TheVariants.{Began, Ended};
@@ -25,7 +25,7 @@ use crate::event::Event;
 use crate::named::NamedSlot;
 use dmr_access::Access;
 use dmr_calls::{Call, Calls};
-use dmr_pdu::{BoundedList, CarrierNo, Lpcn, OutOfMemory, Pdu, Slot};
+use dmr_pdu::{CarrierNo, Lpcn, OutOfMemory, Pdu, Slot};
 use dmr_plan::Plan;
 use dmr_pool::Pool;
 use dmr_registry::Registry;
@@ -230,56 +230,64 @@ impl Machine {
         }
     }
 
-    /// The acts that answer a PDU on a slot: none unless the slot is the control slot, its carrier is up, and there is room.
+    /// Answers a PDU on a slot: with no act unless the slot is the control slot, its carrier is up, and there is room.
     // Out of line: an event of another kind then does not clear this function's locals.
     #[inline(never)]
-    fn heard_on(&self, slot: &Slot, pdu: &Pdu) -> ActList
-        ensures { result ≡ acts_of self.now.plan self.now.facts (Heard slot.now pdu.now) }
+    fn answer_pdu_on(&self, acts: &mut ActList, slot: &Slot, pdu: &Pdu)
+        requires { length acts.old + 7 ≤ 16 }
+        ensures { acts.new ≡ acts.old ++ acts_of self.now.plan self.now.facts (Heard slot.now pdu.now) }
     {
         if self.is_up(slot.carrier) && self.is_control(slot) && self.has_room() {
-            self.heard(pdu)
-        } else {
-            BoundedList::new()
+            self.answer_pdu(acts, pdu);
         }
     }
 
-    /// The answer to an event other than a tick.
-    fn answer(&self, event: &Event) -> Acts
-        requires { event.now ≢ Tick }
-        ensures { result ≡ record { list = acts_of self.now.plan self.now.facts event.now; said = reply_to self.now.plan self.now.facts event.now } }
+    /// Makes `acts` the answer to a command.
+    // Out of line: an event of another kind then does not clear the room of the answer that is returned here.
+    #[inline(never)]
+    fn answer_command(&self, command: &Command, acts: &mut Acts)
+        ensures { acts.new ≡ answer_to_command self.now.plan self.now.facts command.now }
+    {
+        *acts = self.commanded(command);
+    }
+
+    /// Makes `acts`, which is empty, the answer to an event other than a tick.
+    fn answer(&self, event: &Event, acts: &mut Acts)
+        requires other { event.now ≢ Tick }
+        requires empty { acts.old ≡ record { list = []; said = None } }
+        ensures { acts.new ≡ record { list = acts_of self.now.plan self.now.facts event.now; said = reply_to self.now.plan self.now.facts event.now } }
     {
         match event {
-            Event::Heard(slot, pdu) => Acts::without_reply(self.heard_on(slot, pdu)),
-            Event::Poll(carrier) => Acts::without_reply(self.poll(*carrier)),
-            Event::Say(command) => self.commanded(command),
-            _ => Acts::without_reply(BoundedList::new()),
+            Event::Heard(slot, pdu) => self.answer_pdu_on(&mut acts.list, slot, pdu),
+            Event::Poll(carrier) => self.answer_poll(&mut acts.list, *carrier),
+            Event::Say(command) => self.answer_command(command, acts),
+            _ => {}
         }
     }
 
-    /// Applies an event to the facts and returns its answer. A Tick is counted before it is answered.
-    fn noted(&mut self, event: &Event) -> Acts
-        ensures acts { result ≡ record { list = acts_of self.old.plan self.old.facts event.now; said = reply_to self.old.plan self.old.facts event.now } }
+    /// Applies an event to the facts, and makes `acts` its answer. A Tick is counted before it is answered.
+    fn answer_and_note(&mut self, event: &Event, acts: &mut Acts)
+        ensures acts { acts.new ≡ record { list = acts_of self.old.plan self.old.facts event.now; said = reply_to self.old.plan self.old.facts event.now } }
         ensures facts { self.new ≡ record { plan = self.old.plan; facts = facts_after_event self.old.plan self.old.facts event.now } }
     {
+        acts.clear();
         if let Event::Tick = event {
             self.note(event);
-            Acts::without_reply(self.tick())
+            self.answer_tick(&mut acts.list);
         } else {
-            let acts = self.answer(event);
+            self.answer(event, acts);
             self.note(event);
-            acts
         }
     }
 
-    /// Answers an event and applies it with its acts.
-    pub fn apply(&mut self, event: &Event) -> Acts
+    /// Answers an event and applies it with its acts. `acts` becomes the answer, whatever it was before.
+    pub fn apply_to(&mut self, event: &Event, acts: &mut Acts)
         requires { AllMayDo self.old.plan (facts_after_event self.old.plan self.old.facts event.now) (acts_of self.old.plan self.old.facts event.now) }
-        ensures acts { result ≡ record { list = acts_of self.old.plan self.old.facts event.now; said = reply_to self.old.plan self.old.facts event.now } }
-        ensures facts { self.new ≡ record { plan = self.old.plan; facts = facts_after self.old.plan self.old.facts (entry_by_nobody event.now result ∷ []) } }
+        ensures acts { acts.new ≡ record { list = acts_of self.old.plan self.old.facts event.now; said = reply_to self.old.plan self.old.facts event.now } }
+        ensures facts { self.new ≡ record { plan = self.old.plan; facts = facts_after self.old.plan self.old.facts (entry_by_nobody event.now acts.new ∷ []) } }
     {
-        let acts = self.noted(event);
+        self.answer_and_note(event, acts);
         self.perform_all(acts.list.as_slice());
-        acts
     }
 
     /// Reports whether two sites have the same plan and facts.

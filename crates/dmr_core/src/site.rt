@@ -65,7 +65,21 @@ impl Site {
         ensures said { result.said ≡ reply_to self.old.plan self.old.facts event }
         ensures facts { self.new ≡ record { plan = self.old.plan; facts = facts_after self.old.plan self.old.facts (entry_by_nobody event result ∷ []) } }
     {
-        self.machine.apply(&event)
+        let mut acts = Acts::none();
+        self.apply_to(&event, &mut acts);
+        acts
+    }
+
+    /// Answers an event as [`apply`](Site::apply) does. `acts` becomes the answer, whatever it was before.
+    ///
+    /// An answer has room for sixteen acts and a reply, most of which an event leaves unused. A caller that keeps `acts` from event to
+    /// event does not pay for that room at each event.
+    pub fn apply_to(&mut self, event: &Event, acts: &mut Acts)
+        ensures acts { acts.new.list ≡ acts_of self.old.plan self.old.facts event.now }
+        ensures said { acts.new.said ≡ reply_to self.old.plan self.old.facts event.now }
+        ensures facts { self.new ≡ record { plan = self.old.plan; facts = facts_after self.old.plan self.old.facts (entry_by_nobody event.now acts.new ∷ []) } }
+    {
+        self.machine.apply_to(event, acts);
     }
 
     /// Makes an independent site with the same plan and facts.

@@ -9,3 +9,7 @@ mod RecordReadsAsOne
 mod MeaningsAddUp
 mod WorkersMakeATerm
 mod RefusalLemmas
+mod TermsJoin
+mod JournalsJoin
+mod WorkersGoOn
+mod TicksAddUp

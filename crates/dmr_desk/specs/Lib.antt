@@ -9,3 +9,5 @@ pub mod Work
 pub mod Term
 pub mod Meaning
 pub mod Refusing
+pub mod Terms
+pub mod Life

@@ -105,14 +105,14 @@ deposits_of_sessions (s ∷ ss) = deposits_of_sessions ss ++ s.calls
 
 -- ---- in order
 
--- a port may answer a request for a connection so
+-- the answers that a port may give to a request for a connection
 abbrev pub IsAsk : Answer → Type 0
 IsAsk Opened = Unit {0}
 IsAsk NotYet = Unit {0}
 IsAsk Finished = Unit {0}
 IsAsk answer = ⊥
 
--- a port may answer a wait so, and the desk takes events only if the link was cut for silence
+-- the answers that a port may give to a wait; the desk takes events then only if the link was cut for silence
 abbrev pub IsWait : Answer → List Deposit → Type 0
 IsWait Again deposits = deposits ≡ []
 IsWait Silent deposits = Unit {0}
@@ -152,8 +152,8 @@ pub record IsCall (who : Peer) (past : List Session) (happened : List Happening)
   pub rested : (s : Session) (ss : List Session) → past ≡ s ∷ ss → (hearing_after_answers (hearing_at s 0) (answers_in happened)).writing ≡ 0
   pub stops : StopsAt stop (answers_in happened)
 
--- the worker asked for a connection only if none was open and nothing was pending. It began a call of `serve` only if
--- `MayBeginServe` allowed it, and each wait directly follows a read that would block
+-- a worker asks for a connection only if none is open and nothing is pending, begins a call of `serve` only if `MayBeginServe` holds, and
+-- waits only if `MayWait` does. So each wait directly follows a read that would block
 abbrev pub IsOrderly : Peer → List Session → List Doing → Type 0
 IsOrderly who past [] = Unit {0}
 IsOrderly who past (Asked answer ∷ earlier) = IsAsk answer × Rests (past_after past earlier) × IsOrderly who past earlier
@@ -162,7 +162,7 @@ IsOrderly who past (Waited answer deposits ∷ earlier) = IsWait answer deposits
 
 -- ---- from one moment to another
 
--- these steps lead from moment `m` to moment `n`
+-- these steps lead from moment `m` to moment `n`: what port, desk and gate report goes on by them, and so do the link's connections
 pub record Went (m : Moment) (n : Moment) (doings : List Doing) : Type 0 where
   pub who : n.at.link.who ≡ m.at.link.who
   -- the reports of port, desk and gate continue with exactly what happened

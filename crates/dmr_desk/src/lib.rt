@@ -13,6 +13,9 @@
 //! deposit. When all parts are together, the journal is exactly as long as all seats' lists. The content of the lock belongs to the desk's
 //! own site, limit and number of actors: the ledger names them ([`DeskLedger`]), and the content's type says that they agree.
 //!
+//! [`run_terms`] runs terms in a row, and an [`Observer`] sees each report. [`one_life`] says what all terms come to,
+//! and [`terms_go_on`] how rows of terms join.
+//!
 //! [`one_record`] and [`one_meaning`] say what all connections of a worker mean together.
 #![tactic(auto)]
 
@@ -25,6 +28,7 @@ mod desk_ledger;
 mod ending;
 mod fault;
 mod laws;
+mod life;
 mod limits;
 mod meaning;
 mod pace;
@@ -34,6 +38,7 @@ mod run;
 mod seat;
 mod station;
 mod term;
+mod terms;
 mod threads;
 mod view;
 mod work;
@@ -43,8 +48,9 @@ pub use book::Book;
 pub use desk::SharedDesk;
 pub use desk_ledger::DeskLedger;
 pub use ending::Ending;
-pub use fault::{CloseFault, OpenFault, TermFault};
+pub use fault::{CloseFault, OpenFault, TermFault, TermsFault};
 pub use laws::reports_account;
+pub use life::{one_life, terms_go_on};
 pub use limits::{MOST_ACTORS, MOST_ENTRIES, PARTS, limits_are_stated};
 pub use meaning::{one_meaning, one_record};
 pub use pace::{Pace, Pacer, work_ticker};
@@ -53,5 +59,6 @@ pub use run::run_term;
 pub use seat::Seat;
 pub use station::{ConsoleStation, Station};
 pub use term::Term;
+pub use terms::{Observer, Service, run_terms};
 pub use view::View;
 pub use work::{work_carrier, work_console};

@@ -1,6 +1,6 @@
 //! A list of bounded length that is `Copy` and does not use an allocator.
 
-ghost use Rattle.std.specs.Prelude.{◌≡◌, ◌<◌, ◌≤◌, ◌++◌, ◌∷◌, ◌↔◌, [], length, IsTrue};
+ghost use Rattle.std.specs.Prelude.{◌≡◌, ◌<◌, ◌≤◌, ◌-◌, ◌++◌, ◌∷◌, ◌↔◌, [], length, take, IsTrue};
 ghost use Rattle.std.specs.Cmp.Lexicographic.{pointwise, lists_per, lists_equiv};
 
 use crate::OutOfMemory;
@@ -115,6 +115,24 @@ impl<T: Blank, const N: usize> BoundedList<T, N> {
     {
         self.cells[self.count] = entry;
         self.count += 1;
+    }
+
+    /// Removes the last entry. There must be one.
+    fn remove_last(&mut self)
+        requires { 0 < length self.old }
+        ensures { self.new ≡ take (length self.old - 1) self.old }
+    {
+        self.count -= 1;
+        self.cells[self.count] = T::blank();
+    }
+
+    /// Removes all entries. It writes only the cells that have entries, so it costs less than a new list if there are few.
+    pub fn clear(&mut self)
+        ensures { self.new ≡ [] }
+    {
+        while !self.is_empty() {
+            self.remove_last();
+        }
     }
 }
 

@@ -1,4 +1,4 @@
-//! The acts that answer a PDU received on the control slot: a request, or the answer of a called radio.
+//! Adds the acts that answer a PDU received on the control slot: a request, or the answer of a called radio.
 
 ghost use Rattle.std.specs.Prelude.{◌≡◌, ◌≤◌, ◌+◌, ◌++◌, length};
 ghost use Rattle.dmr_core.specs.Words.{is_engaged};
@@ -8,7 +8,7 @@ use super::Machine;
 use crate::act::{Act, ActList};
 use crate::request::Request;
 use dmr_calls::{Ask, Line, MOST_ASKS, MOST_LINES};
-use dmr_pdu::{Address, BoundedList, Kind, Number, Options, Pdu, Reason};
+use dmr_pdu::{Address, Kind, Number, Options, Pdu, Reason};
 use dmr_registry::MOST_RADIOS;
 
 /// Reports whether an option bit is 1. Bit 0 is the last of the seven.
@@ -19,12 +19,13 @@ fn has_option(options: Options, bit: u8) -> bool
 }
 
 impl Machine {
-    /// The acts that answer a PDU.
+    /// Answers a PDU.
     #[tactic(auto, unfolding(crate::specs::Rules::acts_for_pdu))]
     // Out of line: an event of another kind then does not clear this function's locals.
     #[inline(never)]
-    pub(super) fn heard(&self, pdu: &Pdu) -> ActList
-        ensures { result ≡ acts_for_pdu self.now.plan self.now.facts pdu.now }
+    pub(super) fn answer_pdu(&self, acts: &mut ActList, pdu: &Pdu)
+        requires { length acts.old + 7 ≤ 16 }
+        ensures { acts.new ≡ acts.old ++ acts_for_pdu self.now.plan self.now.facts pdu.now }
     {
         match *pdu {
             Pdu::Random {
@@ -33,7 +34,8 @@ impl Machine {
                 kind,
                 target,
                 source,
-            } => self.request(
+            } => self.answer_request(
+                acts,
                 &Request {
                     options,
                     source,
@@ -46,41 +48,35 @@ impl Machine {
                 reason,
                 additional,
                 ..
-            } => self.answered(reason, additional),
-            _ => BoundedList::new(),
+            } => self.answer_called_radio(acts, reason, additional),
+            _ => {}
         }
     }
 
-    /// The acts that answer a request.
+    /// Answers a request.
     #[tactic(auto, unfolding(crate::specs::Rules::acts_for_request))]
-    fn request(&self, asked: &Request, flags: Number<5>, kind: Kind) -> ActList
-        ensures { result ≡ acts_for_request self.now.plan self.now.facts asked.now flags kind }
+    fn answer_request(&self, acts: &mut ActList, asked: &Request, flags: Number<5>, kind: Kind)
+        requires { length acts.old + 7 ≤ 16 }
+        ensures { acts.new ≡ acts.old ++ acts_for_request self.now.plan self.now.facts asked.now flags kind }
     {
-        let mut acts = BoundedList::new();
         if flags.get() != 0 {
-            self.add_ack(&mut acts, asked.source, asked.target, Reason::NOT_SUPPORTED);
+            self.add_ack(acts, asked.source, asked.target, Reason::NOT_SUPPORTED);
         } else if kind == Kind::REGISTRATION {
-            return self.registration(asked);
+            self.answer_registration(acts, asked);
         } else if kind != Kind::TALKGROUP_VOICE
             && kind != Kind::INDIVIDUAL_VOICE
             && kind != Kind::CANCEL
         {
-            self.add_ack(&mut acts, asked.source, asked.target, Reason::NOT_SUPPORTED);
+            self.add_ack(acts, asked.source, asked.target, Reason::NOT_SUPPORTED);
         } else if !self.registry.has(asked.source) {
-            self.add_ack(
-                &mut acts,
-                asked.source,
-                asked.target,
-                Reason::MS_NOT_REGISTERED,
-            );
+            self.add_ack(acts, asked.source, asked.target, Reason::MS_NOT_REGISTERED);
         } else if kind == Kind::CANCEL {
-            return self.cancel(asked);
+            self.answer_cancel(acts, asked);
         } else if kind == Kind::TALKGROUP_VOICE {
-            return self.talkgroup(asked);
+            self.answer_talkgroup_request(acts, asked);
         } else {
-            return self.individual(asked);
+            self.answer_individual_request(acts, asked);
         }
-        acts
     }
 
     #[tactic(auto, unfolding(crate::specs::Rules::is_leaving))]
@@ -93,65 +89,42 @@ impl Machine {
         }
     }
 
-    /// The acts that answer a radio that leaves.
+    /// Answers a radio that leaves.
     #[tactic(auto, unfolding(crate::specs::Rules::acts_for_leaving))]
-    fn leaving(&self, request: &Request) -> ActList
-        ensures { result ≡ acts_for_leaving self.now.plan self.now.facts request.now }
+    fn answer_leaving(&self, acts: &mut ActList, request: &Request)
+        requires { length acts.old + 7 ≤ 16 }
+        ensures { acts.new ≡ acts.old ++ acts_for_leaving self.now.plan self.now.facts request.now }
     {
-        let mut acts = BoundedList::new();
-        self.add_close(&mut acts, request.source);
+        self.add_close(acts, request.source);
         if self.registry.has(request.source) {
             acts.push(Act::Left(request.source));
         }
         self.add_ack(
-            &mut acts,
+            acts,
             request.source,
             request.target,
             Reason::MESSAGE_ACCEPTED,
         );
-        acts
     }
 
-    /// The acts that answer a registration, or a radio that leaves.
+    /// Answers a registration, or a radio that leaves.
     #[tactic(auto, unfolding(crate::specs::Rules::acts_for_registration))]
-    fn registration(&self, request: &Request) -> ActList
-        ensures { result ≡ acts_for_registration self.now.plan self.now.facts request.now }
+    fn answer_registration(&self, acts: &mut ActList, request: &Request)
+        requires { length acts.old + 7 ≤ 16 }
+        ensures { acts.new ≡ acts.old ++ acts_for_registration self.now.plan self.now.facts request.now }
     {
         if self.is_leaving(request.options) {
-            return self.leaving(request);
-        }
-        let mut acts = BoundedList::new();
-        if !self.plan.lists_radio(request.source) {
-            self.add_ack(
-                &mut acts,
-                request.source,
-                request.target,
-                Reason::REG_DENIED,
-            );
+            self.answer_leaving(acts, request);
+        } else if !self.plan.lists_radio(request.source) {
+            self.add_ack(acts, request.source, request.target, Reason::REG_DENIED);
         } else if self.registry.has(request.source) {
-            self.add_ack(
-                &mut acts,
-                request.source,
-                request.target,
-                Reason::REG_ACCEPTED,
-            );
+            self.add_ack(acts, request.source, request.target, Reason::REG_ACCEPTED);
         } else if self.registry.len() >= MOST_RADIOS {
-            self.add_ack(
-                &mut acts,
-                request.source,
-                request.target,
-                Reason::REG_REFUSED,
-            );
+            self.add_ack(acts, request.source, request.target, Reason::REG_REFUSED);
         } else {
             acts.push(Act::Joined(request.source));
-            self.add_ack(
-                &mut acts,
-                request.source,
-                request.target,
-                Reason::REG_ACCEPTED,
-            );
+            self.add_ack(acts, request.source, request.target, Reason::REG_ACCEPTED);
         }
-        acts
     }
 
     /// Reports whether a radio is engaged.
@@ -178,33 +151,28 @@ impl Machine {
         }
     }
 
-    /// The acts that answer a talkgroup request.
+    /// Answers a talkgroup request.
     #[tactic(auto, unfolding(crate::specs::Rules::acts_for_talkgroup_request))]
-    fn talkgroup(&self, asked: &Request) -> ActList
-        ensures { result ≡ acts_for_talkgroup_request self.now.plan self.now.facts asked.now }
+    fn answer_talkgroup_request(&self, acts: &mut ActList, asked: &Request)
+        requires { length acts.old + 7 ≤ 16 }
+        ensures { acts.new ≡ acts.old ++ acts_for_talkgroup_request self.now.plan self.now.facts asked.now }
     {
-        let mut acts = BoundedList::new();
         let group = asked.target;
         if !self.plan.lists_group(group) {
-            self.add_ack(&mut acts, asked.source, group, Reason::GROUP_NOT_ALLOWED);
+            self.add_ack(acts, asked.source, group, Reason::GROUP_NOT_ALLOWED);
         } else if let Some(call) = self.calls.own_group_call(asked.source, group) {
-            self.add_grant(&mut acts, &call, false);
+            self.add_grant(acts, &call, false);
         } else if self.calls.own_group_line(asked.source, group) {
-            self.add_ack(&mut acts, asked.source, group, Reason::QUEUED_FOR_RESOURCE);
+            self.add_ack(acts, asked.source, group, Reason::QUEUED_FOR_RESOURCE);
         } else if self.is_engaged(asked.source) {
-            self.add_ack(
-                &mut acts,
-                asked.source,
-                group,
-                Reason::TRANSIENT_SYS_REFUSED,
-            );
+            self.add_ack(acts, asked.source, group, Reason::TRANSIENT_SYS_REFUSED);
         } else if let Some(call) = self.calls.group_call(group) {
-            self.add_grant(&mut acts, &call, true);
+            self.add_grant(acts, &call, true);
         } else if self.calls.group_line(group) {
-            self.add_ack(&mut acts, asked.source, group, Reason::QUEUED_FOR_RESOURCE);
+            self.add_ack(acts, asked.source, group, Reason::QUEUED_FOR_RESOURCE);
         } else {
             self.add_new_call(
-                &mut acts,
+                acts,
                 &Line {
                     source: asked.source,
                     target: group,
@@ -212,31 +180,30 @@ impl Machine {
                 },
             );
         }
-        acts
     }
 
-    /// The acts that answer an individual request.
+    /// Answers an individual request.
     #[tactic(auto, unfolding(crate::specs::Rules::acts_for_individual_request))]
-    fn individual(&self, asked: &Request) -> ActList
-        ensures { result ≡ acts_for_individual_request self.now.plan self.now.facts asked.now }
+    fn answer_individual_request(&self, acts: &mut ActList, asked: &Request)
+        requires { length acts.old + 7 ≤ 16 }
+        ensures { acts.new ≡ acts.old ++ acts_for_individual_request self.now.plan self.now.facts asked.now }
     {
-        let mut acts = BoundedList::new();
         let source = asked.source;
         let target = asked.target;
         if target == source || !self.plan.lists_radio(target) {
-            self.add_ack(&mut acts, source, target, Reason::PERM_USER_REFUSED);
+            self.add_ack(acts, source, target, Reason::PERM_USER_REFUSED);
         } else if let Some(call) = self.calls.own_call(source, target) {
-            self.add_grant(&mut acts, &call, false);
+            self.add_grant(acts, &call, false);
         } else if self.calls.has_own_ask(source, target) {
-            self.add_ack(&mut acts, source, target, Reason::WAIT);
+            self.add_ack(acts, source, target, Reason::WAIT);
         } else if self.calls.own_line(source, target) {
-            self.add_ack(&mut acts, source, target, Reason::QUEUED_FOR_RESOURCE);
+            self.add_ack(acts, source, target, Reason::QUEUED_FOR_RESOURCE);
         } else if self.is_engaged(source) {
-            self.add_ack(&mut acts, source, target, Reason::TRANSIENT_SYS_REFUSED);
+            self.add_ack(acts, source, target, Reason::TRANSIENT_SYS_REFUSED);
         } else if !self.registry.has(target) {
-            self.add_ack(&mut acts, source, target, Reason::NOREG_MS_AWAY);
+            self.add_ack(acts, source, target, Reason::NOREG_MS_AWAY);
         } else if self.is_engaged(target) {
-            self.add_ack(&mut acts, source, target, Reason::CALLED_PARTY_BUSY);
+            self.add_ack(acts, source, target, Reason::CALLED_PARTY_BUSY);
         } else if self.calls.counts().asks < MOST_ASKS {
             let ask = &Ask {
                 source,
@@ -245,20 +212,19 @@ impl Machine {
                 attempt: 1,
             };
             acts.push(Act::Asked(*ask));
-            self.add_ack(&mut acts, source, target, Reason::WAIT);
-            self.add_ahoy(&mut acts, ask);
+            self.add_ack(acts, source, target, Reason::WAIT);
+            self.add_ahoy(acts, ask);
         } else {
-            self.add_ack(&mut acts, source, target, Reason::SYSBUSY_REFUSED);
+            self.add_ack(acts, source, target, Reason::SYSBUSY_REFUSED);
         }
-        acts
     }
 
-    /// The acts that answer the called radio's acknowledgement.
+    /// Answers the called radio's acknowledgement.
     #[tactic(auto, unfolding(crate::specs::Rules::acts_for_called_radio))]
-    fn answered(&self, reason: Reason, called: Address) -> ActList
-        ensures { result ≡ acts_for_called_radio self.now.plan self.now.facts reason called }
+    fn answer_called_radio(&self, acts: &mut ActList, reason: Reason, called: Address)
+        requires { length acts.old + 7 ≤ 16 }
+        ensures { acts.new ≡ acts.old ++ acts_for_called_radio self.now.plan self.now.facts reason called }
     {
-        let mut acts = BoundedList::new();
         if let Some(ask) = self.calls.ask_to(called) {
             acts.push(Act::AskOver(ask.source));
             if reason == Reason::MS_ACCEPTED {
@@ -267,44 +233,32 @@ impl Machine {
                     target: ask.target,
                     group: false,
                 };
-                self.add_new_call(&mut acts, line);
+                self.add_new_call(acts, line);
             } else {
-                self.add_ack(&mut acts, ask.source, ask.target, Reason::CALLED_PARTY_BUSY);
+                self.add_ack(acts, ask.source, ask.target, Reason::CALLED_PARTY_BUSY);
             }
         }
-        acts
     }
 
-    /// The acts that answer a radio that cancels its request.
+    /// Answers a radio that cancels its request.
     #[tactic(auto, unfolding(crate::specs::Rules::acts_for_cancel))]
-    fn cancel(&self, asked: &Request) -> ActList
-        ensures { result ≡ acts_for_cancel self.now.plan self.now.facts asked.now }
+    fn answer_cancel(&self, acts: &mut ActList, asked: &Request)
+        requires { length acts.old + 7 ≤ 16 }
+        ensures { acts.new ≡ acts.old ++ acts_for_cancel self.now.plan self.now.facts asked.now }
     {
-        let mut acts = BoundedList::new();
         if let Some(ask) = self.calls.ask_of(asked.source) {
             acts.push(Act::AskOver(ask.source));
-            self.add_ack(
-                &mut acts,
-                asked.source,
-                asked.target,
-                Reason::MESSAGE_ACCEPTED,
-            );
+            self.add_ack(acts, asked.source, asked.target, Reason::MESSAGE_ACCEPTED);
         } else if let Some(line) = self.calls.line_of(asked.source) {
             acts.push(Act::Unlined(line.source));
-            self.add_ack(
-                &mut acts,
-                asked.source,
-                asked.target,
-                Reason::MESSAGE_ACCEPTED,
-            );
+            self.add_ack(acts, asked.source, asked.target, Reason::MESSAGE_ACCEPTED);
         } else {
             self.add_ack(
-                &mut acts,
+                acts,
                 asked.source,
                 asked.target,
                 Reason::CALL_CANCEL_REFUSED,
             );
         }
-        acts
     }
 }

@@ -6,19 +6,18 @@ ghost use Rattle.dmr_core.specs.Rules.{acts_of, acts_for_slot};
 
 use super::Machine;
 use crate::act::{Act, ActList};
-use dmr_pdu::{BoundedList, CarrierNo, Slot, SlotNo};
+use dmr_pdu::{CarrierNo, Slot, SlotNo};
 
 impl Machine {
-    /// The acts that answer a carrier's poll, for slot 0 and then for slot 1. There are none if the carrier is not up.
-    pub(super) fn poll(&self, carrier: CarrierNo) -> ActList
-        ensures { result ≡ acts_of self.now.plan self.now.facts (Poll carrier) }
+    /// Answers a carrier's poll: for slot 0 and then for slot 1. There are no acts if the carrier is not up.
+    pub(super) fn answer_poll(&self, acts: &mut ActList, carrier: CarrierNo)
+        requires { length acts.old + 2 ≤ 16 }
+        ensures { acts.new ≡ acts.old ++ acts_of self.now.plan self.now.facts (Poll carrier) }
     {
-        let mut acts = BoundedList::new();
         if self.is_up(carrier) {
-            self.add_poll(&mut acts, &Slot::new(carrier, SlotNo::new(0)));
-            self.add_poll(&mut acts, &Slot::new(carrier, SlotNo::new(1)));
+            self.add_poll(acts, &Slot::new(carrier, SlotNo::new(0)));
+            self.add_poll(acts, &Slot::new(carrier, SlotNo::new(1)));
         }
-        acts
     }
 
     /// Adds the first PDU that waits for a slot; if none waits and the slot is the control slot, its Fill.

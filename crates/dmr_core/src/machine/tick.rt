@@ -8,23 +8,22 @@ ghost use Rattle.dmr_core.specs.Rules.{acts_for_due_call, acts_for_due_ask, acts
 use super::Machine;
 use crate::act::{Act, ActList};
 use dmr_calls::{Ask, Due};
-use dmr_pdu::{BoundedList, Reason};
+use dmr_pdu::Reason;
 
 impl Machine {
-    /// The acts of a tick, which has been counted.
+    /// Answers a tick, which has been counted.
     #[tactic(auto, unfolding(crate::specs::Rules::acts_for_tick))]
     // Out of line: an event of another kind then does not clear this function's locals.
     #[inline(never)]
-    pub(super) fn tick(&self) -> ActList
-        ensures { result ≡ acts_for_tick self.now.plan self.now.facts }
+    pub(super) fn answer_tick(&self, acts: &mut ActList)
+        requires { length acts.old + 13 ≤ 16 }
+        ensures { acts.new ≡ acts.old ++ acts_for_tick self.now.plan self.now.facts }
     {
-        let mut acts = BoundedList::new();
-        self.add_ended(&mut acts);
+        self.add_ended(acts);
         if self.has_room() {
-            self.add_repeat(&mut acts);
-            self.add_serve(&mut acts);
+            self.add_repeat(acts);
+            self.add_serve(acts);
         }
-        acts
     }
 
     /// The call, ask and line that are due by the plan's times.

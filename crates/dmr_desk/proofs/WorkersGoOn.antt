@@ -1,0 +1,143 @@
+-- The steps of a link's worker, term by term.
+use Rattle.std.proofs.Common.{◌≡◌, ℕ, zero, suc, ◌+◌, ◌<◌, List, [], ◌∷◌, ◌++◌, Option, Some, length, map, slice_get, refl, sym, ◌∙◌, ap, subst, append_assoc, arith}
+use Rattle.std.proofs.lemmas.List.{append-nil}
+use Rattle.std.proofs.lemmas.List.Elements.{filter_map-append}
+use Rattle.std.proofs.lemmas.Option.{same_Some, slice_get_within}
+use Rattle.dmr_plan.specs.declared.settings.Settings.{Settings}
+use Rattle.dmr_core.specs.State.{SiteState}
+use Rattle.dmr_wire.specs.Told.{Answer}
+use Rattle.dmr_link.specs.declared.desk.Deposit.{Deposit}
+use Rattle.dmr_link.specs.declared.stream.Peer.{Peer}
+use Rattle.dmr_link.specs.Happenings.{Happening, answers_in, deposits_in, desk_deposit, port_answer}
+use Rattle.dmr_link.specs.Recorded.{reading_at, reading_after_all}
+use Rattle.dmr_link.specs.Sessions.{Session, Sides, Happens}
+use Rattle.dmr_desk.specs.Life.{AreOrderly, HasWorkedOn, WentOn, answers_of_terms, happened_of_terms, joined_answers, joined_journal, past_after_terms, read_terms}
+use Rattle.dmr_desk.specs.Meaning.{IsOneRecord, in_record}
+use Rattle.dmr_desk.specs.Opening.{IsLimit}
+use Rattle.dmr_desk.specs.Refusing.{carrier_of_peer, carrier_numbers}
+use Rattle.dmr_desk.specs.Term.{Start, End}
+use Rattle.dmr_desk.specs.Terms.{start_after, AreTerms, Fits}
+use Rattle.dmr_desk.specs.Views.{view_of}
+use Rattle.dmr_desk.specs.Work.{Stand, Moment, moment, sides_at, Doing, happened_of, deposits_of_sessions, IsOrderly, Went}
+use Rattle.dmr_desk.proofs.JournalsJoin.{one_journal, stations_stay, view_append}
+use Rattle.dmr_desk.proofs.TermsJoin.{limit_stays}
+
+-- ---- lists by place
+
+pub get_within : {A : Type 0} (xs : List A) (k : ℕ) → k < length xs → (x : A) × (slice_get xs k ≡ Some x)
+get_within [] k low = absurd (omega arith)
+get_within (x ∷ xs) zero low = (x, refl)
+get_within (x ∷ xs) (suc k) low = get_within xs k (omega arith)
+
+same_by_place : {A B : Type 0} (f : A → B) (xs ys : List A) → length ys ≡ length xs → ((k : ℕ) (x y : A) → slice_get xs k ≡ Some x → slice_get ys k ≡ Some y → f y ≡ f x) → map f ys ≡ map f xs
+same_by_place f [] [] many same = refl
+same_by_place f [] (y ∷ ys) many same = absurd (omega arith)
+same_by_place f (x ∷ xs) [] many same = absurd (omega arith)
+same_by_place f (x ∷ xs) (y ∷ ys) many same =
+    let here : f y ≡ f x = same 0 x y refl refl in
+    let rest : map f ys ≡ map f xs = same_by_place f xs ys (omega arith) (λ k. same (suc k)) in
+    (λ i. here i ∷ rest i)
+
+-- ---- one term more
+
+-- the happenings of a new desk, after the deposits of the desks before it
+after_view : (s t : Stand) (view own : List Deposit) (happened : List Happening) → Happens (sides_at s []) happened (sides_at t own) → Happens (sides_at s view) happened (sides_at t (view ++ own))
+after_view s t view own happened h = record { port = h.port; desk = ap (λ (ds : List Deposit). view ++ ds) h.desk; gate = h.gate }
+
+module _ (none : (x : Sides) → Happens x [] x) (more : (x y z : Sides) (first second : List Happening) → Happens x first y → Happens y second z → Happens x (first ++ second) z) where
+  went_nowhere : (s : Stand) → WentOn (moment s []) (moment s []) []
+  went_nowhere s = record { who = refl; happens = none (sides_at s []); stands = λ past h. h; view = λ past h. sym (append-nil (deposits_of_sessions past)); orderly = λ past h. tt }
+
+  went_on : (s t u : Stand) (view own : List Deposit) (terms : List (List Doing)) (doings : List Doing) → WentOn (moment s []) (moment t view) terms → Went (moment t []) (moment u own) doings
+      → WentOn (moment s []) (moment u (view ++ own)) (doings ∷ terms)
+  went_on s t u view own terms doings before now = record {
+    who = now.who ∙ before.who;
+    happens = more (sides_at s []) (sides_at t view) (sides_at u (view ++ own)) (happened_of_terms terms) (happened_of doings) before.happens (after_view t u view own (happened_of doings) now.happens);
+    stands = λ past h. now.stands (past_after_terms past terms) (before.stands past h);
+    view = λ past h.
+        now.view (past_after_terms past terms) (before.stands past h)
+        ∙ ap (λ (ds : List Deposit). ds ++ deposits_in (happened_of doings)) (before.view past h)
+        ∙ append_assoc (deposits_of_sessions past) (deposits_in (happened_of_terms terms)) (deposits_in (happened_of doings))
+        ∙ ap (λ (ds : List Deposit). deposits_of_sessions past ++ ds) (sym (filter_map-append desk_deposit (happened_of_terms terms) (happened_of doings)));
+    orderly = λ past h.
+        let P : Peer → Type 0 = λ p. IsOrderly p (past_after_terms past terms) doings in
+        (subst P before.who (now.orderly (past_after_terms past terms) (before.stands past h)), before.orderly past h);
+  }
+
+  -- ---- all terms
+
+  pub carrier_works : (start : Start) (ends : List End) (k : ℕ) (s t : Stand) → AreTerms start ends → slice_get start.stations k ≡ Some s → slice_get (start_after start ends).stations k ≡ Some t
+      → HasWorkedOn (length ends) s t (view_of k (joined_journal ends))
+  carrier_works start [] k s t are here there =
+      let P : Stand → Type 0 = λ x. HasWorkedOn 0 s x [] in
+      subst P (same_Some s t (sym here ∙ there)) ([], refl, went_nowhere s)
+  carrier_works start (end ∷ earlier) k s t are here there =
+      let run = are.0.run in
+      let low = slice_get_within start.stations k s here in
+      let stay = stations_stay start earlier are.1 in
+      let ended = run.all_ended in
+      let middle = get_within (start_after start earlier).stations k (omega arith) in
+      let ending = get_within end.ends k (omega arith) in
+      let before = carrier_works start earlier k s middle.0 are.1 here middle.1 in
+      let work = run.carriers k middle.0 t ending.0 middle.1 there ending.1 in
+      let count = before.1 in
+      let P : List Deposit → Type 0 = λ view. WentOn (moment s []) (moment t view) (work.0 ∷ before.0) in (
+        work.0 ∷ before.0,
+        omega arith,
+        subst P (sym (view_append k (joined_journal earlier) end.journal)) (went_on s middle.0 t (view_of k (joined_journal earlier)) (view_of k end.journal) before.0 work.0 before.2 work.1),
+      )
+
+  pub console_works : (start : Start) (ends : List End) → AreTerms start ends → HasWorkedOn (length ends) start.console (start_after start ends).console (view_of (length start.stations + 1) (joined_journal ends))
+  console_works start [] are = ([], refl, went_nowhere start.console)
+  console_works start (end ∷ earlier) are =
+      let run = are.0.run in
+      let middle = start_after start earlier in
+      let stay = stations_stay start earlier are.1 in
+      let ended = run.all_ended in
+      let ending = get_within end.ends (length (start_after start earlier).stations + 1) (omega arith) in
+      let before = console_works start earlier are.1 in
+      let work = run.console ending.0 ending.1 in
+      let count = before.1 in
+      let own : view_of (length (start_after start earlier).stations + 1) end.journal ≡ view_of (length start.stations + 1) end.journal = ap (λ (n : ℕ). view_of (n + 1) end.journal) stay in
+      let P : List Deposit → Type 0 = λ view. WentOn (moment start.console []) (moment end.console view) (work.0 ∷ before.0) in (
+        work.0 ∷ before.0,
+        omega arith,
+        subst P (ap (λ (ds : List Deposit). view_of (length start.stations + 1) (joined_journal earlier) ++ ds) own ∙ sym (view_append (length start.stations + 1) (joined_journal earlier) end.journal))
+            (went_on start.console middle.console end.console (view_of (length start.stations + 1) (joined_journal earlier)) (view_of (length (start_after start earlier).stations + 1) end.journal) before.0 work.0 before.2 work.1),
+      )
+
+  -- the next term can begin, if the first could
+  pub all_fit : (start : Start) (ends : List End) → AreTerms start ends → Fits start → Fits (start_after start ends)
+  all_fit start ends are fits =
+      let carrier : Stand → Option ℕ = λ s. carrier_of_peer s.link.who in
+      let same : map carrier (start_after start ends).stations ≡ map carrier start.stations =
+      same_by_place carrier start.stations (start_after start ends).stations (stations_stay start ends are) (λ k s t here there. ap carrier_of_peer (carrier_works start ends k s t are here there).2.who) in
+      let plan : (start_after start ends).site.plan ≡ start.site.plan = ap (λ (s : SiteState). s.plan) (one_journal start ends are).1 in
+      let P : ℕ → Type 0 = IsLimit in (
+        same ∙ fits.0 ∙ ap (λ (p : Settings). map (λ (n : ℕ). Some n) (carrier_numbers p)) (sym plan),
+        subst P (sym (limit_stays start ends)) fits.1,
+      )
+
+-- ---- a port's record
+
+in_record_twice : (past : List Session) → map in_record (map in_record past) ≡ map in_record past
+in_record_twice [] = refl
+in_record_twice (s ∷ ss) = ap (λ (rest : List Session). in_record s ∷ rest) (in_record_twice ss)
+
+pub records_of_terms : ((who : Peer) (past : List Session) (doings : List Doing) → IsOrderly who past doings → IsOneRecord past doings) → (who : Peer) (past : List Session) (terms : List (List Doing)) → AreOrderly who past terms
+    → map in_record (past_after_terms past terms) ≡ read_terms past (answers_of_terms terms)
+records_of_terms one who past [] orderly = refl
+records_of_terms one who past (doings ∷ earlier) orderly =
+    let same : map in_record (past_after_terms past earlier) ≡ map in_record (read_terms past (answers_of_terms earlier)) =
+    sym (in_record_twice (past_after_terms past earlier)) ∙ ap (map in_record) (records_of_terms one who past earlier orderly.1) in
+    one who (past_after_terms past earlier) doings orderly.0 ∙ ap (λ (ss : List Session). (reading_after_all (reading_at ss 0 0 0) (answers_in (happened_of doings))).past) same
+
+answers_joined : (terms : List (List Doing)) → answers_in (happened_of_terms terms) ≡ joined_answers (answers_of_terms terms)
+answers_joined [] = refl
+answers_joined (doings ∷ earlier) = filter_map-append port_answer (happened_of_terms earlier) (happened_of doings) ∙ ap (λ (xs : List Answer). xs ++ answers_in (happened_of doings)) (answers_joined earlier)
+
+pub answers_since : (m n : Moment) (terms : List (List Doing)) (begun whole : List Answer) → WentOn m n terms → m.at.told ≡ Some begun → n.at.told ≡ Some whole → whole ≡ begun ++ joined_answers (answers_of_terms terms)
+answers_since m n terms begun whole went before after =
+    let f = went.happens.port.follows whole after in
+    let same : f.0 ≡ begun = same_Some f.0 begun (sym f.1 ∙ before) in
+    f.2 ∙ (λ i. same i ++ answers_joined terms i)

@@ -1,0 +1,144 @@
+//! Running terms in a row: each begins with the state that the one before it left.
+
+ghost use Rattle.std.specs.Prelude.{◌≡◌, [], ◌∷◌, IfErr, IfOk, List, None, OnErr, Option, map};
+ghost use Rattle.dmr_core.specs.declared.entry.Entry.{Entry as AnEntry};
+ghost use Rattle.dmr_desk.specs.Refusing.{IsTermFault};
+ghost use Rattle.dmr_desk.specs.Term.{start_of_term};
+ghost use Rattle.dmr_desk.specs.Terms.{HaveRun, HaveStopped, Sees};
+ghost use Rattle.dmr_desk.specs.Work.{stand};
+
+use crate::fault::{TermFault, TermsFault};
+use crate::pace::Pacer;
+use crate::report::Report;
+use crate::run::run_term;
+use crate::station::{ConsoleStation, Station};
+use crate::term::Term;
+use dmr_core::Site;
+use dmr_link::Gate;
+use dmr_wire::Port;
+use std::alloc::Global;
+use std::sync::Wait;
+use std::thread::Threads;
+
+/// Sees the report of each term, in their order.
+pub trait Observer {
+    /// If the observer reports it: the journals that it saw, oldest first. It may stop reporting at any call, and then never reports again.
+    ghost seen: { Self → Option (List (List AnEntry)) };
+
+    /// Sees the report of a term that has ended. The journal is dropped afterwards.
+    fn ended(&mut self, report: &Report)
+        ensures { Sees (seen self.old) (report.now.journal ∷ []) (seen self.new) };
+}
+
+/// The state that continues from term to term.
+#[derive(Drop)]
+pub struct Service<P, G, T, C> {
+    /// The site.
+    pub site: Site,
+    /// A station for each carrier of the site's plan, by number.
+    pub stations: Vec<Station<P, G>>,
+    /// The pacer.
+    pub pacer: T,
+    /// The console.
+    pub console: ConsoleStation<C>,
+}
+
+/// Has the observer see the report of a term. Returns the state that the term left; its journal is dropped.
+fn leave_term<P, G, T, C, O>(
+    term: Term<Station<P, G>, T, ConsoleStation<C>>,
+    observer: &mut O,
+) -> Service<P, G, T, C>
+where
+    P: Port + Drop,
+    G: Gate + Drop,
+    T: Pacer + Drop,
+    C: Port + Drop,
+    O: Observer,
+    ensures site { result.site ≡ term.report.site }
+    ensures stations { result.stations ≡ term.stations }
+    ensures pacer { result.pacer ≡ term.pacer }
+    ensures console { result.console ≡ term.console }
+    ensures seen { Sees (O.seen observer.old) (term.report.journal ∷ []) (O.seen observer.new) }
+{
+    observer.ended(&term.report);
+    let Term {
+        report,
+        stations,
+        pacer,
+        console,
+        ..
+    } = term;
+    Service {
+        site: report.site,
+        stations,
+        pacer,
+        console,
+    }
+}
+
+/// Runs one term, and has the observer see its report. On an error the observer saw nothing.
+fn run_next<P, G, T, C, O, R>(
+    rt: &R,
+    alloc: Global,
+    limit: usize,
+    service: Service<P, G, T, C>,
+    observer: &mut O,
+) -> Result<Service<P, G, T, C>, TermFault>
+where
+    P: Port + Send + Drop,
+    G: Gate + Send + Drop,
+    T: Pacer + Send + Drop,
+    C: Port + Send + Drop,
+    O: Observer,
+    R: Wait + Threads + Sync,
+    ensures run { IfOk result (λ next. HaveRun (start_of_term service.site limit (map (λ s. stand s.link (P.told s.port) (G.passed s.gate)) service.stations.items) (T.paced service.pacer) (stand service.console.link (C.told service.console.port) None)) 1
+        (start_of_term next.site limit (map (λ s. stand s.link (P.told s.port) (G.passed s.gate)) next.stations.items) (T.paced next.pacer) (stand next.console.link (C.told next.console.port) None)) (O.seen observer.old) (O.seen observer.new)) }
+    ensures fault { IfErr result (IsTermFault (start_of_term service.site limit (map (λ s. stand s.link (P.told s.port) (G.passed s.gate)) service.stations.items) (T.paced service.pacer) (stand service.console.link (C.told service.console.port) None))) }
+    ensures unseen { OnErr result (O.seen observer.new ≡ O.seen observer.old) }
+{
+    let Service {
+        site,
+        stations,
+        pacer,
+        console,
+    } = service;
+    match run_term(rt, alloc, site, limit, stations, pacer, console) {
+        Ok(term) => Ok(leave_term(term, observer)),
+        Err(fault) => Err(fault),
+    }
+}
+
+/// Runs `terms` terms in a row, as [`run_term`] does. The first begins with `service`, each other with the state that the one before it
+/// left. Each journal may have `limit` entries (1 to 100,000). The observer sees the report of each term once it was audited. Returns the
+/// state that the last term left; if `terms` is 0, that is `service`. The call stops at the first term that fails.
+///
+/// A program without end calls this again and again. By [`terms_go_on`](crate::terms_go_on), n terms followed by m terms are n + m terms, so
+/// each state on the way is that of all terms so far. [`one_life`](crate::one_life) says what all terms come to.
+pub fn run_terms<P, G, T, C, O, R>(
+    rt: &R,
+    alloc: Global,
+    limit: usize,
+    mut service: Service<P, G, T, C>,
+    observer: &mut O,
+    terms: u32,
+) -> Result<Service<P, G, T, C>, TermsFault>
+where
+    P: Port + Send + Drop,
+    G: Gate + Send + Drop,
+    T: Pacer + Send + Drop,
+    C: Port + Send + Drop,
+    O: Observer,
+    R: Wait + Threads + Sync,
+    ensures run { IfOk result (λ next. HaveRun (start_of_term service.site limit (map (λ s. stand s.link (P.told s.port) (G.passed s.gate)) service.stations.items) (T.paced service.pacer) (stand service.console.link (C.told service.console.port) None)) terms
+        (start_of_term next.site limit (map (λ s. stand s.link (P.told s.port) (G.passed s.gate)) next.stations.items) (T.paced next.pacer) (stand next.console.link (C.told next.console.port) None)) (O.seen observer.old) (O.seen observer.new)) }
+    ensures fault { IfErr result (λ fault. HaveStopped (start_of_term service.site limit (map (λ s. stand s.link (P.told s.port) (G.passed s.gate)) service.stations.items) (T.paced service.pacer) (stand service.console.link (C.told service.console.port) None)) terms
+        fault (O.seen observer.old) (O.seen observer.new)) }
+{
+    for done in 0..terms {
+        service = match run_next(rt, alloc, limit, service, observer) {
+            Ok(next) => next,
+            Err(fault) => return Err(TermsFault { done, fault }),
+        };
+    }
+    Ok(service)
+}

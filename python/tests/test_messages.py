@@ -59,7 +59,7 @@ def notes() -> dict[str, str]:
 def causes() -> list[str]:
     """The causes of a connection's end: the plain ones, and each fault of the link with the numbers that follow it."""
     text = source("dmr_port/src/cause.rt")
-    plain = [it for it in literals(function(text, "impl fmt::Display for Cause"), r'write!\(f, ') if "{" not in it and it != ")"]
+    plain = [it for it in literals(function(text, "impl fmt::Display for EndCause"), r'write!\(f, ') if "{" not in it and it != ")"]
     with_both, with_version = literals(function(text, "fn write_numbers"), r"write!\(\s*f,\s*")
     faults = literals(function(source("dmr_frames/src/frame.rt"), "impl fmt::Display for Cause"), r"=> ")
     more = {"BadVersion": f" ({with_version})", "WrongCarrier": f" ({with_both})"}
@@ -76,7 +76,7 @@ def messages() -> list[str]:
     # the faults of a term that have their texts from dmr_desk: no stations, and a desk that is not opened, except for lack of memory
     stations, unopened = errors["TermFault"][0], errors["TermFault"][1]
     others = [stations, *(unopened.replace("{0}", it) for it in errors["OpenFault"] if it != "out of memory")]
-    words = [*literals(source("dmr_command/src/words.rt"), r"words_refused\(err, "), *literals(source("dmr_trunk/src/main.rt"), r"words_refused\(\s*err,\s*")]
+    words = [*literals(source("dmr_command/src/words.rt"), r"report_refused_words\(err, "), *literals(source("dmr_trunk/src/main.rt"), r"report_refused_words\(\s*err,\s*")]
     texts = [*replay, *(it for it in own if it != "{other}"), *others]
     return [*dict.fromkeys(PROGRAM + it for it in texts), *words]
 

@@ -167,7 +167,7 @@ impl Access {
         ensures value { result ≡ backoff_of self.now.plan self.now.noise }
         ensures range { (1 ≤ result) × (result ≤ 15) }
     {
-        self.plan.keeps();
+        self.plan.use_invariant();
         let raised = u32::from(self.plan.backoff_low()) + self.total();
         raised.min(u32::from(self.plan.backoff_high())) as u8
     }
@@ -195,7 +195,7 @@ impl Access {
     }
 
     /// Counts a Fill of the control slot.
-    pub fn filled(&mut self)
+    pub fn count_fill(&mut self)
         ensures { self.new ≡ record self.old { fills = next_fill_count self.old.fills } }
     {
         self.fills = (self.fills + 1) % TURN;
@@ -207,7 +207,7 @@ impl Access {
         ensures counted { self.new ≡ record self.old { fills = next_fill_count self.old.fills } }
     {
         let pdu = self.next_fill(moving, late);
-        self.filled();
+        self.count_fill();
         pdu
     }
 

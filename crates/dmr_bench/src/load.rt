@@ -116,7 +116,7 @@ fn octets_of(first: u8, half: u16, upper: u32, lower: u32) -> Octets10 {
 }
 
 /// Returns the RX of a PDU's burst.
-fn heard(octets: &Octets10) -> Heard {
+fn rx_of_pdu(octets: &Octets10) -> Heard {
     let word = write(&Pdu::from_octets(octets));
     let mut frame: Heard = [0; 28];
     frame[0] = 0x02;
@@ -127,12 +127,12 @@ fn heard(octets: &Octets10) -> Heard {
 
 /// Returns the RX of a radio's registration.
 fn registration(radio: u32) -> Heard {
-    heard(&octets_of(0x9F, JOINING, REGI, radio))
+    rx_of_pdu(&octets_of(0x9F, JOINING, REGI, radio))
 }
 
 /// Returns the RX of a radio's request for a talkgroup call.
 fn group_request(group: u32, radio: u32) -> Heard {
-    heard(&octets_of(0x9F, 1, 1 + group % GROUPS, radio))
+    rx_of_pdu(&octets_of(0x9F, 1, 1 + group % GROUPS, radio))
 }
 
 /// Returns the radio whose turn it is, 1 to `radios`.
@@ -148,11 +148,11 @@ fn burst_of(load: Load, frame: u32, radios: u32) -> Heard {
     let leaver = radio_in_turn(frame / 2, radios);
     match (load, frame % 4) {
         (Load::BusyHour, 1) | (Load::Calls, 0 | 1) => group_request(turn, radio),
-        (Load::BusyHour, 2) => heard(&octets_of(0x9F, 0, called, radio)),
-        (Load::BusyHour, 3) => heard(&octets_of(0xA1, 0x88, radio, called)),
-        (Load::Calls, 2) => heard(&octets_of(0x9F, LEAVING, REGI, radio)),
+        (Load::BusyHour, 2) => rx_of_pdu(&octets_of(0x9F, 0, called, radio)),
+        (Load::BusyHour, 3) => rx_of_pdu(&octets_of(0xA1, 0x88, radio, called)),
+        (Load::Calls, 2) => rx_of_pdu(&octets_of(0x9F, LEAVING, REGI, radio)),
         (Load::BusyHour | Load::Calls, _) => registration(radio),
-        (Load::Joins, 0 | 2) => heard(&octets_of(0x9F, LEAVING, REGI, leaver)),
+        (Load::Joins, 0 | 2) => rx_of_pdu(&octets_of(0x9F, LEAVING, REGI, leaver)),
         (Load::Joins, _) => registration(leaver),
         _ => registration(radio_in_turn(frame, radios)),
     }
@@ -192,7 +192,7 @@ fn sum_of(octets: &[u8]) -> u64 {
 
 /// A site in operation, with counts of its input and output.
 #[derive(Drop)]
-pub struct Scene {
+pub struct BenchSite {
     alloc: Global,
     engine: Engine,
     outputs: Outputs,
@@ -205,14 +205,18 @@ pub struct Scene {
     pub sum: u64,
 }
 
-impl Scene {
+impl BenchSite {
     /// Returns a site with these numbers of carriers, all up, and of registered radios. Returns `None` if no such site
     /// is possible.
-    pub fn new(alloc: Global, carriers: u32, radios: u32) -> Result<Option<Scene>, OutOfMemory> {
+    pub fn new(
+        alloc: Global,
+        carriers: u32,
+        radios: u32,
+    ) -> Result<Option<BenchSite>, OutOfMemory> {
         let Some(plan) = plan_of(alloc, carriers)? else {
             return Ok(None);
         };
-        let mut scene = Scene {
+        let mut scene = BenchSite {
             alloc,
             engine: Engine::new(alloc, plan)?,
             outputs: Outputs::new(alloc),

@@ -21,7 +21,7 @@ mod words;
 use crate::load::Load;
 use crate::timing::{Size, time_load, time_loads};
 use crate::words::{
-    KINDS, Kind, MANY, show, show_all_flips, show_flips, time_decoding, time_encoding,
+    KINDS, MANY, WordKind, show, show_all_flips, show_flips, time_decoding, time_encoding,
 };
 use std::process::ExitCode;
 use std::rt::Clock;
@@ -29,11 +29,11 @@ use std::{env, io};
 
 /// The task of the program.
 #[derive(Clone, Copy)]
-enum Job {
+enum BenchJob {
     Show,
     Flips,
     Time,
-    Decode(Kind, u32),
+    Decode(WordKind, u32),
     Encode(u32),
     Site,
     Play(Load, Size),
@@ -45,62 +45,62 @@ fn number_at(words: &[String], place: usize) -> Option<u32> {
 }
 
 /// Returns the job of `--words KIND COUNT`.
-fn words_job(words: &[String]) -> Option<Job> {
+fn words_job(words: &[String]) -> Option<BenchJob> {
     let count = number_at(words, 2)?;
     match words.get(1)?.as_str() {
-        "clean" => Some(Job::Decode(Kind::Clean, count)),
-        "flips" => Some(Job::Decode(Kind::Flipped, count)),
-        "random" => Some(Job::Decode(Kind::Random, count)),
-        "encode" => Some(Job::Encode(count)),
+        "clean" => Some(BenchJob::Decode(WordKind::Clean, count)),
+        "flips" => Some(BenchJob::Decode(WordKind::Flipped, count)),
+        "random" => Some(BenchJob::Decode(WordKind::Random, count)),
+        "encode" => Some(BenchJob::Encode(count)),
         _ => None,
     }
 }
 
 /// Returns the job of `--load LOAD CARRIERS RADIOS FRAMES`.
-fn load_job(words: &[String]) -> Option<Job> {
+fn load_job(words: &[String]) -> Option<BenchJob> {
     let load = Load::named(words.get(1)?.as_str())?;
     let size = Size {
         carriers: number_at(words, 2)?,
         radios: number_at(words, 3)?,
         frames: number_at(words, 4)?,
     };
-    Some(Job::Play(load, size))
+    Some(BenchJob::Play(load, size))
 }
 
 /// Returns the job of the words after the program's name.
-fn job_of(words: &[String]) -> Option<Job> {
+fn job_of(words: &[String]) -> Option<BenchJob> {
     let Some(first) = words.get(0) else {
-        return Some(Job::Show);
+        return Some(BenchJob::Show);
     };
     match first.as_str() {
-        "--flips" => Some(Job::Flips),
-        "--time" => Some(Job::Time),
+        "--flips" => Some(BenchJob::Flips),
+        "--time" => Some(BenchJob::Time),
         "--words" => words_job(words),
-        "--site" => Some(Job::Site),
+        "--site" => Some(BenchJob::Site),
         "--load" => load_job(words),
         _ => None,
     }
 }
 
-fn run<R: Print + AllocGlobal + Clock>(rt: &R, job: Job) -> io::Result<()> {
+fn run<R: Print + AllocGlobal + Clock>(rt: &R, job: BenchJob) -> io::Result<()> {
     match job {
-        Job::Show => {
+        BenchJob::Show => {
             for kind in KINDS {
                 show(rt, kind)?;
             }
             show_all_flips(rt)
         }
-        Job::Flips => show_flips(rt),
-        Job::Time => {
+        BenchJob::Flips => show_flips(rt),
+        BenchJob::Time => {
             for kind in KINDS {
                 time_decoding(rt, kind, MANY)?;
             }
             time_encoding(rt, MANY)
         }
-        Job::Decode(kind, count) => time_decoding(rt, kind, count),
-        Job::Encode(count) => time_encoding(rt, count),
-        Job::Site => time_loads(rt),
-        Job::Play(load, size) => time_load(rt, load, size),
+        BenchJob::Decode(kind, count) => time_decoding(rt, kind, count),
+        BenchJob::Encode(count) => time_encoding(rt, count),
+        BenchJob::Site => time_loads(rt),
+        BenchJob::Play(load, size) => time_load(rt, load, size),
     }
 }
 

@@ -1,6 +1,6 @@
 //! Measures how long the engine takes for the loads of a site.
 
-use crate::load::{LOADS, Load, Scene, bursts_of};
+use crate::load::{BenchSite, LOADS, Load, bursts_of};
 use std::io;
 use std::rt::Clock;
 use std::time::Instant;
@@ -50,7 +50,7 @@ impl Took {
 /// Runs a load once on a new site. Returns `None` if there is no site of this size.
 fn play<R: AllocGlobal + Clock>(rt: &R, load: Load, size: Size) -> io::Result<Option<Took>> {
     let bursts = bursts_of(rt.alloc(), load, size.radios)?;
-    let made = Scene::new(rt.alloc(), size.carriers, size.radios)?;
+    let made = BenchSite::new(rt.alloc(), size.carriers, size.radios)?;
     let Some(mut scene) = made else {
         return Ok(None);
     };

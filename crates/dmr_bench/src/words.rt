@@ -24,11 +24,11 @@ pub const MANY: u32 = 200_000;
 const REGISTRATION: Octets10 = [0x9F, 0x00, 0x02, 0x0E, 0xFF, 0xFE, 0xC6, 0x00, 0x03, 0xE9];
 
 /// The kinds of words, in the order in which they are printed.
-pub const KINDS: [Kind; 3] = [Kind::Clean, Kind::Flipped, Kind::Random];
+pub const KINDS: [WordKind; 3] = [WordKind::Clean, WordKind::Flipped, WordKind::Random];
 
 /// The kinds of words.
 #[derive(Clone, Copy)]
-pub enum Kind {
+pub enum WordKind {
     /// Codewords of random information.
     Clean,
     /// Codewords of random information with three random places flipped.
@@ -37,21 +37,21 @@ pub enum Kind {
     Random,
 }
 
-impl Kind {
+impl WordKind {
     fn name(self) -> &'static str {
         match self {
-            Kind::Clean => "clean",
-            Kind::Flipped => "three flips",
-            Kind::Random => "random",
+            WordKind::Clean => "clean",
+            WordKind::Flipped => "three flips",
+            WordKind::Random => "random",
         }
     }
 
     /// Returns the name of the measurement.
     fn decoding(self) -> &'static str {
         match self {
-            Kind::Clean => "decode_clean",
-            Kind::Flipped => "decode_flips",
-            Kind::Random => "decode_random",
+            WordKind::Clean => "decode_clean",
+            WordKind::Flipped => "decode_flips",
+            WordKind::Random => "decode_random",
         }
     }
 }
@@ -73,16 +73,16 @@ fn random_information(random: &mut Pcg32) -> Octets12 {
 }
 
 /// Draws a word of a kind.
-fn word_of(kind: Kind, random: &mut Pcg32) -> Word196 {
+fn word_of(kind: WordKind, random: &mut Pcg32) -> Word196 {
     let mut word = encode(&random_information(random));
     match kind {
-        Kind::Clean => {}
-        Kind::Flipped => {
+        WordKind::Clean => {}
+        WordKind::Flipped => {
             for _ in 0..3u32 {
                 word.flip(below(random, 196));
             }
         }
-        Kind::Random => {
+        WordKind::Random => {
             for place in 0..196usize {
                 word.set(place, below(random, 2) == 1);
             }
@@ -97,7 +97,7 @@ fn generator() -> Pcg32 {
 }
 
 /// Returns random words of a kind.
-fn words_of(alloc: Global, kind: Kind, count: u32) -> Result<Vec<Word196>, AllocError> {
+fn words_of(alloc: Global, kind: WordKind, count: u32) -> Result<Vec<Word196>, AllocError> {
     let mut random = generator();
     let mut words = Vec::new(alloc);
     for _ in 0..count {
@@ -214,7 +214,7 @@ fn registrations() -> (u64, u64) {
 }
 
 /// Prints the number of words of a kind that decode.
-pub fn show<R: Print + AllocGlobal>(rt: &R, kind: Kind) -> io::Result<()> {
+pub fn show<R: Print + AllocGlobal>(rt: &R, kind: WordKind) -> io::Result<()> {
     let words = words_of(rt.alloc(), kind, FEW)?;
     let count = decoded(words.as_slice());
     let name = kind.name();
@@ -229,7 +229,7 @@ fn rate(many: u32, nanos: u128) -> u128 {
 /// Decodes `many` words of a kind, and prints the number of words a second.
 pub fn time_decoding<R: Print + AllocGlobal + Clock>(
     rt: &R,
-    kind: Kind,
+    kind: WordKind,
     many: u32,
 ) -> io::Result<()> {
     let words = words_of(rt.alloc(), kind, many)?;

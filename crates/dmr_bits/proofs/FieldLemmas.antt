@@ -14,9 +14,9 @@ pub field_bit-before : (bit : ℕ → Bool) (first width value q : ℕ) → q < 
 unfolding field_bit
 field_bit-before bit first width value q lt = rw (lt-ltb q first lt) refl
 
-pub field_bit-behind : (bit : ℕ → Bool) (first width value q : ℕ) → first + width ≤ q → field_bit bit first width value q ≡ bit q
+pub field_bit-after : (bit : ℕ → Bool) (first width value q : ℕ) → first + width ≤ q → field_bit bit first width value q ≡ bit q
 unfolding field_bit
-field_bit-behind bit first width value q le =
+field_bit-after bit first width value q le =
     let not_before : ltb q first ≡ false = le-ltb q first (omega arith) in
     let not_in : ltb q (first + width) ≡ false = le-ltb q (first + width) le in
     rw (not_before, not_in) refl
@@ -41,7 +41,7 @@ module _ (bit : ℕ → Bool) (begin a w s value old : ℕ) (is : old ≡ bits_v
       let middle : bits_value (field_bit bit (begin + a) w value) (begin + a) w ≡ value =
       bits_value-of_number (field_bit bit (begin + a) w value) (begin + a) value w (λ k lt. field_bit-in bit (begin + a) w value k lt) ∙ mod-eq_of_lt fits in
       let back : bits_value (field_bit bit (begin + a) w value) (begin + a + w) s ≡ bits_value bit (begin + a + w) s =
-      bits_value-same (field_bit bit (begin + a) w value) bit (begin + a + w) s (λ k lt. field_bit-behind bit (begin + a) w value (begin + a + w + k) (omega arith)) in
+      bits_value-same (field_bit bit (begin + a) w value) bit (begin + a + w) s (λ k lt. field_bit-after bit (begin + a) w value (begin + a + w + k) (omega arith)) in
       bits_value-add (field_bit bit (begin + a) w value) begin a (w + s)
       ∙ ap (λ n. bits_value (field_bit bit (begin + a) w value) begin a * 2 ^ (w + s) + n) (bits_value-add (field_bit bit (begin + a) w value) (begin + a) w s)
       ∙ (λ i. front i * 2 ^ (w + s) + (middle i * 2 ^ s + back i))
@@ -88,19 +88,19 @@ octet_of_number bit begin past k number le lt is =
 abbrev pub past_of : ℕ → ℕ → ℕ
 past_of first width = (first + width + 7) / 8
 
-abbrev pub bits_behind : ℕ → ℕ → ℕ
-bits_behind first width = 8 * ((first + width + 7) / 8) - (first + width)
+abbrev pub bits_after : ℕ → ℕ → ℕ
+bits_after first width = 8 * ((first + width + 7) / 8) - (first + width)
 
 -- the number that is written into the octets that a field touches
 pub field_number : (octets : List ℕ) (first width value given old : ℕ) → width ≤ 32 → value < 2 ^ width → given ≡ value
     → old ≡ bits_value (octet_bit octets) (8 * (first / 8)) (8 * (past_of first width - first / 8))
-    → old / 2 ^ (width + bits_behind first width) * 2 ^ (width + bits_behind first width) % 2 ^ 64 + given * 2 ^ bits_behind first width % 2 ^ 64 + bit_and old (1 * 2 ^ bits_behind first width % 2 ^ 64 - 1)
+    → old / 2 ^ (width + bits_after first width) * 2 ^ (width + bits_after first width) % 2 ^ 64 + given * 2 ^ bits_after first width % 2 ^ 64 + bit_and old (1 * 2 ^ bits_after first width % 2 ^ 64 - 1)
     ≡ bits_value (field_bit (octet_bit octets) first width value) (8 * (first / 8)) (8 * (past_of first width - first / 8))
 field_number octets first width value given old narrow fits same is =
-    let parts : 8 * (past_of first width - first / 8) ≡ first - 8 * (first / 8) + (width + bits_behind first width) = omega arith in
+    let parts : 8 * (past_of first width - first / 8) ≡ first - 8 * (first / 8) + (width + bits_after first width) = omega arith in
     let at : 8 * (first / 8) + (first - 8 * (first / 8)) ≡ first = omega arith in
-    ap (λ n. old / 2 ^ (width + bits_behind first width) * 2 ^ (width + bits_behind first width) % 2 ^ 64 + n * 2 ^ bits_behind first width % 2 ^ 64 + bit_and old (1 * 2 ^ bits_behind first width % 2 ^ 64 - 1)) same
-    ∙ written_number (octet_bit octets) (8 * (first / 8)) (first - 8 * (first / 8)) width (bits_behind first width) value old
+    ap (λ n. old / 2 ^ (width + bits_after first width) * 2 ^ (width + bits_after first width) % 2 ^ 64 + n * 2 ^ bits_after first width % 2 ^ 64 + bit_and old (1 * 2 ^ bits_after first width % 2 ^ 64 - 1)) same
+    ∙ written_number (octet_bit octets) (8 * (first / 8)) (first - 8 * (first / 8)) width (bits_after first width) value old
     (is ∙ ap (bits_value (octet_bit octets) (8 * (first / 8))) parts) fits (omega arith) (omega arith)
     ∙ (λ i. bits_value (field_bit (octet_bit octets) (at i) width value) (8 * (first / 8)) (sym parts i))
 
@@ -130,4 +130,4 @@ field_written octets new first width value number k is at_end written before beh
     written_bits octets new (field_bit (octet_bit octets) first width value) (first / 8) (past_of first width) number is
     (λ j le lt. written j le (omega arith)) before (λ j le. behind j (omega arith))
     (λ q lt. field_bit-before (octet_bit octets) first width value q (omega arith))
-    (λ q le. field_bit-behind (octet_bit octets) first width value q (omega arith))
+    (λ q le. field_bit-after (octet_bit octets) first width value q (omega arith))

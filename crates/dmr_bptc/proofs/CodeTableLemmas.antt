@@ -99,9 +99,9 @@ reserved_right : agree_below (λ column. none_has (place_of 0 column) 96) (λ _.
 unfolding none_has code_bit code_number
 reserved_right = refl
 
-behind_right : agree_below (λ n. none_has (196 + n) 96) (λ _. true) 60 ≡ true
+after_right : agree_below (λ n. none_has (196 + n) 96) (λ _. true) 60 ≡ true
 unfolding none_has code_bit code_number
-behind_right = refl
+after_right = refl
 
 -- ---- the sum of codewords
 
@@ -129,13 +129,13 @@ packed_bit-code_words octets place lt =
     ap (λ n. n / 2 ^ (63 - place % 64) % 2 == 1) (four_words (λ part. added (octet_bit octets) (code_number part) 96) (place / 64) (omega arith))
     ∙ added-bit (octet_bit octets) (code_number (place / 64)) (63 - place % 64) 96
 
-pub code_words-behind : (octets : List ℕ) (q : ℕ) → 196 ≤ q → packed_bit (code_words octets) q ≡ false
-code_words-behind octets q le =
+pub code_words-after : (octets : List ℕ) (q : ℕ) → 196 ≤ q → packed_bit (code_words octets) q ≡ false
+code_words-after octets q le =
     ⊎_elim
     (λ (lt : q < 256).
     let at : 196 + (q - 196) ≡ q = omega arith in
     packed_bit-code_words octets q lt
-    ∙ none octets q (ap (λ place. none_has place 96) (sym at) ∙ agree_below_at (λ n. none_has (196 + n) 96) (λ _. true) 60 (q - 196) behind_right (omega arith)))
+    ∙ none octets q (ap (λ place. none_has place 96) (sym at) ∙ agree_below_at (λ n. none_has (196 + n) 96) (λ _. true) 60 (q - 196) after_right (omega arith)))
     (λ (past : 256 ≤ q). let gone : get_or (code_words octets) (q / 64) 0 ≡ 0 = get_or_past (code_words octets) (q / 64) 0 (omega arith) in rw (gone, zero-div (2 ^ (63 - q % 64))) refl)
     (cases_lt q 256)
 

@@ -5,8 +5,8 @@ use Rattle.std.proofs.lemmas.Nat.{xor_lt}
 use Rattle.std.proofs.lemmas.Nat.Bits.{bit_at_xor}
 use Rattle.dmr_bits.specs.Words.{word_bit}
 use Rattle.dmr_bits.specs.Packed.{packed_bit}
-use Rattle.dmr_bptc.specs.declared.layout.Line.{Line}
-use Rattle.dmr_bptc.specs.declared.layout.Line.TheVariants.{Row, Column}
+use Rattle.dmr_bptc.specs.declared.layout.GridLine.{GridLine}
+use Rattle.dmr_bptc.specs.declared.layout.GridLine.TheVariants.{Row, Column}
 use Rattle.dmr_bptc.specs.Bptc.{add_bits, parity, place_of}
 use Rattle.dmr_bptc.specs.Lines.{line_place, line_bit, equations_of}
 use Rattle.dmr_bptc.specs.Mending.{fails, syndrome}
@@ -49,7 +49,7 @@ four_digits : (a b c d x y z w : ℕ) → a < 2 → b < 2 → c < 2 → d < 2 �
 four_digits a b c d x y z w a_lt b_lt c_lt d_lt x_lt y_lt z_lt w_lt same = (omega arith, omega arith, omega arith, omega arith)
 
 module _ (word flipped : List Bool) (place : ℕ) (is : IsFlipped place word flipped) where
-  flipped_fails : (line : Line) (e : ℕ × List ℕ) → fails (line_bit flipped line) e ≡ (fails (line_bit word line) e + cond (coefficient line e place) 1 0) % 2
+  flipped_fails : (line : GridLine) (e : ℕ × List ℕ) → fails (line_bit flipped line) e ≡ (fails (line_bit word line) e + cond (coefficient line e place) 1 0) % 2
   flipped_fails line e =
       ap {B = ℕ} (λ b. cond b 1 0)
       (parity-all (line_bit flipped line) (λ k. add_bits (line_bit word line k) (line_place line k == place)) (e.0 ∷ e.1) (λ k. flipped_bit word flipped place (line_place line k) is)
@@ -57,7 +57,7 @@ module _ (word flipped : List Bool) (place : ℕ) (is : IsFlipped place word fli
       ∙ odd_sum (parity (line_bit word line) (e.0 ∷ e.1)) (coefficient line e place)
 
   -- four bits of a sum to which is added what the place adds
-  flipped_syndrome : (line : Line) (sum number s : ℕ) → sum / 2 ^ s % 16 ≡ syndrome (equations_of line) (line_bit word line)
+  flipped_syndrome : (line : GridLine) (sum number s : ℕ) → sum / 2 ^ s % 16 ≡ syndrome (equations_of line) (line_bit word line)
       → ((e : ℕ) → e < 4 → (bit_at number (s + (3 - e)) == 1) ≡ coefficient line (equation_at (equations_of line) e) place)
       → bit_xor sum number / 2 ^ s % 16 ≡ syndrome (equations_of line) (line_bit flipped line)
   flipped_syndrome line sum number s before adds =

@@ -4,8 +4,8 @@ use Rattle.std.proofs.lemmas.Bool.{agree_below, agree_below_at}
 use Rattle.dmr_bits.specs.Bits.{count_from}
 use Rattle.dmr_bits.specs.Words.{word_bit}
 use Rattle.dmr_bits.specs.Packed.{packed_bit, set_under}
-use Rattle.dmr_bptc.specs.declared.layout.Line.{Line}
-use Rattle.dmr_bptc.specs.declared.layout.Line.TheVariants.{Row, Column}
+use Rattle.dmr_bptc.specs.declared.layout.GridLine.{GridLine}
+use Rattle.dmr_bptc.specs.declared.layout.GridLine.TheVariants.{Row, Column}
 use Rattle.dmr_bptc.specs.declared.equations.TheConstants.{ROW_MASKS, COLUMN_MASKS}
 use Rattle.dmr_bptc.specs.Bptc.{add_bits, parity, row_equations, column_equations, Satisfies}
 use Rattle.dmr_bptc.specs.Lines.{line_place, line_bit, equations_of}
@@ -79,7 +79,7 @@ even-from n is = by_rest (n % 2) refl
     by_rest (suc (suc m)) e = absurd (omega arith)
 
 -- the number of bits set under a mask with an equation's coefficients is odd exactly if the line fails the equation
-under_mask : (word : List Bool) (mask : List ℕ) (line : Line) (e : ℕ × List ℕ) → ((place : ℕ) → place < 196 → packed_bit mask place ≡ coefficient line e place)
+under_mask : (word : List Bool) (mask : List ℕ) (line : GridLine) (e : ℕ × List ℕ) → ((place : ℕ) → place < 196 → packed_bit mask place ≡ coefficient line e place)
     → (set_under word mask % 2 == 1) ≡ parity (line_bit word line) (e.0 ∷ e.1)
 under_mask word mask line e is =
     count_odd (λ place. word_bit word place && packed_bit mask place) 196
@@ -87,7 +87,7 @@ under_mask word mask line e is =
     ∙ odd_below-parity (word_bit word) (line_place line) 196 (line_place-lt line) (e.0 ∷ e.1)
 
 -- the counts under the masks of a line's equations are even exactly if the line satisfies the equations
-module _ (word : List Bool) (line : Line) (masks : List (List ℕ))
+module _ (word : List Bool) (line : GridLine) (masks : List (List ℕ))
     (are : (e place : ℕ) → e < 4 → place < 196 → packed_bit (get_or masks e []) place ≡ coefficient line (equation_at (equations_of line) e) place) where
   is_under : (e : ℕ) → e < 4 → (set_under word (get_or masks e []) % 2 == 1) ≡ add_bits (line_bit word line (equation_at (equations_of line) e).0) (parity (line_bit word line) (equation_at (equations_of line) e).1)
   is_under e lt = under_mask word (get_or masks e []) line (equation_at (equations_of line) e) (λ place place_lt. are e place lt place_lt)

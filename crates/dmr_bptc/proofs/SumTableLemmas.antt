@@ -5,8 +5,8 @@ use Rattle.std.proofs.lemmas.Bool.{agree_below, agree_below_at, eqb-true, ltb-tr
 use Rattle.std.proofs.lemmas.Nat.{shr-shr}
 use Rattle.dmr_bits.specs.Words.{word_bit}
 use Rattle.dmr_bits.specs.Packed.{packed_bit}
-use Rattle.dmr_bptc.specs.declared.layout.Line.{Line}
-use Rattle.dmr_bptc.specs.declared.layout.Line.TheVariants.{Row, Column}
+use Rattle.dmr_bptc.specs.declared.layout.GridLine.{GridLine}
+use Rattle.dmr_bptc.specs.declared.layout.GridLine.TheVariants.{Row, Column}
 use Rattle.dmr_bptc.specs.declared.sum_table.TheConstants.{SUMS}
 use Rattle.dmr_bptc.specs.Bptc.{parity, row_equations, column_equations, cell, place_of}
 use Rattle.dmr_bptc.specs.Lines.{line_place, line_bit, equations_of}
@@ -46,7 +46,7 @@ sum_entry-is part k value part_lt k_lt lt =
 -- ---- syndromes
 
 -- the coefficient of a place in an equation of a line: how often, modulo 2, a bit of the equation has this place
-abbrev pub coefficient : Line → ℕ × List ℕ → ℕ → Bool
+abbrev pub coefficient : GridLine → ℕ × List ℕ → ℕ → Bool
 coefficient line e place = parity (λ k. line_place line k == place) (e.0 ∷ e.1)
 
 -- at the places below `count`, one bit of the number that a place adds has the coefficients of the column's equation
@@ -95,7 +95,7 @@ column_bit column e place lt e_lt place_lt = column_agrees-at column e 196 place
 pub row_bit : (row e place : ℕ) → row < 13 → e < 4 → place < 196 → (bit_at (sum_number 1 place) (4 * row + (3 - e)) == 1) ≡ coefficient (Row row) (equation_at row_equations e) place
 row_bit row e place lt e_lt place_lt = row_agrees-at row e 196 place (row_right row e lt e_lt) place_lt
 
-pub line_place-lt : (line : Line) (k : ℕ) → line_place line k < 196
+pub line_place-lt : (line : GridLine) (k : ℕ) → line_place line k < 196
 line_place-lt (Row row) k = omega arith
 line_place-lt (Column column) k = omega arith
 
@@ -104,14 +104,14 @@ bit_cond zero lt = refl
 bit_cond (suc zero) lt = refl
 bit_cond (suc (suc m)) lt = absurd (omega arith)
 
-pub syndrome-four : (line : Line) (bit : ℕ → Bool)
+pub syndrome-four : (line : GridLine) (bit : ℕ → Bool)
     → 8 * fails bit (equation_at (equations_of line) 0) + 4 * fails bit (equation_at (equations_of line) 1) + 2 * fails bit (equation_at (equations_of line) 2) + fails bit (equation_at (equations_of line) 3) ≡ syndrome (equations_of line) bit
 unfolding row_equations column_equations
 syndrome-four (Row row) bit = omega arith
 syndrome-four (Column column) bit = omega arith
 
 -- if the numbers have an equation's coefficients in a bit, that bit of their sum is 1 exactly if the line fails the equation
-failure_bit : (word : List Bool) (line : Line) (e : ℕ × List ℕ) (number : ℕ → ℕ) (j : ℕ)
+failure_bit : (word : List Bool) (line : GridLine) (e : ℕ × List ℕ) (number : ℕ → ℕ) (j : ℕ)
     → ((place : ℕ) → place < 196 → (bit_at (number place) j == 1) ≡ coefficient line e place)
     → bit_at (added (word_bit word) number 196) j ≡ fails (line_bit word line) e
 failure_bit word line e number j is =
@@ -131,7 +131,7 @@ four_of n s =
     omega (arith, third, second, first, none)
 
 -- four bits of the sum are the syndrome of the line
-syndrome_bits : (word : List Bool) (line : Line) (number : ℕ → ℕ) (s : ℕ)
+syndrome_bits : (word : List Bool) (line : GridLine) (number : ℕ → ℕ) (s : ℕ)
     → ((e place : ℕ) → e < 4 → place < 196 → (bit_at (number place) (s + (3 - e)) == 1) ≡ coefficient line (equation_at (equations_of line) e) place)
     → added (word_bit word) number 196 / 2 ^ s % 16 ≡ syndrome (equations_of line) (line_bit word line)
 syndrome_bits word line number s is =

@@ -7,7 +7,7 @@ ghost use Rattle.dmr_bptc.specs.Mending.{mark};
 
 /// A row (0 to 12) of 15 cells, or a column (0 to 14) of 13 cells.
 #[derive(Clone, Copy)]
-pub(crate) enum Line {
+pub(crate) enum GridLine {
     Row(usize),
     Column(usize),
 }
@@ -45,14 +45,14 @@ fn place_at(row: usize, column: usize) -> usize
     usize::from(PLACES[1 + 15 * row + column])
 }
 
-impl Line {
+impl GridLine {
     /// How many bits the line has.
     pub(crate) fn len(self) -> usize
         ensures { result ≡ line_len self }
     {
         match self {
-            Line::Row(_) => 15,
-            Line::Column(_) => 13,
+            GridLine::Row(_) => 15,
+            GridLine::Column(_) => 13,
         }
     }
 
@@ -64,8 +64,8 @@ impl Line {
         ensures inside { result < 196 }
     {
         match self {
-            Line::Row(row) => place_at(row, k),
-            Line::Column(column) => place_at(k, column),
+            GridLine::Row(row) => place_at(row, k),
+            GridLine::Column(column) => place_at(k, column),
         }
     }
 
@@ -75,8 +75,8 @@ impl Line {
         ensures { (k : ℕ) → k < line_len self → (failed == mark (equations_of self) k) ≡ (k == result) }
     {
         match self {
-            Line::Row(_) => usize::from(WRONG_IN_ROW[failed]),
-            Line::Column(_) => usize::from(WRONG_IN_COLUMN[failed]),
+            GridLine::Row(_) => usize::from(WRONG_IN_ROW[failed]),
+            GridLine::Column(_) => usize::from(WRONG_IN_COLUMN[failed]),
         }
     }
 }

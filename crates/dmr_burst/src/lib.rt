@@ -44,11 +44,11 @@ pub fn read(word: &Word196) -> Option<Pdu>
     ensures meaning { result ≡ meaning_of word.now }
 {
     meanings_are_single();
-    opened(word)
+    decode_pdu(word)
 }
 
 /// Returns the PDU whose octets and check are in a codeword near the word, if there is one.
-fn opened(word: &Word196) -> Option<Pdu>
+fn decode_pdu(word: &Word196) -> Option<Pdu>
     ensures { result ≡ meaning_of word.now }
 {
     let sealed = decode(word)?;

@@ -7,7 +7,7 @@ use Rattle.std.proofs.lemmas.Bool.{cases_lt}
 use Rattle.std.proofs.lemmas.Bool.Decides.{nat_tests}
 use Rattle.dmr_pdu.specs.declared.slots.Slot.{Slot}
 use Rattle.dmr_calls.specs.declared.call.Call.{Call}
-use Rattle.dmr_calls.specs.declared.call.Standing.{Standing}
+use Rattle.dmr_calls.specs.declared.call.ActiveCall.{ActiveCall}
 use Rattle.dmr_calls.specs.Calls.{call_on, is_slot}
 use Rattle.dmr_pdu.specs.Slots.{IsSlot, place, slot_at}
 use Rattle.dmr_calls.specs.After.{is_group_on, is_group_at, place_after, group_place, group_after, IsBelow, IsAbove, HasNoGroupCall, IsNextGroupCall, IsFirst, IsNext, IsTurn, NonePass}
@@ -70,21 +70,21 @@ same_slot a b e =
     λ i. record { carrier = carrier i; slot = number i }
 
 -- the call that is found on a slot is on it
-pub on_its_slot : (calls : List Standing) (slot : Slot) (call : Call) → call_on calls slot ≡ Some call → call.slot ≡ slot
+pub on_its_slot : (calls : List ActiveCall) (slot : Slot) (call : Call) → call_on calls slot ≡ Some call → call.slot ≡ slot
 on_its_slot [] slot call h = cc
 on_its_slot (s ∷ calls) slot call h = first (is_slot s.call.slot slot) refl h (λ k. on_its_slot calls slot call k)
   where
-    first : (b : Bool) → is_slot s.call.slot slot ≡ b → option_map (λ (x : Standing). x.call) (cond b (Some s) (find (λ x. is_slot x.call.slot slot) calls)) ≡ Some call → (call_on calls slot ≡ Some call → call.slot ≡ slot) → call.slot ≡ slot
+    first : (b : Bool) → is_slot s.call.slot slot ≡ b → option_map (λ (x : ActiveCall). x.call) (cond b (Some s) (find (λ x. is_slot x.call.slot slot) calls)) ≡ Some call → (call_on calls slot ≡ Some call → call.slot ≡ slot) → call.slot ≡ slot
     first true e k more = let same : s.call ≡ call = cc in subst (λ (c : Call). c.slot ≡ slot) same (same_slot s.call.slot slot e)
     first false e k more = more k
 
 -- an active talkgroup call on a slot
-pub record IsGroupOn (calls : List Standing) (slot : Slot) (call : Call) : Type 0 where
+pub record IsGroupOn (calls : List ActiveCall) (slot : Slot) (call : Call) : Type 0 where
   pub stands : call_on calls slot ≡ Some call
   pub group : call.group ≡ true
   pub there : call.slot ≡ slot
 
-pub group_on : (calls : List Standing) (slot : Slot) → is_group_on calls slot ≡ true → (call : Call) × IsGroupOn calls slot call
+pub group_on : (calls : List ActiveCall) (slot : Slot) → is_group_on calls slot ≡ true → (call : Call) × IsGroupOn calls slot call
 group_on calls slot h = either (call_on calls slot) refl h
   where
     either : (o : Option Call) → call_on calls slot ≡ o → option_map_or (λ (call : Call). call.group) o false ≡ true → (call : Call) × IsGroupOn calls slot call
@@ -92,28 +92,28 @@ group_on calls slot h = either (call_on calls slot) refl h
     either (Some call) e k = (call, record { stands = e; group = k; there = on_its_slot calls slot call e })
 
 -- a slot above the last one has a place at or after the one that follows the last
-pub behind_last : (last : Option Slot) (slot : Slot) → IfSome last IsSlot → slot.slot < 2 → IsAbove last slot → place_after last ≤ place slot
-behind_last None slot is small above = omega arith
-behind_last (Some l) slot is small above = omega (arith, below-place l slot is.1 small above)
+pub after_last : (last : Option Slot) (slot : Slot) → IfSome last IsSlot → slot.slot < 2 → IsAbove last slot → place_after last ≤ place slot
+after_last None slot is small above = omega arith
+after_last (Some l) slot is small above = omega (arith, below-place l slot is.1 small above)
 
 pub above_last : (last : Option Slot) (slot : Slot) → IfSome last IsSlot → slot.slot < 2 → place_after last ≤ place slot → IsAbove last slot
 above_last None slot is small behind = tt
 above_last (Some l) slot is small behind = place-below l slot is.1 small (omega (arith, behind))
 
 -- a test of a slot is one of its place
-pub at_place : (calls : List Standing) (slot : Slot) (b : Bool) → slot.slot < 2 → is_group_on calls slot ≡ b → is_group_at calls (place slot) ≡ b
+pub at_place : (calls : List ActiveCall) (slot : Slot) (b : Bool) → slot.slot < 2 → is_group_on calls slot ≡ b → is_group_at calls (place slot) ≡ b
 at_place calls slot b small h = subst (λ (s : Slot). is_group_on calls s ≡ b) (sym (slot_at-place slot small)) h
 
 none_there : (b : Bool) → b ≡ true → b ≡ false → ⊥
 none_there true h k = cc
 none_there false h k = cc
 
-none_before : (calls : List Standing) (from to : ℕ) (other : Slot) → NonePass (is_group_at calls) from to → other.slot < 2 → is_group_on calls other ≡ true → from ≤ place other → place other < to → ⊥
+none_before : (calls : List ActiveCall) (from to : ℕ) (other : Slot) → NonePass (is_group_at calls) from to → other.slot < 2 → is_group_on calls other ≡ true → from ≤ place other → place other < to → ⊥
 none_before calls from to other none small group reached below =
     none_there (is_group_at calls (place other)) (at_place calls other true small group) (none (place other) reached below)
 
 -- the first after the last
-next_above : (calls : List Standing) (last : Option Slot) (k : ℕ) (call : Call) → IfSome last IsSlot → IsFirst (is_group_at calls) (place_after last) 32 k → IsGroupOn calls (slot_at k) call → IsNextGroupCall calls last call
+next_above : (calls : List ActiveCall) (last : Option Slot) (k : ℕ) (call : Call) → IfSome last IsSlot → IsFirst (is_group_at calls) (place_after last) 32 k → IsGroupOn calls (slot_at k) call → IsNextGroupCall calls last call
 next_above calls last k call is first on =
     let at : place call.slot ≡ k = ap place on.there ∙ place-slot_at k in
     let within : IsSlot call.slot = subst IsSlot (sym on.there) (omega (arith, first.within), omega arith) in
@@ -125,13 +125,13 @@ next_above calls last k call is first on =
       above = λ other site group behind. (
         above,
         λ below.
-            none_before calls (place_after last) k other first.before site.1 group (behind_last last other is site.1 behind) (omega (arith, at, below-place other call.slot site.1 within.1 below)),
+            none_before calls (place_after last) k other first.before site.1 group (after_last last other is site.1 behind) (omega (arith, at, below-place other call.slot site.1 within.1 below)),
       );
       around = λ no other site group below. no above;
     }
 
 -- the first of all, if there is none after the last
-next_around : (calls : List Standing) (last : Option Slot) (k : ℕ) (call : Call) → IfSome last IsSlot → NonePass (is_group_at calls) (place_after last) 32 → IsFirst (is_group_at calls) 0 32 k → IsGroupOn calls (slot_at k) call → IsNextGroupCall calls last call
+next_around : (calls : List ActiveCall) (last : Option Slot) (k : ℕ) (call : Call) → IfSome last IsSlot → NonePass (is_group_at calls) (place_after last) 32 → IsFirst (is_group_at calls) 0 32 k → IsGroupOn calls (slot_at k) call → IsNextGroupCall calls last call
 next_around calls last k call is none first on =
     let at : place call.slot ≡ k = ap place on.there ∙ place-slot_at k in
     let within : IsSlot call.slot = subst IsSlot (sym on.there) (omega (arith, first.within), omega arith) in
@@ -139,11 +139,11 @@ next_around calls last k call is none first on =
       within = within;
       stands = subst (λ (s : Slot). call_on calls s ≡ Some call) (sym on.there) on.stands;
       group = on.group;
-      above = λ other site group behind. absurd (none_before calls (place_after last) 32 other none site.1 group (behind_last last other is site.1 behind) (omega (arith, site.0, site.1)));
+      above = λ other site group behind. absurd (none_before calls (place_after last) 32 other none site.1 group (after_last last other is site.1 behind) (omega (arith, site.0, site.1)));
       around = λ no other site group below. none_before calls 0 k other first.before site.1 group (omega arith) (omega (arith, at, below-place other call.slot site.1 within.1 below));
     }
 
-no_group : (calls : List Standing) → NonePass (is_group_at calls) 0 32 → HasNoGroupCall calls
+no_group : (calls : List ActiveCall) → NonePass (is_group_at calls) 0 32 → HasNoGroupCall calls
 no_group calls none slot is =
     subst (λ (s : Slot). is_group_on calls s ≡ false) (slot_at-place slot is.1) (none (place slot) (omega arith) (omega (arith, is.0, is.1)))
 
@@ -156,12 +156,12 @@ found_from passes from = either (cases_lt 32 from)
     either (inr near) = found_first passes from (32 - from) 32 (omega (arith, near))
 
 -- a talkgroup call whose turn it is: its place is the first from one on, or else the first of all
-pub record IsFoundTurn (calls : List Standing) (from : ℕ) (call : Call) : Type 0 where
+pub record IsFoundTurn (calls : List ActiveCall) (from : ℕ) (call : Call) : Type 0 where
   pub at : ℕ
   pub on : IsGroupOn calls (slot_at at) call
   pub turn : IsNext (is_group_at calls) from at
 
-found_turn : (calls : List Standing) (from : ℕ) (a b : Option ℕ) → MatchOption a (NonePass (is_group_at calls) from 32) (IsFirst (is_group_at calls) from 32) → MatchOption b (NonePass (is_group_at calls) 0 32) (IsFirst (is_group_at calls) 0 32) → MatchOption (option_and_then (λ place. call_on calls (slot_at place)) (option_or a b)) (NonePass (is_group_at calls) 0 32) (IsFoundTurn calls from)
+found_turn : (calls : List ActiveCall) (from : ℕ) (a b : Option ℕ) → MatchOption a (NonePass (is_group_at calls) from 32) (IsFirst (is_group_at calls) from 32) → MatchOption b (NonePass (is_group_at calls) 0 32) (IsFirst (is_group_at calls) 0 32) → MatchOption (option_and_then (λ place. call_on calls (slot_at place)) (option_or a b)) (NonePass (is_group_at calls) 0 32) (IsFoundTurn calls from)
 found_turn calls from (Some k) b first other =
     let on = group_on calls (slot_at k) first.passing in
     rw on.1.stands (record { at = k; on = on.1; turn = inl first })
@@ -170,14 +170,14 @@ found_turn calls from None (Some k) none first =
     rw on.1.stands (record { at = k; on = on.1; turn = inr (none, first) })
 found_turn calls from None None none also = also
 
-found_after : (calls : List Standing) (last : Option Slot) → MatchOption (group_after calls last) (NonePass (is_group_at calls) 0 32) (IsFoundTurn calls (place_after last))
+found_after : (calls : List ActiveCall) (last : Option Slot) → MatchOption (group_after calls last) (NonePass (is_group_at calls) 0 32) (IsFoundTurn calls (place_after last))
 unfolding group_after
 found_after calls last =
     found_turn calls (place_after last) (group_place calls (place_after last)) (group_place calls 0)
     (found_from (is_group_at calls) (place_after last)) (found_from (is_group_at calls) 0)
 
 -- it is the turn of the call that is found
-turn_is : (calls : List Standing) (from : ℕ) (o : Option Call) → MatchOption o (NonePass (is_group_at calls) 0 32) (IsFoundTurn calls from) → MatchOption o (HasNoGroupCall calls) (IsTurn calls from)
+turn_is : (calls : List ActiveCall) (from : ℕ) (o : Option Call) → MatchOption o (NonePass (is_group_at calls) 0 32) (IsFoundTurn calls from) → MatchOption o (HasNoGroupCall calls) (IsTurn calls from)
 turn_is calls from None none = no_group calls none
 turn_is calls from (Some call) found =
     let at : place call.slot ≡ found.at = ap place found.on.there ∙ place-slot_at found.at in
@@ -187,11 +187,11 @@ turn_is calls from (Some call) found =
       turn = subst (IsNext (is_group_at calls) from) (sym at) found.turn;
     }
 
-pub turn_of : (calls : List Standing) (last : Option Slot) → MatchOption (group_after calls last) (HasNoGroupCall calls) (IsTurn calls (place_after last))
+pub turn_of : (calls : List ActiveCall) (last : Option Slot) → MatchOption (group_after calls last) (HasNoGroupCall calls) (IsTurn calls (place_after last))
 turn_of calls last = turn_is calls (place_after last) (group_after calls last) (found_after calls last)
 
 -- the call that is found is the next
-next_is : (calls : List Standing) (last : Option Slot) (o : Option Call) → IfSome last IsSlot → MatchOption o (NonePass (is_group_at calls) 0 32) (IsFoundTurn calls (place_after last)) → MatchOption o (HasNoGroupCall calls) (IsNextGroupCall calls last)
+next_is : (calls : List ActiveCall) (last : Option Slot) (o : Option Call) → IfSome last IsSlot → MatchOption o (NonePass (is_group_at calls) 0 32) (IsFoundTurn calls (place_after last)) → MatchOption o (HasNoGroupCall calls) (IsNextGroupCall calls last)
 next_is calls last None is none = no_group calls none
 next_is calls last (Some call) is found =
     elim found.turn [
@@ -199,5 +199,5 @@ next_is calls last (Some call) is found =
       | inr around ↦ next_around calls last found.at call is around.0 around.1 found.on
     ]
 
-pub next_group_call : (calls : List Standing) (last : Option Slot) → IfSome last IsSlot → MatchOption (group_after calls last) (HasNoGroupCall calls) (IsNextGroupCall calls last)
+pub next_group_call : (calls : List ActiveCall) (last : Option Slot) → IfSome last IsSlot → MatchOption (group_after calls last) (HasNoGroupCall calls) (IsNextGroupCall calls last)
 next_group_call calls last is = next_is calls last (group_after calls last) is (found_after calls last)

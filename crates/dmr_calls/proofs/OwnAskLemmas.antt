@@ -7,54 +7,54 @@ use Rattle.std.proofs.lemmas.Bool.Decides.{nat_tests}
 use Rattle.std.proofs.lemmas.List.Elements.{filter_passes}
 use Rattle.std.proofs.lemmas.List.Quantifiers.{all_pairs_push}
 use Rattle.dmr_calls.specs.declared.ask.Ask.{Ask}
-use Rattle.dmr_calls.specs.declared.ask.Asking.{Asking}
+use Rattle.dmr_calls.specs.declared.ask.ActiveAsk.{ActiveAsk}
 use Rattle.dmr_calls.proofs.AnyLemmas.{none_passes_both}
-use Rattle.dmr_calls.specs.Asks.{HaveOwnSources, new_asking, waited_more, others_than, has_own_ask}
+use Rattle.dmr_calls.specs.Asks.{HaveOwnSources, new_active_ask, ask_after_tick, others_than, has_own_ask}
 
 -- a number that differs from another
 other_source : (a b : ℕ) → not (a == b) ≡ true → a ≢ b
 other_source a b h same = grind (arith, nat_tests)
 
 -- an ask after those of other sources
-pub own_with : (ask : Ask) (asks : List Asking) → HaveOwnSources (others_than ask.source asks) → HaveOwnSources (others_than ask.source asks ++ new_asking ask ∷ [])
+pub own_with : (ask : Ask) (asks : List ActiveAsk) → HaveOwnSources (others_than ask.source asks) → HaveOwnSources (others_than ask.source asks ++ new_active_ask ask ∷ [])
 own_with ask asks own =
-    all_pairs_push (λ (a b : Asking). a.ask.source ≢ b.ask.source) (others_than ask.source asks) (new_asking ask) own
-    (λ k d within. other_source _ _ (filter_passes (λ (a : Asking). not (a.ask.source == ask.source)) asks k d within))
+    all_pairs_push (λ (a b : ActiveAsk). a.ask.source ≢ b.ask.source) (others_than ask.source asks) (new_active_ask ask) own
+    (λ k d within. other_source _ _ (filter_passes (λ (a : ActiveAsk). not (a.ask.source == ask.source)) asks k d within))
 
 -- a tick changes no source
-same_source : (asks : List Asking) (k : ℕ) (d : Asking) → (get_or (map waited_more asks) k d).ask.source ≡ (get_or asks k d).ask.source
+same_source : (asks : List ActiveAsk) (k : ℕ) (d : ActiveAsk) → (get_or (map ask_after_tick asks) k d).ask.source ≡ (get_or asks k d).ask.source
 same_source [] k d = refl
 same_source (a ∷ asks) zero d = refl
 same_source (a ∷ asks) (suc k) d = same_source asks k d
 
 -- a tick changes no count of asks
-same_length : (asks : List Asking) → length (map waited_more asks) ≡ length asks
+same_length : (asks : List ActiveAsk) → length (map ask_after_tick asks) ≡ length asks
 same_length [] = refl
 same_length (a ∷ asks) = ap (λ n. suc n) (same_length asks)
 
 -- the asks after a tick
-pub own_after : (asks : List Asking) → HaveOwnSources asks → HaveOwnSources (map waited_more asks)
+pub own_after : (asks : List ActiveAsk) → HaveOwnSources asks → HaveOwnSources (map ask_after_tick asks)
 own_after asks own i j d before within same =
     own i j d before (omega (arith, same_length asks)) (sym (same_source asks i d) ∙ same ∙ same_source asks j d)
 
 -- the asks after the first have distinct sources too
-own_tail : (a : Asking) (asks : List Asking) → HaveOwnSources (a ∷ asks) → HaveOwnSources asks
+own_tail : (a : ActiveAsk) (asks : List ActiveAsk) → HaveOwnSources (a ∷ asks) → HaveOwnSources asks
 own_tail a asks own i j d before within = own (suc i) (suc j) d (omega (arith, before)) (omega (arith, within))
 
 -- if the first ask is of a source, the others are not
-rest_is_other : (a : Asking) (asks : List Asking) (source : ℕ) → HaveOwnSources (a ∷ asks) → (a.ask.source == source) ≡ true → list_any (λ (b : Asking). b.ask.source == source) asks ≡ false
+rest_is_other : (a : ActiveAsk) (asks : List ActiveAsk) (source : ℕ) → HaveOwnSources (a ∷ asks) → (a.ask.source == source) ≡ true → list_any (λ (b : ActiveAsk). b.ask.source == source) asks ≡ false
 rest_is_other a asks source own same = none_same asks (λ k d within. let other : a.ask.source ≢ (get_or asks k d).ask.source = own 0 (suc k) d (omega arith) (omega (arith, within)) in grind (arith, nat_tests))
   where
-    none_same : (bs : List Asking) → ((k : ℕ) (d : Asking) → k < length bs → ((get_or bs k d).ask.source == source) ≡ false) → list_any (λ (b : Asking). b.ask.source == source) bs ≡ false
+    none_same : (bs : List ActiveAsk) → ((k : ℕ) (d : ActiveAsk) → k < length bs → ((get_or bs k d).ask.source == source) ≡ false) → list_any (λ (b : ActiveAsk). b.ask.source == source) bs ≡ false
     none_same [] other = refl
-    none_same (b ∷ bs) other = ap (λ t. t || list_any (λ (c : Asking). c.ask.source == source) bs) (other 0 b (omega arith)) ∙ none_same bs (λ k d within. other (suc k) d (omega (arith, within)))
+    none_same (b ∷ bs) other = ap (λ t. t || list_any (λ (c : ActiveAsk). c.ask.source == source) bs) (other 0 b (omega arith)) ∙ none_same bs (λ k d within. other (suc k) d (omega (arith, within)))
 
 -- the asks of other sources are all but the one of the source
-pub others_count : (asks : List Asking) (source : ℕ) → HaveOwnSources asks → length (others_than source asks) + (if list_any (λ (a : Asking). a.ask.source == source) asks then 1 else 0) ≡ length asks
+pub others_count : (asks : List ActiveAsk) (source : ℕ) → HaveOwnSources asks → length (others_than source asks) + (if list_any (λ (a : ActiveAsk). a.ask.source == source) asks then 1 else 0) ≡ length asks
 others_count [] source own = refl
 others_count (a ∷ asks) source own = by_first (a.ask.source == source) (rest_is_other a asks source own) (others_count asks source (own_tail a asks own))
   where
-    by_first : (b : Bool) → (b ≡ true → list_any (λ (c : Asking). c.ask.source == source) asks ≡ false) → length (others_than source asks) + (if list_any (λ (c : Asking). c.ask.source == source) asks then 1 else 0) ≡ length asks → length (if not b then a ∷ others_than source asks else others_than source asks) + (if b || list_any (λ (c : Asking). c.ask.source == source) asks then 1 else 0) ≡ suc (length asks)
+    by_first : (b : Bool) → (b ≡ true → list_any (λ (c : ActiveAsk). c.ask.source == source) asks ≡ false) → length (others_than source asks) + (if list_any (λ (c : ActiveAsk). c.ask.source == source) asks then 1 else 0) ≡ length asks → length (if not b then a ∷ others_than source asks else others_than source asks) + (if b || list_any (λ (c : ActiveAsk). c.ask.source == source) asks then 1 else 0) ≡ suc (length asks)
     by_first true none more = let alone = rw (none refl) at more in omega (arith, alone)
     by_first false none more = omega (arith, more)
 
@@ -64,10 +64,10 @@ or_false true b none = refl
 or_false false b none = none
 
 -- the target of a source's one ask decides whether the source asks the target
-pub own_ask_read : (asks : List Asking) (source target : ℕ) → HaveOwnSources asks → has_own_ask asks source target ≡ option_map_or (λ (c : Asking). c.ask.target == target) (find (λ c. c.ask.source == source) asks) false
+pub own_ask_read : (asks : List ActiveAsk) (source target : ℕ) → HaveOwnSources asks → has_own_ask asks source target ≡ option_map_or (λ (c : ActiveAsk). c.ask.target == target) (find (λ c. c.ask.source == source) asks) false
 own_ask_read [] source target own = refl
 own_ask_read (a ∷ asks) source target own = by_first (a.ask.source == source) (rest_is_other a asks source own) (own_ask_read asks source target (own_tail a asks own))
   where
-    by_first : (b : Bool) → (b ≡ true → list_any (λ (c : Asking). c.ask.source == source) asks ≡ false) → has_own_ask asks source target ≡ option_map_or (λ (c : Asking). c.ask.target == target) (find (λ c. c.ask.source == source) asks) false → ((b && (a.ask.target == target)) || has_own_ask asks source target) ≡ option_map_or (λ (c : Asking). c.ask.target == target) (if b then Some a else find (λ c. c.ask.source == source) asks) false
-    by_first true none more = or_false (a.ask.target == target) (has_own_ask asks source target) (none_passes_both (λ (c : Asking). c.ask.source == source) (λ c. c.ask.target == target) asks (none refl))
+    by_first : (b : Bool) → (b ≡ true → list_any (λ (c : ActiveAsk). c.ask.source == source) asks ≡ false) → has_own_ask asks source target ≡ option_map_or (λ (c : ActiveAsk). c.ask.target == target) (find (λ c. c.ask.source == source) asks) false → ((b && (a.ask.target == target)) || has_own_ask asks source target) ≡ option_map_or (λ (c : ActiveAsk). c.ask.target == target) (if b then Some a else find (λ c. c.ask.source == source) asks) false
+    by_first true none more = or_false (a.ask.target == target) (has_own_ask asks source target) (none_passes_both (λ (c : ActiveAsk). c.ask.source == source) (λ c. c.ask.target == target) asks (none refl))
     by_first false none more = more

@@ -5,7 +5,7 @@ use Rattle.std.specs.List.{All}
 use Rattle.std.proofs.lemmas.Bool.Decides.{nat_tests}
 use Rattle.std.proofs.lemmas.List.Elements.{All-map}
 use Rattle.dmr_pdu.specs.declared.slots.Slot.{Slot}
-use Rattle.dmr_calls.specs.declared.call.Standing.{Standing}
+use Rattle.dmr_calls.specs.declared.call.ActiveCall.{ActiveCall}
 use Rattle.dmr_pdu.specs.Slots.{place}
 use Rattle.dmr_calls.specs.Slots.{AreOnSlots}
 use Rattle.dmr_calls.specs.Calls.{is_slot, one_tick_older, with_activity, on_other_slots, on_other_carriers}
@@ -38,28 +38,28 @@ filter_twice p q (x ∷ xs) = by_first (p x) (filter_twice p q xs)
     by_first false more = more
 
 -- the first call on a slot is the first of its number
-pub found_on_slot : (calls : List Standing) (slot : Slot) → AreOnSlots calls → slot.slot < 2 → find (λ s. place s.call.slot == place slot) calls ≡ find (λ s. is_slot s.call.slot slot) calls
+pub found_on_slot : (calls : List ActiveCall) (slot : Slot) → AreOnSlots calls → slot.slot < 2 → find (λ s. place s.call.slot == place slot) calls ≡ find (λ s. is_slot s.call.slot slot) calls
 found_on_slot calls slot on two = find_agree (λ s. place s.call.slot == place slot) (λ s. is_slot s.call.slot slot) calls (λ k d within. same_number _ slot (on k d within) two)
 
 -- the calls on other slots are those of other numbers
-pub left_on_slots : (calls : List Standing) (slot : Slot) → AreOnSlots calls → slot.slot < 2 → filter (λ s. not (place s.call.slot == place slot)) calls ≡ on_other_slots slot calls
+pub left_on_slots : (calls : List ActiveCall) (slot : Slot) → AreOnSlots calls → slot.slot < 2 → filter (λ s. not (place s.call.slot == place slot)) calls ≡ on_other_slots slot calls
 left_on_slots calls slot on two = filter_agree (λ s. not (place s.call.slot == place slot)) (λ s. not (is_slot s.call.slot slot)) calls (λ k d within. ap not (same_number _ slot (on k d within) two))
 
 -- the calls of other carriers are those of other numbers than a carrier's two
-pub left_on_carriers : (calls : List Standing) (carrier : ℕ) → AreOnSlots calls → filter (λ s. not (place s.call.slot == 2 * carrier + 1)) (filter (λ s. not (place s.call.slot == 2 * carrier)) calls) ≡ on_other_carriers carrier calls
+pub left_on_carriers : (calls : List ActiveCall) (carrier : ℕ) → AreOnSlots calls → filter (λ s. not (place s.call.slot == 2 * carrier + 1)) (filter (λ s. not (place s.call.slot == 2 * carrier)) calls) ≡ on_other_carriers carrier calls
 left_on_carriers calls carrier on =
     filter_twice (λ s. not (place s.call.slot == 2 * carrier)) (λ s. not (place s.call.slot == 2 * carrier + 1)) calls
     ∙ filter_agree (λ s. not (place s.call.slot == 2 * carrier) && not (place s.call.slot == 2 * carrier + 1)) (λ s. not (s.call.slot.carrier == carrier)) calls (λ k d within. of_carrier _ carrier (on k d within))
 
 -- a tick moves no call
-pub on_slots_after : (calls : List Standing) → AreOnSlots calls → AreOnSlots (map one_tick_older calls)
-on_slots_after calls on = All-map (λ (s : Standing). s.call.slot.slot < 2) one_tick_older calls on
+pub on_slots_after : (calls : List ActiveCall) → AreOnSlots calls → AreOnSlots (map one_tick_older calls)
+on_slots_after calls on = All-map (λ (s : ActiveCall). s.call.slot.slot < 2) one_tick_older calls on
 
 -- activity moves no call
-pub on_slots_marked : (slot : Slot) (calls : List Standing) → AreOnSlots calls → AreOnSlots (map (with_activity slot) calls)
+pub on_slots_marked : (slot : Slot) (calls : List ActiveCall) → AreOnSlots calls → AreOnSlots (map (with_activity slot) calls)
 on_slots_marked slot calls on =
-    All-map (λ (s : Standing). s.call.slot.slot < 2) (with_activity slot) calls (λ k d within. stays (get_or calls k d) (is_slot (get_or calls k d).call.slot slot) (on k d within))
+    All-map (λ (s : ActiveCall). s.call.slot.slot < 2) (with_activity slot) calls (λ k d within. stays (get_or calls k d) (is_slot (get_or calls k d).call.slot slot) (on k d within))
   where
-    stays : (s : Standing) (b : Bool) → s.call.slot.slot < 2 → (if b then record { call = s.call; age = s.age; quiet = 0 } else s).call.slot.slot < 2
+    stays : (s : ActiveCall) (b : Bool) → s.call.slot.slot < 2 → (if b then record { call = s.call; age = s.age; quiet = 0 } else s).call.slot.slot < 2
     stays s true two = two
     stays s false two = two

@@ -1,5 +1,5 @@
 pub mod Limits
-pub mod Standings
+pub mod ActiveLists
 pub mod Ticks
 pub mod Slots
 pub mod Asks

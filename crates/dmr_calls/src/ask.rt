@@ -18,7 +18,7 @@ pub struct Ask {
 
 /// An active ask with its ticks.
 #[derive(Clone, Copy, Debug, PartialEq, Eq)]
-pub struct Asking {
+pub struct ActiveAsk {
     /// The ask.
     pub ask: Ask,
     /// The ticks since its C_AHOY; the count stays at 65,535.
@@ -26,7 +26,7 @@ pub struct Asking {
 }
 
 /// The key of an ask is its source.
-impl Keyed for Asking {
+impl Keyed for ActiveAsk {
     ghost key_of = { λ a. a.ask.source };
 
     fn key(&self) -> u32 {

@@ -33,7 +33,7 @@ impl Blank for Call {
 
 /// An active call with its ticks.
 #[derive(Clone, Copy, Debug, PartialEq, Eq)]
-pub struct Standing {
+pub struct ActiveCall {
     /// The call.
     pub call: Call,
     /// The ticks since it began; the count stays at 65,535.
@@ -43,7 +43,7 @@ pub struct Standing {
 }
 
 /// The key of a call is its slot.
-impl Keyed for Standing {
+impl Keyed for ActiveCall {
     ghost use Rattle.dmr_pdu.specs.Slots.{place};
 
     ghost key_of = { λ s. place s.call.slot };

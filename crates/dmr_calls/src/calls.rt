@@ -1,22 +1,22 @@
 //! The asks, lines and calls of a site: their limits, ticks and counts. Each kind has its own module below.
 
 ghost use Rattle.std.specs.Prelude.{◌≡◌, ◌↔◌, [], length, IsTrue, IfOk, is_some};
-ghost use Rattle.dmr_calls.specs.Standings.{no_standings, AreWithinLimits};
+ghost use Rattle.dmr_calls.specs.ActiveLists.{no_active_lists, AreWithinLimits};
 ghost use Rattle.dmr_calls.specs.Asks.{HaveOwnSources};
 ghost use Rattle.dmr_calls.specs.Engaged.{engagement_of, is_engaged};
 ghost use Rattle.dmr_calls.specs.Due.{after_tick, due_of};
 ghost use Rattle.dmr_calls.specs.Same.{are_same};
 
+mod active_calls;
 mod after;
 mod asks;
 mod lines;
-mod standing;
 
 use crate::answer::{Counts, Due, Engagement};
-use crate::ask::Asking;
-use crate::call::Standing;
+use crate::ask::ActiveAsk;
+use crate::call::ActiveCall;
 use crate::line::Line;
-use crate::ticks::{count_asks, count_calls};
+use crate::ticks::{age_asks, age_calls};
 use dmr_pdu::{Address, OutOfMemory};
 use dmr_table::KeyedTable;
 use std::alloc::Global;
@@ -37,17 +37,17 @@ pub const MOST_CALLS: usize = 31;
 /// they were added, and the calls in the order in which they began. Asks and calls have their ticks.
 #[derive(Drop)]
 pub struct Calls {
-    asks: KeyedTable<Asking, MOST_ASKS>,
+    asks: KeyedTable<ActiveAsk, MOST_ASKS>,
     lines: KeyedTable<Line, MOST_LINES>,
-    calls: KeyedTable<Standing, MOST_CALLS>,
+    calls: KeyedTable<ActiveCall, MOST_CALLS>,
 }
 
 impl Model for Calls {
-    ghost use Rattle.dmr_calls.specs.Standings.{Standings};
+    ghost use Rattle.dmr_calls.specs.ActiveLists.{ActiveLists};
     ghost use Rattle.dmr_calls.specs.Asks.{HaveOwnSources};
     ghost use Rattle.dmr_calls.specs.Slots.{AreOnSlots};
 
-    ghost Value = { Standings };
+    ghost Value = { ActiveLists };
 
     ghost view = { λ c. record { asks = c.asks; lines = c.lines; calls = c.calls } };
 
@@ -57,7 +57,7 @@ impl Model for Calls {
 impl Calls {
     /// Makes an empty value, and allocates the memory for all asks, lines and calls. Returns `OutOfMemory` if the allocation fails.
     pub fn new(alloc: Global) -> Result<Calls, OutOfMemory>
-        ensures { IfOk result (λ calls. calls ≡ no_standings) }
+        ensures { IfOk result (λ calls. calls ≡ no_active_lists) }
     {
         let asks = KeyedTable::new(alloc)?;
         let lines = KeyedTable::new(alloc)?;
@@ -76,7 +76,7 @@ impl Calls {
     }
 
     /// Does nothing. A proof calls it to use the limits, and that no radio has two asks.
-    pub fn keeps(&self)
+    pub fn use_invariant(&self)
         ensures few { AreWithinLimits self.now }
         ensures own { HaveOwnSources self.now.asks }
     {
@@ -109,16 +109,16 @@ impl Calls {
         ensures due { result ≡ due_of (after_tick self.old) hang maximum ahoy_wait }
         ensures counted { self.new ≡ after_tick self.old }
     {
-        self.count();
+        self.count_tick();
         self.due(hang, maximum, ahoy_wait)
     }
 
     /// Adds one tick to the waiting time of each ask, and to the age and the quiet time of each call.
-    pub fn count(&mut self)
+    pub fn count_tick(&mut self)
         ensures { self.new ≡ after_tick self.old }
     {
-        count_asks(&mut self.asks);
-        count_calls(&mut self.calls);
+        age_asks(&mut self.asks);
+        age_calls(&mut self.calls);
     }
 
     /// The call, ask and line that are due.

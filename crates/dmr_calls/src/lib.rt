@@ -16,8 +16,8 @@ mod ticks;
 mod turns;
 
 pub use answer::{Counts, Due, Engagement, Full};
-pub use ask::{Ask, Asking};
-pub use call::{Call, Standing};
+pub use ask::{ActiveAsk, Ask};
+pub use call::{ActiveCall, Call};
 pub use calls::{Calls, MOST_ASKS, MOST_CALLS, MOST_LINES};
 pub use limits::limits_are_stated;
 pub use line::Line;

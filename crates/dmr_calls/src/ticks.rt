@@ -1,30 +1,30 @@
 //! Counting ticks of asks and calls, and marking calls as active.
 
 ghost use Rattle.std.specs.Prelude.{◌≡◌, map};
-ghost use Rattle.dmr_calls.specs.Asks.{waited_more as waited_more_of};
+ghost use Rattle.dmr_calls.specs.Asks.{ask_after_tick as waited_more_of};
 ghost use Rattle.dmr_calls.specs.Calls.{one_tick_older as counted_of, with_activity as marked_of};
 
-use crate::ask::Asking;
-use crate::call::Standing;
+use crate::ask::ActiveAsk;
+use crate::call::ActiveCall;
 use crate::calls::{MOST_ASKS, MOST_CALLS};
 use dmr_pdu::Slot;
 use dmr_table::KeyedTable;
 
 /// An ask after one more tick.
-fn waited_more(asking: Asking) -> Asking
+fn ask_after_tick(asking: ActiveAsk) -> ActiveAsk
     ensures { result ≡ waited_more_of asking }
 {
-    Asking {
+    ActiveAsk {
         ask: asking.ask,
         waited: asking.waited.saturating_add(1),
     }
 }
 
 /// A call after one more tick.
-fn counted(standing: Standing) -> Standing
+fn call_after_tick(standing: ActiveCall) -> ActiveCall
     ensures { result ≡ counted_of standing }
 {
-    Standing {
+    ActiveCall {
         call: standing.call,
         age: standing.age.saturating_add(1),
         quiet: standing.quiet.saturating_add(1),
@@ -32,11 +32,11 @@ fn counted(standing: Standing) -> Standing
 }
 
 /// A call after activity on a slot.
-fn marked(standing: Standing, slot: &Slot) -> Standing
+fn call_after_activity(standing: ActiveCall, slot: &Slot) -> ActiveCall
     ensures { result ≡ marked_of slot.now standing }
 {
     if standing.call.slot == *slot {
-        Standing {
+        ActiveCall {
             quiet: 0,
             ..standing
         }
@@ -46,31 +46,31 @@ fn marked(standing: Standing, slot: &Slot) -> Standing
 }
 
 /// Adds one tick to each ask.
-pub fn count_asks(asks: &mut KeyedTable<Asking, MOST_ASKS>)
+pub fn age_asks(asks: &mut KeyedTable<ActiveAsk, MOST_ASKS>)
     ensures { asks.new ≡ map waited_more_of asks.old }
 {
     for place in 0..asks.len() {
         let asking = asks.as_slice()[place];
-        asks.replace(place, waited_more(asking));
+        asks.replace(place, ask_after_tick(asking));
     }
 }
 
 /// Adds one tick to each call.
-pub fn count_calls(calls: &mut KeyedTable<Standing, MOST_CALLS>)
+pub fn age_calls(calls: &mut KeyedTable<ActiveCall, MOST_CALLS>)
     ensures { calls.new ≡ map counted_of calls.old }
 {
     for place in 0..calls.len() {
         let standing = calls.as_slice()[place];
-        calls.replace(place, counted(standing));
+        calls.replace(place, call_after_tick(standing));
     }
 }
 
 /// Marks the calls on the slot as active.
-pub fn mark(calls: &mut KeyedTable<Standing, MOST_CALLS>, slot: &Slot)
+pub fn mark_active(calls: &mut KeyedTable<ActiveCall, MOST_CALLS>, slot: &Slot)
     ensures { calls.new ≡ map (marked_of slot.now) calls.old }
 {
     for place in 0..calls.len() {
         let standing = calls.as_slice()[place];
-        calls.replace(place, marked(standing, slot));
+        calls.replace(place, call_after_activity(standing, slot));
     }
 }

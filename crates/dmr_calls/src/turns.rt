@@ -2,7 +2,7 @@
 
 ghost use Rattle.std.specs.Prelude.{List, Option, MatchOption};
 ghost use Rattle.dmr_pdu.specs.declared.slots.Slot.{Slot};
-ghost use Rattle.dmr_calls.specs.declared.call.Standing.{Standing};
+ghost use Rattle.dmr_calls.specs.declared.call.ActiveCall.{ActiveCall};
 ghost use Rattle.dmr_calls.specs.After.{group_after, place_after, HasNoGroupCall, IsTurn};
 
 /// Talkgroup calls take turns, for any calls and any last slot.
@@ -11,5 +11,5 @@ ghost use Rattle.dmr_calls.specs.After.{group_after, place_after, HasNoGroupCall
 /// number. If there is none, it is on the first of all slots with one. There is no next call exactly if no talkgroup call is
 /// active.
 pub fn talkgroup_calls_take_turns()
-    ensures { (calls : List Standing) (last : Option Slot) → MatchOption (group_after calls last) (HasNoGroupCall calls) (IsTurn calls (place_after last)) }
+    ensures { (calls : List ActiveCall) (last : Option Slot) → MatchOption (group_after calls last) (HasNoGroupCall calls) (IsTurn calls (place_after last)) }
 {}

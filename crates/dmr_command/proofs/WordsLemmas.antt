@@ -16,7 +16,7 @@ use Rattle.clap.specs.declared.builder.arg.Arg.{Arg}
 use Rattle.clap.specs.declared.builder.command.Command.{Command}
 use Rattle.clap.specs.declared.builder.command.Command.TheViews.{out-Command}
 use Rattle.clap.specs.declared.parser.matches.ArgMatches.{ArgMatches}
-use Rattle.dmr_command.specs.Words.{HasRead, command, faults_in, one_in, script_option, serve_flag, site_option, terms_option, titled, value_in}
+use Rattle.dmr_command.specs.Words.{HasRead, command, faults_in, one_in, script_option, serve_flag, site_option, terms_option, titled_command, value_in}
 
 -- an option of this id
 pub record IsOption (a : Arg) (id : List ℕ) : Type 0 where
@@ -74,7 +74,7 @@ module _ (a b d f : Arg) (is_site : IsOption a (codes "site")) (is_script : IsOp
     app_step : (x y : App) (r t : Rule) → x ≡ y → r ≡ t → with_rule x r ≡ with_rule y t
     app_step x y r t e same = ap (λ (z : App). with_rule z r) e ∙ ap (λ (u : Rule). with_rule y u) same
 
-    pub app_given : app_of start ≡ titled → rule_of a ≡ site_option → rule_of b ≡ script_option → rule_of d ≡ serve_flag → rule_of f ≡ terms_option → app_of cmd ≡ command
+    pub app_given : app_of start ≡ titled_command → rule_of a ≡ site_option → rule_of b ≡ script_option → rule_of d ≡ serve_flag → rule_of f ≡ terms_option → app_of cmd ≡ command
     app_given named site script serve terms =
         fourth.shape is_terms.local
         ∙ app_step _ _ _ _ (third.shape is_serve.local

@@ -43,12 +43,12 @@ terms_option = record (new_rule (codes "terms")) {
 }
 
 -- a command line of this name, with a version and no option yet
-abbrev pub titled : App
-titled = let app = new_app (codes "dmr_trunk") in record app { top = record app.top { has_version = true } }
+abbrev pub titled_command : App
+titled_command = let app = new_app (codes "dmr_trunk") in record app { top = record app.top { has_version = true } }
 
 -- the program's command line: `dmr_trunk --site FILE [--script FILE] [--serve] [--terms N]`, and `--help` and `--version`
 abbrev pub command : App
-command = with_rule (with_rule (with_rule (with_rule titled site_option) script_option) serve_flag) terms_option
+command = with_rule (with_rule (with_rule (with_rule titled_command site_option) script_option) serve_flag) terms_option
 
 -- the kinds of fault that a parse of the words finds; none if the words are accepted. A request for help or for the version is one
 unfoldable pub faults_in : List Text → Kinds

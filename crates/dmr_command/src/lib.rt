@@ -15,6 +15,6 @@ mod words;
 
 pub use fault::ServeFault;
 pub use listening::listen_address;
-pub use status::{AUDIT, WORDS, out_of_memory, words_refused};
+pub use status::{AUDIT, WORDS, report_out_of_memory, report_refused_words};
 pub use version::VERSION;
 pub use words::{Job, choose};

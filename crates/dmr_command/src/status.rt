@@ -13,7 +13,7 @@ pub const WORDS: u8 = 2;
 pub const AUDIT: u8 = 3;
 
 /// Writes that memory ran out, and returns the status.
-pub fn out_of_memory<E: Write>(err: &mut E) -> u8
+pub fn report_out_of_memory<E: Write>(err: &mut E) -> u8
     ensures { result ≡ MEMORY }
 {
     let _ = writeln!(err, "dmr_trunk: out of memory");
@@ -21,7 +21,7 @@ pub fn out_of_memory<E: Write>(err: &mut E) -> u8
 }
 
 /// Writes why the words are refused, and returns the status.
-pub fn words_refused<E: Write>(err: &mut E, text: &str) -> u8
+pub fn report_refused_words<E: Write>(err: &mut E, text: &str) -> u8
     ensures { result ≡ WORDS }
 {
     let _ = writeln!(err, "{text}");

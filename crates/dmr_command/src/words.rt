@@ -5,9 +5,9 @@ ghost use Rattle.clap.specs.Built.{IsParsedFrom, IsPlainArg, TakesValue};
 ghost use Rattle.clap.specs.Words.{app_of, args_of, first_value, found_of, groups_of, kind_of, one_text, rule_of};
 ghost use Rattle.clap.specs.declared.builder.command.Command.TheViews.{out-Command};
 ghost use Rattle.clap.specs.declared.parser.matches.ArgMatches.{ArgMatches};
-ghost use Rattle.dmr_command.specs.Words.{AreRefused, AskFor, HasRead, IsAsked, IsNotOne, command, faults_in, script_option, serve_flag, site_option, terms_option, titled};
+ghost use Rattle.dmr_command.specs.Words.{AreRefused, AskFor, HasRead, IsAsked, IsNotOne, command, faults_in, script_option, serve_flag, site_option, terms_option, titled_command};
 
-use crate::status::{WORDS, out_of_memory, words_refused};
+use crate::status::{WORDS, report_out_of_memory, report_refused_words};
 use crate::version::VERSION;
 use clap::builder::ValueParser;
 use clap::error::ErrorKind;
@@ -39,21 +39,21 @@ pub fn choose<'a, E: Write>(alloc: Global, words: &'a [&'a str], err: &mut E) ->
 {
     let found = match read_words(alloc, words) {
         Ok(found) => found,
-        Err(error) => return Err(tell_refusal(&error, err)),
+        Err(error) => return Err(report_refusal(&error, err)),
     };
     match job_in(&found) {
         Some(job) => Ok(job),
-        None => Err(words_refused(err, "dmr_trunk: give either --script or --serve")),
+        None => Err(report_refused_words(err, "dmr_trunk: give either --script or --serve")),
     }
 }
 
 /// Writes why the word reader refuses the words, and returns the status.
-fn tell_refusal<E: Write>(error: &Error, err: &mut E) -> u8
+fn report_refusal<E: Write>(error: &Error, err: &mut E) -> u8
     ensures memory { kind_of error.now ≡ ErrorKind.OutOfMemory → result ≡ MEMORY }
     ensures words { kind_of error.now ≢ ErrorKind.OutOfMemory → result ≡ WORDS }
 {
     if error.kind() == ErrorKind::OutOfMemory {
-        out_of_memory(err)
+        report_out_of_memory(err)
     } else {
         let _ = write!(err, "{error}");
         WORDS
@@ -111,7 +111,7 @@ fn command<'a>(alloc: Global) -> Result<Command<'a>, OutOfMemory>
     ensures app { IfOk result (λ c. app_of c ≡ command) }
     ensures site { IfOk result (λ c. (m : ArgMatches) → IsParsedFrom c m → is_some (first_value (found_of m) (codes "site")) ≡ true) }
 {
-    titled(alloc)
+    titled_command(alloc)
         .arg(site_option(alloc))?
         .arg(script_option(alloc))?
         .arg(serve_flag(alloc))?
@@ -119,8 +119,8 @@ fn command<'a>(alloc: Global) -> Result<Command<'a>, OutOfMemory>
 }
 
 /// A command line with this program's name and version, its `--help` texts, and no option yet.
-fn titled<'a>(alloc: Global) -> Command<'a>
-    ensures app { app_of result ≡ titled }
+fn titled_command<'a>(alloc: Global) -> Command<'a>
+    ensures app { app_of result ≡ titled_command }
     ensures empty { (args_of result ≡ []) × (groups_of result ≡ []) }
     ensures local { ((out-Command result).has_globals ≡ false) × ((out-Command result).subcommand_negates_reqs ≡ false) }
 {

@@ -13,7 +13,7 @@ use Rattle.dmr_pdu.proofs.Laws.{items-append}
 use Rattle.dmr_console.specs.declared.line_cutter.LineStep.{LineStep}
 use Rattle.dmr_console.specs.declared.line_cutter.LineStep.TheVariants.{Line, TooLong}
 use Rattle.dmr_console.specs.Lines.{parts_of, all_but_last, last_of, without_cr, line_step_of, lines_in, open_in, first_octets_of_line}
-use Rattle.dmr_console.specs.Steps.{line_step_at, open_line_after_octet, line_brought, line_steps_from, open_line_after}
+use Rattle.dmr_console.specs.Steps.{line_step_at, open_line_after_octet, line_produced, line_steps_from, open_line_after}
 
 -- with 81 octets, no more are kept
 pub kept_full : (begun : List ℕ) (x : ℕ) → length begun ≡ 81 → first_octets_of_line (begun ++ x ∷ []) ≡ begun
@@ -108,12 +108,12 @@ kept_more_by begun x false e = ap (λ (p : List ℕ). first_octets_of_line (p ++
 kept_more : (begun : List ℕ) (x : ℕ) → first_octets_of_line (first_octets_of_line begun ++ x ∷ []) ≡ first_octets_of_line (begun ++ x ∷ [])
 kept_more begun x = kept_more_by begun x (ltb 81 (length begun)) refl
 
-brought_by : (a : LineStep) (b : Bool) (line : List ℕ) → line_brought (cond b TooLong (Line (record { items = line }))) ≡ cond b TooLong (Line (record { items = line })) ∷ []
-brought_by a true line = refl
-brought_by a false line = refl
+produced_by : (a : LineStep) (b : Bool) (line : List ℕ) → line_produced (cond b TooLong (Line (record { items = line }))) ≡ cond b TooLong (Line (record { items = line })) ∷ []
+produced_by a true line = refl
+produced_by a false line = refl
 
-brought_line : (octets : List ℕ) → line_brought (line_step_of octets) ≡ line_step_of octets ∷ []
-brought_line octets = brought_by TooLong (ltb 80 (length octets)) (without_cr octets)
+produced_line : (octets : List ℕ) → line_produced (line_step_of octets) ≡ line_step_of octets ∷ []
+produced_line octets = produced_by TooLong (ltb 80 (length octets)) (without_cr octets)
 
 -- ---- the cutter agrees with the stream, with what it keeps of an open line
 
@@ -121,14 +121,14 @@ left_kept : (begun : List ℕ) (x : ℕ) (b : Bool) → eqb x 10 ≡ b → open_
 left_kept begun x true e = rw e refl
 left_kept begun x false e = rw e (kept_more begun x)
 
-brought_kept : (begun : List ℕ) (x : ℕ) (b : Bool) → eqb x 10 ≡ b → line_brought (line_step_at (first_octets_of_line begun) x) ≡ map line_step_of (ended begun x)
-brought_kept begun x true e = rw e (ap line_brought (line_kept begun) ∙ brought_line begun)
-brought_kept begun x false e = rw e refl
+produced_kept : (begun : List ℕ) (x : ℕ) (b : Bool) → eqb x 10 ≡ b → line_produced (line_step_at (first_octets_of_line begun) x) ≡ map line_step_of (ended begun x)
+produced_kept begun x true e = rw e (ap line_produced (line_kept begun) ∙ produced_line begun)
+produced_kept begun x false e = rw e refl
 
 from_is : (begun xs : List ℕ) → line_steps_from (first_octets_of_line begun) xs ≡ map line_step_of (all_ended begun xs)
 from_is begun [] = refl
 from_is begun (x ∷ xs) =
-    (λ i. brought_kept begun x (eqb x 10) refl i ++ line_steps_from (left_kept begun x (eqb x 10) refl i) xs)
+    (λ i. produced_kept begun x (eqb x 10) refl i ++ line_steps_from (left_kept begun x (eqb x 10) refl i) xs)
     ∙ ap (λ (ls : List LineStep). map line_step_of (ended begun x) ++ ls) (from_is (next begun x) xs)
     ∙ sym (map-append line_step_of (ended begun x) (all_ended (next begun x) xs))
 
@@ -146,12 +146,12 @@ rest_whole octets = rest_is [] octets ∙ ap first_octets_of_line (sym (stream_i
 
 -- one more octet
 pub one_more : (octets begun new : List ℕ) (x : ℕ) (r : LineStep) → begun ≡ first_octets_of_line (open_in octets) → r ≡ line_step_at begun x → new ≡ open_line_after_octet begun x →
-    (lines_in (octets ++ x ∷ []) ≡ lines_in octets ++ line_brought r) × (new ≡ first_octets_of_line (open_in (octets ++ x ∷ [])))
+    (lines_in (octets ++ x ∷ []) ≡ lines_in octets ++ line_produced r) × (new ≡ first_octets_of_line (open_in (octets ++ x ∷ [])))
 one_more octets begun new x r is step left =
     let at : open_line_after [] octets ≡ begun = rest_whole octets ∙ sym is in (
-      sym (lines_whole (octets ++ x ∷ [])) ∙ items-append open_line_after_octet line_step_at line_brought [] octets (x ∷ [])
+      sym (lines_whole (octets ++ x ∷ [])) ∙ items-append open_line_after_octet line_step_at line_produced [] octets (x ∷ [])
           ∙ (λ i. lines_whole octets i ++ line_steps_from (at i) (x ∷ []))
-          ∙ ap (λ (ls : List LineStep). lines_in octets ++ ls) (append-nil (line_brought (line_step_at begun x)) ∙ ap line_brought (sym step)),
+          ∙ ap (λ (ls : List LineStep). lines_in octets ++ ls) (append-nil (line_produced (line_step_at begun x)) ∙ ap line_produced (sym step)),
       left ∙ sym (sym (rest_whole (octets ++ x ∷ [])) ∙ fold-append open_line_after_octet [] octets (x ∷ []) ∙ ap (λ (p : List ℕ). open_line_after_octet p x) at),
     )
 

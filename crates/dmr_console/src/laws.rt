@@ -13,7 +13,7 @@ pub fn limits_are_stated()
 {}
 
 /// The octets before an LF are a line if none of them is an LF. The octets after the last LF are still open.
-pub fn lines_stand_before_their_ends()
+pub fn lines_precede_their_ends()
     ensures line { (octets more : List ℕ) → All (λ octet. octet ≢ 10) octets →
         (lines_in (octets ++ 10 ∷ more) ≡ line_step_of octets ∷ lines_in more) × (open_in (octets ++ 10 ∷ more) ≡ open_in more) }
     ensures rest { (octets : List ℕ) → All (λ octet. octet ≢ 10) octets →

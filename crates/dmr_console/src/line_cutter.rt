@@ -2,7 +2,7 @@
 
 ghost use Rattle.std.specs.Prelude.{◌≡◌, ℕ, List, [], ◌∷◌, ◌++◌};
 ghost use Rattle.dmr_console.specs.Lines.{IsOpenLine, first_octets_of_line, line_step_of as line_of_octets, lines_in, open_in, without_cr as without_cr_of};
-ghost use Rattle.dmr_console.specs.Steps.{open_line_after_octet, line_brought, line_step_at};
+ghost use Rattle.dmr_console.specs.Steps.{open_line_after_octet, line_produced, line_step_at};
 
 use arrayvec::ArrayVec;
 use std::marker::Model;
@@ -65,23 +65,23 @@ impl LineCutter {
         // If the cutter keeps the open line of the octets so far, it also keeps that of these octets with this one. Their lines are those
         // so far, and the line of this result, if it has one.
         ensures stream { (octets : List ℕ) → self.old ≡ first_octets_of_line (open_in octets) →
-            (lines_in (octets ++ octet ∷ []) ≡ lines_in octets ++ line_brought result)
+            (lines_in (octets ++ octet ∷ []) ≡ lines_in octets ++ line_produced result)
             × (self.new ≡ first_octets_of_line (open_in (octets ++ octet ∷ []))) }
         ensures step { result ≡ line_step_at self.old octet }
         ensures rest { self.new ≡ open_line_after_octet self.old octet }
     {
-        self.take(octet)
+        self.take_octet(octet)
     }
 
     /// Does nothing. By its contract a cutter keeps no LF, and at most 81 octets.
-    pub fn keeps(&self)
+    pub fn use_invariant(&self)
         ensures { IsOpenLine self.now }
     {
         let _ = &self.begun;
     }
 
     /// Takes the next octet.
-    fn take(&mut self, octet: u8) -> LineStep
+    fn take_octet(&mut self, octet: u8) -> LineStep
         ensures step { result ≡ line_step_at self.old octet }
         ensures rest { self.new ≡ open_line_after_octet self.old octet }
     {

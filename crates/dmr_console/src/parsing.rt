@@ -27,7 +27,7 @@ fn command_by(name: &[u8], arguments: &[u8]) -> Option<Command>
     ensures { result ≡ command_by name.now (words_of_line arguments.now) }
 {
     if name == b"status".as_slice() {
-        alone(Command::Status, arguments)
+        command_alone(Command::Status, arguments)
     } else if name == b"radios".as_slice() {
         let number = one_number(0, LAST_RADIO, arguments)?;
         Some(Command::Radios(Address::new(number)))
@@ -38,24 +38,24 @@ fn command_by(name: &[u8], arguments: &[u8]) -> Option<Command>
         let number = one_number(1, MOST_LINES as u32, arguments)?;
         Some(Command::Lines(LineNo::new(number as u8)))
     } else if name == b"slots".as_slice() {
-        alone(Command::Slots, arguments)
+        command_alone(Command::Slots, arguments)
     } else if name == b"drop".as_slice() {
         let number = one_number(1, LAST_RADIO, arguments)?;
         Some(Command::Drop(Address::new(number)))
     } else if name == b"end".as_slice() {
-        ending(arguments)
+        parse_end(arguments)
     } else if name == b"move".as_slice() {
         let number = one_number(1, 4094, arguments)?;
         Some(Command::Move(Lpcn::new(number)))
     } else if name == b"stay".as_slice() {
-        alone(Command::Stay, arguments)
+        command_alone(Command::Stay, arguments)
     } else {
         None
     }
 }
 
 /// A command that is a word alone. `None` if other words follow.
-fn alone(command: Command, arguments: &[u8]) -> Option<Command>
+fn command_alone(command: Command, arguments: &[u8]) -> Option<Command>
     ensures { result ≡ command_without_words command (words_of_line arguments.now) }
 {
     match first_word(arguments) {
@@ -78,7 +78,7 @@ fn one_number(least: u32, most: u32, arguments: &[u8]) -> Option<u32>
 }
 
 /// The command `end`, with the two numbers that follow it.
-fn ending(arguments: &[u8]) -> Option<Command>
+fn parse_end(arguments: &[u8]) -> Option<Command>
     ensures { result ≡ end_command (words_of_line arguments.now) }
 {
     let (carrier, rest) = first_word(arguments)?;

@@ -8,7 +8,7 @@ use Rattle.dmr_pdu.specs.declared.pdu.Pdu.TheVariants.{PvGrant, TvGrant}
 use Rattle.dmr_plan.specs.declared.settings.Settings.{Settings}
 use Rattle.dmr_plan.specs.Plan.{lists_group}
 use Rattle.dmr_calls.specs.declared.call.Call.{Call}
-use Rattle.dmr_calls.specs.declared.call.Standing.{Standing}
+use Rattle.dmr_calls.specs.declared.call.ActiveCall.{ActiveCall}
 use Rattle.dmr_calls.specs.Calls.{call_on, one_tick_older, is_slot, just_begun, with_activity}
 use Rattle.dmr_pool.specs.Free.{control_slot, names}
 use Rattle.dmr_core.specs.declared.event.Event.{Event}
@@ -31,7 +31,7 @@ use Rattle.dmr_core.proofs.ListLemmas.{total_some, any-map, any-push}
 use Rattle.dmr_core.proofs.ChoiceLemmas.{or_false, and_true, any-filter, not_true}
 use Rattle.dmr_core.proofs.FactsFollowEntries.{facts_after-step}
 use Rattle.dmr_core.proofs.SlotsStaySound.{IsFree, free_is, true_false, same_slot}
-use Rattle.dmr_core.proofs.GrantsAreOwn.{named_own, call_stands, own_itself, not_grant_own}
+use Rattle.dmr_core.proofs.GrantsAreOwn.{named_own, call_is_active, own_itself, not_grant_own}
 use Rattle.dmr_core.proofs.ClosingMayBeDone.{found_call}
 use Rattle.dmr_core.proofs.PartsMayBeDone.{left_or}
 use Rattle.dmr_core.proofs.CallsAreApart.{marked_call}
@@ -70,8 +70,8 @@ begins_on_free plan now (Began call) h may = let free : IsFree plan now call.slo
 begins_on_free plan now act h may = tt
 
 -- a grant's call is active, so its parties are engaged
-standing_counts : (cs : List Standing) (slot : Slot) (call : Call) (r : ℕ) → call_on cs slot ≡ Some call → party r call.group call.source call.target ≤ total (engagements_in_call r) cs
-standing_counts cs slot call r h =
+active_call_counts : (cs : List ActiveCall) (slot : Slot) (call : Call) (r : ℕ) → call_on cs slot ≡ Some call → party r call.group call.source call.target ≤ total (engagements_in_call r) cs
+active_call_counts cs slot call r h =
     let s = found_call (λ x. is_slot x.call.slot slot) (find (λ x. is_slot x.call.slot slot) cs) call h in
     subst (λ (k : Call). party r k.group k.source k.target ≤ total (engagements_in_call r) cs) s.2 (total_some (engagements_in_call r) (λ x. is_slot x.call.slot slot) cs s.0 s.1)
 
@@ -94,7 +94,7 @@ target_counts : (source target : ℕ) → 0 < party target false source target
 target_counts source target = rw (equal_itself target) (omega arith)
 
 party_known : (plan : Settings) (now : Facts) (slot : Slot) (call : Call) (r : ℕ) → IsSound plan now → call_on now.calls slot ≡ Some call → 0 < party r call.group call.source call.target → is_registered now r ≡ true
-party_known plan now slot call r h stands k = h.parties r (omega (arith, standing_counts now.calls slot call r stands))
+party_known plan now slot call r h stands k = h.parties r (omega (arith, active_call_counts now.calls slot call r stands))
 
 group_known : (plan : Settings) (now : Facts) (slot : Slot) (call : Call) → IsSound plan now → call_on now.calls slot ≡ Some call → call.group ≡ true → lists_group plan call.target ≡ true
 group_known plan now slot call h stands group =
@@ -159,7 +159,7 @@ sends_own plan p now (Fill there pdu) h may = (λ slot call k. named_own plan no
 sends_own plan p now act h may = tt
 
 -- while no call is active on a carrier
-call_begins : (calls : List Standing) (call : Call) (c : ℕ) → has_call calls c ≡ false → (call.slot.carrier == c) ≡ false → has_call (calls ++ just_begun call ∷ []) c ≡ false
+call_begins : (calls : List ActiveCall) (call : Call) (c : ℕ) → has_call calls c ≡ false → (call.slot.carrier == c) ≡ false → has_call (calls ++ just_begun call ∷ []) c ≡ false
 call_begins calls call c h k = rw (any-push (λ s. s.call.slot.carrier == c) calls (just_begun call), h, k) refl
 
 pub quiet_act : (c : ℕ) (b : Bool) (now : Facts) (act : Act) → (b ≡ true → has_call now.calls c ≡ false) → reset_by_act c b act ≡ true → has_call (facts_after_act now act).calls c ≡ false
@@ -167,11 +167,11 @@ quiet_act c b now (Began call) h k = let both = and_true b (not (call.slot.carri
 quiet_act c b now (Ended slot) h k = any-filter (λ s. s.call.slot.carrier == c) (λ s. not (is_slot s.call.slot slot)) now.calls (h k)
 quiet_act c b now act h k = h k
 
-none_there : (c : ℕ) (cs : List Standing) → has_call (filter (λ s. not (s.call.slot.carrier == c)) cs) c ≡ false
+none_there : (c : ℕ) (cs : List ActiveCall) → has_call (filter (λ s. not (s.call.slot.carrier == c)) cs) c ≡ false
 none_there c [] = refl
 none_there c (s ∷ cs) = left_or (λ x. x.call.slot.carrier == c) s (s.call.slot.carrier == c) (filter (λ x. not (x.call.slot.carrier == c)) cs) refl (none_there c cs)
 
-quiet_reset : (c d : ℕ) (b : Bool) (cs : List Standing) → (b ≡ true → has_call cs c ≡ false) → (b || (d == c)) ≡ true → has_call (filter (λ s. not (s.call.slot.carrier == d)) cs) c ≡ false
+quiet_reset : (c d : ℕ) (b : Bool) (cs : List ActiveCall) → (b ≡ true → has_call cs c ≡ false) → (b || (d == c)) ≡ true → has_call (filter (λ s. not (s.call.slot.carrier == d)) cs) c ≡ false
 quiet_reset c d true cs h k = any-filter (λ s. s.call.slot.carrier == c) (λ s. not (s.call.slot.carrier == d)) cs (h refl)
 quiet_reset c d false cs h k = subst (λ (n : ℕ). has_call (filter (λ s. not (s.call.slot.carrier == n)) cs) c ≡ false) (sym (equal_numbers d c k)) (none_there c cs)
 
@@ -182,8 +182,8 @@ quiet_event plan c b now (Active slot) h k = any-map (λ s. s.call.slot.carrier 
 quiet_event plan c b now Tick h k = any-map (λ s. s.call.slot.carrier == c) one_tick_older (λ s. refl) now.calls ∙ h k
 quiet_event plan c b now event h k = h k
 
-stands_on_carrier : (cs : List Standing) (slot : Slot) (call : Call) → call_on cs slot ≡ Some call → has_call cs call.slot.carrier ≡ true
-stands_on_carrier cs slot call stands =
+active_on_carrier : (cs : List ActiveCall) (slot : Slot) (call : Call) → call_on cs slot ≡ Some call → has_call cs call.slot.carrier ≡ true
+active_on_carrier cs slot call stands =
     let s = found_call (λ x. is_slot x.call.slot slot) (find (λ x. is_slot x.call.slot slot) cs) call stands in
     find_any (λ x. is_slot x.call.slot slot) (λ x. x.call.slot.carrier == call.slot.carrier) cs s.0 s.1
     (subst (λ (k : Call). (k.slot.carrier == call.slot.carrier) ≡ true) (sym s.2) (equal_itself call.slot.carrier))
@@ -205,9 +205,9 @@ call_names plan c now call late p there h stands none = carrier_named plan c cal
   where
     either : (b : Bool) → (lpcn_of plan call.slot.carrier == lpcn_of plan c) ≡ b → b ≡ false
     either true e =
-        let on = call_stands now.calls call.slot call stands in
+        let on = call_is_active now.calls call.slot call stands in
         let same : call.slot.carrier ≡ c = p.channels call.slot.carrier c (h.payload call.slot on.0).known there (equal_numbers (lpcn_of plan call.slot.carrier) (lpcn_of plan c) e) in
-        true_false _ (subst (λ (n : ℕ). has_call now.calls n ≡ true) same (stands_on_carrier now.calls call.slot call stands)) none
+        true_false _ (subst (λ (n : ℕ). has_call now.calls n ≡ true) same (active_on_carrier now.calls call.slot call stands)) none
     either false e = refl
 
 named_not : (plan : Settings) (c : ℕ) (now : Facts) (slot : Slot) (pdu : Pdu) (b : Bool) → KnowsPlan plan → has_carrier plan c ≡ true → IsSound plan now → is_grant pdu ≡ b → MayName plan now.calls slot pdu b → has_call now.calls c ≡ false → names_carrier plan c pdu ≡ false

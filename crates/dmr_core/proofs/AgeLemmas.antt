@@ -8,11 +8,11 @@ use Rattle.std.proofs.lemmas.List.Elements.{All-tail}
 use Rattle.dmr_pdu.specs.declared.slots.Slot.{Slot}
 use Rattle.dmr_plan.specs.declared.settings.Settings.{Settings}
 use Rattle.dmr_calls.specs.declared.ask.Ask.{Ask}
-use Rattle.dmr_calls.specs.declared.ask.Asking.{Asking}
+use Rattle.dmr_calls.specs.declared.ask.ActiveAsk.{ActiveAsk}
 use Rattle.dmr_calls.specs.declared.call.Call.{Call}
-use Rattle.dmr_calls.specs.declared.call.Standing.{Standing}
+use Rattle.dmr_calls.specs.declared.call.ActiveCall.{ActiveCall}
 use Rattle.dmr_calls.specs.Ticks.{one_more}
-use Rattle.dmr_calls.specs.Asks.{ask_of, new_asking, others_than, waited_more}
+use Rattle.dmr_calls.specs.Asks.{ask_of, new_active_ask, others_than, ask_after_tick}
 use Rattle.dmr_calls.specs.Calls.{call_on, one_tick_older, is_slot, just_begun, with_activity, on_other_carriers}
 use Rattle.dmr_core.specs.declared.event.Event.{Event}
 use Rattle.dmr_core.specs.declared.event.Event.TheVariants.{Active, Lost, Tick, Up}
@@ -20,12 +20,12 @@ use Rattle.dmr_core.specs.declared.act.Act.{Act}
 use Rattle.dmr_core.specs.declared.act.Act.TheVariants.{AskOver, Asked, Began, Ended}
 use Rattle.dmr_core.specs.declared.entry.Entry.{Entry}
 use Rattle.dmr_core.specs.Facts.{Facts, facts_after_act, facts_after, facts_after_event}
-use Rattle.dmr_core.specs.Words.{stands_on}
+use Rattle.dmr_core.specs.Words.{has_call_on}
 use Rattle.dmr_core.specs.Journal.{IsLegal}
 use Rattle.dmr_core.specs.Sound.{IsSound}
 use Rattle.dmr_core.specs.May.{MayDo}
 use Rattle.dmr_core.specs.Laws.{EachAct, Throughout}
-use Rattle.dmr_core.specs.Ages.{age_on, asked_in, begins_on, is_active, is_asked, is_begin, quiet_on, stirs_on, ticks_in, ticks_since, waited_of}
+use Rattle.dmr_core.specs.Ages.{age_on, asked_in, begins_on, is_active, is_asked, is_begin, quiet_on, is_active_on, ticks_in, ticks_since, waited_of}
 use Rattle.dmr_core.proofs.PlanLemmas.{KnowsPlan}
 use Rattle.dmr_core.proofs.NumberLemmas.{equal_numbers}
 use Rattle.dmr_core.proofs.CallsAreApart.{marked_call, same_slots}
@@ -115,9 +115,9 @@ stood : {X : Type 0} (v : X → ℕ) (o : Option X) → option_map_or v o 0 ≤ 
 stood v None h = tt
 stood v (Some x) h = omega arith
 
-stands_then : {X Y : Type 0} (v : X → ℕ) (f : X → Y) (o : Option X) (y : Y) (n : ℕ) → option_map f o ≡ Some y → Says (option_map v o) n → option_map_or v o 0 ≡ n
-stands_then v f None y n k h = cc
-stands_then v f (Some x) y n k h = h
+value_then : {X Y : Type 0} (v : X → ℕ) (f : X → Y) (o : Option X) (y : Y) (n : ℕ) → option_map f o ≡ Some y → Says (option_map v o) n → option_map_or v o 0 ≡ n
+value_then v f None y n k h = cc
+value_then v f (Some x) y n k h = h
 
 -- the value that is found is within the limit if all are
 found_within : {X : Type 0} (v : X → ℕ) (p : X → Bool) (most : ℕ) (xs : List X) → All (λ x. v x ≤ most) xs → option_map_or v (find p xs) 0 ≤ most
@@ -129,13 +129,13 @@ found_within v p most (x ∷ xs) all = either (p x) (all 0 x (omega arith)) (fou
     either false here more = more
 
 pub age_before : (plan : Settings) (facts : Facts) (slot : Slot) → IsSound plan facts → age_on facts.calls slot ≤ 65535
-age_before plan facts slot sound = found_within (λ (s : Standing). s.age) (λ (s : Standing). is_slot s.call.slot slot) 65535 facts.calls (λ k d within. (sound.ages k d within).0)
+age_before plan facts slot sound = found_within (λ (s : ActiveCall). s.age) (λ (s : ActiveCall). is_slot s.call.slot slot) 65535 facts.calls (λ k d within. (sound.ages k d within).0)
 
 pub quiet_before : (plan : Settings) (facts : Facts) (slot : Slot) → IsSound plan facts → quiet_on facts.calls slot ≤ 65535
-quiet_before plan facts slot sound = found_within (λ (s : Standing). s.quiet) (λ (s : Standing). is_slot s.call.slot slot) 65535 facts.calls (λ k d within. (sound.ages k d within).1)
+quiet_before plan facts slot sound = found_within (λ (s : ActiveCall). s.quiet) (λ (s : ActiveCall). is_slot s.call.slot slot) 65535 facts.calls (λ k d within. (sound.ages k d within).1)
 
 pub waited_before : (plan : Settings) (facts : Facts) (r : ℕ) → IsSound plan facts → waited_of facts.asks r ≤ 65535
-waited_before plan facts r sound = found_within (λ (a : Asking). a.waited) (λ (a : Asking). a.ask.source == r) 65535 facts.asks sound.waits
+waited_before plan facts r sound = found_within (λ (a : ActiveAsk). a.waited) (λ (a : ActiveAsk). a.ask.source == r) 65535 facts.asks sound.waits
 
 -- an event that is neither a Tick nor an opener
 no_tick : (o : Option ℕ) (t : ℕ) → Says o (min 65535 t) → Says o (min 65535 (0 + t))
@@ -145,57 +145,57 @@ one_tick : (o : Option ℕ) (t : ℕ) → Says o (one_more (min 65535 t)) → Sa
 one_tick o t h = says o _ _ (omega arith) h
 
 -- calls
-abbrev on : (Standing → ℕ) → Slot → List Standing → Option ℕ
-on v slot calls = seen v (λ (s : Standing). is_slot s.call.slot slot) calls
+abbrev on : (ActiveCall → ℕ) → Slot → List ActiveCall → Option ℕ
+on v slot calls = seen v (λ (s : ActiveCall). is_slot s.call.slot slot) calls
 
-free_then : (calls : List Standing) (there slot : Slot) → stands_on calls there ≡ false → is_slot there slot ≡ true → find (λ (s : Standing). is_slot s.call.slot slot) calls ≡ None
-free_then calls there slot none e = none_passes (λ (s : Standing). is_slot s.call.slot slot) calls (subst (λ (x : Slot). stands_on calls x ≡ false) (same_slot there slot e) none)
+free_then : (calls : List ActiveCall) (there slot : Slot) → has_call_on calls there ≡ false → is_slot there slot ≡ true → find (λ (s : ActiveCall). is_slot s.call.slot slot) calls ≡ None
+free_then calls there slot none e = none_passes (λ (s : ActiveCall). is_slot s.call.slot slot) calls (subst (λ (x : Slot). has_call_on calls x ≡ false) (same_slot there slot e) none)
 
-call_counts : (plan : Settings) (v : Standing → ℕ) → ((call : Call) → v (just_begun call) ≡ 0) → (slot : Slot) (now : Facts) (act : Act) → IsSound plan now → MayDo plan now act → Counts (λ (f : Facts). on v slot f.calls) (is_begin slot) now act
+call_counts : (plan : Settings) (v : ActiveCall → ℕ) → ((call : Call) → v (just_begun call) ≡ 0) → (slot : Slot) (now : Facts) (act : Act) → IsSound plan now → MayDo plan now act → Counts (λ (f : Facts). on v slot f.calls) (is_begin slot) now act
 call_counts plan v zero slot now (Began call) sound may = λ n h.
-    says_push v (λ (s : Standing). is_slot s.call.slot slot) now.calls (just_begun call) n (is_slot call.slot slot) refl (free_then now.calls call.slot slot (free_is plan now call.slot may.free).none) (zero call) h
+    says_push v (λ (s : ActiveCall). is_slot s.call.slot slot) now.calls (just_begun call) n (is_slot call.slot slot) refl (free_then now.calls call.slot slot (free_is plan now call.slot may.free).none) (zero call) h
 call_counts plan v zero slot now (Ended other) sound may = λ n h.
-    says_without v (λ (s : Standing). is_slot s.call.slot slot) (λ (s : Standing). is_slot s.call.slot other) (is_slot slot other)
+    says_without v (λ (s : ActiveCall). is_slot s.call.slot slot) (λ (s : ActiveCall). is_slot s.call.slot other) (is_slot slot other)
     (λ s e. ap (λ (x : Slot). is_slot x other) (same_slot s.call.slot slot e)) now.calls n h
 call_counts plan v zero slot now act sound may = λ n h. h
 
-off_carrier : (v : Standing → ℕ) (slot : Slot) (calls : List Standing) (c t : ℕ) → Says (on v slot calls) (min 65535 t) → Says (on v slot (on_other_carriers c calls)) (min 65535 (0 + t))
+off_carrier : (v : ActiveCall → ℕ) (slot : Slot) (calls : List ActiveCall) (c t : ℕ) → Says (on v slot calls) (min 65535 t) → Says (on v slot (on_other_carriers c calls)) (min 65535 (0 + t))
 off_carrier v slot calls c t h =
-    no_tick (on v slot (on_other_carriers c calls)) t (says_without v (λ (s : Standing). is_slot s.call.slot slot) (λ (s : Standing). s.call.slot.carrier == c) (slot.carrier == c)
+    no_tick (on v slot (on_other_carriers c calls)) t (says_without v (λ (s : ActiveCall). is_slot s.call.slot slot) (λ (s : ActiveCall). s.call.slot.carrier == c) (slot.carrier == c)
     (λ s e. ap (λ (x : Slot). x.carrier == c) (same_slot s.call.slot slot e)) calls (min 65535 t) h)
 
-all_marked : (v : Standing → ℕ) (g : ℕ → ℕ) (there slot : Slot) → ((s : Standing) → is_slot s.call.slot slot ≡ true → v (with_activity there s) ≡ g (v s)) → (calls : List Standing) (n : ℕ) → Says (on v slot calls) n → Says (on v slot (map (with_activity there) calls)) (g n)
-all_marked v g there slot kept calls n h = says_map v (λ (s : Standing). is_slot s.call.slot slot) (with_activity there) g (λ s. ap (λ (k : Call). is_slot k.slot slot) (marked_call there s)) kept calls n h
+all_marked : (v : ActiveCall → ℕ) (g : ℕ → ℕ) (there slot : Slot) → ((s : ActiveCall) → is_slot s.call.slot slot ≡ true → v (with_activity there s) ≡ g (v s)) → (calls : List ActiveCall) (n : ℕ) → Says (on v slot calls) n → Says (on v slot (map (with_activity there) calls)) (g n)
+all_marked v g there slot kept calls n h = says_map v (λ (s : ActiveCall). is_slot s.call.slot slot) (with_activity there) g (λ s. ap (λ (k : Call). is_slot k.slot slot) (marked_call there s)) kept calls n h
 
-all_counted : (v : Standing → ℕ) (slot : Slot) → ((s : Standing) → v (one_tick_older s) ≡ one_more (v s)) → (calls : List Standing) (t : ℕ) → Says (on v slot calls) (min 65535 t) → Says (on v slot (map one_tick_older calls)) (min 65535 (1 + t))
-all_counted v slot more calls t h = one_tick (on v slot (map one_tick_older calls)) t (says_map v (λ (s : Standing). is_slot s.call.slot slot) one_tick_older one_more (λ s. refl) (λ s e. more s) calls (min 65535 t) h)
+all_counted : (v : ActiveCall → ℕ) (slot : Slot) → ((s : ActiveCall) → v (one_tick_older s) ≡ one_more (v s)) → (calls : List ActiveCall) (t : ℕ) → Says (on v slot calls) (min 65535 t) → Says (on v slot (map one_tick_older calls)) (min 65535 (1 + t))
+all_counted v slot more calls t h = one_tick (on v slot (map one_tick_older calls)) t (says_map v (λ (s : ActiveCall). is_slot s.call.slot slot) one_tick_older one_more (λ s. refl) (λ s e. more s) calls (min 65535 t) h)
 
 -- ages
-marked_age : (there : Slot) (s : Standing) → (with_activity there s).age ≡ s.age
+marked_age : (there : Slot) (s : ActiveCall) → (with_activity there s).age ≡ s.age
 marked_age there s = either (is_slot s.call.slot there)
   where
     either : (b : Bool) → (if b then record { call = s.call; age = s.age; quiet = 0 } else s).age ≡ s.age
     either true = refl
     either false = refl
 
-age_notes : (plan : Settings) (slot : Slot) → Notes plan (λ (f : Facts). on (λ (s : Standing). s.age) slot f.calls) (λ event. false)
-age_notes plan slot now (Up c) t h = off_carrier (λ (s : Standing). s.age) slot now.calls c t h
-age_notes plan slot now (Lost c) t h = off_carrier (λ (s : Standing). s.age) slot now.calls c t h
+age_notes : (plan : Settings) (slot : Slot) → Notes plan (λ (f : Facts). on (λ (s : ActiveCall). s.age) slot f.calls) (λ event. false)
+age_notes plan slot now (Up c) t h = off_carrier (λ (s : ActiveCall). s.age) slot now.calls c t h
+age_notes plan slot now (Lost c) t h = off_carrier (λ (s : ActiveCall). s.age) slot now.calls c t h
 age_notes plan slot now (Active there) t h =
-    no_tick (on (λ (s : Standing). s.age) slot (map (with_activity there) now.calls)) t (all_marked (λ (s : Standing). s.age) (λ n. n) there slot (λ s e. marked_age there s) now.calls (min 65535 t) h)
-age_notes plan slot now Tick t h = all_counted (λ (s : Standing). s.age) slot (λ s. refl) now.calls t h
-age_notes plan slot now _ t h = no_tick (on (λ (s : Standing). s.age) slot now.calls) t h
+    no_tick (on (λ (s : ActiveCall). s.age) slot (map (with_activity there) now.calls)) t (all_marked (λ (s : ActiveCall). s.age) (λ n. n) there slot (λ s e. marked_age there s) now.calls (min 65535 t) h)
+age_notes plan slot now Tick t h = all_counted (λ (s : ActiveCall). s.age) slot (λ s. refl) now.calls t h
+age_notes plan slot now _ t h = no_tick (on (λ (s : ActiveCall). s.age) slot now.calls) t h
 
 pub ages_count : (plan : Settings) (facts : Facts) (journal : List Entry) (slot : Slot) (call : Call) → KnowsPlan plan → IsSound plan facts → IsLegal plan facts journal → call_on (facts_after plan facts journal).calls slot ≡ Some call → age_on (facts_after plan facts journal).calls slot ≡ min 65535 (ticks_since (begins_on slot) (age_on facts.calls slot) journal)
 ages_count plan facts journal slot call p sound legal stands =
-    let at : Facts → Option ℕ = λ (f : Facts). on (λ (s : Standing). s.age) slot f.calls in
-    stands_then (λ (s : Standing). s.age) (λ (s : Standing). s.call) (find (λ (s : Standing). is_slot s.call.slot slot) (facts_after plan facts journal).calls) call (min 65535 (ticks_since (begins_on slot) (age_on facts.calls slot) journal)) stands
+    let at : Facts → Option ℕ = λ (f : Facts). on (λ (s : ActiveCall). s.age) slot f.calls in
+    value_then (λ (s : ActiveCall). s.age) (λ (s : ActiveCall). s.call) (find (λ (s : ActiveCall). is_slot s.call.slot slot) (facts_after plan facts journal).calls) call (min 65535 (ticks_since (begins_on slot) (age_on facts.calls slot) journal)) stands
     (counts plan facts at (λ event. false) (is_begin slot) (age_on facts.calls slot) (age_notes plan slot)
-    (stood (λ (s : Standing). s.age) (find (λ (s : Standing). is_slot s.call.slot slot) facts.calls) (age_before plan facts slot sound)) journal
-    (throughout plan facts (Counts at (is_begin slot)) (call_counts plan (λ (s : Standing). s.age) (λ k. refl) slot) journal p sound legal))
+    (stood (λ (s : ActiveCall). s.age) (find (λ (s : ActiveCall). is_slot s.call.slot slot) facts.calls) (age_before plan facts slot sound)) journal
+    (throughout plan facts (Counts at (is_begin slot)) (call_counts plan (λ (s : ActiveCall). s.age) (λ k. refl) slot) journal p sound legal))
 
 -- quiet times
-marked_quiet : (there slot : Slot) (s : Standing) (b : Bool) → is_slot there slot ≡ b → is_slot s.call.slot slot ≡ true → (with_activity there s).quiet ≡ (if b then 0 else s.quiet)
+marked_quiet : (there slot : Slot) (s : ActiveCall) (b : Bool) → is_slot there slot ≡ b → is_slot s.call.slot slot ≡ true → (with_activity there s).quiet ≡ (if b then 0 else s.quiet)
 marked_quiet there slot s b e d = by_test (is_slot s.call.slot there) (ap (λ (x : Slot). is_slot x there) (same_slot s.call.slot slot d) ∙ same_slots slot there ∙ e)
   where
     out : (b : Bool) → (if b then record { call = s.call; age = s.age; quiet = 0 } else s).quiet ≡ (if b then 0 else s.quiet)
@@ -205,33 +205,33 @@ marked_quiet there slot s b e d = by_test (is_slot s.call.slot there) (ap (λ (x
     by_test : (a : Bool) → a ≡ b → (if a then record { call = s.call; age = s.age; quiet = 0 } else s).quiet ≡ (if b then 0 else s.quiet)
     by_test a k = ap (λ (x : Bool). (if x then record { call = s.call; age = s.age; quiet = 0 } else s).quiet) k ∙ out b
 
-quiet_marked : (there slot : Slot) (calls : List Standing) (t : ℕ) (b : Bool) → is_slot there slot ≡ b → Says (on (λ (s : Standing). s.quiet) slot calls) (min 65535 t) → Says (on (λ (s : Standing). s.quiet) slot (map (with_activity there) calls)) (min 65535 (if b then 0 else 0 + t))
-quiet_marked there slot calls t true e h = all_marked (λ (s : Standing). s.quiet) (λ n. 0) there slot (λ s d. marked_quiet there slot s true e d) calls (min 65535 t) h
+quiet_marked : (there slot : Slot) (calls : List ActiveCall) (t : ℕ) (b : Bool) → is_slot there slot ≡ b → Says (on (λ (s : ActiveCall). s.quiet) slot calls) (min 65535 t) → Says (on (λ (s : ActiveCall). s.quiet) slot (map (with_activity there) calls)) (min 65535 (if b then 0 else 0 + t))
+quiet_marked there slot calls t true e h = all_marked (λ (s : ActiveCall). s.quiet) (λ n. 0) there slot (λ s d. marked_quiet there slot s true e d) calls (min 65535 t) h
 quiet_marked there slot calls t false e h =
-    no_tick (on (λ (s : Standing). s.quiet) slot (map (with_activity there) calls)) t (all_marked (λ (s : Standing). s.quiet) (λ n. n) there slot (λ s d. marked_quiet there slot s false e d) calls (min 65535 t) h)
+    no_tick (on (λ (s : ActiveCall). s.quiet) slot (map (with_activity there) calls)) t (all_marked (λ (s : ActiveCall). s.quiet) (λ n. n) there slot (λ s d. marked_quiet there slot s false e d) calls (min 65535 t) h)
 
-quiet_notes : (plan : Settings) (slot : Slot) → Notes plan (λ (f : Facts). on (λ (s : Standing). s.quiet) slot f.calls) (is_active slot)
-quiet_notes plan slot now (Up c) t h = off_carrier (λ (s : Standing). s.quiet) slot now.calls c t h
-quiet_notes plan slot now (Lost c) t h = off_carrier (λ (s : Standing). s.quiet) slot now.calls c t h
+quiet_notes : (plan : Settings) (slot : Slot) → Notes plan (λ (f : Facts). on (λ (s : ActiveCall). s.quiet) slot f.calls) (is_active slot)
+quiet_notes plan slot now (Up c) t h = off_carrier (λ (s : ActiveCall). s.quiet) slot now.calls c t h
+quiet_notes plan slot now (Lost c) t h = off_carrier (λ (s : ActiveCall). s.quiet) slot now.calls c t h
 quiet_notes plan slot now (Active there) t h = quiet_marked there slot now.calls t (is_slot there slot) refl h
-quiet_notes plan slot now Tick t h = all_counted (λ (s : Standing). s.quiet) slot (λ s. refl) now.calls t h
-quiet_notes plan slot now _ t h = no_tick (on (λ (s : Standing). s.quiet) slot now.calls) t h
+quiet_notes plan slot now Tick t h = all_counted (λ (s : ActiveCall). s.quiet) slot (λ s. refl) now.calls t h
+quiet_notes plan slot now _ t h = no_tick (on (λ (s : ActiveCall). s.quiet) slot now.calls) t h
 
-pub quiet_counts : (plan : Settings) (facts : Facts) (journal : List Entry) (slot : Slot) (call : Call) → KnowsPlan plan → IsSound plan facts → IsLegal plan facts journal → call_on (facts_after plan facts journal).calls slot ≡ Some call → quiet_on (facts_after plan facts journal).calls slot ≡ min 65535 (ticks_since (stirs_on slot) (quiet_on facts.calls slot) journal)
+pub quiet_counts : (plan : Settings) (facts : Facts) (journal : List Entry) (slot : Slot) (call : Call) → KnowsPlan plan → IsSound plan facts → IsLegal plan facts journal → call_on (facts_after plan facts journal).calls slot ≡ Some call → quiet_on (facts_after plan facts journal).calls slot ≡ min 65535 (ticks_since (is_active_on slot) (quiet_on facts.calls slot) journal)
 quiet_counts plan facts journal slot call p sound legal stands =
-    let at : Facts → Option ℕ = λ (f : Facts). on (λ (s : Standing). s.quiet) slot f.calls in
-    stands_then (λ (s : Standing). s.quiet) (λ (s : Standing). s.call) (find (λ (s : Standing). is_slot s.call.slot slot) (facts_after plan facts journal).calls) call (min 65535 (ticks_since (stirs_on slot) (quiet_on facts.calls slot) journal)) stands
+    let at : Facts → Option ℕ = λ (f : Facts). on (λ (s : ActiveCall). s.quiet) slot f.calls in
+    value_then (λ (s : ActiveCall). s.quiet) (λ (s : ActiveCall). s.call) (find (λ (s : ActiveCall). is_slot s.call.slot slot) (facts_after plan facts journal).calls) call (min 65535 (ticks_since (is_active_on slot) (quiet_on facts.calls slot) journal)) stands
     (counts plan facts at (is_active slot) (is_begin slot) (quiet_on facts.calls slot) (quiet_notes plan slot)
-    (stood (λ (s : Standing). s.quiet) (find (λ (s : Standing). is_slot s.call.slot slot) facts.calls) (quiet_before plan facts slot sound)) journal
-    (throughout plan facts (Counts at (is_begin slot)) (call_counts plan (λ (s : Standing). s.quiet) (λ k. refl) slot) journal p sound legal))
+    (stood (λ (s : ActiveCall). s.quiet) (find (λ (s : ActiveCall). is_slot s.call.slot slot) facts.calls) (quiet_before plan facts slot sound)) journal
+    (throughout plan facts (Counts at (is_begin slot)) (call_counts plan (λ (s : ActiveCall). s.quiet) (λ k. refl) slot) journal p sound legal))
 
 -- asks
-abbrev of : ℕ → List Asking → Option ℕ
-of r asks = seen (λ (a : Asking). a.waited) (λ (a : Asking). a.ask.source == r) asks
+abbrev of : ℕ → List ActiveAsk → Option ℕ
+of r asks = seen (λ (a : ActiveAsk). a.waited) (λ (a : ActiveAsk). a.ask.source == r) asks
 
-others_say : (asks : List Asking) (q r n : ℕ) → Says (of r asks) n → Says (of r (others_than q asks)) n
+others_say : (asks : List ActiveAsk) (q r n : ℕ) → Says (of r asks) n → Says (of r (others_than q asks)) n
 others_say asks q r n h =
-    says_without (λ (a : Asking). a.waited) (λ (a : Asking). a.ask.source == r) (λ (a : Asking). a.ask.source == q) (r == q)
+    says_without (λ (a : ActiveAsk). a.waited) (λ (a : ActiveAsk). a.ask.source == r) (λ (a : ActiveAsk). a.ask.source == q) (r == q)
     (λ a e. ap (λ (x : ℕ). x == q) (equal_numbers a.ask.source r e)) asks n h
 
 same_source : (a q r : ℕ) → (q == r) ≡ true → (a == r) ≡ true → (a == q) ≡ true
@@ -239,26 +239,26 @@ same_source a q r h k = grind (arith, nat_tests)
 
 ask_counts : (r : ℕ) (now : Facts) (act : Act) → Counts (λ (f : Facts). of r f.asks) (is_asked r) now act
 ask_counts r now (Asked ask) = λ n h.
-    says_push (λ (a : Asking). a.waited) (λ (a : Asking). a.ask.source == r) (others_than ask.source now.asks) (new_asking ask) n (ask.source == r) refl
-    (λ e. find_gone (λ (a : Asking). a.ask.source == r) (λ (a : Asking). a.ask.source == ask.source) (λ a k. same_source a.ask.source ask.source r e k) now.asks) refl
+    says_push (λ (a : ActiveAsk). a.waited) (λ (a : ActiveAsk). a.ask.source == r) (others_than ask.source now.asks) (new_active_ask ask) n (ask.source == r) refl
+    (λ e. find_gone (λ (a : ActiveAsk). a.ask.source == r) (λ (a : ActiveAsk). a.ask.source == ask.source) (λ a k. same_source a.ask.source ask.source r e k) now.asks) refl
     (others_say now.asks ask.source r n h)
 ask_counts r now (AskOver q) = λ n h. others_say now.asks q r n h
 ask_counts r now act = λ n h. h
 
-asks_gone : (asks : List Asking) (r t : ℕ) (b : Bool) → Says (of r asks) (min 65535 t) → Says (of r (if b then [] else asks)) (min 65535 (0 + t))
+asks_gone : (asks : List ActiveAsk) (r t : ℕ) (b : Bool) → Says (of r asks) (min 65535 t) → Says (of r (if b then [] else asks)) (min 65535 (0 + t))
 asks_gone asks r t true h = tt
 asks_gone asks r t false h = no_tick (of r asks) t h
 
 ask_notes : (plan : Settings) (r : ℕ) → Notes plan (λ (f : Facts). of r f.asks) (λ event. false)
 ask_notes plan r now (Up c) t h = asks_gone now.asks r t (c == plan.control) h
 ask_notes plan r now (Lost c) t h = asks_gone now.asks r t (c == plan.control) h
-ask_notes plan r now Tick t h = one_tick (of r (map waited_more now.asks)) t (says_map (λ (a : Asking). a.waited) (λ (a : Asking). a.ask.source == r) waited_more one_more (λ a. refl) (λ a e. refl) now.asks (min 65535 t) h)
+ask_notes plan r now Tick t h = one_tick (of r (map ask_after_tick now.asks)) t (says_map (λ (a : ActiveAsk). a.waited) (λ (a : ActiveAsk). a.ask.source == r) ask_after_tick one_more (λ a. refl) (λ a e. refl) now.asks (min 65535 t) h)
 ask_notes plan r now _ t h = no_tick (of r now.asks) t h
 
 pub waits_count : (plan : Settings) (facts : Facts) (journal : List Entry) (r : ℕ) (ask : Ask) → waited_of facts.asks r ≤ 65535 → ask_of (facts_after plan facts journal).asks r ≡ Some ask → waited_of (facts_after plan facts journal).asks r ≡ min 65535 (ticks_since (asked_in r) (waited_of facts.asks r) journal)
 waits_count plan facts journal r ask small stands =
     let at : Facts → Option ℕ = λ (f : Facts). of r f.asks in
-    stands_then (λ (a : Asking). a.waited) (λ (a : Asking). a.ask) (find (λ (a : Asking). a.ask.source == r) (facts_after plan facts journal).asks) ask (min 65535 (ticks_since (asked_in r) (waited_of facts.asks r) journal)) stands
+    value_then (λ (a : ActiveAsk). a.waited) (λ (a : ActiveAsk). a.ask) (find (λ (a : ActiveAsk). a.ask.source == r) (facts_after plan facts journal).asks) ask (min 65535 (ticks_since (asked_in r) (waited_of facts.asks r) journal)) stands
     (counts plan facts at (λ event. false) (is_asked r) (waited_of facts.asks r) (ask_notes plan r)
-    (stood (λ (a : Asking). a.waited) (find (λ (a : Asking). a.ask.source == r) facts.asks) small) journal
+    (stood (λ (a : ActiveAsk). a.waited) (find (λ (a : ActiveAsk). a.ask.source == r) facts.asks) small) journal
     (everywhere plan facts (Counts at (is_asked r)) (ask_counts r) journal))

@@ -10,7 +10,7 @@ use Rattle.dmr_plan.specs.declared.settings.Settings.{Settings}
 use Rattle.dmr_calls.specs.declared.ask.Ask.{Ask}
 use Rattle.dmr_calls.specs.declared.line.Line.{Line}
 use Rattle.dmr_calls.specs.declared.call.Call.{Call}
-use Rattle.dmr_calls.specs.Asks.{waited_more}
+use Rattle.dmr_calls.specs.Asks.{ask_after_tick}
 use Rattle.dmr_calls.specs.Lines.{first_line}
 use Rattle.dmr_calls.specs.Calls.{call_on, one_tick_older, is_slot}
 use Rattle.dmr_calls.specs.Engaged.{call_of, is_party}
@@ -32,7 +32,7 @@ use Rattle.dmr_core.specs.Counts.{AreFewActs, elsewhere, on_control}
 use Rattle.dmr_core.proofs.PlanLemmas.{KnowsPlan}
 use Rattle.dmr_core.proofs.ChoiceLemmas.{by_drop, by_end, by_option}
 use Rattle.dmr_core.proofs.SlotsStaySound.{itself}
-use Rattle.dmr_core.proofs.GrantsAreOwn.{found_stands, call_stands}
+use Rattle.dmr_core.proofs.GrantsAreOwn.{found_is_active, call_is_active}
 use Rattle.dmr_core.proofs.EventsKeepSound.{sound-noted}
 
 total-both : {X : Type 0} (f : X → ℕ) (xs ys : List X) → total f (xs ++ ys) ≡ total f xs + total f ys
@@ -84,13 +84,13 @@ clear_few plan now call p h stands =
     let copies : List Act = replicate plan.clear_copies (Queue call.slot (Clear (lpcn_of plan plan.control) call.group call.target plan.tsi)) in
     plain_few plan (Ended call.slot) copies 4 0 4 refl refl
     (few-within plan copies plan.clear_copies 0 plan.clear_copies 4 0 4
-    (copies_elsewhere plan.clear_copies plan call.slot (Clear (lpcn_of plan plan.control) call.group call.target plan.tsi) (h.payload call.slot (call_stands now.calls call.slot call stands).0).apart) p.few_clears (omega arith) p.few_clears)
+    (copies_elsewhere plan.clear_copies plan call.slot (Clear (lpcn_of plan plan.control) call.group call.target plan.tsi) (h.payload call.slot (call_is_active now.calls call.slot call stands).0).apart) p.few_clears (omega arith) p.few_clears)
 
 close_few : (plan : Settings) (now : Facts) (r : ℕ) → KnowsPlan plan → IsSound plan now → AreFewActs plan (close plan now r) 5 1 4
 unfolding close
 close_few plan now r p h =
     let calls : (call : Call) → call_of now.calls r ≡ Some call → AreFewActs plan (clear plan call) 5 1 4 =
-    λ call k. few-within plan (clear plan call) 5 0 4 5 1 4 (clear_few plan now call p h (found_stands (λ s. is_party r s.call.group s.call.source s.call.target) now.calls call h.apart k)) (omega arith) (omega arith) (omega arith) in
+    λ call k. few-within plan (clear plan call) 5 0 4 5 1 4 (clear_few plan now call p h (found_is_active (λ s. is_party r s.call.group s.call.source s.call.target) now.calls call h.apart k)) (omega arith) (omega arith) (omega arith) in
     let asks : (q : ℕ) → AreFewActs plan (AskOver q ∷ []) 5 1 4 = λ q. few-within plan (AskOver q ∷ []) 1 0 0 5 1 4 (plain_few plan (AskOver q) [] 0 0 0 refl refl (none_few plan 0 0 0)) (omega arith) (omega arith) (omega arith) in
     let lines : (q : ℕ) → AreFewActs plan (Unlined q ∷ []) 5 1 4 = λ q. few-within plan (Unlined q ∷ []) 1 0 0 5 1 4 (plain_few plan (Unlined q) [] 0 0 0 refl refl (none_few plan 0 0 0)) (omega arith) (omega arith) (omega arith) in
     let asks_to : (q s t reason : ℕ) → AreFewActs plan (AskOver q ∷ ack plan s t reason) 5 1 4 = λ q s t reason. few-within plan (AskOver q ∷ ack plan s t reason) 2 1 0 5 1 4 (plain_few plan (AskOver q) (ack plan s t reason) 1 1 0 refl refl (one_few plan _)) (omega arith) (omega arith) (omega arith) in
@@ -177,11 +177,11 @@ request_few plan now q flags kind p h =
     let cancels : AreFewActs plan (acts_for_cancel plan now q) 7 5 4 = cancel_few plan now q in
     grind (arith, acked, registers, calls, individuals, cancels)
 
-heard_few : (plan : Settings) (now : Facts) (pdu : Pdu) → KnowsPlan plan → IsSound plan now → AreFewActs plan (acts_for_pdu plan now pdu) 7 5 4
+pdu_few : (plan : Settings) (now : Facts) (pdu : Pdu) → KnowsPlan plan → IsSound plan now → AreFewActs plan (acts_for_pdu plan now pdu) 7 5 4
 unfolding acts_for_pdu
-heard_few plan now (Random options flags kind target source) p h = request_few plan now _ flags kind p h
-heard_few plan now (Acku info reason spare target additional) p h = answered_few plan now reason additional p
-heard_few plan now _ p h = none_few plan 7 5 4
+pdu_few plan now (Random options flags kind target source) p h = request_few plan now _ flags kind p h
+pdu_few plan now (Acku info reason spare target additional) p h = answered_few plan now reason additional p
+pdu_few plan now _ p h = none_few plan 7 5 4
 
 repeat_few : (plan : Settings) (now : Facts) → AreFewActs plan (acts_for_due_ask plan now) 2 1 0
 unfolding acts_for_due_ask
@@ -205,7 +205,7 @@ ended_few plan now p h =
     let none : AreFewActs plan [] 5 0 4 = none_few plan 5 0 4 in
     by_option (λ acts. AreFewActs plan acts 5 0 4) (λ (slot : Slot). option_map_or (λ (call : Call). clear plan call) (call_on now.calls slot) []) (due_call plan.hang plan.maximum now.calls) []
     (λ slot e. by_option (λ acts. AreFewActs plan acts 5 0 4) (λ (call : Call). clear plan call) (call_on now.calls slot) []
-    (λ call k. clear_few plan now call p h (found_stands (λ s. is_slot s.call.slot slot) now.calls call h.apart k)) none) none
+    (λ call k. clear_few plan now call p h (found_is_active (λ s. is_slot s.call.slot slot) now.calls call h.apart k)) none) none
 
 if_few : (plan : Settings) (b : Bool) (acts : List Act) (m n k : ℕ) → AreFewActs plan acts m n k → AreFewActs plan (if b then acts else []) m n k
 if_few plan true acts m n k h = h
@@ -239,13 +239,13 @@ commanded_few plan now (Drop r) p h =
 commanded_few plan now (End c s) p h =
     let slot : Slot = record { carrier = c; slot = s } in
     by_end (λ acts. AreFewActs plan acts 13 5 4) (has_carrier plan c) (λ (call : Call). clear plan call) (call_on now.calls slot) (none_few plan 13 5 4)
-    (λ call k. few-within plan (clear plan call) 5 0 4 13 5 4 (clear_few plan now call p h (found_stands (λ s. is_slot s.call.slot slot) now.calls call h.apart k)) (omega arith) (omega arith) (omega arith))
+    (λ call k. few-within plan (clear plan call) 5 0 4 13 5 4 (clear_few plan now call p h (found_is_active (λ s. is_slot s.call.slot slot) now.calls call h.apart k)) (omega arith) (omega arith) (omega arith))
 commanded_few plan now _ p h = none_few plan 13 5 4
 
 -- the limits of the answer to each event
 pub acts_few : (plan : Settings) (now : Facts) (event : Event) → KnowsPlan plan → IsSound plan now → AreFewActs plan (acts_of plan now event) 13 5 4
-acts_few plan now (Heard slot pdu) p h = if_few plan (is_up now slot.carrier && (is_slot slot (control_slot plan) && has_room plan now)) (acts_for_pdu plan now pdu) 13 5 4 (few-within plan (acts_for_pdu plan now pdu) 7 5 4 13 5 4 (heard_few plan now pdu p h) (omega arith) (omega arith) (omega arith))
+acts_few plan now (Heard slot pdu) p h = if_few plan (is_up now slot.carrier && (is_slot slot (control_slot plan) && has_room plan now)) (acts_for_pdu plan now pdu) 13 5 4 (few-within plan (acts_for_pdu plan now pdu) 7 5 4 13 5 4 (pdu_few plan now pdu p h) (omega arith) (omega arith) (omega arith))
 acts_few plan now (Poll c) p h = if_few plan (is_up now c) _ 13 5 4 (few-within plan _ 2 0 0 13 5 4 (polls_few plan now c) (omega arith) (omega arith) (omega arith))
-acts_few plan now Tick p h = tick_few plan (record now { calls = map one_tick_older now.calls; asks = map waited_more now.asks }) p (sound-noted plan now Tick p h)
+acts_few plan now Tick p h = tick_few plan (record now { calls = map one_tick_older now.calls; asks = map ask_after_tick now.asks }) p (sound-noted plan now Tick p h)
 acts_few plan now (Say command) p h = commanded_few plan now command p h
 acts_few plan now _ p h = none_few plan 13 5 4

@@ -11,10 +11,10 @@ use Rattle.dmr_pdu.specs.declared.pdu.Pdu.TheVariants.{Ackd, Acku, Ahoy, PvGrant
 use Rattle.dmr_pdu.specs.Kinds.{individual_voice}
 use Rattle.dmr_plan.specs.declared.settings.Settings.{Settings}
 use Rattle.dmr_calls.specs.declared.ask.Ask.{Ask}
-use Rattle.dmr_calls.specs.declared.ask.Asking.{Asking}
+use Rattle.dmr_calls.specs.declared.ask.ActiveAsk.{ActiveAsk}
 use Rattle.dmr_calls.specs.declared.line.Line.{Line}
 use Rattle.dmr_calls.specs.declared.call.Call.{Call}
-use Rattle.dmr_calls.specs.Asks.{ask_to, others_than, waited_more}
+use Rattle.dmr_calls.specs.Asks.{ask_to, others_than, ask_after_tick}
 use Rattle.dmr_calls.specs.Lines.{first_line}
 use Rattle.dmr_calls.specs.Calls.{call_on, one_tick_older, is_slot, own_call}
 use Rattle.dmr_calls.specs.Due.{due_call, due_ask}
@@ -29,7 +29,7 @@ use Rattle.dmr_core.specs.declared.command.Command.TheVariants.{Drop, End}
 use Rattle.dmr_core.specs.declared.act.Act.{Act}
 use Rattle.dmr_core.specs.declared.act.Act.TheVariants.{AskOver, Asked, Fill, Joined, Left, Queue, Unlined}
 use Rattle.dmr_core.specs.Facts.{Facts, facts_after_act, facts_after_event, has_carrier}
-use Rattle.dmr_core.specs.Words.{has_room, is_engaged, is_free, is_registered, is_up, lowest_free, lpcn_of, outbox, stands_on}
+use Rattle.dmr_core.specs.Words.{has_room, is_engaged, is_free, is_registered, is_up, lowest_free, lpcn_of, outbox, has_call_on}
 use Rattle.dmr_core.specs.Rules.{ack, acts_of, ahoy, acts_for_called_radio, begin, acts_for_cancel, clear, close, answer_to_command, acts_for_due_call, grant, acts_for_pdu, acts_for_individual_request, late_entry, acts_for_leaving, acts_for_new_call, acts_for_slot, acts_for_registration, acts_for_due_ask, acts_for_request, acts_for_outbox, acts_for_first_line, acts_for_talkgroup_request, acts_for_tick}
 use Rattle.dmr_core.specs.Sound.{IsSound, engagements, engagements_in_ask, engagements_in_line, is_grant, total}
 use Rattle.dmr_core.specs.May.{AllMayDo, MayDo, MayEngage}
@@ -39,7 +39,7 @@ use Rattle.dmr_core.proofs.ListLemmas.{total-filter, total_found, total_some, le
 use Rattle.dmr_core.proofs.FreeLemmas.{granted_known}
 use Rattle.dmr_core.proofs.ChoiceLemmas.{by_drop, by_end, and_true, any-filter, by_if, by_option, lowest_is_free}
 use Rattle.dmr_core.proofs.SlotsStaySound.{same_slot, IsFree, free_is, true_false, other_place, any_more}
-use Rattle.dmr_core.proofs.GrantsAreOwn.{found_stands, call_stands}
+use Rattle.dmr_core.proofs.GrantsAreOwn.{found_is_active, call_is_active}
 use Rattle.dmr_core.proofs.FillsAreLateEntries.{fill_may}
 use Rattle.dmr_core.proofs.ActsKeepSound.{sound-done, sound-acts, may-append}
 use Rattle.dmr_core.proofs.EventsKeepSound.{sound-noted, put_either}
@@ -103,7 +103,7 @@ individual_may : (plan : Settings) (now : Facts) (q : Request) → KnowsPlan pla
 unfolding acts_for_individual_request
 individual_may plan now q p h up room registered =
     let own : (call : Call) → own_call now.calls q.source q.target ≡ Some call → AllMayDo plan now (grant plan call false) =
-    λ call k. grant_may plan now call false h up (found_stands (λ s. (s.call.source == q.source) && (not s.call.group && (s.call.target == q.target))) now.calls call h.apart k) (omega (arith, p.few_grants)) in
+    λ call k. grant_may plan now call false h up (found_is_active (λ s. (s.call.source == q.source) && (not s.call.group && (s.call.target == q.target))) now.calls call h.apart k) (omega (arith, p.few_grants)) in
     let ask : Ask = record { source = q.source; target = q.target; options = q.options; attempt = 1 } in
     let asked : (q.target == q.source) ≡ false → is_registered now q.target ≡ true → is_engaged now q.source ≡ false → is_engaged now q.target ≡ false → nat_lt (length now.asks) 32 ≡ true → AllMayDo plan now (Asked ask ∷ ack plan q.source q.target 0xE0 ++ ahoy plan ask) =
     λ apart also free idle few. asked_may plan now ask p h up room apart registered also free idle few in
@@ -114,7 +114,7 @@ new_call_same : (plan : Settings) (now : Facts) (r : ℕ) (l : Line) → acts_fo
 unfolding acts_for_new_call
 new_call_same plan now r l = refl
 
-asking_engage : (plan : Settings) (now : Facts) (a : Asking) (test : Asking → Bool) → IsSound plan now → find test now.asks ≡ Some a → MayEngage plan (facts_after_act now (AskOver a.ask.source)) (others_than a.ask.source now.asks) false a.ask.source a.ask.target
+asking_engage : (plan : Settings) (now : Facts) (a : ActiveAsk) (test : ActiveAsk → Bool) → IsSound plan now → find test now.asks ≡ Some a → MayEngage plan (facts_after_act now (AskOver a.ask.source)) (others_than a.ask.source now.asks) false a.ask.source a.ask.target
 asking_engage plan now a test h found = record {
   parties = λ r k. h.parties r (omega (arith, total_some (engagements_in_ask r) test now.asks a found));
   once = λ r. omega (arith, h.once r, total_found (engagements_in_ask r) test (λ x. not (x.ask.source == a.ask.source)) now.asks a found (not_itself a.ask.source));
@@ -169,11 +169,11 @@ request_may plan now q flags kind p h up room =
     let cancels : AllMayDo plan now (acts_for_cancel plan now q) = cancel_may plan now q p h up room in
     grind (arith, registers, calls, individuals, cancels, acked)
 
-heard_may : (plan : Settings) (now : Facts) (pdu : Pdu) → KnowsPlan plan → IsSound plan now → is_up now plan.control ≡ true → length (outbox now (control_slot plan)) ≤ 56 → AllMayDo plan now (acts_for_pdu plan now pdu)
+pdu_may : (plan : Settings) (now : Facts) (pdu : Pdu) → KnowsPlan plan → IsSound plan now → is_up now plan.control ≡ true → length (outbox now (control_slot plan)) ≤ 56 → AllMayDo plan now (acts_for_pdu plan now pdu)
 unfolding acts_for_pdu
-heard_may plan now (Random options flags kind target source) p h up room = request_may plan now _ flags kind p h up room
-heard_may plan now (Acku info reason spare target additional) p h up room = answered_may plan now reason additional p h up room
-heard_may plan now _ p h up room = tt
+pdu_may plan now (Random options flags kind target source) p h up room = request_may plan now _ flags kind p h up room
+pdu_may plan now (Acku info reason spare target additional) p h up room = answered_may plan now reason additional p h up room
+pdu_may plan now _ p h up room = tt
 
 if_may : (plan : Settings) (now : Facts) (b : Bool) (acts : List Act) → (b ≡ true → AllMayDo plan now acts) → AllMayDo plan now (if b then acts else [])
 if_may plan now true acts h = h refl
@@ -182,11 +182,11 @@ if_may plan now false acts h = tt
 room_is : (plan : Settings) (now : Facts) → has_room plan now ≡ true → length (outbox now (control_slot plan)) ≤ 56
 room_is plan now h = grind (arith, nat_tests)
 
-heard_at : (plan : Settings) (now : Facts) (slot : Slot) (pdu : Pdu) → KnowsPlan plan → IsSound plan now → (is_up now slot.carrier && (is_slot slot (control_slot plan) && has_room plan now)) ≡ true → AllMayDo plan now (acts_for_pdu plan now pdu)
-heard_at plan now slot pdu p h k =
+pdu_at : (plan : Settings) (now : Facts) (slot : Slot) (pdu : Pdu) → KnowsPlan plan → IsSound plan now → (is_up now slot.carrier && (is_slot slot (control_slot plan) && has_room plan now)) ≡ true → AllMayDo plan now (acts_for_pdu plan now pdu)
+pdu_at plan now slot pdu p h k =
     let a = and_true (is_up now slot.carrier) (is_slot slot (control_slot plan) && has_room plan now) k in
     let b = and_true (is_slot slot (control_slot plan)) (has_room plan now) a.1 in
-    heard_may plan now pdu p h (subst (λ (x : Slot). is_up now x.carrier ≡ true) (same_slot slot (control_slot plan) b.0) a.0) (room_is plan now b.1)
+    pdu_may plan now pdu p h (subst (λ (x : Slot). is_up now x.carrier ≡ true) (same_slot slot (control_slot plan) b.0) a.0) (room_is plan now b.1)
 
 -- a tick: the facts that clearing the due call leaves unchanged for the first line
 pub record IsReady (plan : Settings) (now later : Facts) (more : ℕ) : Type 0 where
@@ -203,19 +203,19 @@ pub record Clears (plan : Settings) (now : Facts) (acts : List Act) : Type 0 whe
 free_from : (plan : Settings) (now : Facts) (slot : Slot) → IsFree plan now slot → is_free plan now slot ≡ true
 free_from plan now slot f = rw (f.known, f.up, f.apart, f.none, f.quiet, granted_known plan now.outboxes slot f.known ∙ f.ungranted) refl
 
-apart_from : (plan : Settings) (now : Facts) (slot there : Slot) → stands_on now.calls slot ≡ false → stands_on now.calls there ≡ true → is_slot slot there ≡ false
+apart_from : (plan : Settings) (now : Facts) (slot there : Slot) → has_call_on now.calls slot ≡ false → has_call_on now.calls there ≡ true → is_slot slot there ≡ false
 apart_from plan now slot there h k = either (is_slot slot there) refl
   where
     either : (b : Bool) → is_slot slot there ≡ b → b ≡ false
-    either true e = true_false _ k (subst (λ (x : Slot). stands_on now.calls x ≡ false) (same_slot slot there e) h)
+    either true e = true_false _ k (subst (λ (x : Slot). has_call_on now.calls x ≡ false) (same_slot slot there e) h)
     either false e = refl
 
-control_apart : (plan : Settings) (now : Facts) (there : Slot) → IsSound plan now → stands_on now.calls there ≡ true → is_slot (control_slot plan) there ≡ false
+control_apart : (plan : Settings) (now : Facts) (there : Slot) → IsSound plan now → has_call_on now.calls there ≡ true → is_slot (control_slot plan) there ≡ false
 control_apart plan now there h on = apart_from plan now (control_slot plan) there (none_on_control plan now h) on
 
 call_clears : (plan : Settings) (now : Facts) (call : Call) → KnowsPlan plan → IsSound plan now → call_on now.calls call.slot ≡ Some call → Clears plan now (clear plan call)
 call_clears plan now call p h stands =
-    let on = call_stands now.calls call.slot call stands in
+    let on = call_is_active now.calls call.slot call stands in
     let small : call.slot.slot < 2 = (h.payload call.slot on.0).small in
     let later : Facts = fold facts_after_act now (clear plan call) in
     let c : IsCleared plan now later call = cleared_is plan now call small in
@@ -246,7 +246,7 @@ unfolding acts_for_due_call
 ended_clears plan now p h =
     by_option (Clears plan now) (λ (slot : Slot). option_map_or (λ (call : Call). clear plan call) (call_on now.calls slot) []) (due_call plan.hang plan.maximum now.calls) []
     (λ slot e. by_option (Clears plan now) (λ (call : Call). clear plan call) (call_on now.calls slot) []
-    (λ call k. call_clears plan now call p h (found_stands (λ s. is_slot s.call.slot slot) now.calls call h.apart k)) (none_clears plan now)) (none_clears plan now)
+    (λ call k. call_clears plan now call p h (found_is_active (λ s. is_slot s.call.slot slot) now.calls call h.apart k)) (none_clears plan now)) (none_clears plan now)
 
 -- the first line's parties
 total_first : {X : Type 0} (f : X → ℕ) (q : X → Bool) (xs : List X) (y : X) → slice_get xs 0 ≡ Some y → q y ≡ false → total f (filter q xs) + f y ≤ total f xs
@@ -308,8 +308,8 @@ pub record Repeats (plan : Settings) (later : Facts) (acts : List Act) : Type 0 
   pub ready : IsReady plan later (fold facts_after_act later acts) 1
 
 -- the facts that one PDU, not a grant, leaves unchanged, with the asks changed
-put_ready : (plan : Settings) (now : Facts) (asks : List Asking) (pdu : Pdu) → is_grant pdu ≡ false → IsReady plan now (facts_after_act (record now { asks = asks }) (Queue (control_slot plan) pdu)) 1
-put_ready plan now asks pdu plain = record {
+ready_to_queue : (plan : Settings) (now : Facts) (asks : List ActiveAsk) (pdu : Pdu) → is_grant pdu ≡ false → IsReady plan now (facts_after_act (record now { asks = asks }) (Queue (control_slot plan) pdu)) 1
+ready_to_queue plan now asks pdu plain = record {
   up = refl;
   lines = refl;
   room = omega (arith, read_put now.outboxes (place (control_slot plan)) (box now.outboxes (control_slot plan) ++ pdu ∷ []), length-append (box now.outboxes (control_slot plan)) (pdu ∷ []));
@@ -329,32 +329,32 @@ put_ready plan now asks pdu plain = record {
     plain_names l s (TvGrant a b c d e) h = cc
     plain_names l s _ h = refl
 
-first_less : (q : Asking → Bool) (xs : List Asking) (y : Asking) → slice_get xs 0 ≡ Some y → q y ≡ false → length (filter q xs) < length xs
+first_less : (q : ActiveAsk → Bool) (xs : List ActiveAsk) (y : ActiveAsk) → slice_get xs 0 ≡ Some y → q y ≡ false → length (filter q xs) < length xs
 first_less q [] y h k = cc
 first_less q (x ∷ xs) y h k =
     let same : x ≡ y = cc in
     let out : q x ≡ false = rw same k in
     rw out (omega (arith, length-filter_le q xs))
 
-has_ask : (plan : Settings) (now : Facts) (a : Asking) → IsSound plan now → slice_get now.asks 0 ≡ Some a → is_up now plan.control ≡ true
+has_ask : (plan : Settings) (now : Facts) (a : ActiveAsk) → IsSound plan now → slice_get now.asks 0 ≡ Some a → is_up now plan.control ≡ true
 has_ask plan now a h found = either (is_up now plan.control) refl
   where
-    none : (xs : List Asking) → xs ≡ [] → slice_get xs 0 ≡ Some a → Some a ≡ None
-    none xs e k = sym k ∙ ap (λ (x : List Asking). slice_get x 0) e
+    none : (xs : List ActiveAsk) → xs ≡ [] → slice_get xs 0 ≡ Some a → Some a ≡ None
+    none xs e k = sym k ∙ ap (λ (x : List ActiveAsk). slice_get x 0) e
 
     either : (b : Bool) → is_up now plan.control ≡ b → b ≡ true
     either true e = refl
     either false e = let k : Some a ≡ None = none now.asks (h.asks e) found in cc
 
-first_of : (f : Asking → ℕ) (xs : List Asking) (y : Asking) → slice_get xs 0 ≡ Some y → f y ≤ total f xs
+first_of : (f : ActiveAsk → ℕ) (xs : List ActiveAsk) (y : ActiveAsk) → slice_get xs 0 ≡ Some y → f y ≤ total f xs
 first_of f [] y h = cc
 first_of f (x ∷ xs) y h = let same : x ≡ y = cc in rw (← same) (omega arith)
 
-again_repeats : (plan : Settings) (later : Facts) (a : Asking) (n : ℕ) → KnowsPlan plan → IsSound plan later → length (outbox later (control_slot plan)) ≤ 56 → slice_get later.asks 0 ≡ Some a → Repeats plan later (Asked (record { source = a.ask.source; target = a.ask.target; options = a.ask.options; attempt = n }) ∷ ahoy plan a.ask)
+again_repeats : (plan : Settings) (later : Facts) (a : ActiveAsk) (n : ℕ) → KnowsPlan plan → IsSound plan later → length (outbox later (control_slot plan)) ≤ 56 → slice_get later.asks 0 ≡ Some a → Repeats plan later (Asked (record { source = a.ask.source; target = a.ask.target; options = a.ask.options; attempt = n }) ∷ ahoy plan a.ask)
 again_repeats plan later a n p h room found =
     let ask : Ask = record { source = a.ask.source; target = a.ask.target; options = a.ask.options; attempt = n } in
     let up : is_up later plan.control ≡ true = has_ask plan later a h found in
-    let gone : (λ (x : Asking). not (x.ask.source == a.ask.source)) a ≡ false = not_itself a.ask.source in
+    let gone : (λ (x : ActiveAsk). not (x.ask.source == a.ask.source)) a ≡ false = not_itself a.ask.source in
     let less : length (others_than a.ask.source later.asks) < 32 = omega (arith, h.few_asks, first_less (λ x. not (x.ask.source == a.ask.source)) later.asks a found gone) in
     let engage : MayEngage plan later (others_than a.ask.source later.asks) false a.ask.source a.ask.target = record {
       parties = λ r k. h.parties r (omega (arith, first_of (engagements_in_ask r) later.asks a found));
@@ -364,24 +364,24 @@ again_repeats plan later a n p h room found =
     let may : MayDo plan later (Asked ask) = (up, less, engage) in
     record {
       may = (may, queue_may plan (facts_after_act later (Asked ask)) (Ahoy a.ask.options false individual_voice a.ask.target a.ask.source) refl (sound-done plan later (Asked ask) p h may) up (omega arith));
-      ready = put_ready plan later _ (Ahoy a.ask.options false individual_voice a.ask.target a.ask.source) refl;
+      ready = ready_to_queue plan later _ (Ahoy a.ask.options false individual_voice a.ask.target a.ask.source) refl;
     }
 
-over_repeats : (plan : Settings) (later : Facts) (a : Asking) → KnowsPlan plan → IsSound plan later → length (outbox later (control_slot plan)) ≤ 56 → slice_get later.asks 0 ≡ Some a → Repeats plan later (AskOver a.ask.source ∷ ack plan a.ask.source a.ask.target 0x24)
+over_repeats : (plan : Settings) (later : Facts) (a : ActiveAsk) → KnowsPlan plan → IsSound plan later → length (outbox later (control_slot plan)) ≤ 56 → slice_get later.asks 0 ≡ Some a → Repeats plan later (AskOver a.ask.source ∷ ack plan a.ask.source a.ask.target 0x24)
 over_repeats plan later a p h room found = record {
   may = (tt, ack_may plan (facts_after_act later (AskOver a.ask.source)) a.ask.source a.ask.target 0x24 (sound-done plan later (AskOver a.ask.source) p h tt) (has_ask plan later a h found) (omega arith));
-  ready = put_ready plan later _ (Ackd 0 0x24 false a.ask.source a.ask.target) refl;
+  ready = ready_to_queue plan later _ (Ackd 0 0x24 false a.ask.source a.ask.target) refl;
 }
 
 none_repeats : (plan : Settings) (later : Facts) → Repeats plan later []
 none_repeats plan later = record { may = tt; ready = record { up = refl; lines = refl; room = omega arith; free = λ slot also f. free_from plan later slot f } }
 
 -- the ask that is due is the first
-due_first : (wait : ℕ) (asks : List Asking) (ask : Ask) → due_ask wait asks ≡ Some ask → (a : Asking) × (slice_get asks 0 ≡ Some a) × (a.ask ≡ ask)
+due_first : (wait : ℕ) (asks : List ActiveAsk) (ask : Ask) → due_ask wait asks ≡ Some ask → (a : ActiveAsk) × (slice_get asks 0 ≡ Some a) × (a.ask ≡ ask)
 due_first wait [] ask h = cc
 due_first wait (a ∷ asks) ask h = first (nat_le wait a.waited) h
   where
-    first : (b : Bool) → (if b then Some a.ask else None) ≡ Some ask → (x : Asking) × (slice_get (a ∷ asks) 0 ≡ Some x) × (x.ask ≡ ask)
+    first : (b : Bool) → (if b then Some a.ask else None) ≡ Some ask → (x : ActiveAsk) × (slice_get (a ∷ asks) 0 ≡ Some x) × (x.ask ≡ ask)
     first true h = (a, refl, cc)
     first false h = cc
 
@@ -476,7 +476,7 @@ dropped_may plan now r p h room =
     may-append plan (close plan now r) (Left r ∷ []) now c.may (c.closed.gone, tt)
 
 ended_may : (plan : Settings) (now : Facts) (slot : Slot) (call : Call) → KnowsPlan plan → IsSound plan now → call_on now.calls slot ≡ Some call → AllMayDo plan now (clear plan call)
-ended_may plan now slot call p h k = clear_may plan now call p h (found_stands (λ s. is_slot s.call.slot slot) now.calls call h.apart k)
+ended_may plan now slot call p h k = clear_may plan now call p h (found_is_active (λ s. is_slot s.call.slot slot) now.calls call h.apart k)
 
 commanded_may : (plan : Settings) (now : Facts) (command : Command) → KnowsPlan plan → IsSound plan now → AllMayDo plan (facts_after_event plan now (Say command)) (answer_to_command plan now command).list
 unfolding answer_to_command
@@ -490,8 +490,8 @@ commanded_may plan now _ p h = tt
 
 -- each event's acts may be done
 pub acts_may : (plan : Settings) (now : Facts) (event : Event) → KnowsPlan plan → IsSound plan now → AllMayDo plan (facts_after_event plan now event) (acts_of plan now event)
-acts_may plan now (Heard slot pdu) p h = if_may plan now (is_up now slot.carrier && (is_slot slot (control_slot plan) && has_room plan now)) (acts_for_pdu plan now pdu) (λ k. heard_at plan now slot pdu p h k)
+acts_may plan now (Heard slot pdu) p h = if_may plan now (is_up now slot.carrier && (is_slot slot (control_slot plan) && has_room plan now)) (acts_for_pdu plan now pdu) (λ k. pdu_at plan now slot pdu p h k)
 acts_may plan now (Poll c) p h = if_may plan (facts_after_event plan now (Poll c)) (is_up now c) _ (λ k. polls_may plan now c k)
-acts_may plan now Tick p h = tick_may plan (record now { calls = map one_tick_older now.calls; asks = map waited_more now.asks }) p (sound-noted plan now Tick p h)
+acts_may plan now Tick p h = tick_may plan (record now { calls = map one_tick_older now.calls; asks = map ask_after_tick now.asks }) p (sound-noted plan now Tick p h)
 acts_may plan now (Say command) p h = commanded_may plan now command p h
 acts_may plan now _ p h = tt

@@ -8,10 +8,10 @@ use Rattle.dmr_pdu.specs.declared.pdu.Pdu.{Pdu}
 use Rattle.dmr_pdu.specs.declared.pdu.Pdu.TheVariants.{Ackd, Clear}
 use Rattle.dmr_plan.specs.declared.settings.Settings.{Settings}
 use Rattle.dmr_calls.specs.declared.ask.Ask.{Ask}
-use Rattle.dmr_calls.specs.declared.ask.Asking.{Asking}
+use Rattle.dmr_calls.specs.declared.ask.ActiveAsk.{ActiveAsk}
 use Rattle.dmr_calls.specs.declared.line.Line.{Line}
 use Rattle.dmr_calls.specs.declared.call.Call.{Call}
-use Rattle.dmr_calls.specs.declared.call.Standing.{Standing}
+use Rattle.dmr_calls.specs.declared.call.ActiveCall.{ActiveCall}
 use Rattle.dmr_calls.specs.Asks.{ask_of, ask_to, others_than}
 use Rattle.dmr_calls.specs.Lines.{line_of, line_to}
 use Rattle.dmr_calls.specs.Calls.{call_on, is_slot}
@@ -21,7 +21,7 @@ use Rattle.dmr_pool.specs.Free.{control_slot}
 use Rattle.dmr_core.specs.declared.act.Act.{Act}
 use Rattle.dmr_core.specs.declared.act.Act.TheVariants.{AskOver, Ended, Queue, Unlined}
 use Rattle.dmr_core.specs.Facts.{Facts, facts_after_act}
-use Rattle.dmr_core.specs.Words.{is_up, lpcn_of, outbox, stands_on}
+use Rattle.dmr_core.specs.Words.{is_up, lpcn_of, outbox, has_call_on}
 use Rattle.dmr_core.specs.Rules.{ack, clear, close}
 use Rattle.dmr_core.specs.Sound.{IsSound, engagements, engagements_in_ask, engagements_in_call, engagements_in_line, party, total}
 use Rattle.dmr_core.specs.May.{AllMayDo}
@@ -31,7 +31,7 @@ use Rattle.dmr_core.proofs.ListLemmas.{total_found}
 use Rattle.dmr_core.proofs.ChoiceLemmas.{or_false, find_passes}
 use Rattle.dmr_core.proofs.CallsAreApart.{same_slots}
 use Rattle.dmr_core.proofs.SlotsStaySound.{itself, other_place}
-use Rattle.dmr_core.proofs.GrantsAreOwn.{found_stands, call_stands}
+use Rattle.dmr_core.proofs.GrantsAreOwn.{found_is_active, call_is_active}
 use Rattle.dmr_core.proofs.ActsKeepSound.{sound-done}
 use Rattle.dmr_core.proofs.PartsMayBeDone.{ack_may, clear_may, not_engaged, read_put}
 
@@ -88,11 +88,11 @@ cleared_is plan now call small =
     }
 
 -- a radio that is found passes the test
-pub found_call : (p : Standing → Bool) (o : Option Standing) (call : Call) → option_map (λ (x : Standing). x.call) o ≡ Some call → (s : Standing) × (o ≡ Some s) × (s.call ≡ call)
+pub found_call : (p : ActiveCall → Bool) (o : Option ActiveCall) (call : Call) → option_map (λ (x : ActiveCall). x.call) o ≡ Some call → (s : ActiveCall) × (o ≡ Some s) × (s.call ≡ call)
 found_call p None call h = cc
 found_call p (Some s) call h = (s, refl, cc)
 
-pub found_ask : (o : Option Asking) (ask : Ask) → option_map (λ (x : Asking). x.ask) o ≡ Some ask → (a : Asking) × (o ≡ Some a) × (a.ask ≡ ask)
+pub found_ask : (o : Option ActiveAsk) (ask : Ask) → option_map (λ (x : ActiveAsk). x.ask) o ≡ Some ask → (a : ActiveAsk) × (o ≡ Some a) × (a.ask ≡ ask)
 found_ask None ask h = cc
 found_ask (Some a) ask h = (a, refl, cc)
 
@@ -112,11 +112,11 @@ none_found p (x ∷ xs) h = first (p x) h (none_found p xs)
     first true h more = cc
     first false h more = more h
 
-unmapped : (o : Option Standing) → option_map (λ (x : Standing). x.call) o ≡ None → o ≡ None
+unmapped : (o : Option ActiveCall) → option_map (λ (x : ActiveCall). x.call) o ≡ None → o ≡ None
 unmapped None h = refl
 unmapped (Some s) h = cc
 
-unmapped_ask : (o : Option Asking) → option_map (λ (x : Asking). x.ask) o ≡ None → o ≡ None
+unmapped_ask : (o : Option ActiveAsk) → option_map (λ (x : ActiveAsk). x.ask) o ≡ None → o ≡ None
 unmapped_ask None h = refl
 unmapped_ask (Some a) h = cc
 
@@ -138,14 +138,14 @@ pub record Closes (plan : Settings) (now : Facts) (r : ℕ) (acts : List Act) : 
   pub may : AllMayDo plan now acts
   pub closed : IsClosed plan now (fold facts_after_act now acts) r
 
-control_apart : (plan : Settings) (now : Facts) (call : Call) → IsSound plan now → stands_on now.calls call.slot ≡ true → is_slot (control_slot plan) call.slot ≡ false
+control_apart : (plan : Settings) (now : Facts) (call : Call) → IsSound plan now → has_call_on now.calls call.slot ≡ true → is_slot (control_slot plan) call.slot ≡ false
 control_apart plan now call h on = same_slots (control_slot plan) call.slot ∙ (h.payload call.slot on).apart
 
 call_closes : (plan : Settings) (now : Facts) (r : ℕ) (call : Call) → KnowsPlan plan → IsSound plan now → call_of now.calls r ≡ Some call → Closes plan now r (clear plan call)
 call_closes plan now r call p h found =
-    let test : Standing → Bool = λ s. is_party r s.call.group s.call.source s.call.target in
-    let stands : call_on now.calls call.slot ≡ Some call = found_stands test now.calls call h.apart found in
-    let on = call_stands now.calls call.slot call stands in
+    let test : ActiveCall → Bool = λ s. is_party r s.call.group s.call.source s.call.target in
+    let stands : call_on now.calls call.slot ≡ Some call = found_is_active test now.calls call h.apart found in
+    let on = call_is_active now.calls call.slot call stands in
     let small : call.slot.slot < 2 = (h.payload call.slot on.0).small in
     let c : IsCleared plan now (fold facts_after_act now (clear plan call)) call = cleared_is plan now call small in
     let s = found_call test (find test now.calls) call found in
@@ -204,22 +204,22 @@ line_to_closes plan now r l p h room found =
       };
     }
 
-ask_counts : (r : ℕ) (a : Asking) → (a.ask.source == r) ≡ true → 1 ≤ engagements_in_ask r a
+ask_counts : (r : ℕ) (a : ActiveAsk) → (a.ask.source == r) ≡ true → 1 ≤ engagements_in_ask r a
 ask_counts r a h = rw h (omega arith)
 
-ask_to_counts : (r : ℕ) (a : Asking) → (a.ask.target == r) ≡ true → 1 ≤ engagements_in_ask r a
+ask_to_counts : (r : ℕ) (a : ActiveAsk) → (a.ask.target == r) ≡ true → 1 ≤ engagements_in_ask r a
 ask_to_counts r a h = rw h (omega arith)
 
-asking_closes : (plan : Settings) (now : Facts) (r : ℕ) (a : Asking) → IsSound plan now → find (λ x. x.ask.source == r) now.asks ≡ Some a → Closes plan now r (AskOver a.ask.source ∷ [])
+asking_closes : (plan : Settings) (now : Facts) (r : ℕ) (a : ActiveAsk) → IsSound plan now → find (λ x. x.ask.source == r) now.asks ≡ Some a → Closes plan now r (AskOver a.ask.source ∷ [])
 asking_closes plan now r a h found =
     let less : total (engagements_in_ask r) (others_than a.ask.source now.asks) + engagements_in_ask r a ≤ total (engagements_in_ask r) now.asks =
     total_found (engagements_in_ask r) (λ x. x.ask.source == r) (λ x. not (x.ask.source == a.ask.source)) now.asks a found (not_itself a.ask.source) in
     let one : 1 ≤ engagements_in_ask r a = ask_counts r a (find_passes (λ x. x.ask.source == r) now.asks a found) in
     record { may = (tt, tt); closed = record { up = refl; registered = refl; gone = omega (arith, h.once r); room = omega arith } }
 
-asking_to_closes : (plan : Settings) (now : Facts) (r : ℕ) (a : Asking) → KnowsPlan plan → IsSound plan now → length (outbox now (control_slot plan)) ≤ 56 → find (λ x. x.ask.target == r) now.asks ≡ Some a → Closes plan now r (AskOver a.ask.source ∷ ack plan a.ask.source a.ask.target 0x24)
+asking_to_closes : (plan : Settings) (now : Facts) (r : ℕ) (a : ActiveAsk) → KnowsPlan plan → IsSound plan now → length (outbox now (control_slot plan)) ≤ 56 → find (λ x. x.ask.target == r) now.asks ≡ Some a → Closes plan now r (AskOver a.ask.source ∷ ack plan a.ask.source a.ask.target 0x24)
 asking_to_closes plan now r a p h room found =
-    let up : is_up now plan.control ≡ true = found_up plan now (λ (x : Asking). x.ask.target == r) now.asks a h.asks found in
+    let up : is_up now plan.control ≡ true = found_up plan now (λ (x : ActiveAsk). x.ask.target == r) now.asks a h.asks found in
     let less : total (engagements_in_ask r) (others_than a.ask.source now.asks) + engagements_in_ask r a ≤ total (engagements_in_ask r) now.asks =
     total_found (engagements_in_ask r) (λ x. x.ask.target == r) (λ x. not (x.ask.source == a.ask.source)) now.asks a found (not_itself a.ask.source) in
     let one : 1 ≤ engagements_in_ask r a = ask_to_counts r a (find_passes (λ x. x.ask.target == r) now.asks a found) in
@@ -244,7 +244,7 @@ ask_to_closes plan now r ask p h room found =
     let a = found_ask (find (λ x. x.ask.target == r) now.asks) ask found in
     subst (λ (k : Ask). Closes plan now r (AskOver k.source ∷ ack plan k.source k.target 0x24)) a.2 (asking_to_closes plan now r a.0 p h room a.1)
 
-no_ask : (xs : List Asking) (r : ℕ) → list_any (λ a. a.ask.source == r) xs ≡ false → list_any (λ a. a.ask.target == r) xs ≡ false → list_any (λ a. is_party r false a.ask.source a.ask.target) xs ≡ false
+no_ask : (xs : List ActiveAsk) (r : ℕ) → list_any (λ a. a.ask.source == r) xs ≡ false → list_any (λ a. a.ask.target == r) xs ≡ false → list_any (λ a. is_party r false a.ask.source a.ask.target) xs ≡ false
 no_ask [] r h k = refl
 no_ask (a ∷ xs) r h k =
     let d = or_false (a.ask.source == r) (list_any (λ x. x.ask.source == r) xs) h in

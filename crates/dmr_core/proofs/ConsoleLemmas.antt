@@ -7,21 +7,21 @@ use Rattle.std.proofs.lemmas.List.{append-nil}
 use Rattle.std.proofs.lemmas.List.FromFn.{map-range_with_len_more}
 use Rattle.dmr_pdu.specs.declared.slots.Slot.{Slot}
 use Rattle.dmr_plan.specs.declared.settings.Settings.{Settings}
-use Rattle.dmr_calls.specs.declared.call.Standing.{Standing}
+use Rattle.dmr_calls.specs.declared.call.ActiveCall.{ActiveCall}
 use Rattle.dmr_calls.specs.Calls.{call_on, is_slot}
 use Rattle.dmr_pool.specs.Slots.{slot_at}
 use Rattle.dmr_core.specs.declared.reply.SlotState.{SlotState}
 use Rattle.dmr_core.specs.Facts.{Facts}
-use Rattle.dmr_core.specs.Words.{stands_on}
+use Rattle.dmr_core.specs.Words.{has_call_on}
 use Rattle.dmr_core.specs.Displays.{all_slot_states, slot_states}
 
 -- a call is found on a slot exactly if one is active there
-pub called : (calls : List Standing) (slot : Slot) → is_some (call_on calls slot) ≡ stands_on calls slot
+pub called : (calls : List ActiveCall) (slot : Slot) → is_some (call_on calls slot) ≡ has_call_on calls slot
 called [] slot = refl
 called (s ∷ calls) slot = either (is_slot s.call.slot slot) (called calls slot)
   where
-    either : (b : Bool) → is_some (call_on calls slot) ≡ stands_on calls slot
-        → is_some (option_map (λ (t : Standing). t.call) (cond b (Some s) (find (λ t. is_slot t.call.slot slot) calls))) ≡ (b || stands_on calls slot)
+    either : (b : Bool) → is_some (call_on calls slot) ≡ has_call_on calls slot
+        → is_some (option_map (λ (t : ActiveCall). t.call) (cond b (Some s) (find (λ t. is_slot t.call.slot slot) calls))) ≡ (b || has_call_on calls slot)
     either true h = refl
     either false h = h
 

@@ -6,7 +6,7 @@ use Rattle.dmr_pdu.specs.declared.pdu.Pdu.{Pdu}
 use Rattle.dmr_plan.specs.declared.settings.Settings.{Settings}
 use Rattle.dmr_plan.specs.IsPlan.{IsPlan}
 use Rattle.dmr_access.specs.Noise.{with_noise, with_poll}
-use Rattle.dmr_calls.specs.declared.call.Standing.{Standing}
+use Rattle.dmr_calls.specs.declared.call.ActiveCall.{ActiveCall}
 use Rattle.dmr_calls.specs.Calls.{is_slot, with_activity}
 use Rattle.dmr_pool.specs.Slots.{box, outboxes_without_carrier}
 use Rattle.dmr_pool.specs.Free.{is_control}
@@ -14,7 +14,7 @@ use Rattle.dmr_core.specs.declared.event.Event.{Event}
 use Rattle.dmr_core.specs.declared.event.Event.TheVariants.{Up, Lost, Heard, Noise, Active, Poll, Tick, Say}
 use Rattle.dmr_core.specs.declared.named.NamedSlot.{NamedSlot}
 use Rattle.dmr_core.specs.Facts.{Facts, facts_after_event, has_carrier}
-use Rattle.dmr_core.specs.Words.{is_up, stands_on}
+use Rattle.dmr_core.specs.Words.{is_up, has_call_on}
 use Rattle.dmr_core.specs.Rules.{acts_of}
 use Rattle.dmr_core.specs.Sound.{IsSound}
 use Rattle.dmr_core.specs.Down.{IsOfNoCarrier}
@@ -49,21 +49,21 @@ or_right : (a b : Bool) → b ≡ true → (a || b) ≡ true
 or_right true b h = refl
 or_right false b h = h
 
-same_calls : (cs : List Standing) (c : ℕ) → ((slot : Slot) → stands_on cs slot ≡ true → (slot.carrier == c) ≡ false) → filter (λ s. not (s.call.slot.carrier == c)) cs ≡ cs
+same_calls : (cs : List ActiveCall) (c : ℕ) → ((slot : Slot) → has_call_on cs slot ≡ true → (slot.carrier == c) ≡ false) → filter (λ s. not (s.call.slot.carrier == c)) cs ≡ cs
 same_calls [] c others = refl
 same_calls (s ∷ cs) c others =
     let here : (s.call.slot.carrier == c) ≡ false = others s.call.slot (rw (itself s.call.slot) refl) in
-    rw here (ap (λ (xs : List Standing). s ∷ xs) (same_calls cs c (λ slot k. others slot (or_right (is_slot s.call.slot slot) (stands_on cs slot) k))))
+    rw here (ap (λ (xs : List ActiveCall). s ∷ xs) (same_calls cs c (λ slot k. others slot (or_right (is_slot s.call.slot slot) (has_call_on cs slot) k))))
 
 -- no call on the slot is marked
-same_marked : (cs : List Standing) (slot : Slot) → stands_on cs slot ≡ false → map (with_activity slot) cs ≡ cs
+same_marked : (cs : List ActiveCall) (slot : Slot) → has_call_on cs slot ≡ false → map (with_activity slot) cs ≡ cs
 same_marked [] slot h = refl
 same_marked (s ∷ cs) slot h =
-    let both = or_false (is_slot s.call.slot slot) (stands_on cs slot) h in
-    rw both.0 (ap (λ (xs : List Standing). s ∷ xs) (same_marked cs slot both.1))
+    let both = or_false (is_slot s.call.slot slot) (has_call_on cs slot) h in
+    rw both.0 (ap (λ (xs : List ActiveCall). s ∷ xs) (same_marked cs slot both.1))
 
 -- no call is active on a carrier that is not up
-not_there : (plan : Settings) (now : Facts) (c : ℕ) (slot : Slot) → IsSound plan now → is_up now c ≡ false → stands_on now.calls slot ≡ true → (slot.carrier == c) ≡ false
+not_there : (plan : Settings) (now : Facts) (c : ℕ) (slot : Slot) → IsSound plan now → is_up now c ≡ false → has_call_on now.calls slot ≡ true → (slot.carrier == c) ≡ false
 not_there plan now c slot h down k = either (slot.carrier == c) refl
   where
     either : (b : Bool) → (slot.carrier == c) ≡ b → b ≡ false
@@ -73,10 +73,10 @@ not_there plan now c slot h down k = either (slot.carrier == c) refl
         true_false _ up (subst (λ (n : ℕ). is_up now n ≡ false) (sym same) down)
     either false e = refl
 
-none_there : (plan : Settings) (now : Facts) (slot : Slot) → IsSound plan now → is_up now slot.carrier ≡ false → stands_on now.calls slot ≡ false
-none_there plan now slot h down = either (stands_on now.calls slot) refl
+none_there : (plan : Settings) (now : Facts) (slot : Slot) → IsSound plan now → is_up now slot.carrier ≡ false → has_call_on now.calls slot ≡ false
+none_there plan now slot h down = either (has_call_on now.calls slot) refl
   where
-    either : (b : Bool) → stands_on now.calls slot ≡ b → b ≡ false
+    either : (b : Bool) → has_call_on now.calls slot ≡ b → b ≡ false
     either true e = true_false _ (h.payload slot e).is_up down
     either false e = refl
 

@@ -8,11 +8,11 @@ use Rattle.std.proofs.lemmas.List.{get_or-set_other, get_or-set_same, length-map
 use Rattle.dmr_pdu.specs.declared.slots.Slot.{Slot}
 use Rattle.dmr_pdu.specs.declared.pdu.Pdu.{Pdu}
 use Rattle.dmr_plan.specs.declared.settings.Settings.{Settings}
-use Rattle.dmr_calls.specs.declared.ask.Asking.{Asking}
+use Rattle.dmr_calls.specs.declared.ask.ActiveAsk.{ActiveAsk}
 use Rattle.dmr_calls.specs.declared.line.Line.{Line}
 use Rattle.dmr_calls.specs.declared.call.Call.{Call}
-use Rattle.dmr_calls.specs.declared.call.Standing.{Standing}
-use Rattle.dmr_calls.specs.Asks.{waited_more}
+use Rattle.dmr_calls.specs.declared.call.ActiveCall.{ActiveCall}
+use Rattle.dmr_calls.specs.Asks.{ask_after_tick}
 use Rattle.dmr_calls.specs.Calls.{call_on, one_tick_older, is_slot, with_activity}
 use Rattle.dmr_access.specs.Noise.{noise_at_up, with_noise, with_poll}
 use Rattle.dmr_pool.specs.Slots.{box, outboxes_without_carrier, place}
@@ -21,47 +21,47 @@ use Rattle.dmr_core.specs.declared.event.Event.{Event}
 use Rattle.dmr_core.specs.declared.event.Event.TheVariants.{Active, Lost, Noise, Poll, Say, Tick, Up}
 use Rattle.dmr_core.specs.declared.named.NamedSlot.{NamedSlot}
 use Rattle.dmr_core.specs.Facts.{Facts, has_carrier, facts_after_event, moving_by_event}
-use Rattle.dmr_core.specs.Words.{is_up, stands_on}
+use Rattle.dmr_core.specs.Words.{is_up, has_call_on}
 use Rattle.dmr_core.specs.Sound.{IsPayload, IsSound, engagements, engagements_in_ask, engagements_in_call, engagements_in_line, is_grant, is_own, party, total}
 use Rattle.dmr_core.proofs.PlanLemmas.{KnowsPlan}
 use Rattle.dmr_core.proofs.NumberLemmas.{equal_numbers, flipped, other_number}
 use Rattle.dmr_core.proofs.ListLemmas.{total-filter, total-map, any_before, any-map, length-filter_le}
 use Rattle.dmr_core.proofs.ChoiceLemmas.{and_true}
-use Rattle.dmr_core.proofs.CallsAreApart.{marked_call, apart-map, apart-filter, stands_on-map}
+use Rattle.dmr_core.proofs.CallsAreApart.{marked_call, apart-map, apart-filter, has_call_on-map}
 use Rattle.dmr_core.proofs.SlotsStaySound.{true_false}
 use Rattle.dmr_core.proofs.GrantsAreOwn.{call_after}
 use Rattle.dmr_core.proofs.LimitsAreKept.{IsCounted, IsWaitCounted}
 
 -- only calls changed, and each is still the same call
-call_or : (x y : Standing) (b : Bool) (o p : Option Standing) → x.call ≡ y.call → option_map (λ (z : Standing). z.call) o ≡ option_map (λ (z : Standing). z.call) p → option_map (λ (z : Standing). z.call) (cond b (Some x) o) ≡ option_map (λ (z : Standing). z.call) (cond b (Some y) p)
+call_or : (x y : ActiveCall) (b : Bool) (o p : Option ActiveCall) → x.call ≡ y.call → option_map (λ (z : ActiveCall). z.call) o ≡ option_map (λ (z : ActiveCall). z.call) p → option_map (λ (z : ActiveCall). z.call) (cond b (Some x) o) ≡ option_map (λ (z : ActiveCall). z.call) (cond b (Some y) p)
 call_or x y true o p h k = ap (λ (c : Call). Some c) h
 call_or x y false o p h k = k
 
-call_on-map : (f : Standing → Standing) → ((s : Standing) → (f s).call ≡ s.call) → (cs : List Standing) (slot : Slot) → call_on (map f cs) slot ≡ call_on cs slot
+call_on-map : (f : ActiveCall → ActiveCall) → ((s : ActiveCall) → (f s).call ≡ s.call) → (cs : List ActiveCall) (slot : Slot) → call_on (map f cs) slot ≡ call_on cs slot
 call_on-map f same [] slot = refl
 call_on-map f same (s ∷ cs) slot =
-    subst (λ (c : Call). option_map (λ (z : Standing). z.call) (cond (is_slot c.slot slot) (Some (f s)) (find (λ x. is_slot x.call.slot slot) (map f cs))) ≡ call_on (s ∷ cs) slot) (sym (same s))
+    subst (λ (c : Call). option_map (λ (z : ActiveCall). z.call) (cond (is_slot c.slot slot) (Some (f s)) (find (λ x. is_slot x.call.slot slot) (map f cs))) ≡ call_on (s ∷ cs) slot) (sym (same s))
     (call_or (f s) s (is_slot s.call.slot slot) (find (λ x. is_slot x.call.slot slot) (map f cs)) (find (λ x. is_slot x.call.slot slot) cs) (same s) (call_on-map f same cs slot))
 
-same_engaged : (f : Standing → Standing) → ((s : Standing) → (f s).call ≡ s.call) → (calls : List Standing) (asks : List Asking) (lines : List Line) (r : ℕ) → engagements (map f calls) asks lines r ≡ engagements calls asks lines r
+same_engaged : (f : ActiveCall → ActiveCall) → ((s : ActiveCall) → (f s).call ≡ s.call) → (calls : List ActiveCall) (asks : List ActiveAsk) (lines : List Line) (r : ℕ) → engagements (map f calls) asks lines r ≡ engagements calls asks lines r
 same_engaged f same calls asks lines r = ap (λ (n : ℕ). n + total (engagements_in_ask r) asks + total (engagements_in_line r) lines) (total-map (engagements_in_call r) f (λ s. ap (λ (c : Call). party r c.group c.source c.target) (same s)) calls)
 
 -- activity makes no age greater
-marked_counted : (slot : Slot) (s : Standing) → IsCounted s → IsCounted (with_activity slot s)
+marked_counted : (slot : Slot) (s : ActiveCall) → IsCounted s → IsCounted (with_activity slot s)
 marked_counted slot s h = either (is_slot s.call.slot slot)
   where
     either : (b : Bool) → IsCounted (if b then record { call = s.call; age = s.age; quiet = 0 } else s)
     either true = (h.0, omega arith)
     either false = h
 
-sound-mapped : (plan : Settings) (now : Facts) (f : Standing → Standing) → ((s : Standing) → (f s).call ≡ s.call) → ((s : Standing) → IsCounted s → IsCounted (f s)) → IsSound plan now → IsSound plan (record now { calls = map f now.calls })
+sound-mapped : (plan : Settings) (now : Facts) (f : ActiveCall → ActiveCall) → ((s : ActiveCall) → (f s).call ≡ s.call) → ((s : ActiveCall) → IsCounted s → IsCounted (f s)) → IsSound plan now → IsSound plan (record now { calls = map f now.calls })
 sound-mapped plan now f same counted h = record {
   carriers = h.carriers;
   slots = h.slots;
   known = h.known;
   apart = apart-map f same now.calls h.apart;
-  payload = λ slot k. h.payload slot (sym (stands_on-map f same now.calls slot) ∙ k);
-  quiet = λ slot k. h.quiet slot (sym (stands_on-map f same now.calls slot) ∙ k);
+  payload = λ slot k. h.payload slot (sym (has_call_on-map f same now.calls slot) ∙ k);
+  quiet = λ slot k. h.quiet slot (sym (has_call_on-map f same now.calls slot) ∙ k);
   asks = h.asks;
   lines = h.lines;
   distinct = h.distinct;
@@ -87,7 +87,7 @@ sound-mapped plan now f same counted h = record {
 }
 
 -- only the asks' ticks changed
-sound-waited : (plan : Settings) (now : Facts) → IsSound plan now → IsSound plan (record now { asks = map waited_more now.asks })
+sound-waited : (plan : Settings) (now : Facts) → IsSound plan now → IsSound plan (record now { asks = map ask_after_tick now.asks })
 sound-waited plan now h = record {
   carriers = h.carriers;
   slots = h.slots;
@@ -95,23 +95,23 @@ sound-waited plan now h = record {
   apart = h.apart;
   payload = h.payload;
   quiet = h.quiet;
-  asks = λ k. ap (λ (xs : List Asking). map waited_more xs) (h.asks k);
+  asks = λ k. ap (λ (xs : List ActiveAsk). map ask_after_tick xs) (h.asks k);
   lines = h.lines;
   distinct = h.distinct;
-  parties = λ r k. h.parties r (omega (arith, k, total-map (engagements_in_ask r) waited_more (λ a. refl) now.asks));
+  parties = λ r k. h.parties r (omega (arith, k, total-map (engagements_in_ask r) ask_after_tick (λ a. refl) now.asks));
   called = h.called;
   lined = h.lined;
-  once = λ r. omega (arith, h.once r, total-map (engagements_in_ask r) waited_more (λ a. refl) now.asks);
+  once = λ r. omega (arith, h.once r, total-map (engagements_in_ask r) ask_after_tick (λ a. refl) now.asks);
   down = h.down;
   elsewhere = h.elsewhere;
   own = h.own;
   few_calls = h.few_calls;
-  few_asks = omega (arith, h.few_asks, length-map now.asks waited_more);
+  few_asks = omega (arith, h.few_asks, length-map now.asks ask_after_tick);
   few_lines = h.few_lines;
   few_radios = h.few_radios;
   few_waiting = h.few_waiting;
   ages = h.ages;
-  waits = All-map IsWaitCounted waited_more now.asks (λ k d within. omega arith);
+  waits = All-map IsWaitCounted ask_after_tick now.asks (λ k d within. omega arith);
   noiseless = h.noiseless;
   window = h.window;
   counted = h.counted;
@@ -236,19 +236,19 @@ emptied_box boxes c slot small same =
     ]
 
 -- calls that stay are on other carriers
-stays : (cs : List Standing) (c : ℕ) (slot : Slot) → stands_on (filter (λ s. not (s.call.slot.carrier == c)) cs) slot ≡ true → (slot.carrier == c) ≡ false
+stays : (cs : List ActiveCall) (c : ℕ) (slot : Slot) → has_call_on (filter (λ s. not (s.call.slot.carrier == c)) cs) slot ≡ true → (slot.carrier == c) ≡ false
 stays [] c slot h = cc
 stays (s ∷ cs) c slot h = either (s.call.slot.carrier == c) refl h (stays cs c slot)
   where
-    here : (b : Bool) → is_slot s.call.slot slot ≡ b → (s.call.slot.carrier == c) ≡ false → (b || stands_on (filter (λ x. not (x.call.slot.carrier == c)) cs) slot) ≡ true → (stands_on (filter (λ x. not (x.call.slot.carrier == c)) cs) slot ≡ true → (slot.carrier == c) ≡ false) → (slot.carrier == c) ≡ false
+    here : (b : Bool) → is_slot s.call.slot slot ≡ b → (s.call.slot.carrier == c) ≡ false → (b || has_call_on (filter (λ x. not (x.call.slot.carrier == c)) cs) slot) ≡ true → (has_call_on (filter (λ x. not (x.call.slot.carrier == c)) cs) slot ≡ true → (slot.carrier == c) ≡ false) → (slot.carrier == c) ≡ false
     here true e d h more = let same : s.call.slot.carrier ≡ slot.carrier = equal_numbers _ _ (and_true _ _ e).0 in rw same at d
     here false e d h more = more h
 
-    either : (b : Bool) → (s.call.slot.carrier == c) ≡ b → list_any (λ x. is_slot x.call.slot slot) (cond (not b) (s ∷ filter (λ x. not (x.call.slot.carrier == c)) cs) (filter (λ x. not (x.call.slot.carrier == c)) cs)) ≡ true → (stands_on (filter (λ x. not (x.call.slot.carrier == c)) cs) slot ≡ true → (slot.carrier == c) ≡ false) → (slot.carrier == c) ≡ false
+    either : (b : Bool) → (s.call.slot.carrier == c) ≡ b → list_any (λ x. is_slot x.call.slot slot) (cond (not b) (s ∷ filter (λ x. not (x.call.slot.carrier == c)) cs) (filter (λ x. not (x.call.slot.carrier == c)) cs)) ≡ true → (has_call_on (filter (λ x. not (x.call.slot.carrier == c)) cs) slot ≡ true → (slot.carrier == c) ≡ false) → (slot.carrier == c) ≡ false
     either true e h more = more h
     either false e h more = here (is_slot s.call.slot slot) refl e h more
 
-waits_or : (b : Bool) (asks : List Asking) → All IsWaitCounted asks → All IsWaitCounted (if b then [] else asks)
+waits_or : (b : Bool) (asks : List ActiveAsk) → All IsWaitCounted asks → All IsWaitCounted (if b then [] else asks)
 waits_or true asks h = λ k d within. absurd (omega arith)
 waits_or false asks h = h
 
@@ -298,8 +298,8 @@ reset plan now c up noise = record {
 
 sound-reset : (plan : Settings) (now : Facts) (c : ℕ) (up : List Bool) (noise : List ℕ) → length up ≡ 16 → ((x : ℕ) → slice_index_or up x false ≡ true → has_carrier plan x ≡ true) → ((x : ℕ) → (x == c) ≡ false → slice_index_or up x false ≡ is_up now x) → (slice_index_or up plan.control false ≡ false → noise ≡ []) → (slice_index_or up plan.control false ≡ true → length noise ≡ 32) → IsSound plan now → IsSound plan (reset plan now c up noise)
 sound-reset plan now c up noise long known others noiseless window h =
-    let gone : Standing → Bool = λ s. not (s.call.slot.carrier == c) in
-    let before : (slot : Slot) → stands_on (filter gone now.calls) slot ≡ true → stands_on now.calls slot ≡ true = λ slot k. any_before (λ s. is_slot s.call.slot slot) gone now.calls k in
+    let gone : ActiveCall → Bool = λ s. not (s.call.slot.carrier == c) in
+    let before : (slot : Slot) → has_call_on (filter gone now.calls) slot ≡ true → has_call_on now.calls slot ≡ true = λ slot k. any_before (λ s. is_slot s.call.slot slot) gone now.calls k in
     let fewer : (r : ℕ) → engagements (filter gone now.calls) (if c == plan.control then [] else now.asks) (if c == plan.control then [] else now.lines) r ≤ engagements now.calls now.asks now.lines r =
     λ r. omega (arith, total-filter (engagements_in_call r) gone now.calls, lines_or (engagements_in_ask r) (c == plan.control) now.asks, lines_or (engagements_in_line r) (c == plan.control) now.lines) in
     record {

@@ -6,9 +6,9 @@ use Rattle.dmr_pdu.specs.declared.pdu.Pdu.{Pdu}
 use Rattle.dmr_plan.specs.declared.settings.Settings.{Settings}
 use Rattle.dmr_access.specs.Fill.{aloha_pdu, fill_of, is_late_due}
 use Rattle.dmr_calls.specs.declared.call.Call.{Call}
-use Rattle.dmr_calls.specs.declared.call.Standing.{Standing}
+use Rattle.dmr_calls.specs.declared.call.ActiveCall.{ActiveCall}
 use Rattle.dmr_calls.specs.Calls.{call_on}
-use Rattle.dmr_calls.proofs.Laws.{next_stands}
+use Rattle.dmr_calls.proofs.Laws.{next_is_active}
 use Rattle.dmr_pool.specs.Free.{control_slot}
 use Rattle.dmr_core.specs.declared.event.Event.TheVariants.{Poll}
 use Rattle.dmr_core.specs.declared.act.Act.{Act}
@@ -43,23 +43,23 @@ late_grant plan call = either call.group refl
     either false e = rw e refl
 
 -- the late entry, if the next Fill has one, is of an active talkgroup call
-entry_stands : (plan : Settings) (calls : List Standing) (b : Bool) (o : Option Call) → IfSome o (λ call. (call_on calls call.slot ≡ Some call) × (call.group ≡ true)) → IfSome (if b then option_map (λ (call : Call). grant_pdu plan call true) o else None) (IsLateOf plan calls)
-entry_stands plan calls true None none = tt
-entry_stands plan calls true (Some call) next = record { call = call; stands = next.0; group = next.1; is = refl }
-entry_stands plan calls false o next = tt
+entry_is_active : (plan : Settings) (calls : List ActiveCall) (b : Bool) (o : Option Call) → IfSome o (λ call. (call_on calls call.slot ≡ Some call) × (call.group ≡ true)) → IfSome (if b then option_map (λ (call : Call). grant_pdu plan call true) o else None) (IsLateOf plan calls)
+entry_is_active plan calls true None none = tt
+entry_is_active plan calls true (Some call) next = record { call = call; stands = next.0; group = next.1; is = refl }
+entry_is_active plan calls false o next = tt
 
-pub late_stands : (plan : Settings) (now : Facts) → IfSome (late_entry plan now) (IsLateOf plan now.calls)
+pub late_is_active : (plan : Settings) (now : Facts) → IfSome (late_entry plan now) (IsLateOf plan now.calls)
 unfolding late_entry
-late_stands plan now =
-    entry_stands plan now.calls (is_late_due now.fills && not (is_some now.moving)) (next_call plan now) (next_stands now.calls (last_slot plan now))
+late_is_active plan now =
+    entry_is_active plan now.calls (is_late_due now.fills && not (is_some now.moving)) (next_call plan now) (next_is_active now.calls (last_slot plan now))
 
 -- a Fill that is a grant is of an active call
-late_names : (plan : Settings) (calls : List Standing) (slot : Slot) (pdu : Pdu) → slot ≡ control_slot plan → IsLateOf plan calls pdu → MayName plan calls slot pdu (is_grant pdu)
+late_names : (plan : Settings) (calls : List ActiveCall) (slot : Slot) (pdu : Pdu) → slot ≡ control_slot plan → IsLateOf plan calls pdu → MayName plan calls slot pdu (is_grant pdu)
 late_names plan calls slot pdu there late =
     subst (λ (p : Pdu). MayName plan calls slot p (is_grant p)) (sym late.is)
     (rw (late_grant plan late.call) (there, record { call = late.call; late = true; stands = late.stands; is = refl }))
 
-fill_names : (plan : Settings) (calls : List Standing) (slot : Slot) (moving : Option ℕ) (noise : List ℕ) (fills : ℕ) (entry : Option Pdu) → slot ≡ control_slot plan → IfSome entry (IsLateOf plan calls) → MayName plan calls slot (fill_of plan moving noise fills entry) (is_grant (fill_of plan moving noise fills entry))
+fill_names : (plan : Settings) (calls : List ActiveCall) (slot : Slot) (moving : Option ℕ) (noise : List ℕ) (fills : ℕ) (entry : Option Pdu) → slot ≡ control_slot plan → IfSome entry (IsLateOf plan calls) → MayName plan calls slot (fill_of plan moving noise fills entry) (is_grant (fill_of plan moving noise fills entry))
 fill_names plan calls slot (Some lpcn) noise fills entry there late = tt
 fill_names plan calls slot None noise fills entry there late = either (is_late_due fills) entry late
   where
@@ -87,6 +87,6 @@ pub fill_may : (plan : Settings) (now : Facts) (c : ℕ) (slot : Slot) → slot 
 unfolding late_entry
 fill_may plan now c slot there up = record {
   up = up;
-  names = fill_names plan now.calls slot now.moving now.noise now.fills (late_entry plan now) there (late_stands plan now);
+  names = fill_names plan now.calls slot now.moving now.noise now.fills (late_entry plan now) there (late_is_active plan now);
   late = fill_entry plan now.moving now.noise now.fills (next_call plan now);
 }

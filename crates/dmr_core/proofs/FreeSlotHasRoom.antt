@@ -5,32 +5,32 @@ use Rattle.std.specs.List.{list_any, IsDistinct, AllByRecursion}
 use Rattle.std.proofs.lemmas.Bool.Decides.{nat_tests}
 use Rattle.std.proofs.lemmas.Map.Steps.{length-le_from_distinct_below}
 use Rattle.dmr_pdu.specs.declared.slots.Slot.{Slot}
-use Rattle.dmr_calls.specs.declared.call.Standing.{Standing}
+use Rattle.dmr_calls.specs.declared.call.ActiveCall.{ActiveCall}
 use Rattle.dmr_calls.specs.Calls.{is_slot}
 use Rattle.dmr_pool.specs.Slots.{place}
-use Rattle.dmr_core.specs.Words.{stands_on}
+use Rattle.dmr_core.specs.Words.{has_call_on}
 use Rattle.dmr_core.specs.Sound.{AreOnDistinctSlots}
 use Rattle.dmr_core.proofs.ChoiceLemmas.{or_false}
 
-abbrev places : List Standing → List ℕ
+abbrev places : List ActiveCall → List ℕ
 places [] = []
 places (s ∷ cs) = place s.call.slot ∷ places cs
 
 -- each call's slot is one of 32
-abbrev pub AreOnSlots : List Standing → Type 0
+abbrev pub AreOnSlots : List ActiveCall → Type 0
 AreOnSlots [] = Unit {0}
 AreOnSlots (s ∷ cs) = (s.call.slot.carrier < 16) × (s.call.slot.slot < 2) × AreOnSlots cs
 
 other_place : (a b : Slot) → a.slot < 2 → b.slot < 2 → is_slot b a ≡ false → nat_eq (place a) (place b) ≡ false
 other_place a b h k apart = grind (arith, nat_tests)
 
-apart_places : (slot : Slot) (cs : List Standing) → slot.slot < 2 → AreOnSlots cs → stands_on cs slot ≡ false → AllByRecursion (λ y. nat_eq (place slot) y ≡ false) (places cs)
+apart_places : (slot : Slot) (cs : List ActiveCall) → slot.slot < 2 → AreOnSlots cs → has_call_on cs slot ≡ false → AllByRecursion (λ y. nat_eq (place slot) y ≡ false) (places cs)
 apart_places slot [] h on free = tt
 apart_places slot (s ∷ cs) h on free =
-    let both = or_false (is_slot s.call.slot slot) (stands_on cs slot) free in
+    let both = or_false (is_slot s.call.slot slot) (has_call_on cs slot) free in
     (other_place slot s.call.slot h on.1 both.0, apart_places slot cs h on.2 both.1)
 
-distinct_places : (cs : List Standing) → AreOnSlots cs → AreOnDistinctSlots cs → IsDistinct nat_eq (places cs)
+distinct_places : (cs : List ActiveCall) → AreOnSlots cs → AreOnDistinctSlots cs → IsDistinct nat_eq (places cs)
 unfolding IsDistinct
 distinct_places [] on apart = tt
 distinct_places (s ∷ cs) on apart = (apart_places s.call.slot cs on.1 on.2 apart.0, distinct_places cs on.2 apart.1)
@@ -42,16 +42,16 @@ or_true false b h = inr h
 place_below : (s : Slot) (q : ℕ) → s.carrier < 16 → s.slot < 2 → nat_eq q (place s) ≡ true → q < 32
 place_below s q h k e = grind (arith, nat_tests)
 
-below_32 : (cs : List Standing) → AreOnSlots cs → (q : ℕ) → list_any (nat_eq q) (places cs) ≡ true → q < 32
+below_32 : (cs : List ActiveCall) → AreOnSlots cs → (q : ℕ) → list_any (nat_eq q) (places cs) ≡ true → q < 32
 below_32 [] on q h = cc
 below_32 (s ∷ cs) on q h =
     elim (or_true (nat_eq q (place s.call.slot)) (list_any (nat_eq q) (places cs)) h) [ inl e ↦ place_below s.call.slot q on.0 on.1 e | inr e ↦ below_32 cs on.2 q e ]
 
-length-places : (cs : List Standing) → length (places cs) ≡ length cs
+length-places : (cs : List ActiveCall) → length (places cs) ≡ length cs
 length-places [] = refl
 length-places (s ∷ cs) = ap (λ n. suc n) (length-places cs)
 
-pub few_calls : (cs : List Standing) (control slot : Slot) → AreOnSlots cs → AreOnDistinctSlots cs → control.carrier < 16 → control.slot < 2 → slot.carrier < 16 → slot.slot < 2 → stands_on cs control ≡ false → stands_on cs slot ≡ false → is_slot slot control ≡ false → length cs < 31
+pub few_calls : (cs : List ActiveCall) (control slot : Slot) → AreOnSlots cs → AreOnDistinctSlots cs → control.carrier < 16 → control.slot < 2 → slot.carrier < 16 → slot.slot < 2 → has_call_on cs control ≡ false → has_call_on cs slot ≡ false → is_slot slot control ≡ false → length cs < 31
 unfolding IsDistinct
 few_calls cs control slot on apart h1 h2 k1 k2 free1 free2 differ =
     let all : List ℕ = place control ∷ place slot ∷ places cs in

@@ -7,13 +7,13 @@ use Rattle.dmr_pdu.specs.declared.pdu.Pdu.{Pdu}
 use Rattle.dmr_pdu.specs.declared.pdu.Pdu.TheVariants.{PvGrant, TvGrant}
 use Rattle.dmr_plan.specs.declared.settings.Settings.{Settings}
 use Rattle.dmr_calls.specs.declared.call.Call.{Call}
-use Rattle.dmr_calls.specs.declared.call.Standing.{Standing}
+use Rattle.dmr_calls.specs.declared.call.ActiveCall.{ActiveCall}
 use Rattle.dmr_calls.specs.Calls.{call_on, is_slot}
 use Rattle.dmr_pool.specs.Free.{control_slot, names}
 use Rattle.dmr_core.specs.declared.act.Act.{Act}
 use Rattle.dmr_core.specs.declared.act.Act.TheVariants.{Began, Ended, Queue, Send}
 use Rattle.dmr_core.specs.Facts.{Facts, facts_after_act, has_carrier}
-use Rattle.dmr_core.specs.Words.{lpcn_of, outbox, stands_on}
+use Rattle.dmr_core.specs.Words.{lpcn_of, outbox, has_call_on}
 use Rattle.dmr_core.specs.Rules.{grant_pdu}
 use Rattle.dmr_core.specs.Sound.{AreOnDistinctSlots, IsSound, is_grant, is_own}
 use Rattle.dmr_core.specs.May.{MayDo, MayName}
@@ -23,29 +23,29 @@ use Rattle.dmr_core.proofs.ChoiceLemmas.{or_false, and_true}
 use Rattle.dmr_core.proofs.SlotsStaySound.{same_slot, itself, after_put, within_boxes, free_is, all-drop, all_more, true_false}
 
 -- the call that is found is active there
-pub call_stands : (cs : List Standing) (slot : Slot) (call : Call) → call_on cs slot ≡ Some call → (stands_on cs slot ≡ true) × (call.slot ≡ slot)
-call_stands [] slot call h = cc
-call_stands (s ∷ cs) slot call h = first (is_slot s.call.slot slot) refl h (call_stands cs slot call)
+pub call_is_active : (cs : List ActiveCall) (slot : Slot) (call : Call) → call_on cs slot ≡ Some call → (has_call_on cs slot ≡ true) × (call.slot ≡ slot)
+call_is_active [] slot call h = cc
+call_is_active (s ∷ cs) slot call h = first (is_slot s.call.slot slot) refl h (call_is_active cs slot call)
   where
-    first : (b : Bool) → is_slot s.call.slot slot ≡ b → option_map (λ (x : Standing). x.call) (cond b (Some s) (find (λ x. is_slot x.call.slot slot) cs)) ≡ Some call → (call_on cs slot ≡ Some call → (stands_on cs slot ≡ true) × (call.slot ≡ slot)) → (stands_on (s ∷ cs) slot ≡ true) × (call.slot ≡ slot)
+    first : (b : Bool) → is_slot s.call.slot slot ≡ b → option_map (λ (x : ActiveCall). x.call) (cond b (Some s) (find (λ x. is_slot x.call.slot slot) cs)) ≡ Some call → (call_on cs slot ≡ Some call → (has_call_on cs slot ≡ true) × (call.slot ≡ slot)) → (has_call_on (s ∷ cs) slot ≡ true) × (call.slot ≡ slot)
     first true e h more = let same : s.call ≡ call = cc in (rw e refl, rw (← same) (same_slot s.call.slot slot e))
     first false e h more = rw e (more h)
 
 -- a call that is found by another test is the call on its slot
-pub found_stands : (p : Standing → Bool) (cs : List Standing) (call : Call) → AreOnDistinctSlots cs → option_map (λ (x : Standing). x.call) (find p cs) ≡ Some call → call_on cs call.slot ≡ Some call
-found_stands p [] call apart h = cc
-found_stands p (s ∷ cs) call apart h = first (p s) h (found_stands p cs call apart.1)
+pub found_is_active : (p : ActiveCall → Bool) (cs : List ActiveCall) (call : Call) → AreOnDistinctSlots cs → option_map (λ (x : ActiveCall). x.call) (find p cs) ≡ Some call → call_on cs call.slot ≡ Some call
+found_is_active p [] call apart h = cc
+found_is_active p (s ∷ cs) call apart h = first (p s) h (found_is_active p cs call apart.1)
   where
     other : (b : Bool) → is_slot s.call.slot call.slot ≡ b → call_on cs call.slot ≡ Some call → call_on (s ∷ cs) call.slot ≡ Some call
-    other true e h = let there = call_stands cs call.slot call h in true_false _ there.0 (subst (λ (x : Slot). stands_on cs x ≡ false) (same_slot s.call.slot call.slot e) apart.0)
+    other true e h = let there = call_is_active cs call.slot call h in true_false _ there.0 (subst (λ (x : Slot). has_call_on cs x ≡ false) (same_slot s.call.slot call.slot e) apart.0)
     other false e h = rw e h
 
-    first : (b : Bool) → option_map (λ (x : Standing). x.call) (cond b (Some s) (find p cs)) ≡ Some call → (option_map (λ (x : Standing). x.call) (find p cs) ≡ Some call → call_on cs call.slot ≡ Some call) → call_on (s ∷ cs) call.slot ≡ Some call
+    first : (b : Bool) → option_map (λ (x : ActiveCall). x.call) (cond b (Some s) (find p cs)) ≡ Some call → (option_map (λ (x : ActiveCall). x.call) (find p cs) ≡ Some call → call_on cs call.slot ≡ Some call) → call_on (s ∷ cs) call.slot ≡ Some call
     first true h more = let same : s.call ≡ call = cc in rw (← same, itself s.call.slot) refl
     first false h more = other (is_slot s.call.slot call.slot) refl (more h)
 
 -- a filter by slots
-pub call_on-filter : (q : Slot → Bool) (cs : List Standing) (slot : Slot) → call_on (filter (λ s. q s.call.slot) cs) slot ≡ cond (q slot) (call_on cs slot) None
+pub call_on-filter : (q : Slot → Bool) (cs : List ActiveCall) (slot : Slot) → call_on (filter (λ s. q s.call.slot) cs) slot ≡ cond (q slot) (call_on cs slot) None
 call_on-filter q [] slot = none (q slot)
   where
     none : (b : Bool) → call_on [] slot ≡ cond b (call_on [] slot) None
@@ -59,7 +59,7 @@ call_on-filter q (s ∷ cs) slot = either (q s.call.slot) (is_slot s.call.slot s
     either false true e d more = let there : q slot ≡ false = subst (λ (x : Slot). q x ≡ false) (same_slot s.call.slot slot d) e in rw (e, there) (rw there at more)
     either false false e d more = rw (e, d) more
 
-pub call_after : (q : Slot → Bool) (cs : List Standing) (slot : Slot) (call : Call) → call_on (filter (λ s. q s.call.slot) cs) slot ≡ Some call → call_on cs slot ≡ Some call
+pub call_after : (q : Slot → Bool) (cs : List ActiveCall) (slot : Slot) (call : Call) → call_on (filter (λ s. q s.call.slot) cs) slot ≡ Some call → call_on cs slot ≡ Some call
 call_after q cs slot call h = kept (q slot) (sym (call_on-filter q cs slot) ∙ h)
   where
     kept : (b : Bool) → cond b (call_on cs slot) None ≡ Some call → call_on cs slot ≡ Some call
@@ -67,22 +67,22 @@ call_after q cs slot call h = kept (q slot) (sym (call_on-filter q cs slot) ∙ 
     kept false h = cc
 
 -- a call added at the end
-call_new : (cs : List Standing) (new : Standing) (slot : Slot) (call : Call) → call_on (cs ++ new ∷ []) slot ≡ Some call → (call_on cs slot ≡ Some call) ⊎ (new.call ≡ call)
+call_new : (cs : List ActiveCall) (new : ActiveCall) (slot : Slot) (call : Call) → call_on (cs ++ new ∷ []) slot ≡ Some call → (call_on cs slot ≡ Some call) ⊎ (new.call ≡ call)
 call_new [] new slot call h = last (is_slot new.call.slot slot) h
   where
-    last : (b : Bool) → option_map (λ (x : Standing). x.call) (cond b (Some new) None) ≡ Some call → (call_on [] slot ≡ Some call) ⊎ (new.call ≡ call)
+    last : (b : Bool) → option_map (λ (x : ActiveCall). x.call) (cond b (Some new) None) ≡ Some call → (call_on [] slot ≡ Some call) ⊎ (new.call ≡ call)
     last true h = inr cc
     last false h = cc
 call_new (s ∷ cs) new slot call h = first (is_slot s.call.slot slot) refl h (call_new cs new slot call)
   where
-    first : (b : Bool) → is_slot s.call.slot slot ≡ b → option_map (λ (x : Standing). x.call) (cond b (Some s) (find (λ x. is_slot x.call.slot slot) (cs ++ new ∷ []))) ≡ Some call → (call_on (cs ++ new ∷ []) slot ≡ Some call → (call_on cs slot ≡ Some call) ⊎ (new.call ≡ call)) → (call_on (s ∷ cs) slot ≡ Some call) ⊎ (new.call ≡ call)
+    first : (b : Bool) → is_slot s.call.slot slot ≡ b → option_map (λ (x : ActiveCall). x.call) (cond b (Some s) (find (λ x. is_slot x.call.slot slot) (cs ++ new ∷ []))) ≡ Some call → (call_on (cs ++ new ∷ []) slot ≡ Some call → (call_on cs slot ≡ Some call) ⊎ (new.call ≡ call)) → (call_on (s ∷ cs) slot ≡ Some call) ⊎ (new.call ≡ call)
     first true e h more = inl (rw e h)
     first false e h more = elim (more h) [ inl k ↦ inl (rw e k) | inr k ↦ inr k ]
 
-pub call_begun : (cs : List Standing) (new : Standing) → stands_on cs new.call.slot ≡ false → call_on (cs ++ new ∷ []) new.call.slot ≡ Some new.call
+pub call_begun : (cs : List ActiveCall) (new : ActiveCall) → has_call_on cs new.call.slot ≡ false → call_on (cs ++ new ∷ []) new.call.slot ≡ Some new.call
 call_begun [] new h = rw (itself new.call.slot) refl
 call_begun (s ∷ cs) new h =
-    let both = or_false (is_slot s.call.slot new.call.slot) (stands_on cs new.call.slot) h in rw both.0 (call_begun cs new both.1)
+    let both = or_false (is_slot s.call.slot new.call.slot) (has_call_on cs new.call.slot) h in rw both.0 (call_begun cs new both.1)
 
 -- grants
 pub not_grant_own : (plan : Settings) (call : Call) (pdu : Pdu) → is_grant pdu ≡ false → is_own plan call pdu ≡ true
@@ -130,8 +130,8 @@ own_of plan now slot call other late p h here there = either ((lpcn_of plan othe
     either : (b : Bool) → ((lpcn_of plan other.slot.carrier == lpcn_of plan call.slot.carrier) && (other.slot.slot == call.slot.slot)) ≡ b → is_own plan call (grant_pdu plan other late) ≡ true
     either true e =
         let parts = and_true _ _ e in
-        let on = call_stands now.calls slot call here in
-        let on_other = call_stands now.calls other.slot other there in
+        let on = call_is_active now.calls slot call here in
+        let on_other = call_is_active now.calls other.slot other there in
         let carriers : other.slot.carrier ≡ call.slot.carrier =
         p.channels _ _ (h.payload other.slot on_other.0).known (subst (λ (x : Slot). has_carrier plan x.carrier ≡ true) (sym on.1) (h.payload slot on.0).known) (equal_numbers _ _ parts.0) in
         let numbers : other.slot.slot ≡ call.slot.slot = equal_numbers _ _ parts.1 in

@@ -12,7 +12,7 @@ use Rattle.dmr_core.specs.declared.act.Act.TheVariants.{Joined, Left}
 use Rattle.dmr_core.specs.declared.entry.Entry.{Entry}
 use Rattle.dmr_core.specs.Facts.{Facts, facts_after, since, same_as_before, registered_by_act, up_by_event, has_carrier}
 use Rattle.dmr_core.specs.Words.{is_registered, is_up}
-use Rattle.dmr_core.specs.Last.{or_earlier, last_word, stands, no_event, no_act, of_registration, of_carrier}
+use Rattle.dmr_core.specs.Last.{or_earlier, last_given, value_after, no_event, no_act, of_registration, of_carrier}
 use Rattle.dmr_core.proofs.NumberLemmas.{equal_numbers, flipped, other_number}
 use Rattle.dmr_core.proofs.EventsKeepSound.{cleared}
 
@@ -67,26 +67,26 @@ pub later_first : {X : Type 0} (a b : Option X) (c : X) → unwrap_or (or_earlie
 later_first None b c = refl
 later_first (Some x) b c = refl
 
-all_acts : (acts : List Act) (rs : List ℕ) (r : ℕ) → list_any (λ p. p == r) (fold registered_by_act rs acts) ≡ unwrap_or (last_word (of_registration r) acts) (list_any (λ p. p == r) rs)
+all_acts : (acts : List Act) (rs : List ℕ) (r : ℕ) → list_any (λ p. p == r) (fold registered_by_act rs acts) ≡ unwrap_or (last_given (of_registration r) acts) (list_any (λ p. p == r) rs)
 all_acts [] rs r = refl
 all_acts (act ∷ acts) rs r =
     all_acts acts (registered_by_act rs act) r
-    ∙ ap (λ b. unwrap_or (last_word (of_registration r) acts) b) (one_act rs act r)
-    ∙ sym (later_first (last_word (of_registration r) acts) (of_registration r act) (list_any (λ p. p == r) rs))
+    ∙ ap (λ b. unwrap_or (last_given (of_registration r) acts) b) (one_act rs act r)
+    ∙ sym (later_first (last_given (of_registration r) acts) (of_registration r act) (list_any (λ p. p == r) rs))
 
-pub registered_by_last : (plan : Settings) (facts : Facts) (journal : List Entry) (r : ℕ) → is_registered (facts_after plan facts journal) r ≡ stands no_event (of_registration r) (is_registered facts r) journal
+pub registered_by_last : (plan : Settings) (facts : Facts) (journal : List Entry) (r : ℕ) → is_registered (facts_after plan facts journal) r ≡ value_after no_event (of_registration r) (is_registered facts r) journal
 registered_by_last plan facts [] r = refl
 registered_by_last plan facts (entry ∷ earlier) r =
     all_acts entry.acts.list (facts_after plan facts earlier).registered r
-    ∙ ap (λ b. unwrap_or (last_word (of_registration r) entry.acts.list) b) (registered_by_last plan facts earlier r)
-    ∙ sym (later_first (last_word (of_registration r) entry.acts.list) None (stands no_event (of_registration r) (is_registered facts r) earlier))
+    ∙ ap (λ b. unwrap_or (last_given (of_registration r) entry.acts.list) b) (registered_by_last plan facts earlier r)
+    ∙ sym (later_first (last_given (of_registration r) entry.acts.list) None (value_after no_event (of_registration r) (is_registered facts r) earlier))
 
 -- carriers
 same_up : (acts : List Act) (up : List Bool) → fold same_as_before up acts ≡ up
 same_up [] up = refl
 same_up (act ∷ acts) up = same_up acts up
 
-no_word : (acts : List Act) → last_word {X = Bool} no_act acts ≡ None
+no_word : (acts : List Act) → last_given {X = Bool} no_act acts ≡ None
 no_word [] = refl
 no_word (act ∷ acts) = rw (no_word acts) refl
 
@@ -130,7 +130,7 @@ length-since plan up (entry ∷ earlier) =
     ∙ length-event plan (since (up_by_event plan) same_as_before up earlier) entry.event
     ∙ length-since plan up earlier
 
-pub up_by_last : (plan : Settings) (facts : Facts) (journal : List Entry) (c : ℕ) → (has_carrier plan c ≡ true → c < length facts.up) → is_up (facts_after plan facts journal) c ≡ stands (of_carrier plan c) no_act (is_up facts c) journal
+pub up_by_last : (plan : Settings) (facts : Facts) (journal : List Entry) (c : ℕ) → (has_carrier plan c ≡ true → c < length facts.up) → is_up (facts_after plan facts journal) c ≡ value_after (of_carrier plan c) no_act (is_up facts c) journal
 up_by_last plan facts [] c h = refl
 up_by_last plan facts (entry ∷ earlier) c h =
     let before : List Bool = since (up_by_event plan) same_as_before facts.up earlier in
@@ -138,4 +138,4 @@ up_by_last plan facts (entry ∷ earlier) c h =
     ap (λ (xs : List Bool). slice_index_or xs c false) (same_up entry.acts.list (up_by_event plan before entry.event))
     ∙ one_event plan before entry.event c within
     ∙ ap (λ b. unwrap_or (of_carrier plan c entry.event) b) (up_by_last plan facts earlier c h)
-    ∙ sym (ap (λ (w : Option Bool). unwrap_or (or_earlier w (of_carrier plan c entry.event)) (stands (of_carrier plan c) no_act (is_up facts c) earlier)) (no_word entry.acts.list))
+    ∙ sym (ap (λ (w : Option Bool). unwrap_or (or_earlier w (of_carrier plan c entry.event)) (value_after (of_carrier plan c) no_act (is_up facts c) earlier)) (no_word entry.acts.list))

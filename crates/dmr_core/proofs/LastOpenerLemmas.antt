@@ -6,11 +6,11 @@ use Rattle.dmr_pdu.specs.declared.slots.Slot.{Slot}
 use Rattle.dmr_pdu.specs.declared.pdu.Pdu.TheVariants.{TvGrant}
 use Rattle.dmr_plan.specs.declared.settings.Settings.{Settings}
 use Rattle.dmr_calls.specs.declared.ask.Ask.{Ask}
-use Rattle.dmr_calls.specs.declared.ask.Asking.{Asking}
+use Rattle.dmr_calls.specs.declared.ask.ActiveAsk.{ActiveAsk}
 use Rattle.dmr_calls.specs.declared.line.Line.{Line}
 use Rattle.dmr_calls.specs.declared.call.Call.{Call}
-use Rattle.dmr_calls.specs.declared.call.Standing.{Standing}
-use Rattle.dmr_calls.specs.Asks.{ask_of, new_asking, others_than, waited_more}
+use Rattle.dmr_calls.specs.declared.call.ActiveCall.{ActiveCall}
+use Rattle.dmr_calls.specs.Asks.{ask_of, new_active_ask, others_than, ask_after_tick}
 use Rattle.dmr_calls.specs.Lines.{line_of, without_line}
 use Rattle.dmr_calls.specs.Calls.{call_on, one_tick_older, is_slot, just_begun, with_activity, on_other_carriers}
 use Rattle.dmr_core.specs.declared.event.Event.{Event}
@@ -21,12 +21,12 @@ use Rattle.dmr_core.specs.declared.act.Act.TheVariants.{AskOver, Asked, Began, E
 use Rattle.dmr_core.specs.declared.entry.Entry.{Entry}
 use Rattle.dmr_core.specs.declared.named.NamedSlot.{NamedSlot}
 use Rattle.dmr_core.specs.Facts.{Facts, asks_by_event, calls_by_event, facts_after_act, facts_after, late_by_act, late_by_event, lines_by_event, moving_by_event, facts_after_event}
-use Rattle.dmr_core.specs.Words.{stands_on}
+use Rattle.dmr_core.specs.Words.{has_call_on}
 use Rattle.dmr_core.specs.Journal.{IsLegal}
 use Rattle.dmr_core.specs.Sound.{IsSound, engagements_in_line, total}
 use Rattle.dmr_core.specs.May.{MayDo}
 use Rattle.dmr_core.specs.Laws.{EachAct, Throughout}
-use Rattle.dmr_core.specs.Last.{closed_with, last_word, no_act, of_ask, of_call, of_late, of_line, of_move, stands}
+use Rattle.dmr_core.specs.Last.{closed_with, last_given, no_act, of_ask, of_call, of_late, of_line, of_move, value_after}
 use Rattle.dmr_core.proofs.PlanLemmas.{KnowsPlan}
 use Rattle.dmr_core.proofs.NumberLemmas.{equal_numbers}
 use Rattle.dmr_core.proofs.CallsAreApart.{marked_call}
@@ -40,22 +40,22 @@ use Rattle.dmr_core.proofs.FactsFollowEntries.{facts_after-step}
 abbrev Leaves : {X : Type 0} → (Facts → X) → (Act → Option X) → Facts → Act → Type 0
 Leaves at by_act now act = at (facts_after_act now act) ≡ unwrap_or (by_act act) (at now)
 
-acts_leave : {X : Type 0} (at : Facts → X) (by_act : Act → Option X) (now : Facts) (acts : List Act) → EachAct (Leaves at by_act) now acts → at (fold facts_after_act now acts) ≡ unwrap_or (last_word by_act acts) (at now)
+acts_leave : {X : Type 0} (at : Facts → X) (by_act : Act → Option X) (now : Facts) (acts : List Act) → EachAct (Leaves at by_act) now acts → at (fold facts_after_act now acts) ≡ unwrap_or (last_given by_act acts) (at now)
 acts_leave at by_act now [] each = refl
 acts_leave at by_act now (act ∷ acts) each =
     acts_leave at by_act (facts_after_act now act) acts each.1
-    ∙ ap (λ x. unwrap_or (last_word by_act acts) x) each.0
-    ∙ sym (later_first (last_word by_act acts) (by_act act) (at now))
+    ∙ ap (λ x. unwrap_or (last_given by_act acts) x) each.0
+    ∙ sym (later_first (last_given by_act acts) (by_act act) (at now))
 
 -- the last of all decides
-decided : {X : Type 0} (plan : Settings) (facts : Facts) (at : Facts → X) (by_event : Event → Option X) (by_act : Act → Option X) → ((now : Facts) (event : Event) → at (facts_after_event plan now event) ≡ unwrap_or (by_event event) (at now)) → (journal : List Entry) → Throughout plan facts (Leaves at by_act) journal → at (facts_after plan facts journal) ≡ stands by_event by_act (at facts) journal
+decided : {X : Type 0} (plan : Settings) (facts : Facts) (at : Facts → X) (by_event : Event → Option X) (by_act : Act → Option X) → ((now : Facts) (event : Event) → at (facts_after_event plan now event) ≡ unwrap_or (by_event event) (at now)) → (journal : List Entry) → Throughout plan facts (Leaves at by_act) journal → at (facts_after plan facts journal) ≡ value_after by_event by_act (at facts) journal
 decided plan facts at by_event by_act notes [] each = refl
 decided plan facts at by_event by_act notes (entry ∷ earlier) each =
     let now : Facts = facts_after plan facts earlier in
     ap at (facts_after-step plan facts entry earlier)
     ∙ acts_leave at by_act (facts_after_event plan now entry.event) entry.acts.list each.0
-    ∙ ap (λ x. unwrap_or (last_word by_act entry.acts.list) x) (notes now entry.event ∙ ap (λ x. unwrap_or (by_event entry.event) x) (decided plan facts at by_event by_act notes earlier each.1))
-    ∙ sym (later_first (last_word by_act entry.acts.list) (by_event entry.event) (stands by_event by_act (at facts) earlier))
+    ∙ ap (λ x. unwrap_or (last_given by_act entry.acts.list) x) (notes now entry.event ∙ ap (λ x. unwrap_or (by_event entry.event) x) (decided plan facts at by_event by_act notes earlier each.1))
+    ∙ sym (later_first (last_given by_act entry.acts.list) (by_event entry.event) (value_after by_event by_act (at facts) earlier))
 
 -- a statement about every act holds in every journal
 each_of : (P : Facts → Act → Type 0) → ((now : Facts) (act : Act) → P now act) → (now : Facts) (acts : List Act) → EachAct P now acts
@@ -72,7 +72,7 @@ move_noted moving (Say (Move lpcn)) = refl
 move_noted moving (Say Stay) = refl
 move_noted moving _ = refl
 
-pub move_by_last : (plan : Settings) (facts : Facts) (journal : List Entry) → (facts_after plan facts journal).moving ≡ stands of_move no_act facts.moving journal
+pub move_by_last : (plan : Settings) (facts : Facts) (journal : List Entry) → (facts_after plan facts journal).moving ≡ value_after of_move no_act facts.moving journal
 move_by_last plan facts journal =
     decided plan facts (λ (f : Facts). f.moving) of_move no_act (λ now event. move_noted now.moving event) journal
     (everywhere plan facts (Leaves (λ (f : Facts). f.moving) no_act) (λ now act. refl) journal)
@@ -91,7 +91,7 @@ late_left : (now : Facts) (act : Act) → late_by_act now.late act ≡ unwrap_or
 late_left now (Fill slot (TvGrant channel number bit target source)) = refl
 late_left now _ = refl
 
-pub late_by_last : (plan : Settings) (facts : Facts) (journal : List Entry) → (facts_after plan facts journal).late ≡ stands (closed_with plan.control) of_late facts.late journal
+pub late_by_last : (plan : Settings) (facts : Facts) (journal : List Entry) → (facts_after plan facts journal).late ≡ value_after (closed_with plan.control) of_late facts.late journal
 late_by_last plan facts journal =
     decided plan facts (λ (f : Facts). f.late) (closed_with plan.control) of_late (λ now event. late_noted plan now.late event) journal
     (everywhere plan facts (Leaves (λ (f : Facts). f.late) of_late) late_left journal)
@@ -146,22 +146,22 @@ same_sources : (a q r : ℕ) → (q == r) ≡ true → (a == r) ≡ true → (a 
 same_sources a q r h k = grind (arith, nat_tests)
 
 -- asks
-ask_gone : (asks : List Asking) (q r : ℕ) → (q == r) ≡ true → ask_of (others_than q asks) r ≡ None
-ask_gone asks q r e = ap (λ (x : Option Asking). option_map (λ (a : Asking). a.ask) x) (find_gone (λ (a : Asking). a.ask.source == r) (λ (a : Asking). a.ask.source == q) (λ a k. same_sources a.ask.source q r e k) asks)
+ask_gone : (asks : List ActiveAsk) (q r : ℕ) → (q == r) ≡ true → ask_of (others_than q asks) r ≡ None
+ask_gone asks q r e = ap (λ (x : Option ActiveAsk). option_map (λ (a : ActiveAsk). a.ask) x) (find_gone (λ (a : ActiveAsk). a.ask.source == r) (λ (a : ActiveAsk). a.ask.source == q) (λ a k. same_sources a.ask.source q r e k) asks)
 
-ask_kept : (asks : List Asking) (q r : ℕ) → (q == r) ≡ false → ask_of (others_than q asks) r ≡ ask_of asks r
-ask_kept asks q r e = ap (λ (x : Option Asking). option_map (λ (a : Asking). a.ask) x) (find_kept (λ (a : Asking). a.ask.source == r) (λ (a : Asking). a.ask.source == q) (λ a k. apart_sources a.ask.source q r e k) asks)
+ask_kept : (asks : List ActiveAsk) (q r : ℕ) → (q == r) ≡ false → ask_of (others_than q asks) r ≡ ask_of asks r
+ask_kept asks q r e = ap (λ (x : Option ActiveAsk). option_map (λ (a : ActiveAsk). a.ask) x) (find_kept (λ (a : ActiveAsk). a.ask.source == r) (λ (a : ActiveAsk). a.ask.source == q) (λ a k. apart_sources a.ask.source q r e k) asks)
 
-ask_over : (asks : List Asking) (q r : ℕ) (b : Bool) → (q == r) ≡ b → ask_of (others_than q asks) r ≡ unwrap_or (if b then Some None else None) (ask_of asks r)
+ask_over : (asks : List ActiveAsk) (q r : ℕ) (b : Bool) → (q == r) ≡ b → ask_of (others_than q asks) r ≡ unwrap_or (if b then Some None else None) (ask_of asks r)
 ask_over asks q r true e = ask_gone asks q r e
 ask_over asks q r false e = ask_kept asks q r e
 
-asked : (asks : List Asking) (ask : Ask) (r : ℕ) (b : Bool) → (ask.source == r) ≡ b → ask_of (others_than ask.source asks ++ new_asking ask ∷ []) r ≡ unwrap_or (if b then Some (Some ask) else None) (ask_of asks r)
+asked : (asks : List ActiveAsk) (ask : Ask) (r : ℕ) (b : Bool) → (ask.source == r) ≡ b → ask_of (others_than ask.source asks ++ new_active_ask ask ∷ []) r ≡ unwrap_or (if b then Some (Some ask) else None) (ask_of asks r)
 asked asks ask r true e =
-    let none : find (λ (a : Asking). a.ask.source == r) (others_than ask.source asks) ≡ None = find_gone (λ (a : Asking). a.ask.source == r) (λ (a : Asking). a.ask.source == ask.source) (λ a k. same_sources a.ask.source ask.source r e k) asks in
-    ap (λ (x : Option Asking). option_map (λ (a : Asking). a.ask) x) (find_new (λ (a : Asking). a.ask.source == r) (others_than ask.source asks) (new_asking ask) none e)
+    let none : find (λ (a : ActiveAsk). a.ask.source == r) (others_than ask.source asks) ≡ None = find_gone (λ (a : ActiveAsk). a.ask.source == r) (λ (a : ActiveAsk). a.ask.source == ask.source) (λ a k. same_sources a.ask.source ask.source r e k) asks in
+    ap (λ (x : Option ActiveAsk). option_map (λ (a : ActiveAsk). a.ask) x) (find_new (λ (a : ActiveAsk). a.ask.source == r) (others_than ask.source asks) (new_active_ask ask) none e)
 asked asks ask r false e =
-    ap (λ (x : Option Asking). option_map (λ (a : Asking). a.ask) x) (find_same (λ (a : Asking). a.ask.source == r) (others_than ask.source asks) (new_asking ask) e)
+    ap (λ (x : Option ActiveAsk). option_map (λ (a : ActiveAsk). a.ask) x) (find_same (λ (a : ActiveAsk). a.ask.source == r) (others_than ask.source asks) (new_active_ask ask) e)
     ∙ ask_kept asks ask.source r e
 
 ask_left : (r : ℕ) (now : Facts) (act : Act) → Leaves (λ (f : Facts). ask_of f.asks r) (of_ask r) now act
@@ -169,17 +169,17 @@ ask_left r now (Asked ask) = asked now.asks ask r (ask.source == r) refl
 ask_left r now (AskOver q) = ask_over now.asks q r (q == r) refl
 ask_left r now _ = refl
 
-asks_closed : (asks : List Asking) (r : ℕ) (b : Bool) → ask_of (if b then [] else asks) r ≡ unwrap_or (if b then Some None else None) (ask_of asks r)
+asks_closed : (asks : List ActiveAsk) (r : ℕ) (b : Bool) → ask_of (if b then [] else asks) r ≡ unwrap_or (if b then Some None else None) (ask_of asks r)
 asks_closed asks r true = refl
 asks_closed asks r false = refl
 
-ask_noted : (plan : Settings) (asks : List Asking) (event : Event) (r : ℕ) → ask_of (asks_by_event plan asks event) r ≡ unwrap_or (closed_with plan.control event) (ask_of asks r)
+ask_noted : (plan : Settings) (asks : List ActiveAsk) (event : Event) (r : ℕ) → ask_of (asks_by_event plan asks event) r ≡ unwrap_or (closed_with plan.control event) (ask_of asks r)
 ask_noted plan asks (Up c) r = asks_closed asks r (c == plan.control)
 ask_noted plan asks (Lost c) r = asks_closed asks r (c == plan.control)
-ask_noted plan asks Tick r = found_map (λ (a : Asking). a.ask.source == r) (λ (a : Asking). a.ask) waited_more (λ a. refl) (λ a. refl) asks
+ask_noted plan asks Tick r = found_map (λ (a : ActiveAsk). a.ask.source == r) (λ (a : ActiveAsk). a.ask) ask_after_tick (λ a. refl) (λ a. refl) asks
 ask_noted plan asks _ r = refl
 
-pub ask_by_last : (plan : Settings) (facts : Facts) (journal : List Entry) (r : ℕ) → ask_of (facts_after plan facts journal).asks r ≡ stands (closed_with plan.control) (of_ask r) (ask_of facts.asks r) journal
+pub ask_by_last : (plan : Settings) (facts : Facts) (journal : List Entry) (r : ℕ) → ask_of (facts_after plan facts journal).asks r ≡ value_after (closed_with plan.control) (of_ask r) (ask_of facts.asks r) journal
 ask_by_last plan facts journal r =
     decided plan facts (λ (f : Facts). ask_of f.asks r) (closed_with plan.control) (of_ask r) (λ now event. ask_noted plan now.asks event r) journal
     (everywhere plan facts (Leaves (λ (f : Facts). ask_of f.asks r) (of_ask r)) (ask_left r) journal)
@@ -224,15 +224,15 @@ line_noted plan lines (Up c) r = lines_closed lines r (c == plan.control)
 line_noted plan lines (Lost c) r = lines_closed lines r (c == plan.control)
 line_noted plan lines _ r = refl
 
-pub line_by_last : (plan : Settings) (facts : Facts) (journal : List Entry) (r : ℕ) → KnowsPlan plan → IsSound plan facts → IsLegal plan facts journal → line_of (facts_after plan facts journal).lines r ≡ stands (closed_with plan.control) (of_line r) (line_of facts.lines r) journal
+pub line_by_last : (plan : Settings) (facts : Facts) (journal : List Entry) (r : ℕ) → KnowsPlan plan → IsSound plan facts → IsLegal plan facts journal → line_of (facts_after plan facts journal).lines r ≡ value_after (closed_with plan.control) (of_line r) (line_of facts.lines r) journal
 line_by_last plan facts journal r p h legal =
     decided plan facts (λ (f : Facts). line_of f.lines r) (closed_with plan.control) (of_line r) (λ now event. line_noted plan now.lines event r) journal
     (throughout plan facts (Leaves (λ (f : Facts). line_of f.lines r) (of_line r)) (line_left plan r) journal p h legal)
 
 -- calls
-begun : (calls : List Standing) (call : Call) (slot : Slot) (b : Bool) → is_slot call.slot slot ≡ b → stands_on calls call.slot ≡ false → call_on (calls ++ just_begun call ∷ []) slot ≡ unwrap_or (if b then Some (Some call) else None) (call_on calls slot)
+begun : (calls : List ActiveCall) (call : Call) (slot : Slot) (b : Bool) → is_slot call.slot slot ≡ b → has_call_on calls call.slot ≡ false → call_on (calls ++ just_begun call ∷ []) slot ≡ unwrap_or (if b then Some (Some call) else None) (call_on calls slot)
 begun calls call slot true e none = subst (λ (x : Slot). call_on (calls ++ just_begun call ∷ []) x ≡ Some call) (same_slot call.slot slot e) (call_begun calls (just_begun call) none)
-begun calls call slot false e none = ap (λ (x : Option Standing). option_map (λ (s : Standing). s.call) x) (find_same (λ (s : Standing). is_slot s.call.slot slot) calls (just_begun call) e)
+begun calls call slot false e none = ap (λ (x : Option ActiveCall). option_map (λ (s : ActiveCall). s.call) x) (find_same (λ (s : ActiveCall). is_slot s.call.slot slot) calls (just_begun call) e)
 
 -- whether a slot is another, tested either way
 turned_slots : (a b : Slot) → is_slot a b ≡ is_slot b a
@@ -242,7 +242,7 @@ over : (b : Bool) (x : Option Call) → cond (not b) x None ≡ unwrap_or (if b 
 over true x = refl
 over false x = refl
 
-call_over : (calls : List Standing) (other slot : Slot) → call_on (filter (λ s. not (is_slot s.call.slot other)) calls) slot ≡ unwrap_or (if is_slot other slot then Some None else None) (call_on calls slot)
+call_over : (calls : List ActiveCall) (other slot : Slot) → call_on (filter (λ s. not (is_slot s.call.slot other)) calls) slot ≡ unwrap_or (if is_slot other slot then Some None else None) (call_on calls slot)
 call_over calls other slot =
     call_on-filter (λ x. not (is_slot x other)) calls slot ∙ rw (turned_slots other slot) (over (is_slot slot other) (call_on calls slot))
 
@@ -254,18 +254,18 @@ call_left plan slot now _ h may = refl
 turned_numbers : (a b : ℕ) → (a == b) ≡ (b == a)
 turned_numbers a b = grind (arith, nat_tests)
 
-carrier_over : (calls : List Standing) (c : ℕ) (slot : Slot) → call_on (on_other_carriers c calls) slot ≡ unwrap_or (if c == slot.carrier then Some None else None) (call_on calls slot)
+carrier_over : (calls : List ActiveCall) (c : ℕ) (slot : Slot) → call_on (on_other_carriers c calls) slot ≡ unwrap_or (if c == slot.carrier then Some None else None) (call_on calls slot)
 carrier_over calls c slot =
     call_on-filter (λ x. not (x.carrier == c)) calls slot ∙ rw (turned_numbers c slot.carrier) (over (slot.carrier == c) (call_on calls slot))
 
-pub call_noted : (calls : List Standing) (event : Event) (slot : Slot) → call_on (calls_by_event calls event) slot ≡ unwrap_or (closed_with slot.carrier event) (call_on calls slot)
+pub call_noted : (calls : List ActiveCall) (event : Event) (slot : Slot) → call_on (calls_by_event calls event) slot ≡ unwrap_or (closed_with slot.carrier event) (call_on calls slot)
 call_noted calls (Up c) slot = carrier_over calls c slot
 call_noted calls (Lost c) slot = carrier_over calls c slot
-call_noted calls (Active there) slot = found_map (λ (s : Standing). is_slot s.call.slot slot) (λ (s : Standing). s.call) (with_activity there) (λ s. ap (λ (k : Call). is_slot k.slot slot) (marked_call there s)) (marked_call there) calls
-call_noted calls Tick slot = found_map (λ (s : Standing). is_slot s.call.slot slot) (λ (s : Standing). s.call) one_tick_older (λ s. refl) (λ s. refl) calls
+call_noted calls (Active there) slot = found_map (λ (s : ActiveCall). is_slot s.call.slot slot) (λ (s : ActiveCall). s.call) (with_activity there) (λ s. ap (λ (k : Call). is_slot k.slot slot) (marked_call there s)) (marked_call there) calls
+call_noted calls Tick slot = found_map (λ (s : ActiveCall). is_slot s.call.slot slot) (λ (s : ActiveCall). s.call) one_tick_older (λ s. refl) (λ s. refl) calls
 call_noted calls _ slot = refl
 
-pub call_by_last : (plan : Settings) (facts : Facts) (journal : List Entry) (slot : Slot) → KnowsPlan plan → IsSound plan facts → IsLegal plan facts journal → call_on (facts_after plan facts journal).calls slot ≡ stands (closed_with slot.carrier) (of_call slot) (call_on facts.calls slot) journal
+pub call_by_last : (plan : Settings) (facts : Facts) (journal : List Entry) (slot : Slot) → KnowsPlan plan → IsSound plan facts → IsLegal plan facts journal → call_on (facts_after plan facts journal).calls slot ≡ value_after (closed_with slot.carrier) (of_call slot) (call_on facts.calls slot) journal
 call_by_last plan facts journal slot p h legal =
     decided plan facts (λ (f : Facts). call_on f.calls slot) (closed_with slot.carrier) (of_call slot) (λ now event. call_noted now.calls event slot) journal
     (throughout plan facts (Leaves (λ (f : Facts). call_on f.calls slot) (of_call slot)) (call_left plan slot) journal p h legal)

@@ -11,10 +11,10 @@ use Rattle.std.proofs.lemmas.List.Quantifiers.{all_pairs_push}
 use Rattle.dmr_plan.specs.declared.settings.Settings.{Settings}
 use Rattle.dmr_plan.specs.Plan.{lists_group}
 use Rattle.dmr_registry.specs.Radios.{AreDistinct}
-use Rattle.dmr_calls.specs.declared.ask.Asking.{Asking}
+use Rattle.dmr_calls.specs.declared.ask.ActiveAsk.{ActiveAsk}
 use Rattle.dmr_calls.specs.declared.line.Line.{Line}
-use Rattle.dmr_calls.specs.declared.call.Standing.{Standing}
-use Rattle.dmr_calls.specs.Asks.{new_asking, others_than}
+use Rattle.dmr_calls.specs.declared.call.ActiveCall.{ActiveCall}
+use Rattle.dmr_calls.specs.Asks.{new_active_ask, others_than}
 use Rattle.dmr_calls.specs.Lines.{has_group_line}
 use Rattle.dmr_calls.specs.Calls.{is_slot, just_begun}
 use Rattle.dmr_core.specs.declared.act.Act.{Act}
@@ -53,7 +53,7 @@ lines-done plan now (Lined l) h may k = cc (may.0)
 lines-done plan now (Unlined q) h may k = filter_none _ now.lines (h.lines k)
 lines-done plan now act h may k = h.lines k
 
-no_asks : (q : Asking → Bool) (xs : List Asking) → xs ≡ [] → filter q xs ≡ []
+no_asks : (q : ActiveAsk → Bool) (xs : List ActiveAsk) → xs ≡ [] → filter q xs ≡ []
 no_asks q xs h = rw h refl
 
 pub asks-done : (plan : Settings) (now : Facts) (act : Act) → IsSound plan now → MayDo plan now act → is_up (facts_after_act now act) plan.control ≡ false → (facts_after_act now act).asks ≡ []
@@ -62,7 +62,7 @@ asks-done plan now (AskOver q) h may k = no_asks _ now.asks (h.asks k)
 asks-done plan now act h may k = h.asks k
 
 pub few_asks-done : (plan : Settings) (now : Facts) (act : Act) → IsSound plan now → MayDo plan now act → length (facts_after_act now act).asks ≤ 32
-few_asks-done plan now (Asked a) h may = omega (arith, may.1, length-append (others_than a.source now.asks) (new_asking a ∷ []))
+few_asks-done plan now (Asked a) h may = omega (arith, may.1, length-append (others_than a.source now.asks) (new_active_ask a ∷ []))
 few_asks-done plan now (AskOver q) h may = omega (arith, h.few_asks, length-filter_le (λ a. not (a.ask.source == q)) now.asks)
 few_asks-done plan now act h may = h.few_asks
 
@@ -82,10 +82,10 @@ few_radios-done plan now (Left q) h may = omega (arith, h.few_radios, length-fil
 few_radios-done plan now act h may = h.few_radios
 
 -- ticks are counted up to a limit
-abbrev pub IsCounted : Standing → Type 0
+abbrev pub IsCounted : ActiveCall → Type 0
 IsCounted s = (s.age ≤ 65535) × (s.quiet ≤ 65535)
 
-abbrev pub IsWaitCounted : Asking → Type 0
+abbrev pub IsWaitCounted : ActiveAsk → Type 0
 IsWaitCounted a = a.waited ≤ 65535
 
 pub ages-done : (plan : Settings) (now : Facts) (act : Act) → IsSound plan now → All IsCounted (facts_after_act now act).calls
@@ -94,7 +94,7 @@ ages-done plan now (Ended slot) h = All-filter (λ s. not (is_slot s.call.slot s
 ages-done plan now act h = h.ages
 
 pub waits-done : (plan : Settings) (now : Facts) (act : Act) → IsSound plan now → All IsWaitCounted (facts_after_act now act).asks
-waits-done plan now (Asked a) h = All-push IsWaitCounted (others_than a.source now.asks) (new_asking a) (All-filter (λ x. not (x.ask.source == a.source)) IsWaitCounted now.asks h.waits) (omega arith)
+waits-done plan now (Asked a) h = All-push IsWaitCounted (others_than a.source now.asks) (new_active_ask a) (All-filter (λ x. not (x.ask.source == a.source)) IsWaitCounted now.asks h.waits) (omega arith)
 waits-done plan now (AskOver q) h = All-filter (λ x. not (x.ask.source == q)) IsWaitCounted now.asks h.waits
 waits-done plan now act h = h.waits
 

@@ -8,11 +8,11 @@ use Rattle.std.proofs.lemmas.List.Elements.{filter-append}
 use Rattle.dmr_pdu.specs.declared.slots.Slot.{Slot}
 use Rattle.dmr_plan.specs.declared.settings.Settings.{Settings}
 use Rattle.dmr_registry.specs.Radios.{AreDistinct}
-use Rattle.dmr_calls.specs.declared.ask.Asking.{Asking}
+use Rattle.dmr_calls.specs.declared.ask.ActiveAsk.{ActiveAsk}
 use Rattle.dmr_calls.specs.declared.line.Line.{Line}
 use Rattle.dmr_calls.specs.declared.call.Call.{Call}
-use Rattle.dmr_calls.specs.declared.call.Standing.{Standing}
-use Rattle.dmr_calls.specs.Asks.{others_than, new_asking, waited_more}
+use Rattle.dmr_calls.specs.declared.call.ActiveCall.{ActiveCall}
+use Rattle.dmr_calls.specs.Asks.{others_than, new_active_ask, ask_after_tick}
 use Rattle.dmr_calls.specs.Calls.{one_tick_older, is_slot, just_begun, with_activity, on_other_carriers}
 use Rattle.dmr_core.specs.declared.event.Event.{Event}
 use Rattle.dmr_core.specs.declared.event.Event.TheVariants.{Active, Lost, Tick, Up}
@@ -20,7 +20,7 @@ use Rattle.dmr_core.specs.declared.act.Act.{Act}
 use Rattle.dmr_core.specs.declared.act.Act.TheVariants.{AskOver, Asked, Began, Ended, Joined, Left, Lined, Unlined}
 use Rattle.dmr_core.specs.declared.entry.Entry.{Entry}
 use Rattle.dmr_core.specs.Facts.{Facts, facts_after_act, facts_after, facts_after_event}
-use Rattle.dmr_core.specs.Words.{stands_on}
+use Rattle.dmr_core.specs.Words.{has_call_on}
 use Rattle.dmr_core.specs.Journal.{IsLegal}
 use Rattle.dmr_core.specs.Sound.{AreOnDistinctSlots, IsSound, engagements_in_ask, engagements_in_line, total}
 use Rattle.dmr_core.specs.May.{MayDo}
@@ -249,26 +249,26 @@ single_once key f h (x ∷ xs) once = (either (list_any (λ y. key x == y) (map 
 ask_order : (now : Facts) (act : Act) → Orders ◌==◌ (λ (f : Facts). sources_of_asks f.asks) asked_by now act
 ask_order now (Asked ask) = λ all h.
     subst (λ (ys : List ℕ). IsInOrder ◌==◌ (all ++ ask.source ∷ []) ys)
-    (sym (map-append (λ (a : Asking). a.ask.source) (others_than ask.source now.asks) (new_asking ask ∷ []) ∙ ap (λ (ys : List ℕ). ys ++ ask.source ∷ []) (map_filter (λ (a : Asking). a.ask.source) (λ x. not (x == ask.source)) now.asks)))
+    (sym (map-append (λ (a : ActiveAsk). a.ask.source) (others_than ask.source now.asks) (new_active_ask ask ∷ []) ∙ ap (λ (ys : List ℕ). ys ++ ask.source ∷ []) (map_filter (λ (a : ActiveAsk). a.ask.source) (λ x. not (x == ask.source)) now.asks)))
     (order_push ◌==◌ numbers all (sources_of_asks now.asks) ask.source h)
 ask_order now (AskOver q) = λ all h.
-    subst (λ (ys : List ℕ). IsInOrder ◌==◌ (all ++ []) ys) (sym (map_filter (λ (a : Asking). a.ask.source) (λ x. not (x == q)) now.asks))
+    subst (λ (ys : List ℕ). IsInOrder ◌==◌ (all ++ []) ys) (sym (map_filter (λ (a : ActiveAsk). a.ask.source) (λ x. not (x == q)) now.asks))
     (order_kept ◌==◌ all (filter (λ x. not (x == q)) (sources_of_asks now.asks)) (order_filter ◌==◌ numbers all (sources_of_asks now.asks) (λ x. not (x == q)) h))
 ask_order now act = λ all h. order_kept ◌==◌ all (sources_of_asks now.asks) h
 
-asks_closed : (asks : List Asking) (b : Bool) (all : List ℕ) → IsInOrder ◌==◌ all (sources_of_asks asks) → IsInOrder ◌==◌ all (sources_of_asks (if b then [] else asks))
+asks_closed : (asks : List ActiveAsk) (b : Bool) (all : List ℕ) → IsInOrder ◌==◌ all (sources_of_asks asks) → IsInOrder ◌==◌ all (sources_of_asks (if b then [] else asks))
 asks_closed asks true all h = order_none ◌==◌ all
 asks_closed asks false all h = h
 
 ask_keeps : (plan : Settings) → Keeps ◌==◌ plan (λ (f : Facts). sources_of_asks f.asks)
 ask_keeps plan now (Up c) all h = asks_closed now.asks (c == plan.control) all h
 ask_keeps plan now (Lost c) all h = asks_closed now.asks (c == plan.control) all h
-ask_keeps plan now Tick all h = subst (λ (ys : List ℕ). IsInOrder ◌==◌ all ys) (sym (map_kept (λ (a : Asking). a.ask.source) waited_more (λ a. refl) now.asks)) h
+ask_keeps plan now Tick all h = subst (λ (ys : List ℕ). IsInOrder ◌==◌ all ys) (sym (map_kept (λ (a : ActiveAsk). a.ask.source) ask_after_tick (λ a. refl) now.asks)) h
 ask_keeps plan now _ all h = h
 
 pub asks_in_order : (plan : Settings) (facts : Facts) (journal : List Entry) → IsSound plan facts → IsInOrder ◌==◌ (with_openings asked_by (sources_of_asks facts.asks) journal) (sources_of_asks (facts_after plan facts journal).asks)
 asks_in_order plan facts journal sound =
-    let single : Single ◌==◌ (sources_of_asks facts.asks) = single_once (λ (a : Asking). a.ask.source) engagements_in_ask (λ a. source_counts false a.ask.source a.ask.target) facts.asks (λ r. omega (arith, sound.once r)) in
+    let single : Single ◌==◌ (sources_of_asks facts.asks) = single_once (λ (a : ActiveAsk). a.ask.source) engagements_in_ask (λ a. source_counts false a.ask.source a.ask.target) facts.asks (λ r. omega (arith, sound.once r)) in
     ordered ◌==◌ plan facts (λ (f : Facts). sources_of_asks f.asks) asked_by (ask_keeps plan) (order_single ◌==◌ numbers (sources_of_asks facts.asks) single) journal
     (everywhere plan facts (Orders ◌==◌ (λ (f : Facts). sources_of_asks f.asks) asked_by) ask_order journal)
 
@@ -310,31 +310,31 @@ lines_in_order plan facts journal p sound legal =
 slots : Equals is_slot
 slots = record { itself = slot_itself; equal = same_slot }
 
-any_flipped : (a : Slot) (calls : List Standing) → list_any (λ (s : Standing). is_slot a s.call.slot) calls ≡ stands_on calls a
+any_flipped : (a : Slot) (calls : List ActiveCall) → list_any (λ (s : ActiveCall). is_slot a s.call.slot) calls ≡ has_call_on calls a
 any_flipped a [] = refl
 any_flipped a (s ∷ calls) = rw (same_slots a s.call.slot, any_flipped a calls) refl
 
-single_slots : (calls : List Standing) → AreOnDistinctSlots calls → Single is_slot (slots_of_calls calls)
+single_slots : (calls : List ActiveCall) → AreOnDistinctSlots calls → Single is_slot (slots_of_calls calls)
 single_slots [] h = tt
-single_slots (s ∷ calls) h = (any_mapped (λ (x : Standing). x.call.slot) (λ x. is_slot s.call.slot x) calls ∙ any_flipped s.call.slot calls ∙ h.0, single_slots calls h.1)
+single_slots (s ∷ calls) h = (any_mapped (λ (x : ActiveCall). x.call.slot) (λ x. is_slot s.call.slot x) calls ∙ any_flipped s.call.slot calls ∙ h.0, single_slots calls h.1)
 
 call_order : (plan : Settings) (now : Facts) (act : Act) → IsSound plan now → MayDo plan now act → Orders is_slot (λ (f : Facts). slots_of_calls f.calls) begun_by now act
 call_order plan now (Began call) sound may = λ all h.
-    subst (λ (ys : List Slot). IsInOrder is_slot (all ++ call.slot ∷ []) ys) (sym (map-append (λ (s : Standing). s.call.slot) now.calls (just_begun call ∷ [])))
+    subst (λ (ys : List Slot). IsInOrder is_slot (all ++ call.slot ∷ []) ys) (sym (map-append (λ (s : ActiveCall). s.call.slot) now.calls (just_begun call ∷ [])))
     (order_new is_slot slots all (slots_of_calls now.calls) call.slot
-    (any_mapped (λ (s : Standing). s.call.slot) (λ x. is_slot x call.slot) now.calls ∙ (free_is plan now call.slot may.free).none) h)
+    (any_mapped (λ (s : ActiveCall). s.call.slot) (λ x. is_slot x call.slot) now.calls ∙ (free_is plan now call.slot may.free).none) h)
 call_order plan now (Ended slot) sound may = λ all h.
-    subst (λ (ys : List Slot). IsInOrder is_slot (all ++ []) ys) (sym (map_filter (λ (s : Standing). s.call.slot) (λ x. not (is_slot x slot)) now.calls))
+    subst (λ (ys : List Slot). IsInOrder is_slot (all ++ []) ys) (sym (map_filter (λ (s : ActiveCall). s.call.slot) (λ x. not (is_slot x slot)) now.calls))
     (order_kept is_slot all (filter (λ x. not (is_slot x slot)) (slots_of_calls now.calls)) (order_filter is_slot slots all (slots_of_calls now.calls) (λ x. not (is_slot x slot)) h))
 call_order plan now act sound may = λ all h. order_kept is_slot all (slots_of_calls now.calls) h
 
-off_carrier : (calls : List Standing) (c : ℕ) (all : List Slot) → IsInOrder is_slot all (slots_of_calls calls) → IsInOrder is_slot all (slots_of_calls (on_other_carriers c calls))
+off_carrier : (calls : List ActiveCall) (c : ℕ) (all : List Slot) → IsInOrder is_slot all (slots_of_calls calls) → IsInOrder is_slot all (slots_of_calls (on_other_carriers c calls))
 off_carrier calls c all h =
-    subst (λ (ys : List Slot). IsInOrder is_slot all ys) (sym (map_filter (λ (s : Standing). s.call.slot) (λ x. not (x.carrier == c)) calls))
+    subst (λ (ys : List Slot). IsInOrder is_slot all ys) (sym (map_filter (λ (s : ActiveCall). s.call.slot) (λ x. not (x.carrier == c)) calls))
     (order_filter is_slot slots all (slots_of_calls calls) (λ x. not (x.carrier == c)) h)
 
-changed : (f : Standing → Standing) → ((s : Standing) → (f s).call ≡ s.call) → (calls : List Standing) (all : List Slot) → IsInOrder is_slot all (slots_of_calls calls) → IsInOrder is_slot all (slots_of_calls (map f calls))
-changed f same calls all h = subst (λ (ys : List Slot). IsInOrder is_slot all ys) (sym (map_kept (λ (s : Standing). s.call.slot) f (λ s. ap (λ (k : Call). k.slot) (same s)) calls)) h
+changed : (f : ActiveCall → ActiveCall) → ((s : ActiveCall) → (f s).call ≡ s.call) → (calls : List ActiveCall) (all : List Slot) → IsInOrder is_slot all (slots_of_calls calls) → IsInOrder is_slot all (slots_of_calls (map f calls))
+changed f same calls all h = subst (λ (ys : List Slot). IsInOrder is_slot all ys) (sym (map_kept (λ (s : ActiveCall). s.call.slot) f (λ s. ap (λ (k : Call). k.slot) (same s)) calls)) h
 
 call_keeps : (plan : Settings) → Keeps is_slot plan (λ (f : Facts). slots_of_calls f.calls)
 call_keeps plan now (Up c) all h = off_carrier now.calls c all h

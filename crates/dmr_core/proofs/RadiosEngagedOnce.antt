@@ -6,11 +6,11 @@ use Rattle.std.proofs.lemmas.Bool.Decides.{nat_tests}
 use Rattle.std.proofs.lemmas.Bool.{cases_lt}
 use Rattle.dmr_plan.specs.declared.settings.Settings.{Settings}
 use Rattle.dmr_calls.specs.declared.ask.Ask.{Ask}
-use Rattle.dmr_calls.specs.declared.ask.Asking.{Asking}
+use Rattle.dmr_calls.specs.declared.ask.ActiveAsk.{ActiveAsk}
 use Rattle.dmr_calls.specs.declared.line.Line.{Line}
 use Rattle.dmr_calls.specs.declared.call.Call.{Call}
-use Rattle.dmr_calls.specs.declared.call.Standing.{Standing}
-use Rattle.dmr_calls.specs.Asks.{new_asking, others_than}
+use Rattle.dmr_calls.specs.declared.call.ActiveCall.{ActiveCall}
+use Rattle.dmr_calls.specs.Asks.{new_active_ask, others_than}
 use Rattle.dmr_calls.specs.Calls.{is_slot, just_begun}
 use Rattle.dmr_core.specs.declared.act.Act.{Act}
 use Rattle.dmr_core.specs.declared.act.Act.TheVariants.{AskOver, Asked, Began, Ended, Joined, Left, Lined, Unlined}
@@ -21,23 +21,23 @@ use Rattle.dmr_core.specs.May.{MayDo}
 use Rattle.dmr_core.proofs.ListLemmas.{total-append, total-filter, any-push}
 
 -- the engagements that a new call or line adds
-pub with_call : (calls : List Standing) (asks : List Asking) (lines : List Line) (call : Call) (r : ℕ) → engagements (calls ++ just_begun call ∷ []) asks lines r ≡ engagements calls asks lines r + party r call.group call.source call.target
+pub with_call : (calls : List ActiveCall) (asks : List ActiveAsk) (lines : List Line) (call : Call) (r : ℕ) → engagements (calls ++ just_begun call ∷ []) asks lines r ≡ engagements calls asks lines r + party r call.group call.source call.target
 with_call calls asks lines call r = omega (arith, total-append (engagements_in_call r) calls (just_begun call))
 
-pub with_line : (calls : List Standing) (asks : List Asking) (lines : List Line) (l : Line) (r : ℕ) → engagements calls asks (lines ++ l ∷ []) r ≡ engagements calls asks lines r + party r l.group l.source l.target
+pub with_line : (calls : List ActiveCall) (asks : List ActiveAsk) (lines : List Line) (l : Line) (r : ℕ) → engagements calls asks (lines ++ l ∷ []) r ≡ engagements calls asks lines r + party r l.group l.source l.target
 with_line calls asks lines l r = omega (arith, total-append (engagements_in_line r) lines l)
 
-pub fewer_calls : (q : Standing → Bool) (calls : List Standing) (asks : List Asking) (lines : List Line) (r : ℕ) → engagements (filter q calls) asks lines r ≤ engagements calls asks lines r
+pub fewer_calls : (q : ActiveCall → Bool) (calls : List ActiveCall) (asks : List ActiveAsk) (lines : List Line) (r : ℕ) → engagements (filter q calls) asks lines r ≤ engagements calls asks lines r
 fewer_calls q calls asks lines r = omega (arith, total-filter (engagements_in_call r) q calls)
 
-pub fewer_lines : (q : Line → Bool) (calls : List Standing) (asks : List Asking) (lines : List Line) (r : ℕ) → engagements calls asks (filter q lines) r ≤ engagements calls asks lines r
+pub fewer_lines : (q : Line → Bool) (calls : List ActiveCall) (asks : List ActiveAsk) (lines : List Line) (r : ℕ) → engagements calls asks (filter q lines) r ≤ engagements calls asks lines r
 fewer_lines q calls asks lines r = omega (arith, total-filter (engagements_in_line r) q lines)
 
 -- the ask of the same source is removed first
-pub with_ask : (calls : List Standing) (asks : List Asking) (lines : List Line) (a : Ask) (r : ℕ) → engagements calls (asks ++ new_asking a ∷ []) lines r ≡ engagements calls asks lines r + party r false a.source a.target
-with_ask calls asks lines a r = omega (arith, total-append (engagements_in_ask r) asks (new_asking a))
+pub with_ask : (calls : List ActiveCall) (asks : List ActiveAsk) (lines : List Line) (a : Ask) (r : ℕ) → engagements calls (asks ++ new_active_ask a ∷ []) lines r ≡ engagements calls asks lines r + party r false a.source a.target
+with_ask calls asks lines a r = omega (arith, total-append (engagements_in_ask r) asks (new_active_ask a))
 
-pub fewer_asks : (q : Asking → Bool) (calls : List Standing) (asks : List Asking) (lines : List Line) (r : ℕ) → engagements calls (filter q asks) lines r ≤ engagements calls asks lines r
+pub fewer_asks : (q : ActiveAsk → Bool) (calls : List ActiveCall) (asks : List ActiveAsk) (lines : List Line) (r : ℕ) → engagements calls (filter q asks) lines r ≤ engagements calls asks lines r
 fewer_asks q calls asks lines r = omega (arith, total-filter (engagements_in_ask r) q asks)
 
 pub once-done : (plan : Settings) (now : Facts) (act : Act) → IsSound plan now → MayDo plan now act → (r : ℕ) → engagements (facts_after_act now act).calls (facts_after_act now act).asks (facts_after_act now act).lines r ≤ 1

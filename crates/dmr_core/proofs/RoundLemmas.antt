@@ -5,7 +5,7 @@ use Rattle.std.specs.Option.{option_map_or}
 use Rattle.std.proofs.lemmas.Bool.{cases_lt}
 use Rattle.dmr_pdu.specs.declared.slots.Slot.{Slot}
 use Rattle.dmr_calls.specs.declared.call.Call.{Call}
-use Rattle.dmr_calls.specs.declared.call.Standing.{Standing}
+use Rattle.dmr_calls.specs.declared.call.ActiveCall.{ActiveCall}
 use Rattle.dmr_calls.specs.Calls.{is_slot}
 use Rattle.dmr_pdu.specs.Slots.{place, slot_at}
 use Rattle.dmr_calls.specs.After.{is_group_at, IsNext, NonePass}
@@ -154,14 +154,14 @@ sums g h f from (suc n) fewer = omega (arith, fewer from, sums g h f (from + 1) 
 on_place : (s : Slot) (k : ℕ) → is_slot s (slot_at k) ≡ true → k ≡ place s
 on_place s k h = sym (place-slot_at k) ∙ sym (ap place (same_slot s (slot_at k) h))
 
-group_of : (s : Standing) (calls : List Standing) (k : ℕ) → one (is_group_at (s ∷ calls) k) ≤ one (is_slot s.call.slot (slot_at k) && s.call.group) + one (is_group_at calls k)
+group_of : (s : ActiveCall) (calls : List ActiveCall) (k : ℕ) → one (is_group_at (s ∷ calls) k) ≤ one (is_slot s.call.slot (slot_at k) && s.call.group) + one (is_group_at calls k)
 group_of s calls k = either (is_slot s.call.slot (slot_at k)) s.call.group
   where
-    either : (b c : Bool) → one (option_map_or (λ (call : Call). call.group) (option_map (λ (x : Standing). x.call) (cond b (Some s) (find (λ x. is_slot x.call.slot (slot_at k)) calls))) false) ≤ one (b && s.call.group) + one (is_group_at calls k)
+    either : (b c : Bool) → one (option_map_or (λ (call : Call). call.group) (option_map (λ (x : ActiveCall). x.call) (cond b (Some s) (find (λ x. is_slot x.call.slot (slot_at k)) calls))) false) ≤ one (b && s.call.group) + one (is_group_at calls k)
     either true c = omega arith
     either false c = omega arith
 
-here_or_none : (s : Standing) (b : Bool) → s.call.group ≡ b → counted (λ k. is_slot s.call.slot (slot_at k) && s.call.group) 0 32 ≤ one b
+here_or_none : (s : ActiveCall) (b : Bool) → s.call.group ≡ b → counted (λ k. is_slot s.call.slot (slot_at k) && s.call.group) 0 32 ≤ one b
 here_or_none s true e = single (λ k. is_slot s.call.slot (slot_at k) && s.call.group) (place s.call.slot) 0 32 (λ k h. on_place s.call.slot k (first (is_slot s.call.slot (slot_at k)) s.call.group h))
   where
     first : (b c : Bool) → (b && c) ≡ true → b ≡ true
@@ -175,12 +175,12 @@ here_or_none s false e =
     last true c h = h
     last false c h = refl
 
-pub few_places : (calls : List Standing) → between (is_group_at calls) 0 32 ≤ talkgroup_calls calls
+pub few_places : (calls : List ActiveCall) → between (is_group_at calls) 0 32 ≤ talkgroup_calls calls
 few_places [] = let none : counted (is_group_at []) 0 32 ≡ 0 = none_passes (is_group_at []) 0 32 (λ k low. refl) in omega (arith, none)
 few_places (s ∷ calls) =
     let both : counted (is_group_at (s ∷ calls)) 0 32 ≤ counted (λ k. is_slot s.call.slot (slot_at k) && s.call.group) 0 32 + counted (is_group_at calls) 0 32 = sums (is_group_at (s ∷ calls)) (λ k. is_slot s.call.slot (slot_at k) && s.call.group) (is_group_at calls) 0 32 (group_of s calls) in
     omega (arith, both, here_or_none s s.call.group refl, few_places calls, more s.call.group)
   where
-    more : (b : Bool) → length (cond b (s ∷ filter (λ (x : Standing). x.call.group) calls) (filter (λ (x : Standing). x.call.group) calls)) ≡ one b + talkgroup_calls calls
+    more : (b : Bool) → length (cond b (s ∷ filter (λ (x : ActiveCall). x.call.group) calls) (filter (λ (x : ActiveCall). x.call.group) calls)) ≡ one b + talkgroup_calls calls
     more true = omega arith
     more false = omega arith

@@ -9,14 +9,14 @@ use Rattle.dmr_pdu.specs.declared.slots.Slot.{Slot}
 use Rattle.dmr_pdu.specs.declared.pdu.Pdu.{Pdu}
 use Rattle.dmr_plan.specs.declared.settings.Settings.{Settings}
 use Rattle.dmr_calls.specs.declared.call.Call.{Call}
-use Rattle.dmr_calls.specs.declared.call.Standing.{Standing}
+use Rattle.dmr_calls.specs.declared.call.ActiveCall.{ActiveCall}
 use Rattle.dmr_calls.specs.Calls.{is_slot, just_begun}
 use Rattle.dmr_pool.specs.Slots.{box, place}
 use Rattle.dmr_pool.specs.Free.{control_slot, is_empty, names}
 use Rattle.dmr_core.specs.declared.act.Act.{Act}
 use Rattle.dmr_core.specs.declared.act.Act.TheVariants.{Began, Ended, Queue, Send}
 use Rattle.dmr_core.specs.Facts.{Facts, facts_after_act, has_carrier}
-use Rattle.dmr_core.specs.Words.{is_free, is_up, lpcn_of, outbox, stands_on}
+use Rattle.dmr_core.specs.Words.{is_free, is_up, lpcn_of, outbox, has_call_on}
 use Rattle.dmr_core.specs.Sound.{AreOnDistinctSlots, IsPayload, IsSound, is_grant}
 use Rattle.dmr_core.specs.May.{MayDo, MayName}
 use Rattle.dmr_core.proofs.FreeLemmas.{granted_known}
@@ -53,10 +53,10 @@ within_boxes plan now slot p h up small = let n : slot.carrier < 16 = p.numbers 
 pub length-put : (boxes : List (List Pdu)) (slot : Slot) (v : List Pdu) → length (slice_set boxes (place slot) v) ≡ length boxes
 length-put boxes slot v = length-set boxes (place slot) v
 
-stands_there : (calls : List Standing) (call : Call) (slot : Slot) → stands_on (calls ++ just_begun call ∷ []) slot ≡ true → (stands_on calls slot ≡ true) ⊎ (slot ≡ call.slot)
-stands_there calls call slot h = either (stands_on calls slot) (is_slot call.slot slot) refl refl (rw (any-push (λ s. is_slot s.call.slot slot) calls (just_begun call)) at h)
+active_there : (calls : List ActiveCall) (call : Call) (slot : Slot) → has_call_on (calls ++ just_begun call ∷ []) slot ≡ true → (has_call_on calls slot ≡ true) ⊎ (slot ≡ call.slot)
+active_there calls call slot h = either (has_call_on calls slot) (is_slot call.slot slot) refl refl (rw (any-push (λ s. is_slot s.call.slot slot) calls (just_begun call)) at h)
   where
-    either : (a b : Bool) → stands_on calls slot ≡ a → is_slot call.slot slot ≡ b → (a || b) ≡ true → (stands_on calls slot ≡ true) ⊎ (slot ≡ call.slot)
+    either : (a b : Bool) → has_call_on calls slot ≡ a → is_slot call.slot slot ≡ b → (a || b) ≡ true → (has_call_on calls slot ≡ true) ⊎ (slot ≡ call.slot)
     either true b e d h = inl e
     either false true e d h = inr (sym (same_slot call.slot slot d))
     either false false e d h = cc
@@ -66,7 +66,7 @@ pub record IsFree (plan : Settings) (now : Facts) (slot : Slot) : Type 0 where
   pub known : has_carrier plan slot.carrier ≡ true
   pub up : is_up now slot.carrier ≡ true
   pub apart : is_slot slot (control_slot plan) ≡ false
-  pub none : stands_on now.calls slot ≡ false
+  pub none : has_call_on now.calls slot ≡ false
   pub quiet : outbox now slot ≡ []
   pub ungranted : list_any (names (lpcn_of plan slot.carrier) slot.slot) (outbox now (control_slot plan)) ≡ false
 
@@ -83,10 +83,10 @@ free_is plan now slot h =
     let e = and_true _ _ d.0 in
     record { known = e.0; up = e.1; apart = not_true _ d.1; none = not_true _ c.1; quiet = empty_is _ b.1; ungranted = sym (granted_known plan now.outboxes slot e.0) ∙ not_true _ a.1 }
 
-pub payload-done : (plan : Settings) (now : Facts) (act : Act) → IsSound plan now → MayDo plan now act → (slot : Slot) → stands_on (facts_after_act now act).calls slot ≡ true → IsPayload plan (facts_after_act now act).up slot
+pub payload-done : (plan : Settings) (now : Facts) (act : Act) → IsSound plan now → MayDo plan now act → (slot : Slot) → has_call_on (facts_after_act now act).calls slot ≡ true → IsPayload plan (facts_after_act now act).up slot
 payload-done plan now (Began call) h may slot k =
     let free : IsFree plan now call.slot = free_is plan now call.slot may.free in
-    elim (stands_there now.calls call slot k) [ inl e ↦ h.payload slot e | inr e ↦ subst (IsPayload plan now.up) (sym e) (record { known = free.known; is_up = free.up; small = may.small; apart = free.apart }) ]
+    elim (active_there now.calls call slot k) [ inl e ↦ h.payload slot e | inr e ↦ subst (IsPayload plan now.up) (sym e) (record { known = free.known; is_up = free.up; small = may.small; apart = free.apart }) ]
 payload-done plan now (Ended other) h may slot k = h.payload slot (any_before (λ s. is_slot s.call.slot slot) (λ s. not (is_slot s.call.slot other)) now.calls k)
 payload-done plan now act h may slot k = h.payload slot k
 
@@ -96,16 +96,16 @@ drop_none xs h = rw h refl
 pub true_false : {X : Type 0} (b : Bool) → b ≡ true → b ≡ false → X
 true_false b h k = cc
 
-pub quiet-done : (plan : Settings) (now : Facts) (act : Act) → KnowsPlan plan → IsSound plan now → MayDo plan now act → (slot : Slot) → stands_on (facts_after_act now act).calls slot ≡ true → outbox (facts_after_act now act) slot ≡ []
+pub quiet-done : (plan : Settings) (now : Facts) (act : Act) → KnowsPlan plan → IsSound plan now → MayDo plan now act → (slot : Slot) → has_call_on (facts_after_act now act).calls slot ≡ true → outbox (facts_after_act now act) slot ≡ []
 quiet-done plan now (Began call) p h may slot k =
     let free : IsFree plan now call.slot = free_is plan now call.slot may.free in
-    elim (stands_there now.calls call slot k) [ inl e ↦ h.quiet slot e | inr e ↦ subst (λ (x : Slot). outbox now x ≡ []) (sym e) free.quiet ]
+    elim (active_there now.calls call slot k) [ inl e ↦ h.quiet slot e | inr e ↦ subst (λ (x : Slot). outbox now x ≡ []) (sym e) free.quiet ]
 quiet-done plan now (Ended other) p h may slot k = h.quiet slot (any_before (λ s. is_slot s.call.slot slot) (λ s. not (is_slot s.call.slot other)) now.calls k)
 quiet-done plan now (Queue there pdu) p h may slot k =
-    after_put (λ s b. stands_on now.calls s ≡ true → b ≡ []) now.outboxes there _ slot may.small (h.payload slot k).small
+    after_put (λ s b. has_call_on now.calls s ≡ true → b ≡ []) now.outboxes there _ slot may.small (h.payload slot k).small
     (within_boxes plan now there p h may.up may.small) (λ e. true_false _ e may.none) (λ d e. h.quiet slot e) k
 quiet-done plan now (Send there pdu) p h may slot k =
-    after_put (λ s b. stands_on now.calls s ≡ true → b ≡ []) now.outboxes there _ slot may.1 (h.payload slot k).small
+    after_put (λ s b. has_call_on now.calls s ≡ true → b ≡ []) now.outboxes there _ slot may.1 (h.payload slot k).small
     (within_boxes plan now there p h may.0 may.1) (λ e. drop_none _ (h.quiet there e)) (λ d e. h.quiet slot e) k
 quiet-done plan now act p h may slot k = h.quiet slot k
 

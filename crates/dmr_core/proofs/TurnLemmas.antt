@@ -11,7 +11,7 @@ use Rattle.dmr_plan.specs.declared.settings.Settings.{Settings}
 use Rattle.dmr_plan.specs.IsPlan.{IsPlan}
 use Rattle.dmr_access.specs.Fill.{is_late_due, next_fill_count}
 use Rattle.dmr_calls.specs.declared.call.Call.{Call}
-use Rattle.dmr_calls.specs.declared.call.Standing.{Standing}
+use Rattle.dmr_calls.specs.declared.call.ActiveCall.{ActiveCall}
 use Rattle.dmr_calls.specs.Calls.{call_on}
 use Rattle.dmr_pdu.specs.Slots.{place, slot_at}
 use Rattle.dmr_calls.specs.After.{group_after, is_group_at, is_group_on, place_after, HasNoGroupCall, IsNext, IsTurn}
@@ -30,13 +30,13 @@ use Rattle.dmr_core.specs.Rules.{grant_pdu, late_entry}
 use Rattle.dmr_core.specs.Journal.{IsLegal}
 use Rattle.dmr_core.specs.Sound.{IsPayload, IsSound, is_grant, total}
 use Rattle.dmr_core.specs.May.{AllMayDo, MayDo, late_entry_of_fill}
-use Rattle.dmr_core.specs.Turns.{FillsInTurn, HasFillOf, IsFilledWith, IsLateOf, NamesStanding, fill_in, fills_in, fills_since, is_steady, is_steady_act, is_steady_event, is_turn, talkgroup_calls}
+use Rattle.dmr_core.specs.Turns.{FillsInTurn, HasFillOf, IsFilledWith, IsLateOf, NamesActiveCall, fill_in, fills_in, fills_since, is_steady, is_steady_act, is_steady_event, is_turn, talkgroup_calls}
 use Rattle.dmr_core.proofs.PlanLemmas.{KnowsPlan}
 use Rattle.dmr_core.proofs.NumberLemmas.{equal_numbers, other_number}
 use Rattle.dmr_core.proofs.ChoiceLemmas.{and_true}
 use Rattle.dmr_core.proofs.SlotsStaySound.{true_false}
-use Rattle.dmr_core.proofs.GrantsAreOwn.{call_stands}
-use Rattle.dmr_core.proofs.FillsAreLateEntries.{late_stands}
+use Rattle.dmr_core.proofs.GrantsAreOwn.{call_is_active}
+use Rattle.dmr_core.proofs.FillsAreLateEntries.{late_is_active}
 use Rattle.dmr_core.proofs.FactsFollowEntries.{facts_after-step}
 use Rattle.dmr_core.proofs.ActsKeepSound.{sound-done}
 use Rattle.dmr_core.proofs.EventsKeepSound.{sound-noted}
@@ -49,7 +49,7 @@ use Rattle.dmr_core.proofs.RoundLemmas.{IsWithin, at_first, between, few_places,
 
 -- the law of dmr_calls about the next talkgroup call
 abbrev TakeTurns : Type 0
-TakeTurns = (calls : List Standing) (last : Option Slot) → MatchOption (group_after calls last) (HasNoGroupCall calls) (IsTurn calls (place_after last))
+TakeTurns = (calls : List ActiveCall) (last : Option Slot) → MatchOption (group_after calls last) (HasNoGroupCall calls) (IsTurn calls (place_after last))
 
 -- a Fill is the late entry that is due
 pub fills_turn : (plan : Settings) (now : Facts) (act : Act) → IsSound plan now → MayDo plan now act → FillsInTurn plan now act
@@ -57,12 +57,12 @@ fills_turn plan now (Fill slot pdu) h may = may.late
 fills_turn plan now act h may = tt
 
 -- a Fill that is a grant names an active talkgroup call
-pub names_standing : (plan : Settings) (now : Facts) (act : Act) → IsSound plan now → MayDo plan now act → NamesStanding plan now act
-names_standing plan now (Fill slot pdu) h may = λ k.
+pub names_active_call : (plan : Settings) (now : Facts) (act : Act) → IsSound plan now → MayDo plan now act → NamesActiveCall plan now act
+names_active_call plan now (Fill slot pdu) h may = λ k.
     let here : late_entry_of_fill pdu ≡ Some pdu = rw k refl in
     let there : late_entry plan now ≡ Some pdu = sym may.late ∙ here in
-    subst (λ (o : Option Pdu). IfSome o (IsLateOf plan now.calls)) there (late_stands plan now)
-names_standing plan now act h may = tt
+    subst (λ (o : Option Pdu). IfSome o (IsLateOf plan now.calls)) there (late_is_active plan now)
+names_active_call plan now act h may = tt
 
 -- Fills are counted modulo 4
 acts_count : (acts : List Act) (n m : ℕ) → n ≡ m % 4 → fold fills_by_act n acts ≡ (m + total fill_in acts) % 4
@@ -90,7 +90,7 @@ fills_count plan facts (entry ∷ earlier) small =
     (event_counts plan (facts_after plan facts earlier).fills (fills_since plan facts.fills earlier) entry.event (fills_count plan facts earlier small))
 
 -- while a call has not been named: how near its turn is, and how many Fills there were
-record IsGoing (plan : Settings) (calls : List Standing) (t most n : ℕ) (now : Facts) : Type 0 where
+record IsGoing (plan : Settings) (calls : List ActiveCall) (t most n : ℕ) (now : Facts) : Type 0 where
   pub still : now.moving ≡ None
   pub same : (slot : Slot) → call_on now.calls slot ≡ call_on calls slot
   pub d : ℕ
@@ -98,11 +98,11 @@ record IsGoing (plan : Settings) (calls : List Standing) (t most n : ℕ) (now :
   pub few : 4 * d + n ≤ 4 * most + now.fills
 
 -- calls on the same slots pass the same tests
-same_test : (calls other : List Standing) → ((slot : Slot) → call_on calls slot ≡ call_on other slot) → is_group_at calls ≡ is_group_at other
+same_test : (calls other : List ActiveCall) → ((slot : Slot) → call_on calls slot ≡ call_on other slot) → is_group_at calls ≡ is_group_at other
 same_test calls other same = λ i k. option_map_or (λ (call : Call). call.group) (same (slot_at k) i) false
 
 -- a steady event leaves that unchanged
-going_event : (plan : Settings) (calls : List Standing) (t most n : ℕ) (now : Facts) (event : Event) → is_steady_event event ≡ true → IsGoing plan calls t most n now → IsGoing plan calls t most n (facts_after_event plan now event)
+going_event : (plan : Settings) (calls : List ActiveCall) (t most n : ℕ) (now : Facts) (event : Event) → is_steady_event event ≡ true → IsGoing plan calls t most n now → IsGoing plan calls t most n (facts_after_event plan now event)
 going_event plan calls t most n now (Up c) steady h = cc
 going_event plan calls t most n now (Lost c) steady h = cc
 going_event plan calls t most n now (Say (Move lpcn)) steady h = cc
@@ -130,13 +130,13 @@ named_slot : (plan : Settings) (slot : Slot) → IsPlan plan → has_carrier pla
 named_slot plan slot p there = ap (λ (o : Option ℕ). option_map (λ (c : ℕ). record { carrier = c; slot = slot.slot }) o) (channel_known plan slot.carrier p there)
 
 -- the target: a talkgroup call, and its place
-record IsTarget (calls : List Standing) (call : Call) : Type 0 where
+record IsTarget (calls : List ActiveCall) (call : Call) : Type 0 where
   pub stands : call_on calls call.slot ≡ Some call
   pub group : call.group ≡ true
   pub small : call.slot.slot < 2
   pub within : place call.slot < 32
 
-target_there : (calls : List Standing) (call : Call) → IsTarget calls call → is_group_at calls (place call.slot) ≡ true
+target_there : (calls : List ActiveCall) (call : Call) → IsTarget calls call → is_group_at calls (place call.slot) ≡ true
 target_there calls call h =
     let on : is_group_on calls call.slot ≡ true = rw h.stands h.group in
     subst (λ (s : Slot). is_group_on calls s ≡ true) (sym (slot_at-place call.slot h.small)) on
@@ -150,7 +150,7 @@ counted_on k few other = either (cases_lt k 3)
     either (inr high) = absurd (other (omega (arith, high, few)))
 
 -- a Fill when no late entry is due
-not_due : (plan : Settings) (calls : List Standing) (t most n : ℕ) (now : Facts) (slot : Slot) (pdu : Pdu) → is_late_due now.fills ≡ false → now.fills < 4 → late_entry_of_fill pdu ≡ late_entry plan now → IsGoing plan calls t most n now → IsGoing plan calls t most (n + 1) (facts_after_act now (Fill slot pdu))
+not_due : (plan : Settings) (calls : List ActiveCall) (t most n : ℕ) (now : Facts) (slot : Slot) (pdu : Pdu) → is_late_due now.fills ≡ false → now.fills < 4 → late_entry_of_fill pdu ≡ late_entry plan now → IsGoing plan calls t most n now → IsGoing plan calls t most (n + 1) (facts_after_act now (Fill slot pdu))
 unfolding late_entry
 not_due plan calls t most n now slot pdu due few entry h =
     let none : late_entry_of_fill pdu ≡ None = entry ∙ rw due refl in
@@ -166,11 +166,11 @@ not_due plan calls t most n now slot pdu due few entry h =
     }
 
 -- a late entry: it is the target's, or its turn is nearer
-due_turn : (plan : Settings) (calls : List Standing) (most n : ℕ) (call other : Call) (now : Facts) (slot : Slot) (pdu : Pdu) → IsPlan plan → IsSound plan now → IsTarget calls call → is_late_due now.fills ≡ true → pdu ≡ grant_pdu plan other true → IsTurn now.calls (place_after (last_slot plan now)) other → IsGoing plan calls (place call.slot) most n now → (pdu ≡ grant_pdu plan call true) ⊎ IsGoing plan calls (place call.slot) most (n + 1) (facts_after_act now (Fill slot pdu))
+due_turn : (plan : Settings) (calls : List ActiveCall) (most n : ℕ) (call other : Call) (now : Facts) (slot : Slot) (pdu : Pdu) → IsPlan plan → IsSound plan now → IsTarget calls call → is_late_due now.fills ≡ true → pdu ≡ grant_pdu plan other true → IsTurn now.calls (place_after (last_slot plan now)) other → IsGoing plan calls (place call.slot) most n now → (pdu ≡ grant_pdu plan call true) ⊎ IsGoing plan calls (place call.slot) most (n + 1) (facts_after_act now (Fill slot pdu))
 due_turn plan calls most n call other now slot pdu p sound target due is turn h = either (place other.slot == place call.slot) refl
   where
     payload : IsPayload plan now.up other.slot
-    payload = sound.payload other.slot (call_stands now.calls other.slot other turn.stands).0
+    payload = sound.payload other.slot (call_is_active now.calls other.slot other turn.stands).0
 
     same_call : place other.slot ≡ place call.slot → other ≡ call
     same_call e =
@@ -206,7 +206,7 @@ due_turn plan calls most n call other now slot pdu p sound target due is turn h 
     })
 
 -- a Fill when a late entry is due
-due_step : TakeTurns → (plan : Settings) (calls : List Standing) (most n : ℕ) (call : Call) (now : Facts) (slot : Slot) (pdu : Pdu) → IsPlan plan → IsSound plan now → IsTarget calls call → is_late_due now.fills ≡ true → late_entry_of_fill pdu ≡ late_entry plan now → IsGoing plan calls (place call.slot) most n now → (pdu ≡ grant_pdu plan call true) ⊎ IsGoing plan calls (place call.slot) most (n + 1) (facts_after_act now (Fill slot pdu))
+due_step : TakeTurns → (plan : Settings) (calls : List ActiveCall) (most n : ℕ) (call : Call) (now : Facts) (slot : Slot) (pdu : Pdu) → IsPlan plan → IsSound plan now → IsTarget calls call → is_late_due now.fills ≡ true → late_entry_of_fill pdu ≡ late_entry plan now → IsGoing plan calls (place call.slot) most n now → (pdu ≡ grant_pdu plan call true) ⊎ IsGoing plan calls (place call.slot) most (n + 1) (facts_after_act now (Fill slot pdu))
 unfolding late_entry
 due_step turns plan calls most n call now slot pdu p sound target due entry h = either (next_call plan now) refl (turns now.calls (last_slot plan now))
   where
@@ -219,7 +219,7 @@ due_step turns plan calls most n call now slot pdu p sound target due entry h = 
         let some : late_entry plan now ≡ Some (grant_pdu plan other true) = rw (due, h.still, e) refl in
         due_turn plan calls most n call other now slot pdu p sound target due (entry_is pdu (grant_pdu plan other true) (entry ∙ some)) turn h
 
-fill_step : TakeTurns → (plan : Settings) (calls : List Standing) (most n : ℕ) (call : Call) (now : Facts) (slot : Slot) (pdu : Pdu) → IsPlan plan → IsSound plan now → IsTarget calls call → late_entry_of_fill pdu ≡ late_entry plan now → IsGoing plan calls (place call.slot) most n now → (pdu ≡ grant_pdu plan call true) ⊎ IsGoing plan calls (place call.slot) most (n + 1) (facts_after_act now (Fill slot pdu))
+fill_step : TakeTurns → (plan : Settings) (calls : List ActiveCall) (most n : ℕ) (call : Call) (now : Facts) (slot : Slot) (pdu : Pdu) → IsPlan plan → IsSound plan now → IsTarget calls call → late_entry_of_fill pdu ≡ late_entry plan now → IsGoing plan calls (place call.slot) most n now → (pdu ≡ grant_pdu plan call true) ⊎ IsGoing plan calls (place call.slot) most (n + 1) (facts_after_act now (Fill slot pdu))
 fill_step turns plan calls most n call now slot pdu p sound target entry h = either (is_late_due now.fills) refl
   where
     either : (b : Bool) → is_late_due now.fills ≡ b → (pdu ≡ grant_pdu plan call true) ⊎ IsGoing plan calls (place call.slot) most (n + 1) (facts_after_act now (Fill slot pdu))
@@ -227,10 +227,10 @@ fill_step turns plan calls most n call now slot pdu p sound target entry h = eit
     either false e = inr (not_due plan calls (place call.slot) most n now slot pdu e sound.counted entry h)
 
 -- the same with an equal number of Fills
-again : (plan : Settings) (calls : List Standing) (t most n m : ℕ) (now : Facts) → n ≡ m → IsGoing plan calls t most n now → IsGoing plan calls t most m now
+again : (plan : Settings) (calls : List ActiveCall) (t most n m : ℕ) (now : Facts) → n ≡ m → IsGoing plan calls t most n now → IsGoing plan calls t most m now
 again plan calls t most n m now same h = subst (λ (k : ℕ). IsGoing plan calls t most k now) same h
 
-acts_go : TakeTurns → (plan : Settings) (calls : List Standing) (most n : ℕ) (call : Call) (now : Facts) (acts : List Act) → IsPlan plan → IsTarget calls call → IsSound plan now → AllMayDo plan now acts → list_all is_steady_act acts ≡ true → IsGoing plan calls (place call.slot) most n now → HasFillOf (grant_pdu plan call true) acts ⊎ IsGoing plan calls (place call.slot) most (n + total fill_in acts) (fold facts_after_act now acts)
+acts_go : TakeTurns → (plan : Settings) (calls : List ActiveCall) (most n : ℕ) (call : Call) (now : Facts) (acts : List Act) → IsPlan plan → IsTarget calls call → IsSound plan now → AllMayDo plan now acts → list_all is_steady_act acts ≡ true → IsGoing plan calls (place call.slot) most n now → HasFillOf (grant_pdu plan call true) acts ⊎ IsGoing plan calls (place call.slot) most (n + total fill_in acts) (fold facts_after_act now acts)
 acts_go turns plan calls most n call now [] p target sound may steady h = inr (again plan calls (place call.slot) most n (n + 0) now (omega arith) h)
 acts_go turns plan calls most n call now (Fill slot pdu ∷ acts) p target sound may steady h =
     elim (fill_step turns plan calls most n call now slot pdu p sound target may.0.late h) [
@@ -273,7 +273,7 @@ goes turns plan facts call (entry ∷ earlier) p sound legal target steady still
 -- a talkgroup call is on a slot of the site
 target_is : (plan : Settings) (facts : Facts) (call : Call) → KnowsPlan plan → IsSound plan facts → call_on facts.calls call.slot ≡ Some call → call.group ≡ true → IsTarget facts.calls call
 target_is plan facts call p sound stands group =
-    let payload : IsPayload plan facts.up call.slot = sound.payload call.slot (call_stands facts.calls call.slot call stands).0 in
+    let payload : IsPayload plan facts.up call.slot = sound.payload call.slot (call_is_active facts.calls call.slot call stands).0 in
     record { stands = stands; group = group; small = payload.small; within = omega (arith, payload.small, p.numbers call.slot.carrier payload.known) }
 
 pub named_within : TakeTurns → (plan : Settings) (facts : Facts) (journal : List Entry) (call : Call) → IsPlan plan → IsSound plan facts → IsLegal plan facts journal → is_steady journal ≡ true → facts.moving ≡ None → call_on facts.calls call.slot ≡ Some call → call.group ≡ true → 4 * talkgroup_calls facts.calls ≤ fills_in journal → IsFilledWith (grant_pdu plan call true) journal

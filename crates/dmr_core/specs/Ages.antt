@@ -3,8 +3,8 @@ use Rattle.std.specs.Prelude.{ℕ, ◌+◌, List, [], ◌∷◌, Bool, false, �
 use Rattle.std.specs.List.{list_any}
 use Rattle.std.specs.Option.{option_map_or}
 use Rattle.dmr_pdu.specs.declared.slots.Slot.{Slot}
-use Rattle.dmr_calls.specs.declared.ask.Asking.{Asking}
-use Rattle.dmr_calls.specs.declared.call.Standing.{Standing}
+use Rattle.dmr_calls.specs.declared.ask.ActiveAsk.{ActiveAsk}
+use Rattle.dmr_calls.specs.declared.call.ActiveCall.{ActiveCall}
 use Rattle.dmr_calls.specs.Calls.{is_slot}
 use Rattle.dmr_core.specs.declared.event.Event.{Event}
 use Rattle.dmr_core.specs.declared.event.Event.TheVariants.{Active, Tick}
@@ -42,21 +42,21 @@ abbrev pub begins_on : Slot → Entry → Bool
 begins_on slot entry = list_any (is_begin slot) entry.acts.list
 
 -- there was activity on the slot in this entry, or a call began on it
-abbrev pub stirs_on : Slot → Entry → Bool
-stirs_on slot entry = is_active slot entry.event || begins_on slot entry
+abbrev pub is_active_on : Slot → Entry → Bool
+is_active_on slot entry = is_active slot entry.event || begins_on slot entry
 
 -- the radio's request was asked in this entry
 abbrev pub asked_in : ℕ → Entry → Bool
 asked_in radio entry = list_any (is_asked radio) entry.acts.list
 
 -- the age of the call on a slot; 0 if there is none
-abbrev pub age_on : List Standing → Slot → ℕ
-age_on calls slot = option_map_or (λ (s : Standing). s.age) (find (λ s. is_slot s.call.slot slot) calls) 0
+abbrev pub age_on : List ActiveCall → Slot → ℕ
+age_on calls slot = option_map_or (λ (s : ActiveCall). s.age) (find (λ s. is_slot s.call.slot slot) calls) 0
 
 -- the quiet time of the call on a slot; 0 if there is none
-abbrev pub quiet_on : List Standing → Slot → ℕ
-quiet_on calls slot = option_map_or (λ (s : Standing). s.quiet) (find (λ s. is_slot s.call.slot slot) calls) 0
+abbrev pub quiet_on : List ActiveCall → Slot → ℕ
+quiet_on calls slot = option_map_or (λ (s : ActiveCall). s.quiet) (find (λ s. is_slot s.call.slot slot) calls) 0
 
 -- the waiting time of a radio's ask; 0 if it has none
-abbrev pub waited_of : List Asking → ℕ → ℕ
-waited_of asks radio = option_map_or (λ (a : Asking). a.waited) (find (λ a. a.ask.source == radio) asks) 0
+abbrev pub waited_of : List ActiveAsk → ℕ → ℕ
+waited_of asks radio = option_map_or (λ (a : ActiveAsk). a.waited) (find (λ a. a.ask.source == radio) asks) 0

@@ -7,10 +7,10 @@ use Rattle.dmr_plan.specs.Carriers.{has_number_in}
 use Rattle.dmr_registry.specs.Radios.{without}
 use Rattle.dmr_access.specs.Noise.{noise_at_up, with_noise, with_poll}
 use Rattle.dmr_access.specs.Fill.{next_fill_count}
-use Rattle.dmr_calls.specs.declared.ask.Asking.{Asking}
+use Rattle.dmr_calls.specs.declared.ask.ActiveAsk.{ActiveAsk}
 use Rattle.dmr_calls.specs.declared.line.Line.{Line}
-use Rattle.dmr_calls.specs.declared.call.Standing.{Standing}
-use Rattle.dmr_calls.specs.Asks.{new_asking, waited_more, others_than}
+use Rattle.dmr_calls.specs.declared.call.ActiveCall.{ActiveCall}
+use Rattle.dmr_calls.specs.Asks.{new_active_ask, ask_after_tick, others_than}
 use Rattle.dmr_calls.specs.Lines.{without_line}
 use Rattle.dmr_calls.specs.Calls.{just_begun, one_tick_older, with_activity, on_other_slots, on_other_carriers}
 use Rattle.dmr_pdu.specs.Slots.{carriers_of_site, slots_of_site}
@@ -28,9 +28,9 @@ use Rattle.dmr_core.specs.declared.named.NamedSlot.{NamedSlot}
 pub record Facts : Type 0 where
   pub up : List Bool  -- for each carrier number, 0 to 15, whether the carrier is up
   pub registered : List ℕ  -- the registered radios, in the order of Joined
-  pub asks : List Asking  -- the asks, in the order of their last C_AHOY, oldest first
+  pub asks : List ActiveAsk  -- the asks, in the order of their last C_AHOY, oldest first
   pub lines : List Line  -- the lines, in the order of Lined
-  pub calls : List Standing  -- the calls, in the order of Began
+  pub calls : List ActiveCall  -- the calls, in the order of Began
   pub outboxes : List (List Pdu)  -- for each slot, at its place, the PDUs that wait for it, oldest first
   pub noise : List ℕ  -- the Noises on the control slot since the last Poll, between that and the one before, and so on
   pub moving : Option ℕ  -- the channel to which the control channel is to be moved, if it is
@@ -63,15 +63,15 @@ registered_by_act radios (Left r) = without radios r
 registered_by_act radios _ = radios
 
 -- asks by event: the control carrier's Up and Lost close all; a Tick adds one to each waiting time, up to 65,535
-abbrev pub asks_by_event : Settings → List Asking → Event → List Asking
+abbrev pub asks_by_event : Settings → List ActiveAsk → Event → List ActiveAsk
 asks_by_event plan asks (Up c) = if c == plan.control then [] else asks
 asks_by_event plan asks (Lost c) = if c == plan.control then [] else asks
-asks_by_event plan asks Tick = map waited_more asks
+asks_by_event plan asks Tick = map ask_after_tick asks
 asks_by_event plan asks _ = asks
 
 -- asks by act: Asked opens, in place of the ask that its source had; AskOver closes
-abbrev pub asks_by_act : List Asking → Act → List Asking
-asks_by_act asks (Asked ask) = others_than ask.source asks ++ new_asking ask ∷ []
+abbrev pub asks_by_act : List ActiveAsk → Act → List ActiveAsk
+asks_by_act asks (Asked ask) = others_than ask.source asks ++ new_active_ask ask ∷ []
 asks_by_act asks (AskOver r) = others_than r asks
 asks_by_act asks _ = asks
 
@@ -89,7 +89,7 @@ lines_by_act lines _ = lines
 
 -- calls by event: their carrier's Up and Lost close; Active marks the call on its slot; a Tick adds one to ages and quiet times, up
 -- to 65,535
-abbrev pub calls_by_event : List Standing → Event → List Standing
+abbrev pub calls_by_event : List ActiveCall → Event → List ActiveCall
 calls_by_event calls (Up c) = on_other_carriers c calls
 calls_by_event calls (Lost c) = on_other_carriers c calls
 calls_by_event calls (Active slot) = map (with_activity slot) calls
@@ -97,7 +97,7 @@ calls_by_event calls Tick = map one_tick_older calls
 calls_by_event calls _ = calls
 
 -- calls by act: Began opens, Ended closes
-abbrev pub calls_by_act : List Standing → Act → List Standing
+abbrev pub calls_by_act : List ActiveCall → Act → List ActiveCall
 calls_by_act calls (Began call) = calls ++ just_begun call ∷ []
 calls_by_act calls (Ended slot) = on_other_slots slot calls
 calls_by_act calls _ = calls

@@ -16,8 +16,8 @@ answer_after_entries plan facts journal event = record {
 }
 
 -- an entry of an event and its answer, for statements in which the sender does not matter
-abbrev pub entry_by_nobody : Event → Acts → Entry
-entry_by_nobody event acts = record { actor = 0; event = event; acts = acts }
+abbrev pub unattributed_entry : Event → Acts → Entry
+unattributed_entry event acts = record { actor = 0; event = event; acts = acts }
 
 -- each entry's acts and reply are the answer to its event after the entries before it
 abbrev pub IsLegal : Settings → Facts → List Entry → Type 0
@@ -29,7 +29,7 @@ abbrev pub journal_of : Settings → Facts → List Event → List Entry
 journal_of plan facts [] = []
 journal_of plan facts (event ∷ earlier) =
     let journal = journal_of plan facts earlier in
-    entry_by_nobody event (answer_after_entries plan facts journal event) ∷ journal
+    unattributed_entry event (answer_after_entries plan facts journal event) ∷ journal
 
 -- the events of a journal
 abbrev pub events_of : List Entry → List Event

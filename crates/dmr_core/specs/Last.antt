@@ -22,15 +22,15 @@ or_earlier (Some x) earlier = Some x
 or_earlier None earlier = earlier
 
 -- the value that the last act gave, of those that gave one
-abbrev pub last_word : {X : Type 0} → (Act → Option X) → List Act → Option X
-last_word says [] = None
-last_word says (act ∷ acts) = or_earlier (last_word says acts) (says act)
+abbrev pub last_given : {X : Type 0} → (Act → Option X) → List Act → Option X
+last_given says [] = None
+last_given says (act ∷ acts) = or_earlier (last_given says acts) (says act)
 
 -- the value that the last opener or closer gave; if there is none, the value before the journal
-abbrev pub stands : {X : Type 0} → (Event → Option X) → (Act → Option X) → X → List Entry → X
-stands by_event by_act before [] = before
-stands by_event by_act before (entry ∷ earlier) =
-    unwrap_or (or_earlier (last_word by_act entry.acts.list) (by_event entry.event)) (stands by_event by_act before earlier)
+abbrev pub value_after : {X : Type 0} → (Event → Option X) → (Act → Option X) → X → List Entry → X
+value_after by_event by_act before [] = before
+value_after by_event by_act before (entry ∷ earlier) =
+    unwrap_or (or_earlier (last_given by_act entry.acts.list) (by_event entry.event)) (value_after by_event by_act before earlier)
 
 -- no event opens or closes it
 abbrev pub no_event : {X : Type 0} → Event → Option X

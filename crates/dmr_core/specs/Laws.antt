@@ -7,7 +7,7 @@ use Rattle.dmr_pdu.specs.declared.pdu.Pdu.TheVariants.{PvGrant, TvGrant}
 use Rattle.dmr_plan.specs.declared.settings.Settings.{Settings}
 use Rattle.dmr_plan.specs.Plan.{lists_group}
 use Rattle.dmr_calls.specs.declared.call.Call.{Call}
-use Rattle.dmr_calls.specs.declared.call.Standing.{Standing}
+use Rattle.dmr_calls.specs.declared.call.ActiveCall.{ActiveCall}
 use Rattle.dmr_calls.specs.Calls.{call_on}
 use Rattle.dmr_pool.specs.Free.{names}
 use Rattle.dmr_core.specs.declared.event.Event.{Event}
@@ -16,7 +16,7 @@ use Rattle.dmr_core.specs.declared.act.Act.{Act}
 use Rattle.dmr_core.specs.declared.act.Act.TheVariants.{Began, Fill, Queue, Send}
 use Rattle.dmr_core.specs.declared.entry.Entry.{Entry}
 use Rattle.dmr_core.specs.Facts.{Facts, facts_after_act, facts_after, facts_after_event, since}
-use Rattle.dmr_core.specs.Words.{is_registered, is_up, lpcn_of, stands_on}
+use Rattle.dmr_core.specs.Words.{is_registered, is_up, lpcn_of, has_call_on}
 use Rattle.dmr_core.specs.Sound.{is_grant, is_own}
 
 -- P holds for each act and the facts just before it
@@ -31,7 +31,7 @@ Throughout plan facts P (entry ∷ earlier) = EachAct P (facts_after_event plan 
 
 -- a call begins on a slot without a call, of a carrier that is up
 abbrev pub BeginsOnFree : Facts → Act → Type 0
-BeginsOnFree now (Began call) = (stands_on now.calls call.slot ≡ false) × (is_up now call.slot.carrier ≡ true)
+BeginsOnFree now (Began call) = (has_call_on now.calls call.slot ≡ false) × (is_up now call.slot.carrier ≡ true)
 BeginsOnFree now _ = Unit {0}
 
 -- the parties of a grant are registered, and its group is listed
@@ -80,7 +80,7 @@ grants_on plan c (Fill slot pdu) = names_carrier plan c pdu
 grants_on plan c _ = false
 
 -- a call is active on a slot of the carrier
-abbrev pub has_call : List Standing → ℕ → Bool
+abbrev pub has_call : List ActiveCall → ℕ → Bool
 has_call calls c = list_any (λ s. s.call.slot.carrier == c) calls
 
 -- while b is true, no call is active on the carrier, and no act queues a grant that names a slot of it, or sends one as a Fill. A grant

@@ -4,9 +4,9 @@ use Rattle.dmr_pdu.specs.declared.slots.Slot.{Slot}
 use Rattle.dmr_pdu.specs.declared.pdu.Pdu.{Pdu}
 use Rattle.dmr_plan.specs.declared.settings.Settings.{Settings}
 use Rattle.dmr_plan.specs.Plan.{lists_group}
-use Rattle.dmr_calls.specs.declared.ask.Asking.{Asking}
+use Rattle.dmr_calls.specs.declared.ask.ActiveAsk.{ActiveAsk}
 use Rattle.dmr_calls.specs.declared.call.Call.{Call}
-use Rattle.dmr_calls.specs.declared.call.Standing.{Standing}
+use Rattle.dmr_calls.specs.declared.call.ActiveCall.{ActiveCall}
 use Rattle.dmr_calls.specs.Asks.{others_than}
 use Rattle.dmr_calls.specs.Calls.{call_on}
 use Rattle.dmr_registry.specs.Limits.{most_radios}
@@ -16,19 +16,19 @@ use Rattle.dmr_pool.specs.Free.{control_slot}
 use Rattle.dmr_core.specs.declared.act.Act.{Act}
 use Rattle.dmr_core.specs.declared.act.Act.TheVariants.{Asked, Began, Fill, Joined, Left, Lined, Queue, Send}
 use Rattle.dmr_core.specs.Facts.{Facts, facts_after_act}
-use Rattle.dmr_core.specs.Words.{is_free, is_registered, is_up, outbox, stands_on}
+use Rattle.dmr_core.specs.Words.{is_free, is_registered, is_up, outbox, has_call_on}
 use Rattle.dmr_core.specs.Rules.{grant_pdu, late_entry}
 use Rattle.dmr_core.specs.Sound.{engagements, is_grant, party}
 
 -- the PDU is the grant of an active call
-pub record IsGrantOf (plan : Settings) (calls : List Standing) (pdu : Pdu) : Type 0 where
+pub record IsGrantOf (plan : Settings) (calls : List ActiveCall) (pdu : Pdu) : Type 0 where
   pub call : Call
   pub late : Bool
   pub stands : call_on calls call.slot ≡ Some call
   pub is : pdu ≡ grant_pdu plan call late
 
 -- the PDU, if it is a grant, is on the control slot and is that of an active call
-abbrev pub MayName : Settings → List Standing → Slot → Pdu → Bool → Type 0
+abbrev pub MayName : Settings → List ActiveCall → Slot → Pdu → Bool → Type 0
 MayName plan calls slot pdu true = (slot ≡ control_slot plan) × IsGrantOf plan calls pdu
 MayName plan calls slot pdu false = Unit {0}
 
@@ -47,12 +47,12 @@ pub record MayFill (plan : Settings) (now : Facts) (slot : Slot) (pdu : Pdu) : T
 pub record MayQueue (plan : Settings) (now : Facts) (slot : Slot) (pdu : Pdu) : Type 0 where
   pub up : is_up now slot.carrier ≡ true
   pub small : slot.slot < 2
-  pub none : stands_on now.calls slot ≡ false
+  pub none : has_call_on now.calls slot ≡ false
   pub room : length (outbox now slot) < most_pdus_of_a_slot
   pub names : MayName plan now.calls slot pdu (is_grant pdu)
 
 -- a new call, line or ask may engage its parties: they are registered and not engaged, and its group is listed
-pub record MayEngage (plan : Settings) (now : Facts) (asks : List Asking) (group : Bool) (source target : ℕ) : Type 0 where
+pub record MayEngage (plan : Settings) (now : Facts) (asks : List ActiveAsk) (group : Bool) (source target : ℕ) : Type 0 where
   pub parties : (r : ℕ) → 0 < party r group source target → is_registered now r ≡ true
   pub once : (r : ℕ) → engagements now.calls asks now.lines r + party r group source target ≤ 1
   pub listed : group ≡ true → lists_group plan target ≡ true

@@ -2,9 +2,9 @@
 use Rattle.std.specs.Prelude.{◌≡◌, ℕ, List, [], ◌∷◌, ◌++◌, Bool, if◌then◌else◌, filter, flat_map, map}
 use Rattle.std.specs.List.{list_any}
 use Rattle.dmr_pdu.specs.declared.slots.Slot.{Slot}
-use Rattle.dmr_calls.specs.declared.ask.Asking.{Asking}
+use Rattle.dmr_calls.specs.declared.ask.ActiveAsk.{ActiveAsk}
 use Rattle.dmr_calls.specs.declared.line.Line.{Line}
-use Rattle.dmr_calls.specs.declared.call.Standing.{Standing}
+use Rattle.dmr_calls.specs.declared.call.ActiveCall.{ActiveCall}
 use Rattle.dmr_core.specs.declared.act.Act.{Act}
 use Rattle.dmr_core.specs.declared.act.Act.TheVariants.{Asked, Began, Joined, Lined}
 use Rattle.dmr_core.specs.declared.entry.Entry.{Entry}
@@ -30,16 +30,16 @@ begun_by (Began call) = call.slot ∷ []
 begun_by _ = []
 
 -- the sources of asks
-abbrev pub sources_of_asks : List Asking → List ℕ
-sources_of_asks asks = map (λ (a : Asking). a.ask.source) asks
+abbrev pub sources_of_asks : List ActiveAsk → List ℕ
+sources_of_asks asks = map (λ (a : ActiveAsk). a.ask.source) asks
 
 -- the sources of lines
 abbrev pub sources_of_lines : List Line → List ℕ
 sources_of_lines lines = map (λ (l : Line). l.source) lines
 
 -- the slots of calls
-abbrev pub slots_of_calls : List Standing → List Slot
-slots_of_calls calls = map (λ (s : Standing). s.call.slot) calls
+abbrev pub slots_of_calls : List ActiveCall → List Slot
+slots_of_calls calls = map (λ (s : ActiveCall). s.call.slot) calls
 
 -- the values before the journal, followed by those that its acts opened, oldest first
 abbrev pub with_openings : {X : Type 0} → (Act → List X) → List X → List Entry → List X

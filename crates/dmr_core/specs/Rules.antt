@@ -14,7 +14,7 @@ use Rattle.dmr_access.specs.Fill.{fill_of, is_late_due}
 use Rattle.dmr_calls.specs.declared.ask.Ask.{Ask}
 use Rattle.dmr_calls.specs.declared.line.Line.{Line}
 use Rattle.dmr_calls.specs.declared.call.Call.{Call}
-use Rattle.dmr_calls.specs.declared.call.Standing.{Standing}
+use Rattle.dmr_calls.specs.declared.call.ActiveCall.{ActiveCall}
 use Rattle.dmr_calls.specs.Limits.{most_asks, most_lines}
 use Rattle.dmr_calls.specs.Asks.{ask_of, ask_to, has_own_ask}
 use Rattle.dmr_calls.specs.Lines.{first_line, page_of_lines, line_of, line_to, has_group_line, has_own_group_line, has_own_line}
@@ -35,7 +35,7 @@ use Rattle.dmr_core.specs.declared.act.Act.TheVariants.{Queue, Send, Fill, Joine
 use Rattle.dmr_core.specs.Facts.{Facts, asks_by_event, calls_by_event, has_carrier}
 use Rattle.dmr_core.specs.Late.{next_call}
 use Rattle.dmr_core.specs.Displays.{all_slot_states, calls_on_carrier}
-use Rattle.dmr_core.specs.Words.{is_up, outbox, lpcn_of, lowest_free, slot_for_new, has_room, is_registered, is_engaged}
+use Rattle.dmr_core.specs.Words.{is_up, outbox, lpcn_of, lowest_free, slot_for_new_call, has_room, is_registered, is_engaged}
 
 -- C_ACKD to the source, with this reason, that names the target
 abbrev pub ack : Settings → ℕ → ℕ → ℕ → List Act
@@ -99,7 +99,7 @@ acts_for_registration plan now q =
 -- begins the call if a slot is free and there is no line; otherwise adds the line, or refuses it if there are 32
 unfoldable pub acts_for_new_call : Settings → Facts → Line → List Act
 acts_for_new_call plan now line =
-    option_map_or (λ (slot : Slot). begin plan (call_of_line line slot)) (slot_for_new plan now)
+    option_map_or (λ (slot : Slot). begin plan (call_of_line line slot)) (slot_for_new_call plan now)
     (if nat_lt (length now.lines) most_lines then Lined line ∷ ack plan line.source line.target queued_for_resource else ack plan line.source line.target sysbusy_refused)
 
 -- the acts for a talkgroup request, by the first row that applies
@@ -177,7 +177,7 @@ acts_for_due_ask plan now =
     (due_ask plan.ahoy_wait now.asks) []
 
 -- the first call that is over is cleared
-unfoldable pub acts_for_due_call : Settings → List Standing → List Act
+unfoldable pub acts_for_due_call : Settings → List ActiveCall → List Act
 acts_for_due_call plan calls = option_map_or (λ (slot : Slot). option_map_or (λ (call : Call). clear plan call) (call_on calls slot) []) (due_call plan.hang plan.maximum calls) []
 
 -- the acts for a Tick, which has been counted

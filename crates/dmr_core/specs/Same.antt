@@ -11,7 +11,7 @@ use Rattle.dmr_calls.specs.Same.{are_same as are_same_standings, are_same-Decide
 use Rattle.dmr_pool.specs.Same.{beq-Decides, are_same_pdus, are_same_pdus-Decides}
 use Rattle.dmr_core.specs.declared.named.NamedSlot.{NamedSlot}
 use Rattle.dmr_core.specs.State.{SiteState}
-use Rattle.dmr_core.specs.Words.{standings}
+use Rattle.dmr_core.specs.Words.{active_lists}
 
 -- two numbers, each of which may be missing, are the same
 abbrev pub is_same_option : Option ℕ → Option ℕ → Bool
@@ -29,7 +29,7 @@ is_same_named a b = false
 abbrev pub are_same : SiteState → SiteState → Bool
 are_same a b =
     are_same_plans a.plan b.plan && pointwise beq a.facts.up b.facts.up && pointwise nat_eq a.facts.registered b.facts.registered
-    && are_same_standings (standings a.facts) (standings b.facts) && pointwise are_same_pdus a.facts.outboxes b.facts.outboxes && (pointwise nat_eq a.facts.noise b.facts.noise && nat_eq a.facts.fills b.facts.fills)
+    && are_same_standings (active_lists a.facts) (active_lists b.facts) && pointwise are_same_pdus a.facts.outboxes b.facts.outboxes && (pointwise nat_eq a.facts.noise b.facts.noise && nat_eq a.facts.fills b.facts.fills)
     && is_same_option a.facts.moving b.facts.moving && is_same_named a.facts.late b.facts.late
 
 -- the number, 0 if it is missing
@@ -52,7 +52,7 @@ is_same_named-Decides None (Some b) = (λ h. cc, λ e. cc)
 is_same_named-Decides (Some a) None = (λ h. cc, λ e. cc)
 
 -- two sites are the same if their parts are
-same_parts : (a b : SiteState) → a.plan ≡ b.plan → a.facts.up ≡ b.facts.up → a.facts.registered ≡ b.facts.registered → standings a.facts ≡ standings b.facts → a.facts.outboxes ≡ b.facts.outboxes → a.facts.noise ≡ b.facts.noise → a.facts.fills ≡ b.facts.fills → a.facts.moving ≡ b.facts.moving → a.facts.late ≡ b.facts.late → a ≡ b
+same_parts : (a b : SiteState) → a.plan ≡ b.plan → a.facts.up ≡ b.facts.up → a.facts.registered ≡ b.facts.registered → active_lists a.facts ≡ active_lists b.facts → a.facts.outboxes ≡ b.facts.outboxes → a.facts.noise ≡ b.facts.noise → a.facts.fills ≡ b.facts.fills → a.facts.moving ≡ b.facts.moving → a.facts.late ≡ b.facts.late → a ≡ b
 same_parts a b plan up registered stands outboxes noise fills moving late = λ i. record {
   plan = plan i;
   facts = record { up = up i; registered = registered i; asks = (stands i).asks; lines = (stands i).lines; calls = (stands i).calls; outboxes = outboxes i; noise = noise i; moving = moving i; fills = fills i; late = late i };
@@ -64,7 +64,7 @@ are_same-Decides a b =
     let plan = are_same_plans-Decides a.plan b.plan in
     let up = pointwise_decides beq-Decides a.facts.up b.facts.up in
     let registered = bytes_decides a.facts.registered b.facts.registered in
-    let stands = are_same_standings-Decides (standings a.facts) (standings b.facts) in
+    let stands = are_same_standings-Decides (active_lists a.facts) (active_lists b.facts) in
     let outboxes = pointwise_decides are_same_pdus-Decides a.facts.outboxes b.facts.outboxes in
     let noise = bytes_decides a.facts.noise b.facts.noise in
     let moving = is_same_option-Decides a.facts.moving b.facts.moving in
@@ -72,7 +72,7 @@ are_same-Decides a b =
     let late = is_same_named-Decides a.facts.late b.facts.late in
     let d = Decides-and _ _ (Decides-and _ _ (Decides-and _ _ (Decides-and _ _ (Decides-and _ _ (Decides-and _ _ (Decides-and _ _ plan up) registered) stands) outboxes) access) moving) late in (
       λ h. let e = d.0 h in same_parts a b e.0.0.0.0.0.0.0 e.0.0.0.0.0.0.1 e.0.0.0.0.0.1 e.0.0.0.0.1 e.0.0.0.1 e.0.0.1.0 e.0.0.1.1 e.0.1 e.1,
-      λ e. d.1 (((((((ap (λ (s : SiteState). s.plan) e, ap (λ (s : SiteState). s.facts.up) e), ap (λ (s : SiteState). s.facts.registered) e), ap (λ (s : SiteState). standings s.facts) e), ap (λ (s : SiteState). s.facts.outboxes) e), (ap (λ (s : SiteState). s.facts.noise) e, ap (λ (s : SiteState). s.facts.fills) e)), ap (λ (s : SiteState). s.facts.moving) e), ap (λ (s : SiteState). s.facts.late) e),
+      λ e. d.1 (((((((ap (λ (s : SiteState). s.plan) e, ap (λ (s : SiteState). s.facts.up) e), ap (λ (s : SiteState). s.facts.registered) e), ap (λ (s : SiteState). active_lists s.facts) e), ap (λ (s : SiteState). s.facts.outboxes) e), (ap (λ (s : SiteState). s.facts.noise) e, ap (λ (s : SiteState). s.facts.fills) e)), ap (λ (s : SiteState). s.facts.moving) e), ap (λ (s : SiteState). s.facts.late) e),
     )
 
 -- the test is an equivalence

@@ -7,10 +7,10 @@ use Rattle.dmr_pdu.specs.declared.pdu.Pdu.TheVariants.{PvGrant, TvGrant}
 use Rattle.dmr_plan.specs.declared.settings.Settings.{Settings}
 use Rattle.dmr_plan.specs.Plan.{lists_group}
 use Rattle.dmr_registry.specs.Radios.{AreDistinct}
-use Rattle.dmr_calls.specs.declared.ask.Asking.{Asking}
+use Rattle.dmr_calls.specs.declared.ask.ActiveAsk.{ActiveAsk}
 use Rattle.dmr_calls.specs.declared.line.Line.{Line}
 use Rattle.dmr_calls.specs.declared.call.Call.{Call}
-use Rattle.dmr_calls.specs.declared.call.Standing.{Standing}
+use Rattle.dmr_calls.specs.declared.call.ActiveCall.{ActiveCall}
 use Rattle.dmr_calls.specs.Calls.{call_on}
 use Rattle.dmr_calls.specs.Lines.{has_group_line}
 use Rattle.dmr_registry.specs.Limits.{most_radios}
@@ -20,12 +20,12 @@ use Rattle.dmr_pdu.specs.Slots.{carriers_of_site, slots_of_site}
 use Rattle.dmr_pool.specs.Limits.{most_pdus_of_a_slot}
 use Rattle.dmr_pool.specs.Free.{control_slot, is_control}
 use Rattle.dmr_core.specs.Facts.{Facts, has_carrier}
-use Rattle.dmr_core.specs.Words.{is_up, outbox, lpcn_of, is_registered, stands_on}
+use Rattle.dmr_core.specs.Words.{is_up, outbox, lpcn_of, is_registered, has_call_on}
 
 -- no two calls are on one slot
-abbrev pub AreOnDistinctSlots : List Standing → Type 0
+abbrev pub AreOnDistinctSlots : List ActiveCall → Type 0
 AreOnDistinctSlots [] = Unit {0}
-AreOnDistinctSlots (s ∷ calls) = (stands_on calls s.call.slot ≡ false) × AreOnDistinctSlots calls
+AreOnDistinctSlots (s ∷ calls) = (has_call_on calls s.call.slot ≡ false) × AreOnDistinctSlots calls
 
 -- the sum of f over a list
 abbrev pub total : {X : Type 0} → (X → ℕ) → List X → ℕ
@@ -37,7 +37,7 @@ abbrev pub party : ℕ → Bool → ℕ → ℕ → ℕ
 party r group source target = cond (source == r) 1 0 + cond (not group && (target == r)) 1 0
 
 -- how often a radio is a party of a call
-abbrev pub engagements_in_call : ℕ → Standing → ℕ
+abbrev pub engagements_in_call : ℕ → ActiveCall → ℕ
 engagements_in_call r s = party r s.call.group s.call.source s.call.target
 
 -- how often a radio is a party of a line
@@ -45,15 +45,15 @@ abbrev pub engagements_in_line : ℕ → Line → ℕ
 engagements_in_line r l = party r l.group l.source l.target
 
 -- how often a radio is a party of an ask
-abbrev pub engagements_in_ask : ℕ → Asking → ℕ
+abbrev pub engagements_in_ask : ℕ → ActiveAsk → ℕ
 engagements_in_ask r a = party r false a.ask.source a.ask.target
 
 -- how often a radio is engaged by calls, asks and lines
-abbrev pub engagements : List Standing → List Asking → List Line → ℕ → ℕ
+abbrev pub engagements : List ActiveCall → List ActiveAsk → List Line → ℕ → ℕ
 engagements calls asks lines r = total (engagements_in_call r) calls + total (engagements_in_ask r) asks + total (engagements_in_line r) lines
 
 -- a call to the talkgroup is active
-abbrev pub has_group_call : List Standing → ℕ → Bool
+abbrev pub has_group_call : List ActiveCall → ℕ → Bool
 has_group_call calls group = list_any (λ s. s.call.group && (s.call.target == group)) calls
 
 -- the PDU is a grant: PV_GRANT or TV_GRANT
@@ -85,8 +85,8 @@ pub record IsSound (plan : Settings) (facts : Facts) : Type 0 where
   pub known : (c : ℕ) → is_up facts c ≡ true → has_carrier plan c ≡ true
   -- calls are on distinct payload slots whose outboxes are empty; asks and lines exist only while the control carrier is up
   pub apart : AreOnDistinctSlots facts.calls
-  pub payload : (slot : Slot) → stands_on facts.calls slot ≡ true → IsPayload plan facts.up slot
-  pub quiet : (slot : Slot) → stands_on facts.calls slot ≡ true → outbox facts slot ≡ []
+  pub payload : (slot : Slot) → has_call_on facts.calls slot ≡ true → IsPayload plan facts.up slot
+  pub quiet : (slot : Slot) → has_call_on facts.calls slot ≡ true → outbox facts slot ≡ []
   pub asks : is_up facts plan.control ≡ false → facts.asks ≡ []
   pub lines : is_up facts plan.control ≡ false → facts.lines ≡ []
   -- no radio is registered twice; parties are registered and groups listed, and each radio is engaged at most once

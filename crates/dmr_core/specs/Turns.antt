@@ -4,7 +4,7 @@ use Rattle.std.specs.List.{list_all}
 use Rattle.dmr_pdu.specs.declared.pdu.Pdu.{Pdu}
 use Rattle.dmr_plan.specs.declared.settings.Settings.{Settings}
 use Rattle.dmr_calls.specs.declared.call.Call.{Call}
-use Rattle.dmr_calls.specs.declared.call.Standing.{Standing}
+use Rattle.dmr_calls.specs.declared.call.ActiveCall.{ActiveCall}
 use Rattle.dmr_calls.specs.Calls.{call_on}
 use Rattle.dmr_core.specs.declared.event.Event.{Event}
 use Rattle.dmr_core.specs.declared.event.Event.TheVariants.{Up, Lost, Say}
@@ -23,16 +23,16 @@ FillsInTurn plan now (Fill slot pdu) = late_entry_of_fill pdu ≡ late_entry pla
 FillsInTurn plan now _ = Unit {0}
 
 -- the PDU is the late grant of an active talkgroup call
-pub record IsLateOf (plan : Settings) (calls : List Standing) (pdu : Pdu) : Type 0 where
+pub record IsLateOf (plan : Settings) (calls : List ActiveCall) (pdu : Pdu) : Type 0 where
   pub call : Call
   pub stands : call_on calls call.slot ≡ Some call
   pub group : call.group ≡ true
   pub is : pdu ≡ grant_pdu plan call true
 
 -- a Fill that is a grant is the late grant of an active talkgroup call
-abbrev pub NamesStanding : Settings → Facts → Act → Type 0
-NamesStanding plan now (Fill slot pdu) = is_grant pdu ≡ true → IsLateOf plan now.calls pdu
-NamesStanding plan now _ = Unit {0}
+abbrev pub NamesActiveCall : Settings → Facts → Act → Type 0
+NamesActiveCall plan now (Fill slot pdu) = is_grant pdu ≡ true → IsLateOf plan now.calls pdu
+NamesActiveCall plan now _ = Unit {0}
 
 -- 1 for a Fill, else 0
 abbrev pub fill_in : Act → ℕ
@@ -73,8 +73,8 @@ abbrev pub is_steady : List Entry → Bool
 is_steady journal = list_all (λ (entry : Entry). is_steady_event entry.event && list_all is_steady_act entry.acts.list) journal
 
 -- the number of active talkgroup calls
-abbrev pub talkgroup_calls : List Standing → ℕ
-talkgroup_calls calls = length (filter (λ (s : Standing). s.call.group) calls)
+abbrev pub talkgroup_calls : List ActiveCall → ℕ
+talkgroup_calls calls = length (filter (λ (s : ActiveCall). s.call.group) calls)
 
 -- the act sends the PDU as a Fill
 abbrev pub IsFillOf : Pdu → Act → Type 0

@@ -82,7 +82,7 @@ impl Acts {
 
     /// Reports whether the two are the same answer: the same acts in the same order, and the same reply. It returns what `==`
     /// returns, with a contract.
-    pub fn is(&self, other: &Acts) -> bool
+    pub fn equals(&self, other: &Acts) -> bool
         ensures { IsTrue result ↔ (self.now ≡ other.now) }
     {
         self == other

@@ -28,7 +28,7 @@ pub enum Event {
 
 impl Event {
     /// Reports whether the two are the same event. It returns what `==` returns, with a contract.
-    pub fn is(&self, other: &Event) -> bool
+    pub fn equals(&self, other: &Event) -> bool
         ensures { IsTrue result ↔ (self.now ≡ other.now) }
     {
         self == other

@@ -24,12 +24,12 @@ ghost use Rattle.dmr_core.specs.Laws.{BeginsOnFree, GrantsKnown, QuietAfterReset
 ghost use Rattle.dmr_access.specs.Limits.{late_entry_interval};
 ghost use Rattle.dmr_access.specs.Noise.{backoff_of};
 ghost use Rattle.dmr_core.specs.Backoff.{recent_noises};
-ghost use Rattle.dmr_core.specs.Ages.{age_on, quiet_on, waited_of, begins_on, stirs_on, asked_in, ticks_since};
+ghost use Rattle.dmr_core.specs.Ages.{age_on, quiet_on, waited_of, begins_on, is_active_on, asked_in, ticks_since};
 ghost use Rattle.dmr_core.specs.Orders.{IsInOrder, with_openings, joined_by, asked_by, lined_by, begun_by, sources_of_asks, sources_of_lines, slots_of_calls};
 ghost use Rattle.dmr_core.specs.Down.{IsOfNoCarrier};
 ghost use Rattle.dmr_core.specs.Waiting.{queued_by, sent_by, since_turn};
-ghost use Rattle.dmr_core.specs.Turns.{FillsInTurn, NamesStanding, IsFilledWith, fills_in, fills_since, is_steady, talkgroup_calls};
-ghost use Rattle.dmr_core.specs.Last.{stands, closed_with, no_event, no_act, of_ask, of_call, of_carrier, of_late, of_line, of_move, of_registration};
+ghost use Rattle.dmr_core.specs.Turns.{FillsInTurn, NamesActiveCall, IsFilledWith, fills_in, fills_since, is_steady, talkgroup_calls};
+ghost use Rattle.dmr_core.specs.Last.{value_after, closed_with, no_event, no_act, of_ask, of_call, of_carrier, of_late, of_line, of_move, of_registration};
 
 use crate::machine::MOST_WITH_ROOM;
 use dmr_calls::talkgroup_calls_take_turns;
@@ -88,14 +88,14 @@ pub fn each_act_is_safe()
 /// accepted plan and sound facts, such as those of a site. For other facts, `up_within` covers each number that has a place in
 /// them, and each that the plan does not have.
 pub fn decided_by_the_last()
-    ensures registered { (plan : Settings) (facts : Facts) (journal : List Entry) (radio : ℕ) → is_registered (facts_after plan facts journal) radio ≡ stands no_event (of_registration radio) (is_registered facts radio) journal }
-    ensures up { (plan : Settings) (facts : Facts) (journal : List Entry) (carrier : ℕ) → IsPlan plan → IsSound plan facts → is_up (facts_after plan facts journal) carrier ≡ stands (of_carrier plan carrier) no_act (is_up facts carrier) journal }
-    ensures up_within { (plan : Settings) (facts : Facts) (journal : List Entry) (carrier : ℕ) → (has_carrier plan carrier ≡ true → carrier < length facts.up) → is_up (facts_after plan facts journal) carrier ≡ stands (of_carrier plan carrier) no_act (is_up facts carrier) journal }
-    ensures moving { (plan : Settings) (facts : Facts) (journal : List Entry) → (facts_after plan facts journal).moving ≡ stands of_move no_act facts.moving journal }
-    ensures ask { (plan : Settings) (facts : Facts) (journal : List Entry) (radio : ℕ) → ask_of (facts_after plan facts journal).asks radio ≡ stands (closed_with plan.control) (of_ask radio) (ask_of facts.asks radio) journal }
-    ensures line { (plan : Settings) (facts : Facts) (journal : List Entry) (radio : ℕ) → IsPlan plan → IsSound plan facts → IsLegal plan facts journal → line_of (facts_after plan facts journal).lines radio ≡ stands (closed_with plan.control) (of_line radio) (line_of facts.lines radio) journal }
-    ensures call { (plan : Settings) (facts : Facts) (journal : List Entry) (slot : Slot) → IsPlan plan → IsSound plan facts → IsLegal plan facts journal → call_on (facts_after plan facts journal).calls slot ≡ stands (closed_with slot.carrier) (of_call slot) (call_on facts.calls slot) journal }
-    ensures late { (plan : Settings) (facts : Facts) (journal : List Entry) → (facts_after plan facts journal).late ≡ stands (closed_with plan.control) of_late facts.late journal }
+    ensures registered { (plan : Settings) (facts : Facts) (journal : List Entry) (radio : ℕ) → is_registered (facts_after plan facts journal) radio ≡ value_after no_event (of_registration radio) (is_registered facts radio) journal }
+    ensures up { (plan : Settings) (facts : Facts) (journal : List Entry) (carrier : ℕ) → IsPlan plan → IsSound plan facts → is_up (facts_after plan facts journal) carrier ≡ value_after (of_carrier plan carrier) no_act (is_up facts carrier) journal }
+    ensures up_within { (plan : Settings) (facts : Facts) (journal : List Entry) (carrier : ℕ) → (has_carrier plan carrier ≡ true → carrier < length facts.up) → is_up (facts_after plan facts journal) carrier ≡ value_after (of_carrier plan carrier) no_act (is_up facts carrier) journal }
+    ensures moving { (plan : Settings) (facts : Facts) (journal : List Entry) → (facts_after plan facts journal).moving ≡ value_after of_move no_act facts.moving journal }
+    ensures ask { (plan : Settings) (facts : Facts) (journal : List Entry) (radio : ℕ) → ask_of (facts_after plan facts journal).asks radio ≡ value_after (closed_with plan.control) (of_ask radio) (ask_of facts.asks radio) journal }
+    ensures line { (plan : Settings) (facts : Facts) (journal : List Entry) (radio : ℕ) → IsPlan plan → IsSound plan facts → IsLegal plan facts journal → line_of (facts_after plan facts journal).lines radio ≡ value_after (closed_with plan.control) (of_line radio) (line_of facts.lines radio) journal }
+    ensures call { (plan : Settings) (facts : Facts) (journal : List Entry) (slot : Slot) → IsPlan plan → IsSound plan facts → IsLegal plan facts journal → call_on (facts_after plan facts journal).calls slot ≡ value_after (closed_with slot.carrier) (of_call slot) (call_on facts.calls slot) journal }
+    ensures late { (plan : Settings) (facts : Facts) (journal : List Entry) → (facts_after plan facts journal).late ≡ value_after (closed_with plan.control) of_late facts.late journal }
 {}
 
 /// Late entries name the talkgroup calls in turn.
@@ -106,7 +106,7 @@ pub fn decided_by_the_last()
 /// channel is not to be moved.
 pub fn late_entries_take_turns()
     ensures due { (plan : Settings) (facts : Facts) (journal : List Entry) → IsPlan plan → IsSound plan facts → IsLegal plan facts journal → Throughout plan facts (FillsInTurn plan) journal }
-    ensures stands { (plan : Settings) (facts : Facts) (journal : List Entry) → IsPlan plan → IsSound plan facts → IsLegal plan facts journal → Throughout plan facts (NamesStanding plan) journal }
+    ensures stands { (plan : Settings) (facts : Facts) (journal : List Entry) → IsPlan plan → IsSound plan facts → IsLegal plan facts journal → Throughout plan facts (NamesActiveCall plan) journal }
     ensures counted { (plan : Settings) (facts : Facts) (journal : List Entry) → facts.fills < late_entry_interval → (facts_after plan facts journal).fills ≡ fills_since plan facts.fills journal % late_entry_interval }
     ensures named { (plan : Settings) (facts : Facts) (journal : List Entry) (call : Call) → IsPlan plan → IsSound plan facts → IsLegal plan facts journal → is_steady journal ≡ true → facts.moving ≡ None → call_on facts.calls call.slot ≡ Some call → call.group ≡ true → late_entry_interval * talkgroup_calls facts.calls ≤ fills_in journal → IsFilledWith (grant_pdu plan call true) journal }
 {
@@ -142,7 +142,7 @@ pub fn backoff_counts_noises()
 /// (`before`). The clause on waiting times holds in every journal, legal or not.
 pub fn ages_count_ticks()
     ensures age { (plan : Settings) (facts : Facts) (journal : List Entry) (slot : Slot) (call : Call) → IsPlan plan → IsSound plan facts → IsLegal plan facts journal → call_on (facts_after plan facts journal).calls slot ≡ Some call → age_on (facts_after plan facts journal).calls slot ≡ min most_ticks (ticks_since (begins_on slot) (age_on facts.calls slot) journal) }
-    ensures quiet { (plan : Settings) (facts : Facts) (journal : List Entry) (slot : Slot) (call : Call) → IsPlan plan → IsSound plan facts → IsLegal plan facts journal → call_on (facts_after plan facts journal).calls slot ≡ Some call → quiet_on (facts_after plan facts journal).calls slot ≡ min most_ticks (ticks_since (stirs_on slot) (quiet_on facts.calls slot) journal) }
+    ensures quiet { (plan : Settings) (facts : Facts) (journal : List Entry) (slot : Slot) (call : Call) → IsPlan plan → IsSound plan facts → IsLegal plan facts journal → call_on (facts_after plan facts journal).calls slot ≡ Some call → quiet_on (facts_after plan facts journal).calls slot ≡ min most_ticks (ticks_since (is_active_on slot) (quiet_on facts.calls slot) journal) }
     ensures waited { (plan : Settings) (facts : Facts) (journal : List Entry) (radio : ℕ) (ask : Ask) → waited_of facts.asks radio ≤ most_ticks → ask_of (facts_after plan facts journal).asks radio ≡ Some ask → waited_of (facts_after plan facts journal).asks radio ≡ min most_ticks (ticks_since (asked_in radio) (waited_of facts.asks radio) journal) }
     ensures before { (plan : Settings) (facts : Facts) (slot : Slot) (radio : ℕ) → IsSound plan facts → (age_on facts.calls slot ≤ most_ticks) × (quiet_on facts.calls slot ≤ most_ticks) × (waited_of facts.asks radio ≤ most_ticks) }
 {}
@@ -152,7 +152,7 @@ pub fn ages_count_ticks()
 ///
 /// Those of the facts before the journal come first, in their own order. For asks this holds in every journal from sound facts,
 /// legal or not.
-pub fn stand_in_order()
+pub fn lists_are_in_order()
     ensures registered { (plan : Settings) (facts : Facts) (journal : List Entry) → IsPlan plan → IsSound plan facts → IsLegal plan facts journal → IsInOrder ◌==◌ (with_openings joined_by facts.registered journal) (facts_after plan facts journal).registered }
     ensures asks { (plan : Settings) (facts : Facts) (journal : List Entry) → IsSound plan facts → IsInOrder ◌==◌ (with_openings asked_by (sources_of_asks facts.asks) journal) (sources_of_asks (facts_after plan facts journal).asks) }
     ensures lines { (plan : Settings) (facts : Facts) (journal : List Entry) → IsPlan plan → IsSound plan facts → IsLegal plan facts journal → IsInOrder ◌==◌ (with_openings lined_by (sources_of_lines facts.lines) journal) (sources_of_lines (facts_after plan facts journal).lines) }

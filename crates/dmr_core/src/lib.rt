@@ -22,8 +22,8 @@ pub use entry::Entry;
 pub use event::Event;
 pub use laws::{
     ages_count_ticks, backoff_counts_noises, decided_by_the_last, each_act_is_safe,
-    facts_stay_sound, late_entries_take_turns, limits_are_stated, no_carrier_no_change,
-    one_legal_journal, sent_in_order, stand_in_order,
+    facts_stay_sound, late_entries_take_turns, limits_are_stated, lists_are_in_order,
+    no_carrier_no_change, one_legal_journal, sent_in_order,
 };
 pub use reply::{Reply, SlotState, State};
 pub use site::Site;

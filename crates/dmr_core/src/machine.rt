@@ -5,7 +5,7 @@ ghost use Rattle.dmr_core.specs.declared.event.Event.TheVariants.{Up, Lost, Hear
 ghost use Rattle.dmr_core.specs.Facts.{facts_after, facts_after_event, facts_after_act, no_facts};
 ghost use Rattle.dmr_core.specs.Rules.{acts_of, answer_to_command};
 ghost use Rattle.dmr_core.specs.Replies.{reply_to};
-ghost use Rattle.dmr_core.specs.Journal.{entry_by_nobody};
+ghost use Rattle.dmr_core.specs.Journal.{unattributed_entry};
 ghost use Rattle.dmr_core.specs.declared.act.Act.TheVariants.{Began, Ended};
 ghost use Rattle.dmr_pool.specs.Slots.{IsSlot};
 ghost use Rattle.dmr_core.specs.May.{MayBegin, MayDo, AllMayDo};
@@ -13,9 +13,9 @@ ghost use Rattle.dmr_core.specs.Same.{are_same};
 
 mod acts;
 mod console;
-mod heard;
 mod late;
 mod poll;
+mod radio_pdus;
 mod slots;
 mod tick;
 
@@ -61,7 +61,7 @@ impl Model for Machine {
 }
 
 /// Does nothing. A proof calls it to use that the numbers of a slot are in their ranges.
-fn numbers_of(slot: &Slot)
+fn slot_is_in_range(slot: &Slot)
     ensures { IsSlot slot.now }
 {
     let _ = (slot.carrier.get(), slot.slot.get());
@@ -119,15 +119,15 @@ impl Machine {
     #[tactic(auto, using(crate::proofs::HeldLemmas::lost))]
     // Out of line: an event of another kind then does not clear this function's locals.
     #[inline(never)]
-    fn came_up(&mut self, carrier: CarrierNo)
+    fn apply_up(&mut self, carrier: CarrierNo)
         ensures { self.new ≡ record { plan = self.old.plan; facts = facts_after_event self.old.plan self.old.facts (Up carrier) } }
     {
-        self.pool.keeps();
-        self.calls.end_of_carrier(carrier);
+        self.pool.use_invariant();
+        self.calls.end_calls_of_carrier(carrier);
         if self.plan.carrier_with(carrier).is_some() {
             self.pool.up(carrier);
         } else {
-            self.pool.empty(carrier);
+            self.pool.empty_carrier(carrier);
         }
         if carrier == self.plan.control() {
             self.calls.clear_waiting();
@@ -141,11 +141,11 @@ impl Machine {
     #[tactic(auto, using(crate::proofs::HeldLemmas::lost))]
     // Out of line: an event of another kind then does not clear this function's locals.
     #[inline(never)]
-    fn lost(&mut self, lost: CarrierNo)
+    fn apply_lost(&mut self, lost: CarrierNo)
         ensures { self.new ≡ record { plan = self.old.plan; facts = facts_after_event self.old.plan self.old.facts (Lost lost) } }
     {
-        self.pool.keeps();
-        self.calls.end_of_carrier(lost);
+        self.pool.use_invariant();
+        self.calls.end_calls_of_carrier(lost);
         self.pool.lost(lost);
         if lost == self.plan.control() {
             self.calls.clear_waiting();
@@ -156,12 +156,12 @@ impl Machine {
 
     /// Applies an event to the facts, without its acts.
     #[tactic(auto, using(crate::proofs::HeldLemmas::marked_held, crate::proofs::HeldLemmas::counted_held))]
-    fn note(&mut self, event: &Event)
+    fn update_facts(&mut self, event: &Event)
         ensures { self.new ≡ record { plan = self.old.plan; facts = facts_after_event self.old.plan self.old.facts event.now } }
     {
         match event {
-            Event::Up(carrier) => self.came_up(*carrier),
-            Event::Lost(carrier) => self.lost(*carrier),
+            Event::Up(carrier) => self.apply_up(*carrier),
+            Event::Lost(carrier) => self.apply_lost(*carrier),
             Event::Noise(slot) => {
                 if self.is_control(slot) {
                     self.access.noise();
@@ -173,7 +173,7 @@ impl Machine {
                     self.access.polled();
                 }
             }
-            Event::Tick => self.calls.count(),
+            Event::Tick => self.calls.count_tick(),
             Event::Say(Command::Move(lpcn)) => self.moving = Some(*lpcn),
             Event::Say(Command::Stay) => self.moving = None,
             Event::Heard(_, _) | Event::Say(_) => {}
@@ -181,52 +181,52 @@ impl Machine {
     }
 
     /// Begins a call, which holds its slot.
-    fn begin(&mut self, call: &Call)
+    fn begin_call(&mut self, call: &Call)
         requires { MayBegin self.old.plan self.old.facts call.now }
         ensures { self.new ≡ record { plan = self.old.plan; facts = facts_after_act self.old.facts (Began call.now) } }
     {
-        numbers_of(&call.slot);
-        self.pool.keeps();
+        slot_is_in_range(&call.slot);
+        self.pool.use_invariant();
         self.pool.hold(call.slot);
         self.calls.add_call(*call);
     }
 
     /// Ends the call on a slot and releases the slot.
-    fn end(&mut self, slot: &Slot)
+    fn end_call_on(&mut self, slot: &Slot)
         ensures { self.new ≡ record { plan = self.old.plan; facts = facts_after_act self.old.facts (Ended slot.now) } }
     {
-        numbers_of(slot);
-        self.pool.keeps();
+        slot_is_in_range(slot);
+        self.pool.use_invariant();
         self.pool.release(*slot);
-        self.calls.end_all_on(slot);
+        self.calls.end_calls_on(slot);
     }
 
     /// Applies an act to the facts.
-    fn perform(&mut self, act: &Act)
+    fn apply_act(&mut self, act: &Act)
         requires { MayDo self.old.plan self.old.facts act.now }
         ensures { self.new ≡ record { plan = self.old.plan; facts = facts_after_act self.old.facts act.now } }
     {
         match act {
-            Act::Queue(slot, pdu) => self.pool.put(slot, pdu),
+            Act::Queue(slot, pdu) => self.pool.add_pdu(slot, pdu),
             Act::Send(slot, pdu) => self.pool.take_first(slot, pdu),
-            Act::Fill(slot, pdu) => self.fill(slot, pdu),
+            Act::Fill(slot, pdu) => self.apply_fill(slot, pdu),
             Act::Joined(radio) => self.registry.add(*radio),
             Act::Left(radio) => self.registry.remove(*radio),
             Act::Asked(ask) => self.calls.add_ask(ask),
             Act::AskOver(source) => self.calls.ask_over(*source),
             Act::Lined(line) => self.calls.add_line(line),
             Act::Unlined(source) => self.calls.unline(*source),
-            Act::Began(call) => self.begin(call),
-            Act::Ended(slot) => self.end(slot),
+            Act::Began(call) => self.begin_call(call),
+            Act::Ended(slot) => self.end_call_on(slot),
         }
     }
 
-    fn perform_all(&mut self, acts: &[Act])
+    fn apply_acts(&mut self, acts: &[Act])
         requires { AllMayDo self.old.plan self.old.facts acts.now }
         ensures { self.new ≡ record { plan = self.old.plan; facts = fold facts_after_act self.old.facts acts.now } }
     {
         for act in acts {
-            self.perform(act);
+            self.apply_act(act);
         }
     }
 
@@ -245,14 +245,14 @@ impl Machine {
     /// Makes `acts` the answer to a command.
     // Out of line: an event of another kind then does not clear the room of the answer that is returned here.
     #[inline(never)]
-    fn answer_command(&self, command: &Command, acts: &mut Acts)
+    fn answer_command_to(&self, command: &Command, acts: &mut Acts)
         ensures { acts.new ≡ answer_to_command self.now.plan self.now.facts command.now }
     {
-        *acts = self.commanded(command);
+        *acts = self.answer_command(command);
     }
 
     /// Makes `acts`, which is empty, the answer to an event other than a tick.
-    fn answer(&self, event: &Event, acts: &mut Acts)
+    fn answer_event(&self, event: &Event, acts: &mut Acts)
         requires other { event.now ≢ Tick }
         requires empty { acts.old ≡ record { list = []; said = None } }
         ensures { acts.new ≡ record { list = acts_of self.now.plan self.now.facts event.now; said = reply_to self.now.plan self.now.facts event.now } }
@@ -260,7 +260,7 @@ impl Machine {
         match event {
             Event::Heard(slot, pdu) => self.answer_pdu_on(&mut acts.list, slot, pdu),
             Event::Poll(carrier) => self.answer_poll(&mut acts.list, *carrier),
-            Event::Say(command) => self.answer_command(command, acts),
+            Event::Say(command) => self.answer_command_to(command, acts),
             _ => {}
         }
     }
@@ -272,11 +272,11 @@ impl Machine {
     {
         acts.clear();
         if let Event::Tick = event {
-            self.note(event);
+            self.update_facts(event);
             self.answer_tick(&mut acts.list);
         } else {
-            self.answer(event, acts);
-            self.note(event);
+            self.answer_event(event, acts);
+            self.update_facts(event);
         }
     }
 
@@ -284,19 +284,19 @@ impl Machine {
     pub fn apply_to(&mut self, event: &Event, acts: &mut Acts)
         requires { AllMayDo self.old.plan (facts_after_event self.old.plan self.old.facts event.now) (acts_of self.old.plan self.old.facts event.now) }
         ensures acts { acts.new ≡ record { list = acts_of self.old.plan self.old.facts event.now; said = reply_to self.old.plan self.old.facts event.now } }
-        ensures facts { self.new ≡ record { plan = self.old.plan; facts = facts_after self.old.plan self.old.facts (entry_by_nobody event.now acts.new ∷ []) } }
+        ensures facts { self.new ≡ record { plan = self.old.plan; facts = facts_after self.old.plan self.old.facts (unattributed_entry event.now acts.new ∷ []) } }
     {
         self.answer_and_note(event, acts);
-        self.perform_all(acts.list.as_slice());
+        self.apply_acts(acts.list.as_slice());
     }
 
     /// Reports whether two sites have the same plan and facts.
-    pub fn is(&self, other: &Machine) -> bool
+    pub fn equals(&self, other: &Machine) -> bool
         ensures { result ≡ are_same self.now other.now }
     {
         self.plan == other.plan
             && self.registry == other.registry
-            && self.pool.is_as(&other.pool)
+            && self.pool.has_same_carriers_and_pdus(&other.pool)
             && self.calls == other.calls
             && self.access == other.access
             && self.moving == other.moving

@@ -2,7 +2,7 @@
 
 ghost use Rattle.std.specs.Prelude.{◌≡◌, ◌↔◌, [], ◌∷◌, IfOk, IsTrue};
 ghost use Rattle.dmr_core.specs.Facts.{facts_after, no_facts};
-ghost use Rattle.dmr_core.specs.Journal.{entry_by_nobody};
+ghost use Rattle.dmr_core.specs.Journal.{unattributed_entry};
 ghost use Rattle.dmr_core.specs.Replies.{reply_to};
 ghost use Rattle.dmr_core.specs.Rules.{acts_of};
 ghost use Rattle.dmr_core.specs.Same.{are_same};
@@ -20,7 +20,7 @@ use std::marker::Model;
 ///
 /// The facts are the carriers that are up, the registered radios, and the asks, lines and calls that are active. They are also the
 /// PDUs that wait for each slot, the noise numbers, the Fills, the last late entry, and the move of the control channel. They fit
-/// together at all times, as [`keeps`](Site::keeps) states.
+/// together at all times, as [`use_invariant`](Site::use_invariant) states.
 #[derive(Drop)]
 pub struct Site {
     machine: Machine,
@@ -43,7 +43,7 @@ impl Site {
     pub fn new(alloc: Global, plan: Plan) -> Result<Site, OutOfMemory>
         ensures { IfOk result (λ site. site ≡ record { plan = plan; facts = no_facts }) }
     {
-        plan.keeps();
+        plan.use_invariant();
         Ok(Site {
             machine: Machine::new(alloc, &plan)?,
         })
@@ -63,7 +63,7 @@ impl Site {
     pub fn apply(&mut self, event: Event) -> Acts
         ensures acts { result.list ≡ acts_of self.old.plan self.old.facts event }
         ensures said { result.said ≡ reply_to self.old.plan self.old.facts event }
-        ensures facts { self.new ≡ record { plan = self.old.plan; facts = facts_after self.old.plan self.old.facts (entry_by_nobody event result ∷ []) } }
+        ensures facts { self.new ≡ record { plan = self.old.plan; facts = facts_after self.old.plan self.old.facts (unattributed_entry event result ∷ []) } }
     {
         let mut acts = Acts::none();
         self.apply_to(&event, &mut acts);
@@ -77,7 +77,7 @@ impl Site {
     pub fn apply_to(&mut self, event: &Event, acts: &mut Acts)
         ensures acts { acts.new.list ≡ acts_of self.old.plan self.old.facts event.now }
         ensures said { acts.new.said ≡ reply_to self.old.plan self.old.facts event.now }
-        ensures facts { self.new ≡ record { plan = self.old.plan; facts = facts_after self.old.plan self.old.facts (entry_by_nobody event.now acts.new ∷ []) } }
+        ensures facts { self.new ≡ record { plan = self.old.plan; facts = facts_after self.old.plan self.old.facts (unattributed_entry event.now acts.new ∷ []) } }
     {
         self.machine.apply_to(event, acts);
     }
@@ -94,7 +94,7 @@ impl Site {
     }
 
     /// Does nothing. A proof calls it to use the invariant of every site.
-    pub fn keeps(&self)
+    pub fn use_invariant(&self)
         ensures { IsSite self.now }
     {
         let _ = &self.machine;
@@ -114,7 +114,7 @@ impl PartialEq for Site {
         ensures gives { result ≡ are_same self.now other.now }
         ensures same { IsTrue result ↔ (self.now ≡ other.now) }
     {
-        self.machine.is(&other.machine)
+        self.machine.equals(&other.machine)
     }
 }
 

@@ -54,7 +54,7 @@ pub fn run<'a, W: Write>(
         "pdu" => pdu(alloc, text, out),
         "replay" => replay(alloc, text, out),
         "script" => script(alloc, text, out),
-        "write" => written(alloc, text, out),
+        "write" => show_pdu_in_words(alloc, text, out),
         _ => Err(TaskFault::NoSuchTask(task)),
     }
 }
@@ -110,7 +110,11 @@ fn pdu<'a, W: Write>(alloc: Global, text: &str, out: &mut W) -> Result<(), TaskF
     Ok(writeln!(out, "      {pdu}")?)
 }
 
-fn written<'a, W: Write>(alloc: Global, text: &'a str, out: &mut W) -> Result<(), TaskFault<'a>> {
+fn show_pdu_in_words<'a, W: Write>(
+    alloc: Global,
+    text: &'a str,
+    out: &mut W,
+) -> Result<(), TaskFault<'a>> {
     let words: Vec<&str> = text.split_whitespace().collect(alloc)?;
     let pdu = pdu_of(words.as_slice())?;
     Ok(show_burst(alloc, &pdu, out)?)

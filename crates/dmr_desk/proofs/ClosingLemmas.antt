@@ -6,15 +6,15 @@ use Rattle.dmr_core.specs.declared.entry.Entry.{Entry}
 use Rattle.dmr_link.specs.declared.desk.Deposit.{Deposit}
 use Rattle.dmr_desk.specs.declared.report.Report.{Report}
 use Rattle.dmr_desk.specs.declared.fault.CloseFault.TheVariants.{Differs}
-use Rattle.dmr_desk.specs.Pages.{Pages, AreSoundPages, site_after_entries}
+use Rattle.dmr_desk.specs.BookState.{BookState, IsSoundBook, site_after_entries}
 use Rattle.dmr_link.specs.Runs.{IsSafe}
-use Rattle.dmr_desk.specs.Sitting.{Sitting, Opened}
+use Rattle.dmr_desk.specs.Seats.{SeatState, Opened}
 use Rattle.dmr_desk.specs.Views.{view_of}
 use Rattle.dmr_desk.specs.Audited.{AreGathered, IsAudited, IsDiffering, IsFault, IsReported, SameBelow, count_of_deposits, deposits_of_seats}
 use Rattle.dmr_desk.proofs.NoOtherActors.{no_others}
 
 -- views that differ from a book's journal, at a desk of the book's site and limit
-pub differs_fault : (pages : Pages) (actors : ℕ) (seats : List Sitting) (views : List (List Deposit)) (actor : ℕ) → AreSoundPages pages → AreGathered seats views → length views ≡ actors → length pages.entries ≡ deposits_of_seats seats
+pub differs_fault : (pages : BookState) (actors : ℕ) (seats : List SeatState) (views : List (List Deposit)) (actor : ℕ) → IsSoundBook pages → AreGathered seats views → length views ≡ actors → length pages.entries ≡ deposits_of_seats seats
     → IsDiffering views pages.entries actor → IsFault (record { site = pages.opening; limit = pages.limit; actors = actors }) seats (Differs actor)
 differs_fault pages actors seats views actor kept g count counted differs =
     let found = g.has actor differs.0 in
@@ -34,7 +34,7 @@ differs_fault pages actors seats views actor kept g count counted differs =
     )
 
 -- a report of a book, at exactly the site and limit that it was opened with
-pub of_book : (pages : Pages) (report : Report) → AreSoundPages pages → IsSafe pages.opening.plan pages.opening.facts (reverse pages.entries) → report.site ≡ site_after_entries pages.opening pages.entries → report.journal ≡ pages.entries → SameBelow (length report.views.items) report.views.items pages.entries → length pages.entries ≡ count_of_deposits report.views.items → IsReported pages.opening pages.limit report.views.items report
+pub of_book : (pages : BookState) (report : Report) → IsSoundBook pages → IsSafe pages.opening.plan pages.opening.facts (reverse pages.entries) → report.site ≡ site_after_entries pages.opening pages.entries → report.journal ≡ pages.entries → SameBelow (length report.views.items) report.views.items pages.entries → length pages.entries ≡ count_of_deposits report.views.items → IsReported pages.opening pages.limit report.views.items report
 of_book pages report kept safe site journal same count =
     let P : List Entry → Type 0 = λ entries. IsReported pages.opening pages.limit report.views.items (record { site = site_after_entries pages.opening entries; journal = entries; views = report.views }) in
     let base : P pages.entries = record {
@@ -43,13 +43,13 @@ of_book pages report kept safe site journal same count =
       within = kept.within;
       site = refl;
       views_are = refl;
-      told = record { each = same; others = no_others report.views.items pages.entries same count };
+      reported = record { each = same; others = no_others report.views.items pages.entries same count };
     } in
     let Q : Report → Type 0 = λ r. IsReported pages.opening pages.limit report.views.items r in
     subst Q (λ i. record { site = sym site i; journal = sym journal i; views = report.views }) base
 
 -- the deposits of a seat are the journal's list for its actor
-pub seat_has_view : (desk : Opened) (seats : List Sitting) (report : Report) → IsAudited desk seats report → (seat : Sitting) → Contains seats seat → seat.deposits ≡ view_of seat.actor report.journal
+pub seat_has_view : (desk : Opened) (seats : List SeatState) (report : Report) → IsAudited desk seats report → (seat : SeatState) → Contains seats seat → seat.deposits ≡ view_of seat.actor report.journal
 seat_has_view desk seats report is seat has =
     let seen = is.gathered.each seat has in
-    same_Some seat.deposits (view_of seat.actor report.journal) (sym seen ∙ is.reported.told.each seat.actor (slice_get_within report.views.items seat.actor seat.deposits seen))
+    same_Some seat.deposits (view_of seat.actor report.journal) (sym seen ∙ is.reported.reported.each seat.actor (slice_get_within report.views.items seat.actor seat.deposits seen))

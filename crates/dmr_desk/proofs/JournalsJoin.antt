@@ -17,7 +17,7 @@ use Rattle.dmr_core.specs.Replies.{reply_to}
 use Rattle.dmr_core.specs.Rules.{acts_of}
 use Rattle.dmr_core.specs.State.{SiteState}
 use Rattle.dmr_desk.specs.Life.{joined_journal, joined_view}
-use Rattle.dmr_desk.specs.Pages.{site_after_entries}
+use Rattle.dmr_desk.specs.BookState.{site_after_entries}
 use Rattle.dmr_desk.specs.Term.{Start, End}
 use Rattle.dmr_desk.specs.Terms.{start_after, AreTerms, journals_of}
 use Rattle.dmr_desk.specs.Views.{deposit_in, view_of}

@@ -7,17 +7,17 @@ use Rattle.dmr_link.specs.Notices.{Notice}
 use Rattle.dmr_link.specs.declared.desk.Deposit.{Deposit}
 use Rattle.dmr_link.specs.declared.stream.Peer.{Peer}
 use Rattle.dmr_link.specs.declared.link_state.LinkState.{LinkState}
-use Rattle.dmr_link.specs.Owed.{Accounts, notices_owed}
+use Rattle.dmr_link.specs.Pending.{Accounts, pending_notices}
 use Rattle.dmr_link.specs.Session.{event_in, events_in}
-use Rattle.dmr_link.specs.Sessions.{Session, IsOver, Stands, StandsFor, WasServed}
+use Rattle.dmr_link.specs.Sessions.{Session, IsOver, IsLeftBy, HasPast, WasServed}
 use Rattle.dmr_desk.specs.Meaning.{AllMean, AreAccounted, IsAccounted, IsOneMeaning}
 use Rattle.dmr_desk.specs.Work.{deposits_of_sessions}
 
 -- ---- each connection
 
 -- what each connection means, and that nothing is pending of a link that is over
-module _ (laws : (l : LinkState) (s : Session) → Stands l s → Accounts l s) (over_owes : (l : LinkState) → IsOver l → notices_owed l ≡ []) where
-  newest : (l : LinkState) (s : Session) (h : Stands l s) → IsAccounted l.who s (laws l s h).done (notices_owed l)
+module _ (laws : (l : LinkState) (s : Session) → IsLeftBy l s → Accounts l s) (over_owes : (l : LinkState) → IsOver l → pending_notices l ≡ []) where
+  newest : (l : LinkState) (s : Session) (h : IsLeftBy l s) → IsAccounted l.who s (laws l s h).done (pending_notices l)
   newest l s h = let a = laws l s h in record { means = a.means; events = a.events; taken = a.taken }
 
   older : (who : Peer) (s : Session) → WasServed who s → (done : List Notice) × IsAccounted who s done []
@@ -34,7 +34,7 @@ module _ (laws : (l : LinkState) (s : Session) → Stands l s → Accounts l s) 
       let earlier = all_older who ss (All-tail (WasServed who) s ss all) in
       (earlier.0 ++ own.0, (earlier.0, own.0, refl, earlier.1, own.1))
 
-  accounted : (l : LinkState) (past : List Session) → StandsFor l past → (done : List Notice) × AreAccounted l.who past done (notices_owed l)
+  accounted : (l : LinkState) (past : List Session) → HasPast l past → (done : List Notice) × AreAccounted l.who past done (pending_notices l)
   accounted l [] h = ([], (refl, over_owes l h.0))
   accounted l (s ∷ ss) h =
       let earlier = all_older l.who ss h.1 in
@@ -61,7 +61,7 @@ all_events who (s ∷ ss) done owing are =
     ∙ (λ i. all_events who ss are.0 [] are.3 i ++ are.4.events i)
     ∙ sym (map-append (λ (d : Deposit). d.event) (deposits_of_sessions ss) s.calls)
 
-pub one_meaning : ((l : LinkState) (s : Session) → Stands l s → Accounts l s) → ((l : LinkState) → IsOver l → notices_owed l ≡ []) → (l : LinkState) (past : List Session) → StandsFor l past → IsOneMeaning l past
+pub one_meaning : ((l : LinkState) (s : Session) → IsLeftBy l s → Accounts l s) → ((l : LinkState) → IsOver l → pending_notices l ≡ []) → (l : LinkState) (past : List Session) → HasPast l past → IsOneMeaning l past
 one_meaning laws over_owes l past h =
     let a = accounted laws over_owes l past h in
-    record { done = a.0; means = all_mean l.who past a.0 (notices_owed l) a.1; events = all_events l.who past a.0 (notices_owed l) a.1; connections = a.1 }
+    record { done = a.0; means = all_mean l.who past a.0 (pending_notices l) a.1; events = all_events l.who past a.0 (pending_notices l) a.1; connections = a.1 }

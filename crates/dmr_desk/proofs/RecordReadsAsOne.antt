@@ -4,55 +4,55 @@ use Rattle.std.specs.Prelude.{nat_lt}
 use Rattle.std.proofs.lemmas.Option.{same_Some}
 use Rattle.std.proofs.lemmas.List.Sums.{fold-append}
 use Rattle.std.proofs.lemmas.List.Elements.{filter_map-append}
-use Rattle.dmr_wire.specs.Told.{Answer, Tells, Opened, NotYet, Finished, Came, InputEnded, ReadInterrupted, ReadBlocked, ReadFailed, Took, WriteInterrupted, WriteBlocked, WriteFailed, Again, Silent}
+use Rattle.dmr_wire.specs.Answers.{Answer, Reports, Opened, NotYet, Finished, Came, InputEnded, ReadInterrupted, ReadBlocked, ReadFailed, Took, WriteInterrupted, WriteBlocked, WriteFailed, Again, Silent}
 use Rattle.dmr_link.specs.declared.desk.Deposit.{Deposit}
 use Rattle.dmr_link.specs.declared.ended.Ended.{Ended}
 use Rattle.dmr_link.specs.declared.ended.Ended.TheVariants as ended
 use Rattle.dmr_link.specs.declared.stream.Peer.{Peer}
-use Rattle.dmr_link.specs.Happenings.{Happening, Handed, answers_in, deposits_in, port_answer}
-use Rattle.dmr_link.specs.Recorded.{Reading, reading_at, of_hearing, reading_after_any, reading_after_all, sessions_after_silence}
-use Rattle.dmr_link.specs.Sessions.{Session, new_session, Hearing, ReadFaulty, WriteFaulty, hearing_at, in_writing, with_how, took, hearing_after_answer, hearing_after_answers, is_wire, reads_in, AreOfWire, sessions_after}
+use Rattle.dmr_link.specs.Happenings.{Happening, Deposited, answers_in, deposits_in, port_answer}
+use Rattle.dmr_link.specs.Recorded.{Reading, reading_at, of_progress, reading_after_any, reading_after_all, sessions_after_silence}
+use Rattle.dmr_link.specs.Sessions.{Session, new_session, Progress, ReadFaulty, WriteFaulty, progress_at, in_writing, with_how, octets_taken, progress_after_answer, progress_after_answers, is_wire, reads_in, AreOfWire, sessions_after}
 use Rattle.dmr_desk.specs.Meaning.{in_record, read_on, IsOneRecord}
-use Rattle.dmr_desk.specs.Work.{Doing, Asked, Served, Waited, happened_in, happened_of, with_newest_deposits, past_after, IsAsk, IsWait, MayBeginServe, StopsAt, IsCall, IsOrderly}
+use Rattle.dmr_desk.specs.Work.{Step, Asked, Served, Waited, happened_in, happened_of, with_newest_deposits, past_after, IsAsk, IsWait, MayBeginServe, StopsAt, IsCall, IsOrderly}
 
 -- ---- lists
 
-no_answers : (deposits : List Deposit) → answers_in (map Handed deposits) ≡ []
+no_answers : (deposits : List Deposit) → answers_in (map Deposited deposits) ≡ []
 no_answers [] = refl
 no_answers (d ∷ deposits) = no_answers deposits
 
 -- ---- without what a desk took
 
-abbrev bare : Hearing → Hearing
+abbrev bare : Progress → Progress
 bare h = record { session = in_record h.session; row = h.row; writing = h.writing }
 
-bare_cond : (t : Bool) (a b : Hearing) → cond t (bare a) (bare b) ≡ bare (cond t a b)
+bare_cond : (t : Bool) (a b : Progress) → cond t (bare a) (bare b) ≡ bare (cond t a b)
 bare_cond true a b = refl
 bare_cond false a b = refl
 
-bare_took : (s : Session) (octets : List ℕ) → took (in_record s) octets ≡ bare (took s octets)
+bare_took : (s : Session) (octets : List ℕ) → octets_taken (in_record s) octets ≡ bare (octets_taken s octets)
 bare_took s [] = refl
 bare_took s (x ∷ octets) = refl
 
-bare_heard : (h : Hearing) (a : Answer) → hearing_after_answer (bare h) a ≡ bare (hearing_after_answer h a)
-bare_heard h Opened = refl
-bare_heard h NotYet = refl
-bare_heard h Finished = refl
-bare_heard h (Came octets) = refl
-bare_heard h InputEnded = refl
-bare_heard h ReadInterrupted = bare_cond (nat_lt h.row 16) (hearing_at h.session (h.row + 1)) (hearing_at (with_how h.session ReadFaulty) 0)
-bare_heard h ReadBlocked = refl
-bare_heard h ReadFailed = refl
-bare_heard h (Took octets) = bare_took h.session octets
-bare_heard h WriteInterrupted = bare_cond (nat_lt h.writing 16) (in_writing h.session (h.writing + 1)) (hearing_at (with_how h.session WriteFaulty) 0)
-bare_heard h WriteBlocked = refl
-bare_heard h WriteFailed = refl
-bare_heard h Again = refl
-bare_heard h Silent = refl
+bare_progress : (h : Progress) (a : Answer) → progress_after_answer (bare h) a ≡ bare (progress_after_answer h a)
+bare_progress h Opened = refl
+bare_progress h NotYet = refl
+bare_progress h Finished = refl
+bare_progress h (Came octets) = refl
+bare_progress h InputEnded = refl
+bare_progress h ReadInterrupted = bare_cond (nat_lt h.row 16) (progress_at h.session (h.row + 1)) (progress_at (with_how h.session ReadFaulty) 0)
+bare_progress h ReadBlocked = refl
+bare_progress h ReadFailed = refl
+bare_progress h (Took octets) = bare_took h.session octets
+bare_progress h WriteInterrupted = bare_cond (nat_lt h.writing 16) (in_writing h.session (h.writing + 1)) (progress_at (with_how h.session WriteFaulty) 0)
+bare_progress h WriteBlocked = refl
+bare_progress h WriteFailed = refl
+bare_progress h Again = refl
+bare_progress h Silent = refl
 
-bare_all : (h : Hearing) (answers : List Answer) → hearing_after_answers (bare h) answers ≡ bare (hearing_after_answers h answers)
+bare_all : (h : Progress) (answers : List Answer) → progress_after_answers (bare h) answers ≡ bare (progress_after_answers h answers)
 bare_all h [] = refl
-bare_all h (a ∷ answers) = ap (λ (k : Hearing). hearing_after_answers k answers) (bare_heard h a) ∙ bare_all (hearing_after_answer h a) answers
+bare_all h (a ∷ answers) = ap (λ (k : Progress). progress_after_answers k answers) (bare_progress h a) ∙ bare_all (progress_after_answer h a) answers
 
 -- ---- a call of serve
 
@@ -73,10 +73,10 @@ unheard row writing reads WriteFailed wire = refl
 unheard row writing reads Again wire = cc
 unheard row writing reads Silent wire = cc
 
-none_heard : (row writing reads : ℕ) (answers : List Answer) → AreOfWire answers → reading_after_all (reading_at [] row writing reads) answers ≡ reading_at [] row writing reads
-none_heard row writing reads [] wire = refl
-none_heard row writing reads (a ∷ answers) wire =
-    ap (λ (r : Reading). reading_after_all r answers) (unheard row writing reads a wire.0) ∙ none_heard row writing reads answers wire.1
+none_progress : (row writing reads : ℕ) (answers : List Answer) → AreOfWire answers → reading_after_all (reading_at [] row writing reads) answers ≡ reading_at [] row writing reads
+none_progress row writing reads [] wire = refl
+none_progress row writing reads (a ∷ answers) wire =
+    ap (λ (r : Reading). reading_after_all r answers) (unheard row writing reads a wire.0) ∙ none_progress row writing reads answers wire.1
 
 -- ---- steps
 
@@ -85,7 +85,7 @@ abbrev Begins : Reading → Type 0
 Begins r = (r.writing ≡ 0) × (((r.reads ≡ 0) × (r.row ≡ 0)) ⊎ (r.reads ≡ 64))
 
 -- a reading agrees with a call after some of its reads; it began the call itself, or continues after the 64 reads of the call before
-record Matches (ss : List Session) (r : Reading) (k : Hearing) (reads : ℕ) : Type 0 where
+record Matches (ss : List Session) (r : Reading) (k : Progress) (reads : ℕ) : Type 0 where
   pub past : r.past ≡ k.session ∷ ss
   pub writing : r.writing ≡ k.writing
   pub reads_are : (r.reads ≡ reads) ⊎ (reads ≡ 0)
@@ -93,19 +93,19 @@ record Matches (ss : List Session) (r : Reading) (k : Hearing) (reads : ℕ) : T
 -- how the answers of one call are read after an opening or a wait, and after the 64 reads of the call before
 pub record RecordLaws : Type 0 where
   pub begun : (s : Session) (ss : List Session) (answers : List Answer) → AreOfWire answers → reads_in answers ≤ 64 →
-      reading_after_all (reading_at (s ∷ ss) 0 0 0) answers ≡ of_hearing ss (reads_in answers) (hearing_after_answers (hearing_at s 0) answers)
+      reading_after_all (reading_at (s ∷ ss) 0 0 0) answers ≡ of_progress ss (reads_in answers) (progress_after_answers (progress_at s 0) answers)
   pub paused : (s : Session) (ss : List Session) (row : ℕ) (answers : List Answer) → AreOfWire answers → reads_in answers ≤ 64 →
-      (reading_after_all (reading_at (s ∷ ss) row 0 64) answers).past ≡ (hearing_after_answers (hearing_at s 0) answers).session ∷ ss
+      (reading_after_all (reading_at (s ∷ ss) row 0 64) answers).past ≡ (progress_after_answers (progress_at s 0) answers).session ∷ ss
   pub writing : (s : Session) (ss : List Session) (row : ℕ) (answers : List Answer) → AreOfWire answers → reads_in answers ≤ 64 →
-      (reading_after_all (reading_at (s ∷ ss) row 0 64) answers).writing ≡ (hearing_after_answers (hearing_at s 0) answers).writing
+      (reading_after_all (reading_at (s ∷ ss) row 0 64) answers).writing ≡ (progress_after_answers (progress_at s 0) answers).writing
   pub reads : (s : Session) (ss : List Session) (row : ℕ) (answers : List Answer) → AreOfWire answers → reads_in answers ≤ 64 →
       ((reading_after_all (reading_at (s ∷ ss) row 0 64) answers).reads ≡ reads_in answers) ⊎ (reads_in answers ≡ 0)
 
 -- a call, from its beginning
 matched : RecordLaws → (s : Session) (ss : List Session) (row writing reads : ℕ) (answers : List Answer) → Begins (reading_at (s ∷ ss) row writing reads) → AreOfWire answers → reads_in answers ≤ 64 →
-    Matches ss (reading_after_all (reading_at (s ∷ ss) row writing reads) answers) (hearing_after_answers (hearing_at s 0) answers) (reads_in answers)
+    Matches ss (reading_after_all (reading_at (s ∷ ss) row writing reads) answers) (progress_after_answers (progress_at s 0) answers) (reads_in answers)
 matched laws s ss row writing reads answers begins wire few =
-    let M : Reading → Type 0 = λ r. Matches ss (reading_after_all r answers) (hearing_after_answers (hearing_at s 0) answers) (reads_in answers) in
+    let M : Reading → Type 0 = λ r. Matches ss (reading_after_all r answers) (progress_after_answers (progress_at s 0) answers) (reads_in answers) in
     elim begins.1 [
       | inl start ↦
           let same = laws.begun s ss answers wire few in
@@ -133,23 +133,23 @@ after_call : RecordLaws → (who : Peer) (now : List Session) (row writing reads
     Has (reading_after_all (reading_at (map in_record now) row writing reads) (answers_in happened)) (sessions_after now (answers_in happened) (deposits_in happened))
     × (reads_in (answers_in happened) ≡ 64 → Begins (reading_after_all (reading_at (map in_record now) row writing reads) (answers_in happened)))
 after_call laws who [] row writing reads happened stop begins call =
-    let same = none_heard row writing reads (answers_in happened) call.wire in (
+    let same = none_progress row writing reads (answers_in happened) call.wire in (
       ap (λ (r : Reading). r.past) same,
       λ full. let P : Reading → Type 0 = λ r. Begins r in subst P (sym same) begins,
     )
 after_call laws who (s ∷ ss) row writing reads happened stop begins call =
     let answers = answers_in happened in
     let m = matched laws (in_record s) (map in_record ss) row writing reads answers begins call.wire call.few in
-    let aside : hearing_after_answers (hearing_at (in_record s) 0) answers ≡ bare (hearing_after_answers (hearing_at s 0) answers) = bare_all (hearing_at s 0) answers in (
-      m.past ∙ ap (λ (k : Hearing). k.session ∷ map in_record ss) aside,
+    let aside : progress_after_answers (progress_at (in_record s) 0) answers ≡ bare (progress_after_answers (progress_at s 0) answers) = bare_all (progress_at s 0) answers in (
+      m.past ∙ ap (λ (k : Progress). k.session ∷ map in_record ss) aside,
       λ full. (
-        m.writing ∙ ap (λ (k : Hearing). k.writing) aside ∙ call.rested s ss refl,
+        m.writing ∙ ap (λ (k : Progress). k.writing) aside ∙ call.rested s ss refl,
         inr (elim m.reads_are [ inl are ↦ are ∙ full | inr none ↦ absurd (omega arith) ]),
       ),
     )
 
 -- if another call may begin directly after a call, that call made its 64 reads
-paused_full : (happened : List Happening) (stop : Ended) (earlier : List Doing) → MayBeginServe (Served happened stop ∷ earlier) → StopsAt stop (answers_in happened) → reads_in (answers_in happened) ≡ 64
+paused_full : (happened : List Happening) (stop : Ended) (earlier : List Step) → MayBeginServe (Served happened stop ∷ earlier) → StopsAt stop (answers_in happened) → reads_in (answers_in happened) ≡ 64
 paused_full happened ended.Paused earlier may stops = stops
 paused_full happened ended.Idle earlier may stops = absurd may
 paused_full happened ended.TermOver earlier may stops = absurd may
@@ -164,22 +164,22 @@ silent_bare [] deposits = refl
 silent_bare (s ∷ ss) deposits = refl
 
 -- a reading of all answers of these steps
-record Follows (past : List Session) (doings : List Doing) (r : Reading) : Type 0 where
+record Follows (past : List Session) (doings : List Step) (r : Reading) : Type 0 where
   pub has : Has r (past_after past doings)
   pub begins : MayBeginServe doings → Begins r
 
-asked_more : (past : List Session) (earlier : List Doing) (x : Answer) (r : Reading) → IsAsk x → Follows past earlier r → Follows past (Asked x ∷ earlier) (reading_after_any r x)
+asked_more : (past : List Session) (earlier : List Step) (x : Answer) (r : Reading) → IsAsk x → Follows past earlier r → Follows past (Asked x ∷ earlier) (reading_after_any r x)
 asked_more past earlier Opened r is f = record { has = ap (λ (ss : List Session). new_session ∷ ss) f.has; begins = λ may. (refl, inl (refl, refl)) }
 asked_more past earlier NotYet r is f = record { has = f.has; begins = λ may. absurd may }
 asked_more past earlier Finished r is f = record { has = f.has; begins = λ may. absurd may }
 asked_more past earlier x r is f = absurd is
 
-waited_more : (past : List Session) (earlier : List Doing) (x : Answer) (deposits : List Deposit) (r : Reading) → IsWait x deposits → Follows past earlier r → Follows past (Waited x deposits ∷ earlier) (reading_after_any r x)
+waited_more : (past : List Session) (earlier : List Step) (x : Answer) (deposits : List Deposit) (r : Reading) → IsWait x deposits → Follows past earlier r → Follows past (Waited x deposits ∷ earlier) (reading_after_any r x)
 waited_more past earlier Again deposits r is f = record { has = f.has; begins = λ may. (refl, inl (refl, refl)) }
 waited_more past earlier Silent deposits r is f = record { has = ap sessions_after_silence f.has ∙ silent_bare (past_after past earlier) deposits; begins = λ may. absurd may }
 waited_more past earlier x deposits r is f = absurd is
 
-served_more : RecordLaws → (who : Peer) (past : List Session) (earlier : List Doing) (happened : List Happening) (stop : Ended) (r : Reading) → IsCall who (past_after past earlier) happened stop → MayBeginServe earlier → Follows past earlier r →
+served_more : RecordLaws → (who : Peer) (past : List Session) (earlier : List Step) (happened : List Happening) (stop : Ended) (r : Reading) → IsCall who (past_after past earlier) happened stop → MayBeginServe earlier → Follows past earlier r →
     Follows past (Served happened stop ∷ earlier) (reading_after_all r (answers_in happened))
 served_more laws who past earlier happened stop r call may f =
     let now = past_after past earlier in
@@ -190,7 +190,7 @@ served_more laws who past earlier happened stop r call may f =
     subst Q here (record { has = after.0; begins = λ more. after.1 (paused_full happened stop earlier more call.stops) })
 
 -- one more step
-read_more : (past : List Session) (earlier : List Doing) (d : Doing) (answers : List Answer) (r : Reading) → answers_in (happened_in d) ≡ answers →
+read_more : (past : List Session) (earlier : List Step) (d : Step) (answers : List Answer) (r : Reading) → answers_in (happened_in d) ≡ answers →
     Follows past (d ∷ earlier) (reading_after_all (reading_after_all r (answers_in (happened_of earlier))) answers) → Follows past (d ∷ earlier) (reading_after_all r (answers_in (happened_of (d ∷ earlier))))
 read_more past earlier d answers r are f =
     let P : Reading → Type 0 = λ x. Follows past (d ∷ earlier) x in
@@ -201,7 +201,7 @@ read_more past earlier d answers r are f =
 abbrev start : List Session → Reading
 start past = reading_at (map in_record past) 0 0 0
 
-follows : RecordLaws → (who : Peer) (past : List Session) (doings : List Doing) → IsOrderly who past doings → Follows past doings (reading_after_all (start past) (answers_in (happened_of doings)))
+follows : RecordLaws → (who : Peer) (past : List Session) (doings : List Step) → IsOrderly who past doings → Follows past doings (reading_after_all (start past) (answers_in (happened_of doings)))
 follows laws who past [] orderly = record { has = refl; begins = λ may. (refl, inl (refl, refl)) }
 follows laws who past (Asked x ∷ earlier) orderly =
     read_more past earlier (Asked x) (x ∷ []) (start past) refl
@@ -213,11 +213,11 @@ follows laws who past (Waited x deposits ∷ earlier) orderly =
     read_more past earlier (Waited x deposits) (x ∷ []) (start past) (ap (λ (xs : List Answer). x ∷ xs) (no_answers deposits))
     (waited_more past earlier x deposits (reading_after_all (start past) (answers_in (happened_of earlier))) orderly.0 (follows laws who past earlier orderly.2))
 
-pub one_record : RecordLaws → (who : Peer) (past : List Session) (doings : List Doing) → IsOrderly who past doings → IsOneRecord past doings
+pub one_record : RecordLaws → (who : Peer) (past : List Session) (doings : List Step) → IsOrderly who past doings → IsOneRecord past doings
 one_record laws who past doings orderly = sym (follows laws who past doings orderly).has
 
 -- the same for a port that reports its record
-pub record_since : RecordLaws → (who : Peer) (past : List Session) (doings : List Doing) (begun whole : List Answer) → IsOrderly who past doings → (before after : Option (List Answer)) → Tells before (answers_in (happened_of doings)) after →
+pub record_since : RecordLaws → (who : Peer) (past : List Session) (doings : List Step) (begun whole : List Answer) → IsOrderly who past doings → (before after : Option (List Answer)) → Reports before (answers_in (happened_of doings)) after →
     before ≡ Some begun → after ≡ Some whole → (answers : List Answer) × (whole ≡ begun ++ answers) × (map in_record (past_after past doings) ≡ read_on past answers)
 record_since laws who past doings begun whole orderly before after tells some later =
     let f = tells.follows whole later in
@@ -227,7 +227,7 @@ record_since laws who past doings begun whole orderly before after tells some la
       one_record laws who past doings orderly,
     )
 
-pub whole_record : RecordLaws → (who : Peer) (doings : List Doing) (whole : List Answer) → IsOrderly who [] doings → (before after : Option (List Answer)) → Tells before (answers_in (happened_of doings)) after →
+pub whole_record : RecordLaws → (who : Peer) (doings : List Step) (whole : List Answer) → IsOrderly who [] doings → (before after : Option (List Answer)) → Reports before (answers_in (happened_of doings)) after →
     before ≡ Some [] → after ≡ Some whole → map in_record (past_after [] doings) ≡ read_on [] whole
 whole_record laws who doings whole orderly before after tells none some =
     let r = record_since laws who [] doings [] whole orderly before after tells none some in

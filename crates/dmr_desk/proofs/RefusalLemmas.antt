@@ -9,7 +9,7 @@ use Rattle.dmr_desk.specs.declared.fault.TermFault.TheVariants.{BadStations, Ope
 use Rattle.dmr_desk.specs.Opening.{IsLimit}
 use Rattle.dmr_desk.specs.Term.{Start}
 use Rattle.dmr_desk.specs.Refusing.{AreStations, IsFaultFor, IsLate, IsTermFault, carrier_of_peer, numbers_from, carrier_numbers}
-use Rattle.dmr_desk.specs.Work.{Stand}
+use Rattle.dmr_desk.specs.Work.{StationState}
 
 -- ---- the plan's numbers
 
@@ -21,29 +21,29 @@ numbers_few : (plan : Settings) (many n : ℕ) → length (numbers_from plan man
 numbers_few plan zero n = omega arith
 numbers_few plan (suc many) n = at_most (has_carrier plan n) (numbers_from plan many (n + 1)) many n (numbers_few plan many (n + 1))
 
-pub stations_few : (plan : Settings) (stations : List Stand) → AreStations plan stations → length stations ≤ 16
+pub stations_few : (plan : Settings) (stations : List StationState) → AreStations plan stations → length stations ≤ 16
 stations_few plan stations are =
-    let a : length (map (λ (s : Stand). carrier_of_peer s.link.who) stations) ≡ length stations = length-map stations (λ (s : Stand). carrier_of_peer s.link.who) in
+    let a : length (map (λ (s : StationState). carrier_of_peer s.link.who) stations) ≡ length stations = length-map stations (λ (s : StationState). carrier_of_peer s.link.who) in
     let b : length (map (λ (n : ℕ). Some n) (carrier_numbers plan)) ≡ length (carrier_numbers plan) = length-map (carrier_numbers plan) (λ (n : ℕ). Some n) in
     let e = ap length are in
     let k = numbers_few plan 16 0 in omega arith
 
 -- stations whose numbers were compared with the plan's
-pub numbers_told : {S : Type 0} (at : S → Stand) (number : S → Option ℕ) (xs : List S) → ((s : S) → number s ≡ carrier_of_peer (at s).link.who) → map number xs ≡ map (λ (t : Stand). carrier_of_peer t.link.who) (map at xs)
-numbers_told at number [] same = refl
-numbers_told at number (x ∷ xs) same = let t = numbers_told at number xs same in let q = same x in cc
+pub numbers_given : {S : Type 0} (at : S → StationState) (number : S → Option ℕ) (xs : List S) → ((s : S) → number s ≡ carrier_of_peer (at s).link.who) → map number xs ≡ map (λ (t : StationState). carrier_of_peer t.link.who) (map at xs)
+numbers_given at number [] same = refl
+numbers_given at number (x ∷ xs) same = let t = numbers_given at number xs same in let q = same x in cc
 
-pub are_stations_if : {S : Type 0} (at : S → Stand) (number : S → Option ℕ) (xs ys : List S) (plan other : Settings) → ((s : S) → number s ≡ carrier_of_peer (at s).link.who) → ys ≡ xs → other ≡ plan
+pub are_stations_if : {S : Type 0} (at : S → StationState) (number : S → Option ℕ) (xs ys : List S) (plan other : Settings) → ((s : S) → number s ≡ carrier_of_peer (at s).link.who) → ys ≡ xs → other ≡ plan
     → map number ys ≡ map (λ (n : ℕ). Some n) (carrier_numbers other) → AreStations plan (map at xs)
-are_stations_if at number xs ys plan other same e f told =
-    sym (numbers_told at number xs same) ∙ ap (map number) (sym e) ∙ told ∙ ap (λ (p : Settings). map (λ (n : ℕ). Some n) (carrier_numbers p)) f
+are_stations_if at number xs ys plan other same e f reported =
+    sym (numbers_given at number xs same) ∙ ap (map number) (sym e) ∙ reported ∙ ap (λ (p : Settings). map (λ (n : ℕ). Some n) (carrier_numbers p)) f
 
-pub are_stations_then : {S : Type 0} (at : S → Stand) (number : S → Option ℕ) (xs ys : List S) (plan other : Settings) → ((s : S) → number s ≡ carrier_of_peer (at s).link.who) → ys ≡ xs → other ≡ plan
+pub are_stations_then : {S : Type 0} (at : S → StationState) (number : S → Option ℕ) (xs ys : List S) (plan other : Settings) → ((s : S) → number s ≡ carrier_of_peer (at s).link.who) → ys ≡ xs → other ≡ plan
     → AreStations plan (map at xs) → map number ys ≡ map (λ (n : ℕ). Some n) (carrier_numbers other)
 are_stations_then at number xs ys plan other same e f are =
-    ap (map number) e ∙ numbers_told at number xs same ∙ are ∙ ap (λ (p : Settings). map (λ (n : ℕ). Some n) (carrier_numbers p)) (sym f)
+    ap (map number) e ∙ numbers_given at number xs same ∙ are ∙ ap (λ (p : Settings). map (λ (n : ℕ). Some n) (carrier_numbers p)) (sym f)
 
-pub few_stations : {S : Type 0} (at : S → Stand) (xs : List S) (plan : Settings) → AreStations plan (map at xs) → length xs ≤ 16
+pub few_stations : {S : Type 0} (at : S → StationState) (xs : List S) (plan : Settings) → AreStations plan (map at xs) → length xs ≤ 16
 few_stations at xs plan are =
     let few = stations_few plan (map at xs) are in
     let same = length-map xs at in omega arith

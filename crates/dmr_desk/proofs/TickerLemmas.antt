@@ -7,27 +7,27 @@ use Rattle.dmr_core.specs.declared.event.Event.TheVariants.{Tick}
 use Rattle.dmr_link.specs.declared.desk.Deposit.{Deposit}
 use Rattle.dmr_desk.specs.declared.ending.Ending.TheVariants as ending
 use Rattle.dmr_desk.specs.declared.pace.Pace.TheVariants as pace
-use Rattle.dmr_desk.specs.Pace.{Paced, FollowsPace, Gave, SaysFinished, Ticking, Ticks}
+use Rattle.dmr_desk.specs.Pace.{Paced, FollowsPace, Answered, ReportsFinished, Ticking, Ticks}
 
-gave_one_more : (before after next : Option Paced) (n : ℕ) → Gave before after n → FollowsPace after pace.Tick next → Gave before next (n + 1)
+gave_one_more : (before after next : Option Paced) (n : ℕ) → Answered before after n → FollowsPace after pace.Tick next → Answered before next (n + 1)
 gave_one_more before after None n g f = tt
 gave_one_more before None (Some z) n g f = absurd f
 gave_one_more None (Some y) (Some z) n g f = absurd g
 gave_one_more (Some x) (Some y) (Some z) n g f = ap (λ p. p.ticks) f ∙ (omega arith)
 
-gave_none : (before after next : Option Paced) (n : ℕ) → Gave before after n → FollowsPace after pace.NotYet next → Gave before next n
+gave_none : (before after next : Option Paced) (n : ℕ) → Answered before after n → FollowsPace after pace.NotYet next → Answered before next n
 gave_none before after None n g f = tt
 gave_none before None (Some z) n g f = absurd f
 gave_none None (Some y) (Some z) n g f = absurd g
 gave_none (Some x) (Some y) (Some z) n g f = ap (λ p. p.ticks) f ∙ g
 
-gave_last : (before after next : Option Paced) (n : ℕ) → Gave before after n → FollowsPace after pace.Finished next → Gave before next n × SaysFinished next
+gave_last : (before after next : Option Paced) (n : ℕ) → Answered before after n → FollowsPace after pace.Finished next → Answered before next n × ReportsFinished next
 gave_last before after None n g f = (tt, tt)
 gave_last before None (Some z) n g f = absurd f
 gave_last None (Some y) (Some z) n g f = absurd g
 gave_last (Some x) (Some y) (Some z) n g f = (ap (λ p. p.ticks) f ∙ g, ap (λ p. p.finished) f)
 
-gave_nothing : (p : Option Paced) → Gave p p 0
+gave_nothing : (p : Option Paced) → Answered p p 0
 gave_nothing None = tt
 gave_nothing (Some p) = omega arith
 

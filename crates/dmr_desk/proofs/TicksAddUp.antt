@@ -6,18 +6,18 @@ use Rattle.dmr_link.specs.declared.desk.Deposit.{Deposit}
 use Rattle.dmr_desk.specs.declared.ending.Ending.{Ending}
 use Rattle.dmr_desk.specs.declared.ending.Ending.TheVariants as ending
 use Rattle.dmr_desk.specs.Life.{HasTickedOn, joined_journal}
-use Rattle.dmr_desk.specs.Pace.{Paced, Gave, AreTicks}
+use Rattle.dmr_desk.specs.Pace.{Paced, Answered, AreTicks}
 use Rattle.dmr_desk.specs.Term.{Start, End, HasTicked}
 use Rattle.dmr_desk.specs.Terms.{start_after, AreTerms}
 use Rattle.dmr_desk.specs.Views.{view_of}
 use Rattle.dmr_desk.proofs.JournalsJoin.{stations_stay, view_append}
 use Rattle.dmr_desk.proofs.WorkersGoOn.{get_within}
 
-gave_none : (p : Option Paced) → Gave p p 0
+gave_none : (p : Option Paced) → Answered p p 0
 gave_none None = tt
 gave_none (Some p) = omega arith
 
-gave_on : (a b c : Option Paced) (n m : ℕ) → Gave a b n → Gave b c m → Gave a c (n + m)
+gave_on : (a b c : Option Paced) (n m : ℕ) → Answered a b n → Answered b c m → Answered a c (n + m)
 gave_on a b None n m g h = tt
 gave_on a None (Some z) n m g h = absurd h
 gave_on None (Some y) (Some z) n m g h = absurd g
@@ -25,7 +25,7 @@ gave_on (Some x) (Some y) (Some z) n m g h = omega arith
 
 -- ---- one term
 
-ticked_with : (before after : Option Paced) (view took : List Deposit) (given : ℕ) → view ≡ took → AreTicks took → Gave before after given → length took ≤ given → given ≤ length took + 1 → HasTickedOn 1 before after view
+ticked_with : (before after : Option Paced) (view took : List Deposit) (given : ℕ) → view ≡ took → AreTicks took → Answered before after given → length took ≤ given → given ≤ length took + 1 → HasTickedOn 1 before after view
 ticked_with before after view took given same ticks gave least most =
     let P : List Deposit → Type 0 = λ v. HasTickedOn 1 before after v in
     subst P (sym same) (record { given = given; gave = gave; ticks = ticks; at_least = least; at_most = most })

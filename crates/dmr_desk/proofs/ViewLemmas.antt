@@ -60,6 +60,6 @@ differing deposits actor journal n i e d rest within is own here_within here_is 
 pub at_end : (deposits : List Deposit) (actor : ℕ) (journal : List Entry) (n i : ℕ) → IsRest deposits actor journal n i → n ≤ length deposits → length journal ≤ i → ((n == length deposits) ≡ true → deposits ≡ view_of actor journal) × (deposits ≡ view_of actor journal → (n == length deposits) ≡ true)
 at_end deposits actor journal n i rest few end =
     let none : view_of actor (drop i journal) ≡ [] = ap (view_of actor) (drop_all i journal end) in (
-      λ told. rest.up (drop_all n deposits (let e = eqb-true n (length deposits) told in omega arith) ∙ sym none),
+      λ reported. rest.up (drop_all n deposits (let e = eqb-true n (length deposits) reported in omega arith) ∙ sym none),
       λ all. let e : length deposits - n ≡ 0 = sym (length-drop n deposits) ∙ ap length (rest.down all ∙ none) in eq-eqb n (length deposits) (omega arith),
     )

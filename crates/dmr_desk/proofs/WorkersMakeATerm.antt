@@ -13,26 +13,26 @@ use Rattle.dmr_desk.specs.declared.fault.CloseFault.{CloseFault}
 use Rattle.dmr_desk.specs.Audited.{IsAudited, IsFault}
 use Rattle.dmr_desk.specs.Pace.{Paced}
 use Rattle.dmr_desk.specs.Refusing.{IsEarly, IsUnaudited, first_over, early_actor}
-use Rattle.dmr_desk.specs.Sitting.{Sitting, Opened, HasSeat}
+use Rattle.dmr_desk.specs.Seats.{SeatState, Opened, HasSeat}
 use Rattle.dmr_desk.specs.Views.{view_of}
-use Rattle.dmr_desk.specs.Work.{Stand}
+use Rattle.dmr_desk.specs.Work.{StationState}
 use Rattle.dmr_desk.specs.Term.{HasWorked, HasTicked, Start, End, start_of_term, end_of_term, HasRun, IsTerm, Done, IsWorkDone, AllDone, IsTicked}
 use Rattle.dmr_desk.proofs.ClosingLemmas.{seat_has_view}
 use Rattle.dmr_desk.proofs.CrewLemmas.{all_done_length}
 
 -- ---- each seat has the view of its actor
 
-abbrev AllViews : List Entry → List Sitting → Type 0
+abbrev AllViews : List Entry → List SeatState → Type 0
 AllViews journal [] = Unit {0}
 AllViews journal (x ∷ xs) = (x.deposits ≡ view_of x.actor journal) × AllViews journal xs
 
-views_all : (journal : List Entry) (xs : List Sitting) → ((x : Sitting) → Contains xs x → x.deposits ≡ view_of x.actor journal) → AllViews journal xs
+views_all : (journal : List Entry) (xs : List SeatState) → ((x : SeatState) → Contains xs x → x.deposits ≡ view_of x.actor journal) → AllViews journal xs
 views_all journal [] f = tt
 views_all journal (x ∷ xs) f =
     let here : Contains (x ∷ xs) x = (0, omega arith, refl) in
     (f x here, views_all journal xs (λ y h. f y (Contains-append_right (x ∷ []) xs y h)))
 
-views_end : (journal : List Entry) (xs ys : List Sitting) → AllViews journal (xs ++ ys) → AllViews journal ys
+views_end : (journal : List Entry) (xs ys : List SeatState) → AllViews journal (xs ++ ys) → AllViews journal ys
 views_end journal [] ys h = h
 views_end journal (x ∷ xs) ys h = views_end journal xs ys h.1
 
@@ -51,10 +51,10 @@ same_some a b e = cc
 
 -- ---- each actor's part
 
-worked_as : (s s1 t t1 : Stand) (v v1 : List Deposit) (e e1 : Ending) → s ≡ s1 → t ≡ t1 → v ≡ v1 → e ≡ e1 → HasWorked s t v e → HasWorked s1 t1 v1 e1
+worked_as : (s s1 t t1 : StationState) (v v1 : List Deposit) (e e1 : Ending) → s ≡ s1 → t ≡ t1 → v ≡ v1 → e ≡ e1 → HasWorked s t v e → HasWorked s1 t1 v1 e1
 worked_as s s1 t t1 v v1 e e1 a b c d h =
-    let P : Stand → Type 0 = λ x. HasWorked x t v e in
-    let Q : Stand → Type 0 = λ x. HasWorked s1 x v e in
+    let P : StationState → Type 0 = λ x. HasWorked x t v e in
+    let Q : StationState → Type 0 = λ x. HasWorked s1 x v e in
     let R : List Deposit → Type 0 = λ x. HasWorked s1 t1 x e in
     let S : Ending → Type 0 = λ x. HasWorked s1 t1 v1 x in
     subst S d (subst R c (subst Q b (subst P a h)))
@@ -65,7 +65,7 @@ ticked_as before after v v1 e e1 c d h =
     let S : Ending → Type 0 = λ x. HasTicked before after v1 x in
     subst S d (subst R c h)
 
-carriers_at : (ss : List Stand) (ds : List Done) (rest : List Ending) (others : List Sitting) (journal : List Entry) (n k : ℕ) (s t : Stand) (e : Ending) → AllDone n ss ds
+carriers_at : (ss : List StationState) (ds : List Done) (rest : List Ending) (others : List SeatState) (journal : List Entry) (n k : ℕ) (s t : StationState) (e : Ending) → AllDone n ss ds
     → AllViews journal (map (λ d. d.seat) ds ++ others) → slice_get ss k ≡ Some s → slice_get (map (λ d. d.at) ds) k ≡ Some t → slice_get (map (λ d. d.ending) ds ++ rest) k ≡ Some e
     → HasWorked s t (view_of (n + k) journal) e
 carriers_at [] ds rest others journal n k s t e all vs gs gt ge = absurd cc
@@ -100,14 +100,14 @@ none_below e es i first rest (suc j) below g = rest j (omega arith) g
 abbrev FirstAt : ℕ → ℕ → List Ending → Type 0
 FirstAt n k es = (i : ℕ) × (k ≡ n + i) × (slice_get es i ≡ Some ending.TermOver) × ((j : ℕ) → j < i → slice_get es j ≢ Some ending.TermOver)
 
-first_behind : (n k : ℕ) (e : Ending) (es : List Ending) → e ≢ ending.TermOver → FirstAt (n + 1) k es → FirstAt n k (e ∷ es)
-first_behind n k e es other r = let same = r.1 in (suc r.0, omega arith, r.2, none_below e es r.0 other r.3)
+first_after : (n k : ℕ) (e : Ending) (es : List Ending) → e ≢ ending.TermOver → FirstAt (n + 1) k es → FirstAt n k (e ∷ es)
+first_after n k e es other r = let same = r.1 in (suc r.0, omega arith, r.2, none_below e es r.0 other r.3)
 
 first_at : (n k : ℕ) (es : List Ending) → first_over n es ≡ Some k → FirstAt n k es
 first_at n k [] h = absurd cc
 first_at n k (ending.TermOver ∷ es) h = let same : n ≡ k = same_some n k h in (0, omega arith, refl, λ j below. absurd (omega arith))
-first_at n k (ending.Finished ∷ es) h = first_behind n k ending.Finished es (λ e. cc) (first_at (n + 1) k es h)
-first_at n k (ending.GateShut ∷ es) h = first_behind n k ending.GateShut es (λ e. cc) (first_at (n + 1) k es h)
+first_at n k (ending.Finished ∷ es) h = first_after n k ending.Finished es (λ e. cc) (first_at (n + 1) k es h)
+first_at n k (ending.GateShut ∷ es) h = first_after n k ending.GateShut es (λ e. cc) (first_at (n + 1) k es h)
 
 below_limit : (b : Bool) (entries limit : ℕ) (es : List Ending) (k : ℕ) → ltb entries limit ≡ b → (if b then first_over 0 es else None) ≡ Some k → (entries < limit) × FirstAt 0 k es
 below_limit true entries limit es k e h = (grind (arith, nat_tests), first_at 0 k es h)
@@ -141,7 +141,7 @@ last_shut ending_of ws first last n count g =
 
 -- ---- the whole
 
-pub has_run : (desk : Opened) (seats : List Sitting) (report : Report) (ends : List Ending) (stations ss : List Stand) (ds : List Done) (before after : Option Paced) (ts : Sitting) (te : Ending) (s : Stand) (d : Done)
+pub has_run : (desk : Opened) (seats : List SeatState) (report : Report) (ends : List Ending) (stations ss : List StationState) (ds : List Done) (before after : Option Paced) (ts : SeatState) (te : Ending) (s : StationState) (d : Done)
     → IsAudited desk seats report → seats ≡ map (λ d. d.seat) ds ++ ts ∷ d.seat ∷ [] → ends ≡ map (λ d. d.ending) ds ++ te ∷ d.ending ∷ [] → stations ≡ map (λ d. d.at) ds
     → AllDone 0 ss ds → IsTicked (length ss) before after ts te → IsWorkDone (length ss + 1) s d
     → HasRun (start_of_term desk.site desk.limit ss before s) (end_of_term report ends stations after d.at)
@@ -151,7 +151,7 @@ has_run desk seats report ends stations ss ds before after ts te s d is es ee et
     let ne : length (map (λ (x : Done). x.ending) ds) ≡ length ss = length-map ds (λ (x : Done). x.ending) ∙ n in
     let nt : length (map (λ (x : Done). x.at) ds) ≡ length ss = length-map ds (λ (x : Done). x.at) ∙ n in
     let ns : length (map (λ (x : Done). x.seat) ds) ≡ length ss = length-map ds (λ (x : Done). x.seat) ∙ n in
-    let V : List Sitting → Type 0 = AllViews journal in
+    let V : List SeatState → Type 0 = AllViews journal in
     let vs : AllViews journal (map (λ x. x.seat) ds ++ ts ∷ d.seat ∷ []) = subst V es (views_all journal seats (seat_has_view desk seats report is)) in
     let last : AllViews journal (ts ∷ d.seat ∷ []) = views_end journal (map (λ x. x.seat) ds) (ts ∷ d.seat ∷ []) vs in
     record {
@@ -160,11 +160,11 @@ has_run desk seats report ends stations ss ds before after ts te s d is es ee et
       within = is.reported.within;
       site = is.reported.site;
       actors = is.gathered.as_many ∙ ap length es ∙ length-append (map (λ (x : Done). x.seat) ds) (ts ∷ d.seat ∷ []) ∙ ap (λ (k : ℕ). k + 2) ns;
-      views = is.reported.told.each;
-      nobody = is.reported.told.others;
+      views = is.reported.reported.each;
+      nobody = is.reported.reported.others;
       handed_back = ap length et ∙ nt;
       carriers = λ k a b e ga gb ge.
-          let Q : List Stand → Type 0 = λ xs. slice_get xs k ≡ Some b in
+          let Q : List StationState → Type 0 = λ xs. slice_get xs k ≡ Some b in
           let R : List Ending → Type 0 = λ xs. slice_get xs k ≡ Some e in
           let m : 0 + k ≡ k = omega arith in
           let P : ℕ → Type 0 = λ i. HasWorked a b (view_of i journal) e in
@@ -192,36 +192,36 @@ is_early start end actor run early =
     let same : first.0 ≡ actor = let e = first.1 in omega arith in
     let P : ℕ → Type 0 = λ k. slice_get end.ends k ≡ Some ending.TermOver in
     let Q : ℕ → Type 0 = λ k. (j : ℕ) → j < k → slice_get end.ends j ≢ Some ending.TermOver in
-    record { end = end; run = run; below = both.0; told = subst P same first.2; least = subst Q same first.3 }
+    record { end = end; run = run; below = both.0; reported = subst P same first.2; least = subst Q same first.3 }
 
 -- ---- the seats
 
-abbrev AreOf : ℕ → List Sitting → Type 0
+abbrev AreOf : ℕ → List SeatState → Type 0
 AreOf n [] = Unit {0}
 AreOf n (x ∷ xs) = (x.actor ≡ n) × AreOf (n + 1) xs
 
-of_all : (n : ℕ) (ss : List Stand) (ds : List Done) (x y : Sitting) → AllDone n ss ds → x.actor ≡ n + length ss → y.actor ≡ n + length ss + 1 → AreOf n (map (λ d. d.seat) ds ++ x ∷ y ∷ [])
+of_all : (n : ℕ) (ss : List StationState) (ds : List Done) (x y : SeatState) → AllDone n ss ds → x.actor ≡ n + length ss → y.actor ≡ n + length ss + 1 → AreOf n (map (λ d. d.seat) ds ++ x ∷ y ∷ [])
 of_all n [] [] x y all ex ey = (omega arith, (omega arith, tt))
 of_all n (s ∷ ss) (d ∷ ds) x y all ex ey = (all.0.0, of_all (n + 1) ss ds x y all.1 (omega arith) (omega arith))
 of_all n [] (d ∷ ds) x y all ex ey = absurd all
 of_all n (s ∷ ss) [] x y all ex ey = absurd all
 
-seat_behind : (x : Sitting) (xs : List Sitting) (actor : ℕ) → HasSeat xs actor → HasSeat (x ∷ xs) actor
-seat_behind x xs actor h = (h.0, Contains-append_right (x ∷ []) xs h.0 h.1, h.2)
+seat_after : (x : SeatState) (xs : List SeatState) (actor : ℕ) → HasSeat xs actor → HasSeat (x ∷ xs) actor
+seat_after x xs actor h = (h.0, Contains-append_right (x ∷ []) xs h.0 h.1, h.2)
 
-has_seat : (n i : ℕ) (xs : List Sitting) → AreOf n xs → i < length xs → HasSeat xs (n + i)
+has_seat : (n i : ℕ) (xs : List SeatState) → AreOf n xs → i < length xs → HasSeat xs (n + i)
 has_seat n i [] of low = absurd (omega arith)
 has_seat n zero (x ∷ xs) of low = let z : n ≡ n + 0 = omega arith in (x, (0, omega arith, refl), of.0 ∙ z)
 has_seat n (suc i) (x ∷ xs) of low =
     let m : n + 1 + i ≡ n + suc i = omega arith in
-    let P : ℕ → Type 0 = HasSeat (x ∷ xs) in subst P m (seat_behind x xs (n + 1 + i) (has_seat (n + 1) i xs of.1 (omega arith)))
+    let P : ℕ → Type 0 = HasSeat (x ∷ xs) in subst P m (seat_after x xs (n + 1 + i) (has_seat (n + 1) i xs of.1 (omega arith)))
 
-pub is_unaudited : (desk : Opened) (seats : List Sitting) (fault : CloseFault) (ss : List Stand) (ds : List Done) (before after : Option Paced) (ts : Sitting) (te : Ending) (s : Stand) (d : Done)
+pub is_unaudited : (desk : Opened) (seats : List SeatState) (fault : CloseFault) (ss : List StationState) (ds : List Done) (before after : Option Paced) (ts : SeatState) (te : Ending) (s : StationState) (d : Done)
     → desk.actors ≡ length ds + 2 → IsFault desk seats fault → seats ≡ map (λ d. d.seat) ds ++ ts ∷ d.seat ∷ []
     → AllDone 0 ss ds → IsTicked (length ss) before after ts te → IsWorkDone (length ss + 1) s d → IsUnaudited (start_of_term desk.site desk.limit ss before s) fault
 is_unaudited desk seats fault ss ds before after ts te s d actors refused es all ticked worked =
     let all_of : AreOf 0 (map (λ x. x.seat) ds ++ ts ∷ d.seat ∷ []) = of_all 0 ss ds ts d.seat all (let e = ticked.0 in omega arith) (let e = worked.0 in omega arith) in
-    let A : List Sitting → Type 0 = AreOf 0 in
+    let A : List SeatState → Type 0 = AreOf 0 in
     let ns : length (map (λ (x : Done). x.seat) ds) ≡ length ss = length-map ds (λ (x : Done). x.seat) ∙ all_done_length 0 ss ds all in
     let many : length seats ≡ length ss + 2 = ap length es ∙ length-append (map (λ (x : Done). x.seat) ds) (ts ∷ d.seat ∷ []) ∙ ap (λ (k : ℕ). k + 2) ns in
     let F : ℕ → Type 0 = λ k. IsFault (record { site = desk.site; limit = desk.limit; actors = k }) seats fault in

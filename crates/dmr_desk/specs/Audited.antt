@@ -8,15 +8,15 @@ use Rattle.dmr_link.specs.declared.desk.Deposit.{Deposit}
 use Rattle.dmr_desk.specs.declared.report.Report.{Report}
 use Rattle.dmr_desk.specs.declared.fault.CloseFault.{CloseFault}
 use Rattle.dmr_desk.specs.declared.fault.CloseFault.TheVariants.{SeatMissing, Differs}
-use Rattle.dmr_desk.specs.Pages.{AreSoundPages, site_after_entries}
-use Rattle.dmr_desk.specs.Sitting.{Sitting, Opened, HasSeat, NoneMissing}
+use Rattle.dmr_desk.specs.BookState.{IsSoundBook, site_after_entries}
+use Rattle.dmr_desk.specs.Seats.{SeatState, Opened, HasSeat, NoneMissing}
 use Rattle.dmr_desk.specs.Views.{view_of}
 
 -- seats and views are equally many; each actor that has a view has a seat, and each seat's deposits are its actor's view
-pub record AreGathered (seats : List Sitting) (views : List (List Deposit)) : Type 0 where
+pub record AreGathered (seats : List SeatState) (views : List (List Deposit)) : Type 0 where
   pub as_many : length views ≡ length seats
   pub has : (actor : ℕ) → actor < length views → HasSeat seats actor
-  pub each : (seat : Sitting) → Contains seats seat → slice_get views seat.actor ≡ Some seat.deposits
+  pub each : (seat : SeatState) → Contains seats seat → slice_get views seat.actor ≡ Some seat.deposits
 
 -- each view is the journal's list for its actor, and each entry belongs to an actor that has a view
 pub record AreViews (views : List (List Deposit)) (journal : List Entry) : Type 0 where
@@ -31,10 +31,10 @@ pub record IsReported (opening : SiteState) (limit : ℕ) (views : List (List De
   pub within : length report.journal ≤ limit
   pub site : report.site ≡ site_after_entries opening report.journal
   pub views_are : report.views.items ≡ views
-  pub told : AreViews views report.journal
+  pub reported : AreViews views report.journal
 
 -- the report of a desk that was closed with these seats: each of its actors has a view
-pub record IsAudited (desk : Opened) (seats : List Sitting) (report : Report) : Type 0 where
+pub record IsAudited (desk : Opened) (seats : List SeatState) (report : Report) : Type 0 where
   pub reported : IsReported desk.site desk.limit report.views.items report
   pub gathered : AreGathered seats report.views.items
   pub actors : length report.views.items ≡ desk.actors
@@ -49,7 +49,7 @@ IsDiffering views journal actor =
     (actor < length views) × (slice_get views actor ≢ Some (view_of actor journal)) × SameBelow actor views journal
 
 -- an actor below the number has no seat among these, and each actor of a lower number has one
-abbrev pub IsLeastMissing : List Sitting → ℕ → ℕ → Type 0
+abbrev pub IsLeastMissing : List SeatState → ℕ → ℕ → Type 0
 IsLeastMissing seats actors actor = (actor < actors) × ¬ HasSeat seats actor × NoneMissing seats actor
 
 -- the number of deposits in these views together
@@ -58,36 +58,36 @@ count_of_deposits [] = 0
 count_of_deposits (view ∷ views) = length view + count_of_deposits views
 
 -- the number of deposits from these seats together
-abbrev pub deposits_of_seats : List Sitting → ℕ
+abbrev pub deposits_of_seats : List SeatState → ℕ
 deposits_of_seats [] = 0
 deposits_of_seats (seat ∷ seats) = length seat.deposits + deposits_of_seats seats
 
 -- a journal that a desk may have kept after this many deposits: it is legal from the desk's site, within the desk's limit, and has one
 -- entry for each deposit
 pub record IsJournalFor (desk : Opened) (deposits : ℕ) (journal : List Entry) : Type 0 where
-  pub kept : AreSoundPages (record { opening = desk.site; limit = desk.limit; entries = journal })
+  pub kept : IsSoundBook (record { opening = desk.site; limit = desk.limit; entries = journal })
   pub counted : length journal ≡ deposits
 
 -- the deposits of this actor's seat differ from the journal's list for it, and it is the least such actor
-pub record IsLeastDiffering (seats : List Sitting) (journal : List Entry) (actor : ℕ) : Type 0 where
-  pub seat : Sitting
+pub record IsLeastDiffering (seats : List SeatState) (journal : List Entry) (actor : ℕ) : Type 0 where
+  pub seat : SeatState
   pub has : Contains seats seat
   pub own : seat.actor ≡ actor
   pub differs : seat.deposits ≢ view_of actor journal
-  pub least : (other : Sitting) → Contains seats other → other.actor < actor → other.deposits ≡ view_of other.actor journal
+  pub least : (other : SeatState) → Contains seats other → other.actor < actor → other.deposits ≡ view_of other.actor journal
 
 -- why a desk has no report: a seat is missing, or a seat differs from a journal of this desk; either names the least such actor. A seat
 -- differs only if each actor has its seat and there is no other seat
-abbrev pub IsFault : Opened → List Sitting → CloseFault → Type 0
+abbrev pub IsFault : Opened → List SeatState → CloseFault → Type 0
 IsFault desk seats (SeatMissing actor) = IsLeastMissing seats desk.actors actor
 IsFault desk seats (Differs actor) =
     NoneMissing seats desk.actors × (length seats ≡ desk.actors)
     × (journal : List Entry) × IsJournalFor desk (deposits_of_seats seats) journal × IsLeastDiffering seats journal actor
 
 -- a seat of a list, and the list without it
-pub record IsOutOf (seats : List Sitting) (seat : Sitting) (left : List Sitting) : Type 0 where
+pub record IsOutOf (seats : List SeatState) (seat : SeatState) (left : List SeatState) : Type 0 where
   pub one_less : length left + 1 ≡ length seats
   pub had : Contains seats seat
-  pub keeps : (other : Sitting) → Contains left other → Contains seats other
-  pub others : (other : Sitting) → Contains seats other → (other ≡ seat) ⊎ Contains left other
+  pub keeps : (other : SeatState) → Contains left other → Contains seats other
+  pub others : (other : SeatState) → Contains seats other → (other ≡ seat) ⊎ Contains left other
   pub counted : deposits_of_seats left + length seat.deposits ≡ deposits_of_seats seats

@@ -1,7 +1,7 @@
 pub mod Limits
-pub mod Pages
+pub mod BookState
 pub mod Views
-pub mod Sitting
+pub mod Seats
 pub mod Opening
 pub mod Audited
 pub mod Pace

@@ -1,16 +1,16 @@
 -- The meaning of all connections of a link, read from one record of its port and from one list of what a desk took.
 use Rattle.std.specs.Prelude.{◌≡◌, List, [], ◌∷◌, ◌++◌, map}
-use Rattle.dmr_wire.specs.Told.{Answer}
+use Rattle.dmr_wire.specs.Answers.{Answer}
 use Rattle.dmr_link.specs.Notices.{Notice}
 use Rattle.dmr_link.specs.declared.stream.Peer.{Peer}
 use Rattle.dmr_link.specs.declared.link_state.LinkState.{LinkState}
 use Rattle.dmr_link.specs.Happenings.{answers_in}
-use Rattle.dmr_link.specs.Owed.{OwesMeaning, IsFirst, notices_owed}
+use Rattle.dmr_link.specs.Pending.{ConnectionMeans, IsFirst, pending_notices}
 use Rattle.dmr_link.specs.Peers.{text_to_peer}
 use Rattle.dmr_link.specs.Recorded.{reading_at, reading_after_all}
 use Rattle.dmr_link.specs.Session.{events_in}
 use Rattle.dmr_link.specs.Sessions.{Session}
-use Rattle.dmr_desk.specs.Work.{Doing, happened_of, past_after, deposits_of_sessions}
+use Rattle.dmr_desk.specs.Work.{Step, happened_of, past_after, deposits_of_sessions}
 
 -- ---- one record
 
@@ -23,7 +23,7 @@ abbrev pub read_on : List Session → List Answer → List Session
 read_on past answers = (reading_after_all (reading_at (map in_record past) 0 0 0) answers).past
 
 -- ONE RECORD: all answers of the port, read in one go, give the connections that the steps produced, one after another
-abbrev pub IsOneRecord : List Session → List Doing → Type 0
+abbrev pub IsOneRecord : List Session → List Step → Type 0
 IsOneRecord past doings = map in_record (past_after past doings) ≡ read_on past (answers_in (happened_of doings))
 
 -- ---- one meaning
@@ -32,12 +32,12 @@ IsOneRecord past doings = map in_record (past_after past doings) ≡ read_on pas
 abbrev pub AllMean : Peer → List Session → List Notice → Type 0
 AllMean who [] notices = notices ≡ []
 AllMean who (s ∷ ss) notices =
-    (earlier : List Notice) × (own : List Notice) × (notices ≡ earlier ++ own) × AllMean who ss earlier × OwesMeaning who s.how s.came own
+    (earlier : List Notice) × (own : List Notice) × (notices ≡ earlier ++ own) × AllMean who ss earlier × ConnectionMeans who s.how s.came own
 
 -- the octets that came on a connection mean `done`, then `owing`; the desk took exactly the events of `done`. The octets that the
 -- connection took are the text of `done`, or the first part of it if a write failed or an event was kept at a cut
 pub record IsAccounted (who : Peer) (s : Session) (done owing : List Notice) : Type 0 where
-  pub means : OwesMeaning who s.how s.came (done ++ owing)
+  pub means : ConnectionMeans who s.how s.came (done ++ owing)
   pub events : events_in done ≡ map (λ d. d.event) s.calls
   pub taken : IsFirst s.how s.taken (text_to_peer who done s.calls)
 
@@ -52,6 +52,6 @@ AreAccounted who (s ∷ ss) done owing =
 -- text, or a first part of it
 pub record IsOneMeaning (link : LinkState) (past : List Session) : Type 0 where
   pub done : List Notice
-  pub means : AllMean link.who past (done ++ notices_owed link)
+  pub means : AllMean link.who past (done ++ pending_notices link)
   pub events : events_in done ≡ map (λ d. d.event) (deposits_of_sessions past)
-  pub connections : AreAccounted link.who past done (notices_owed link)
+  pub connections : AreAccounted link.who past done (pending_notices link)

@@ -25,15 +25,15 @@ FollowsPace None x (Some after) = ⊥
 FollowsPace (Some before) x (Some after) = after ≡ paced_after before x
 
 -- the pacer gave `n` ticks between the two reports
-abbrev pub Gave : Option Paced → Option Paced → ℕ → Type 0
-Gave before None n = Unit {0}
-Gave None (Some after) n = ⊥
-Gave (Some before) (Some after) n = after.ticks ≡ before.ticks + n
+abbrev pub Answered : Option Paced → Option Paced → ℕ → Type 0
+Answered before None n = Unit {0}
+Answered None (Some after) n = ⊥
+Answered (Some before) (Some after) n = after.ticks ≡ before.ticks + n
 
 -- the last answer that the pacer reports, if it reports any, was that there are no more ticks
-abbrev pub SaysFinished : Option Paced → Type 0
-SaysFinished None = Unit {0}
-SaysFinished (Some p) = p.finished ≡ true
+abbrev pub ReportsFinished : Option Paced → Type 0
+ReportsFinished None = Unit {0}
+ReportsFinished (Some p) = p.finished ≡ true
 
 -- each deposit is a tick
 abbrev pub AreTicks : List Deposit → Type 0
@@ -41,9 +41,9 @@ AreTicks deposits = All (λ (deposit : Deposit). deposit.event ≡ Tick) deposit
 
 -- the desk took as many ticks as the pacer gave; when the term is over, one tick may have been dropped
 abbrev pub TicksTo : Option Paced → Option Paced → ℕ → Ending → Type 0
-TicksTo before after taken ending.Finished = Gave before after taken × SaysFinished after
+TicksTo before after taken ending.Finished = Answered before after taken × ReportsFinished after
 TicksTo before after taken ending.GateShut = ⊥
-TicksTo before after taken ending.TermOver = Gave before after taken ⊎ Gave before after (taken + 1)
+TicksTo before after taken ending.TermOver = Answered before after taken ⊎ Answered before after (taken + 1)
 
 -- the ticker's desk took a tick for each that the pacer gave, except one that may have been dropped when the term was over
 abbrev pub Ticks : Option Paced → List Deposit → Option Paced → List Deposit → Ending → Type 0
@@ -53,7 +53,7 @@ Ticks before calls after later e = (took : List Deposit) × (later ≡ calls ++ 
 
 -- so far the ticker's desk took a tick for each that the pacer gave
 abbrev pub Ticking : Option Paced → List Deposit → Option Paced → List Deposit → Type 0
-Ticking before calls after later = (took : List Deposit) × (later ≡ calls ++ took) × AreTicks took × Gave before after (length took)
+Ticking before calls after later = (took : List Deposit) × (later ≡ calls ++ took) × AreTicks took × Answered before after (length took)
 
 -- after a step the ticker continues, or its work has ended with this ending
 abbrev pub TicksOn : Option Paced → List Deposit → Option Paced → List Deposit → Option Ending → Type 0

@@ -13,9 +13,9 @@ use Rattle.dmr_desk.specs.declared.fault.TermFault.{TermFault}
 use Rattle.dmr_desk.specs.declared.fault.TermFault.TheVariants.{BadStations, Open, NoThread, Audit, Early}
 use Rattle.dmr_desk.specs.Audited.{IsFault}
 use Rattle.dmr_desk.specs.Opening.{IsLimit}
-use Rattle.dmr_desk.specs.Sitting.{Sitting, HasSeat}
+use Rattle.dmr_desk.specs.Seats.{SeatState, HasSeat}
 use Rattle.dmr_desk.specs.Term.{Start, End, HasRun}
-use Rattle.dmr_desk.specs.Work.{Stand}
+use Rattle.dmr_desk.specs.Work.{StationState}
 
 -- the carrier numbers of the plan among the `many` numbers that begin with `n`, least first
 abbrev pub numbers_from : Settings → ℕ → ℕ → List ℕ
@@ -32,8 +32,8 @@ carrier_of_peer (Carrier who) = Some who.carrier
 carrier_of_peer Operator = None
 
 -- there is one station for each carrier of the plan, by number
-abbrev pub AreStations : Settings → List Stand → Type 0
-AreStations plan stations = map (λ (s : Stand). carrier_of_peer s.link.who) stations ≡ map (λ (n : ℕ). Some n) (carrier_numbers plan)
+abbrev pub AreStations : Settings → List StationState → Type 0
+AreStations plan stations = map (λ (s : StationState). carrier_of_peer s.link.who) stations ≡ map (λ (n : ℕ). Some n) (carrier_numbers plan)
 
 -- all actors have done their part, and this is the least actor that ended because the term was over although the journal was below its
 -- limit
@@ -41,12 +41,12 @@ pub record IsEarly (start : Start) (actor : ℕ) : Type 0 where
   pub end : End
   pub run : HasRun start end
   pub below : length end.journal < start.limit
-  pub told : slice_get end.ends actor ≡ Some ending.TermOver
+  pub reported : slice_get end.ends actor ≡ Some ending.TermOver
   pub least : (lower : ℕ) → lower < actor → slice_get end.ends lower ≢ Some ending.TermOver
 
 -- a desk that was opened with the site and the limit returned no report, although it received the seats of all actors
 pub record IsUnaudited (start : Start) (fault : CloseFault) : Type 0 where
-  pub seats : List Sitting
+  pub seats : List SeatState
   pub each : (actor : ℕ) → actor < length start.stations + 2 → HasSeat seats actor
   pub refused : IsFault (record { site = start.site; limit = start.limit; actors = length start.stations + 2 }) seats fault
 

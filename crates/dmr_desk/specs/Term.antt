@@ -9,16 +9,16 @@ use Rattle.dmr_desk.specs.declared.ending.Ending.{Ending}
 use Rattle.dmr_desk.specs.declared.ending.Ending.TheVariants as ending
 use Rattle.dmr_desk.specs.declared.report.Report.{Report}
 use Rattle.dmr_desk.specs.Pace.{Paced, Ticks}
-use Rattle.dmr_desk.specs.Pages.{site_after_entries}
-use Rattle.dmr_desk.specs.Sitting.{Sitting}
+use Rattle.dmr_desk.specs.BookState.{site_after_entries}
+use Rattle.dmr_desk.specs.Seats.{SeatState}
 use Rattle.dmr_desk.specs.Views.{view_of}
-use Rattle.dmr_desk.specs.Work.{Stand, moment, WorksUntil}
+use Rattle.dmr_desk.specs.Work.{StationState, work_state, WorksUntil}
 
 -- ---- each actor's part
 
 -- a link's worker did its work from one state of its station to another, with a new desk that took these events
-abbrev pub HasWorked : Stand → Stand → List Deposit → Ending → Type 0
-HasWorked s t view e = WorksUntil (moment s []) (moment t view) e
+abbrev pub HasWorked : StationState → StationState → List Deposit → Ending → Type 0
+HasWorked s t view e = WorksUntil (work_state s []) (work_state t view) e
 
 -- the ticker did its work, with a new desk that took these events
 abbrev pub HasTicked : Option Paced → Option Paced → List Deposit → Ending → Type 0
@@ -30,9 +30,9 @@ HasTicked before after view e = Ticks before [] after view e
 pub record Start : Type 0 where
   pub site : SiteState
   pub limit : ℕ
-  pub stations : List Stand
+  pub stations : List StationState
   pub pacer : Option Paced
-  pub console : Stand
+  pub console : StationState
 
 -- the results of a term
 pub record End : Type 0 where
@@ -40,16 +40,16 @@ pub record End : Type 0 where
   pub journal : List Entry
   pub views : List (List Deposit)
   pub ends : List Ending
-  pub stations : List Stand
+  pub stations : List StationState
   pub pacer : Option Paced
-  pub console : Stand
+  pub console : StationState
 
 -- the start of a term from these arguments
-abbrev pub start_of_term : SiteState → ℕ → List Stand → Option Paced → Stand → Start
+abbrev pub start_of_term : SiteState → ℕ → List StationState → Option Paced → StationState → Start
 start_of_term site limit stations pacer console = record { site = site; limit = limit; stations = stations; pacer = pacer; console = console }
 
 -- the end of a term with these results
-abbrev pub end_of_term : Report → List Ending → List Stand → Option Paced → Stand → End
+abbrev pub end_of_term : Report → List Ending → List StationState → Option Paced → StationState → End
 end_of_term report ends stations pacer console = record {
   site = report.site;
   journal = report.journal;
@@ -76,7 +76,7 @@ pub record HasRun (start : Start) (end : End) : Type 0 where
   pub handed_back : length end.stations ≡ length start.stations
   pub all_ended : length end.ends ≡ length start.stations + 2
   -- each actor did its part, and its view is the list of its desk's deposits
-  pub carriers : (k : ℕ) (s t : Stand) (e : Ending) → slice_get start.stations k ≡ Some s → slice_get end.stations k ≡ Some t → slice_get end.ends k ≡ Some e
+  pub carriers : (k : ℕ) (s t : StationState) (e : Ending) → slice_get start.stations k ≡ Some s → slice_get end.stations k ≡ Some t → slice_get end.ends k ≡ Some e
       → HasWorked s t (view_of k end.journal) e
   pub ticker : (e : Ending) → slice_get end.ends (length start.stations) ≡ Some e → HasTicked start.pacer end.pacer (view_of (length start.stations) end.journal) e
   pub console : (e : Ending) → slice_get end.ends (length start.stations + 1) ≡ Some e → HasWorked start.console end.console (view_of (length start.stations + 1) end.journal) e
@@ -90,33 +90,33 @@ pub record IsTerm (start : Start) (end : End) : Type 0 where
 
 -- the result of a link's worker: the state of its station, its seat, and why it ended
 pub record Done : Type 0 where
-  pub at : Stand
-  pub seat : Sitting
+  pub at : StationState
+  pub seat : SeatState
   pub ending : Ending
 
-abbrev pub work_done : Stand → Sitting → Ending → Done
+abbrev pub work_done : StationState → SeatState → Ending → Done
 work_done at seat e = record { at = at; seat = seat; ending = e }
 
 -- the worker of this actor did its work
-abbrev pub IsWorkDone : ℕ → Stand → Done → Type 0
+abbrev pub IsWorkDone : ℕ → StationState → Done → Type 0
 IsWorkDone actor s d = (d.seat.actor ≡ actor) × HasWorked s d.at d.seat.deposits d.ending
 
 -- the workers of the actors from this number on did their work
-abbrev pub AllDone : ℕ → List Stand → List Done → Type 0
+abbrev pub AllDone : ℕ → List StationState → List Done → Type 0
 AllDone actor [] [] = Unit {0}
 AllDone actor (s ∷ ss) (d ∷ ds) = IsWorkDone actor s d × AllDone (actor + 1) ss ds
 AllDone actor ss ds = ⊥
 
 -- the ticker, as this actor, did its work
-abbrev pub IsTicked : ℕ → Option Paced → Option Paced → Sitting → Ending → Type 0
+abbrev pub IsTicked : ℕ → Option Paced → Option Paced → SeatState → Ending → Type 0
 IsTicked actor before after seat e = (seat.actor ≡ actor) × HasTicked before after seat.deposits e
 
 -- a seat of this actor, without deposits
-abbrev pub IsNew : ℕ → Sitting → Type 0
+abbrev pub IsNew : ℕ → SeatState → Type 0
 IsNew actor seat = (seat.actor ≡ actor) × (seat.deposits ≡ [])
 
 -- seats of the actors from this number on, without deposits
-abbrev pub AreNew : ℕ → List Sitting → Type 0
+abbrev pub AreNew : ℕ → List SeatState → Type 0
 AreNew actor [] = Unit {0}
 AreNew actor (seat ∷ seats) = IsNew actor seat × AreNew (actor + 1) seats
 
@@ -125,9 +125,9 @@ abbrev pub is_none : List Deposit → Bool
 is_none [] = true
 is_none (deposit ∷ deposits) = false
 
-abbrev pub is_new : ℕ → Sitting → Bool
+abbrev pub is_new : ℕ → SeatState → Bool
 is_new actor seat = (seat.actor == actor) && is_none seat.deposits
 
-abbrev pub are_new : ℕ → List Sitting → Bool
+abbrev pub are_new : ℕ → List SeatState → Bool
 are_new actor [] = true
 are_new actor (seat ∷ seats) = is_new actor seat && are_new (actor + 1) seats

@@ -1,16 +1,16 @@
 -- The steps of a link's worker: a carrier's, or the operators'.
 use Rattle.std.specs.Prelude.{◌≡◌, ◌≤◌, true, List, [], ◌∷◌, ◌++◌, Option, Some, None, map}
-use Rattle.dmr_wire.specs.Told.{Answer, Opened, NotYet, Finished, Again, Silent, Tells}
+use Rattle.dmr_wire.specs.Answers.{Answer, Opened, NotYet, Finished, Again, Silent, Reports}
 use Rattle.dmr_link.specs.declared.desk.Deposit.{Deposit}
 use Rattle.dmr_link.specs.declared.ended.Ended.{Ended}
 use Rattle.dmr_link.specs.declared.ended.Ended.TheVariants as ended
 use Rattle.dmr_link.specs.declared.stream.Peer.{Peer}
 use Rattle.dmr_link.specs.declared.link_state.LinkState.{LinkState}
-use Rattle.dmr_link.specs.Happenings.{Happening, Answered, Handed, answers_in, deposits_in, passages_in, Outside, stage_after_all, stage_at, passages_of, EndsInBlock}
+use Rattle.dmr_link.specs.Happenings.{Happening, Answered, Deposited, answers_in, deposits_in, passages_in, Outside, stage_after_all, stage_at, passages_of, EndsInBlock}
 use Rattle.dmr_link.specs.Limits.{most_reads}
 use Rattle.dmr_link.specs.Passages.{Passage}
 use Rattle.dmr_link.specs.Recorded.{sessions_after_silence}
-use Rattle.dmr_link.specs.Sessions.{Session, new_session, with_calls, hearing_at, hearing_after_answers, reads_in, AreOfWire, IsQuiet, IsOver, StandsFor, sessions_after, KeepsTurns, Sides, sides, Happens}
+use Rattle.dmr_link.specs.Sessions.{Session, new_session, with_calls, progress_at, progress_after_answers, reads_in, AreOfWire, IsQuiet, IsOver, HasPast, sessions_after, KeepsTurns, Sides, sides, Happens}
 use Rattle.dmr_link.specs.LinkSteps.{is_live}
 use Rattle.dmr_desk.specs.declared.ending.Ending.{Ending}
 use Rattle.dmr_desk.specs.declared.ending.Ending.TheVariants as ending
@@ -18,57 +18,57 @@ use Rattle.dmr_desk.specs.declared.ending.Ending.TheVariants as ending
 -- ---- the state of a station
 
 -- the state of a station: its link, and the records that its port and its gate report
-pub record Stand : Type 0 where
+pub record StationState : Type 0 where
   pub link : LinkState
-  pub told : Option (List Answer)
+  pub reported : Option (List Answer)
   pub passed : Option (List Passage)
 
 -- the state of a station with these three
-abbrev pub stand : LinkState → Option (List Answer) → Option (List Passage) → Stand
-stand link told passed = record { link = link; told = told; passed = passed }
+abbrev pub station_state : LinkState → Option (List Answer) → Option (List Passage) → StationState
+station_state link reported passed = record { link = link; reported = reported; passed = passed }
 
 -- a station's state, and the desk's deposits so far
-pub record Moment : Type 0 where
-  pub at : Stand
+pub record WorkState : Type 0 where
+  pub at : StationState
   pub calls : List Deposit
 
 -- the moment with this state and these deposits
-abbrev pub moment : Stand → List Deposit → Moment
-moment at calls = record { at = at; calls = calls }
+abbrev pub work_state : StationState → List Deposit → WorkState
+work_state at calls = record { at = at; calls = calls }
 
 -- the reports of port, desk and gate at that moment
-abbrev pub sides_at : Stand → List Deposit → Sides
-sides_at at calls = sides at.told calls at.passed
+abbrev pub sides_at : StationState → List Deposit → Sides
+sides_at at calls = sides at.reported calls at.passed
 
 -- the port gave this answer, and nothing else has changed
-pub record Answers (before : Stand) (answer : Answer) (after : Stand) : Type 0 where
-  pub told : Tells before.told (answer ∷ []) after.told
+pub record Answers (before : StationState) (answer : Answer) (after : StationState) : Type 0 where
+  pub reported : Reports before.reported (answer ∷ []) after.reported
   pub link : after.link ≡ before.link
   pub passed : after.passed ≡ before.passed
 
 -- the link changed, but still belongs to the same peer
-pub record Turns (before : Stand) (after : Stand) : Type 0 where
+pub record ChangesLink (before : StationState) (after : StationState) : Type 0 where
   pub who : after.link.who ≡ before.link.who
-  pub told : after.told ≡ before.told
+  pub reported : after.reported ≡ before.reported
   pub passed : after.passed ≡ before.passed
 
 -- ---- steps, newest first
 
 -- a step: a request for a connection, a call of `serve`, or a wait. A call has what happened in it and how it ended; a wait has what the
 -- desk took when the link was cut for silence
-pub data Doing : Type 0 where
-  Asked : (answer : Answer) → Doing
-  Served : (happened : List Happening) (stop : Ended) → Doing
-  Waited : (answer : Answer) (deposits : List Deposit) → Doing
+pub data Step : Type 0 where
+  Asked : (answer : Answer) → Step
+  Served : (happened : List Happening) (stop : Ended) → Step
+  Waited : (answer : Answer) (deposits : List Deposit) → Step
 
 -- what happened in a step
-abbrev pub happened_in : Doing → List Happening
+abbrev pub happened_in : Step → List Happening
 happened_in (Asked answer) = Answered answer ∷ []
 happened_in (Served happened stop) = happened
-happened_in (Waited answer deposits) = Answered answer ∷ map Handed deposits
+happened_in (Waited answer deposits) = Answered answer ∷ map Deposited deposits
 
 -- what happened in all steps, oldest first
-abbrev pub happened_of : List Doing → List Happening
+abbrev pub happened_of : List Step → List Happening
 happened_of [] = []
 happened_of (d ∷ earlier) = happened_of earlier ++ happened_in d
 
@@ -88,13 +88,13 @@ sessions_after_wait past Silent deposits = with_newest_deposits (sessions_after_
 sessions_after_wait past answer deposits = past
 
 -- the connections after a step
-abbrev pub past_then : List Session → Doing → List Session
+abbrev pub past_then : List Session → Step → List Session
 past_then past (Asked answer) = sessions_after_ask past answer
 past_then past (Served happened stop) = sessions_after past (answers_in happened) (deposits_in happened)
 past_then past (Waited answer deposits) = sessions_after_wait past answer deposits
 
 -- the connections after all steps
-abbrev pub past_after : List Session → List Doing → List Session
+abbrev pub past_after : List Session → List Step → List Session
 past_after past [] = past
 past_after past (d ∷ earlier) = past_then (past_after past earlier) d
 
@@ -120,10 +120,10 @@ IsWait answer deposits = ⊥
 
 -- no connection is open, and nothing is pending
 abbrev pub Rests : List Session → Type 0
-Rests past = (link : LinkState) × IsOver link × StandsFor link past
+Rests past = (link : LinkState) × IsOver link × HasPast link past
 
 -- a call of `serve` may begin at the start, at an opening, after an Again, and after the `most_reads` reads of the call before
-abbrev pub MayBeginServe : List Doing → Type 0
+abbrev pub MayBeginServe : List Step → Type 0
 MayBeginServe [] = Unit {0}
 MayBeginServe (Asked Opened ∷ earlier) = Unit {0}
 MayBeginServe (Served happened ended.Paused ∷ earlier) = Unit {0}
@@ -131,7 +131,7 @@ MayBeginServe (Waited Again deposits ∷ earlier) = Unit {0}
 MayBeginServe other = ⊥
 
 -- a wait may follow a call of `serve` that ended at a read that would block
-abbrev pub MayWait : List Doing → Type 0
+abbrev pub MayWait : List Step → Type 0
 MayWait (Served happened ended.Idle ∷ earlier) = Unit {0}
 MayWait other = ⊥
 
@@ -148,13 +148,13 @@ pub record IsCall (who : Peer) (past : List Session) (happened : List Happening)
   pub few : reads_in (answers_in happened) ≤ most_reads
   pub order : stage_after_all Outside happened ≡ stage_at stop
   pub passages : passages_in happened ≡ passages_of (deposits_in happened) stop
-  pub turns : (s : Session) (ss : List Session) → past ≡ s ∷ ss → KeepsTurns who (hearing_at s 0) happened
-  pub rested : (s : Session) (ss : List Session) → past ≡ s ∷ ss → (hearing_after_answers (hearing_at s 0) (answers_in happened)).writing ≡ 0
+  pub turns : (s : Session) (ss : List Session) → past ≡ s ∷ ss → KeepsTurns who (progress_at s 0) happened
+  pub rested : (s : Session) (ss : List Session) → past ≡ s ∷ ss → (progress_after_answers (progress_at s 0) (answers_in happened)).writing ≡ 0
   pub stops : StopsAt stop (answers_in happened)
 
 -- a worker asks for a connection only if none is open and nothing is pending, begins a call of `serve` only if `MayBeginServe` holds, and
 -- waits only if `MayWait` does. So each wait directly follows a read that would block
-abbrev pub IsOrderly : Peer → List Session → List Doing → Type 0
+abbrev pub IsOrderly : Peer → List Session → List Step → Type 0
 IsOrderly who past [] = Unit {0}
 IsOrderly who past (Asked answer ∷ earlier) = IsAsk answer × Rests (past_after past earlier) × IsOrderly who past earlier
 IsOrderly who past (Served happened stop ∷ earlier) = IsCall who (past_after past earlier) happened stop × MayBeginServe earlier × IsOrderly who past earlier
@@ -163,47 +163,47 @@ IsOrderly who past (Waited answer deposits ∷ earlier) = IsWait answer deposits
 -- ---- from one moment to another
 
 -- these steps lead from moment `m` to moment `n`: what port, desk and gate report goes on by them, and so do the link's connections
-pub record Went (m : Moment) (n : Moment) (doings : List Doing) : Type 0 where
+pub record Steps (m : WorkState) (n : WorkState) (doings : List Step) : Type 0 where
   pub who : n.at.link.who ≡ m.at.link.who
   -- the reports of port, desk and gate continue with exactly what happened
   pub happens : Happens (sides_at m.at m.calls) (happened_of doings) (sides_at n.at n.calls)
   -- if connections agreed with the link's state before (`StandsFor`), they agree with it after these steps
-  pub stands : (past : List Session) → StandsFor m.at.link past → StandsFor n.at.link (past_after past doings)
+  pub stands : (past : List Session) → HasPast m.at.link past → HasPast n.at.link (past_after past doings)
   -- the desk's deposits in these steps, in one list, are those of these connections since
-  pub view : (past : List Session) → StandsFor m.at.link past → deposits_of_sessions (past_after past doings) ≡ deposits_of_sessions past ++ deposits_in (happened_of doings)
-  pub orderly : (past : List Session) → StandsFor m.at.link past → IsOrderly m.at.link.who past doings
+  pub view : (past : List Session) → HasPast m.at.link past → deposits_of_sessions (past_after past doings) ≡ deposits_of_sessions past ++ deposits_in (happened_of doings)
+  pub orderly : (past : List Session) → HasPast m.at.link past → IsOrderly m.at.link.who past doings
 
 -- the last answer to a request was that there will be no more connections
-abbrev pub HasFinished : List Doing → Type 0
+abbrev pub HasFinished : List Step → Type 0
 HasFinished (Asked Finished ∷ earlier) = Unit {0}
 HasFinished other = ⊥
 
 -- the last call of `serve` found the gate shut
-abbrev pub WasShut : List Doing → Type 0
+abbrev pub WasShut : List Step → Type 0
 WasShut (Served happened ended.GateShut ∷ earlier) = Unit {0}
 WasShut other = ⊥
 
 -- the steps allow this ending; a worker has finished only if no connection is open and nothing is pending
-abbrev pub EndsFor : Ending → LinkState → List Doing → Type 0
+abbrev pub EndsFor : Ending → LinkState → List Step → Type 0
 EndsFor ending.Finished link doings = HasFinished doings × IsOver link
 EndsFor ending.GateShut link doings = WasShut doings
 EndsFor ending.TermOver link doings = Unit {0}
 
 -- a worker's whole work: steps that lead from `m` to `n`, and allow its ending
-abbrev pub WorksUntil : Moment → Moment → Ending → Type 0
-WorksUntil m n e = (doings : List Doing) × Went m n doings × EndsFor e n.at.link doings
+abbrev pub WorksUntil : WorkState → WorkState → Ending → Type 0
+WorksUntil m n e = (doings : List Step) × Steps m n doings × EndsFor e n.at.link doings
 
 -- ---- on the way
 
 -- the work continues, with a call of `serve` or a request for a connection
-abbrev pub Going : Moment → Moment → Type 0
-Going m n = (doings : List Doing) × Went m n doings × (is_live n.at.link ≡ true → MayBeginServe doings)
+abbrev pub IsAtWork : WorkState → WorkState → Type 0
+IsAtWork m n = (doings : List Step) × Steps m n doings × (is_live n.at.link ≡ true → MayBeginServe doings)
 
 -- the worker is about to wait
-abbrev pub IsAboutToWait : Moment → Moment → Type 0
-IsAboutToWait m n = (doings : List Doing) × Went m n doings × MayWait doings × IsQuiet n.at.link × (n.at.link.unread ≡ [])
+abbrev pub IsAboutToWait : WorkState → WorkState → Type 0
+IsAboutToWait m n = (doings : List Step) × Steps m n doings × MayWait doings × IsQuiet n.at.link × (n.at.link.unread ≡ [])
 
 -- the work continues, or it has ended with this ending
-abbrev pub GoesOn : Moment → Moment → Option Ending → Type 0
-GoesOn m n None = Going m n
-GoesOn m n (Some e) = WorksUntil m n e
+abbrev pub IsNextStep : WorkState → WorkState → Option Ending → Type 0
+IsNextStep m n None = IsAtWork m n
+IsNextStep m n (Some e) = WorksUntil m n e

@@ -10,7 +10,7 @@ use crate::ending::Ending;
 use crate::pace::{Pacer, work_ticker};
 use crate::seat::Seat;
 use crate::station::Serving;
-use crate::work::work;
+use crate::work::work_station;
 use std::snapshot::Snapshot;
 use std::sync::Wait;
 use std::sync::ledger::Ledger;
@@ -40,36 +40,36 @@ pub struct TickerWork<T, L: Ledger> {
 
 /// The promise that the worker of this station does its work, with a new seat of this actor.
 #[derive(Drop)]
-pub struct LinkKept<S>(pub Snapshot<S>, pub u8);
+pub struct LinkPromise<S>(pub Snapshot<S>, pub u8);
 
-impl<S: Serving, L: Ledger> Promise<LinkWork<S, L>> for LinkKept<S> {
+impl<S: Serving, L: Ledger> Promise<LinkWork<S, L>> for LinkPromise<S> {
     ghost use Rattle.dmr_desk.specs.declared.ending.Ending.TheVariants.{GateShut};
 
-    ghost kept_by = { λ p r. IsWorkDone p.1 (S.stand p.0.value) (work_done (S.stand r.station) r.seat r.ending) × (r.ending ≡ GateShut → S.shut r.station) };
+    ghost kept_by = { λ p r. IsWorkDone p.1 (S.state p.0.value) (work_done (S.state r.station) r.seat r.ending) × (r.ending ≡ GateShut → S.shut r.station) };
 }
 
 /// The promise that the ticker does its work with this pacer, and a new seat of this actor.
 #[derive(Drop)]
-pub struct TickerKept<T>(pub Snapshot<T>, pub u8);
+pub struct TickerPromise<T>(pub Snapshot<T>, pub u8);
 
-impl<T: Pacer, L: Ledger> Promise<TickerWork<T, L>> for TickerKept<T> {
+impl<T: Pacer, L: Ledger> Promise<TickerWork<T, L>> for TickerPromise<T> {
     ghost kept_by = { λ p r. IsTicked p.1 (T.paced p.0.value) (T.paced r.pacer) r.seat r.ending };
 }
 
 /// Serves a station from a new seat.
-pub fn serve_at<S: Serving, L: DeskLedger, R: Wait>(
+pub fn work_from_seat<S: Serving, L: DeskLedger, R: Wait>(
     rt: &R,
     desk: &SharedDesk<L>,
     station: S,
     seat: Seat<L>,
 ) -> LinkWork<S, L>
     requires { seat.deposits ≡ [] }
-    ensures done { IsWorkDone seat.actor (S.stand station) (work_done (S.stand result.station) result.seat result.ending) }
+    ensures done { IsWorkDone seat.actor (S.state station) (work_done (S.state result.station) result.seat result.ending) }
     ensures shut { result.ending ≡ Ending.GateShut → S.shut result.station }
 {
     let mut station = station;
     let mut at = SeatAt::new(rt, desk, seat);
-    let ending = work(rt, &mut station, &mut at);
+    let ending = work_station(rt, &mut station, &mut at);
     LinkWork {
         station,
         seat: at.into_seat(),
@@ -78,7 +78,7 @@ pub fn serve_at<S: Serving, L: DeskLedger, R: Wait>(
 }
 
 /// Deposits ticks from a new seat.
-pub fn tick_at<T: Pacer, L: DeskLedger, R: Wait>(
+pub fn tick_from_seat<T: Pacer, L: DeskLedger, R: Wait>(
     rt: &R,
     desk: &SharedDesk<L>,
     pacer: T,

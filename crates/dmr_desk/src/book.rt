@@ -2,7 +2,7 @@
 
 ghost use Rattle.std.specs.Prelude.{◌≡◌, ◌<◌, [], length, reverse, IsOk, IsTrue, ◌↔◌, IfOk, IfErr};
 ghost use Rattle.dmr_link.specs.Runs.{IsSafe};
-ghost use Rattle.dmr_desk.specs.Pages.{AreSoundPages, answer_to, pages_with_entry, site_after_entries};
+ghost use Rattle.dmr_desk.specs.BookState.{IsSoundBook, answer_to, book_with_entry, site_after_entries};
 
 use crate::report::Journal;
 use crate::room::push_copy;
@@ -13,7 +13,7 @@ use std::alloc::Global;
 use std::marker::Model;
 
 /// A site, with the journal of all events and answers since the book was opened. Contracts see the site at its opening, the limit of the
-/// journal, and the entries, oldest first. The journal is legal from that site ([`keeps`](Book::keeps)), and the site is in the state that
+/// journal, and the entries, oldest first. The journal is legal from that site ([`use_invariant`](Book::use_invariant)), and the site is in the state that
 /// the journal leads to.
 #[derive(Drop)]
 pub struct Book {
@@ -25,13 +25,13 @@ pub struct Book {
 
 impl Model for Book {
     ghost use Rattle.std.specs.Prelude.{◌≡◌, ◌≤◌, vec_capacity};
-    ghost use Rattle.dmr_desk.specs.Pages.{Pages, AreSoundPages, site_after_entries};
+    ghost use Rattle.dmr_desk.specs.BookState.{BookState, IsSoundBook, site_after_entries};
 
-    ghost Value = { Pages };
+    ghost Value = { BookState };
 
     ghost view = { λ b. record { opening = b.opening; limit = b.limit; entries = b.journal.items } };
 
-    ghost invariant = { λ b. AreSoundPages (record { opening = b.opening; limit = b.limit; entries = b.journal.items }) × (b.site ≡ site_after_entries b.opening b.journal.items) × (b.limit ≤ vec_capacity b.journal) };
+    ghost invariant = { λ b. IsSoundBook (record { opening = b.opening; limit = b.limit; entries = b.journal.items }) × (b.site ≡ site_after_entries b.opening b.journal.items) × (b.limit ≤ vec_capacity b.journal) };
 }
 
 /// Makes the entry of an actor's event and its answer.
@@ -59,7 +59,7 @@ impl Book {
             drop(opening);
             return Err((OutOfMemory, site));
         };
-        site.keeps();
+        site.use_invariant();
         Ok(Book {
             opening,
             site,
@@ -72,17 +72,17 @@ impl Book {
     /// memory. On an error the journal is at its limit; the site has not received the event, and nothing has changed.
     pub fn apply(&mut self, actor: u8, event: Event) -> Result<Acts, TermOver>
         ensures acts { IfOk result (λ acts. acts ≡ answer_to self.old event) }
-        ensures entered { IfOk result (λ acts. self.new ≡ pages_with_entry self.old actor event acts) }
+        ensures entered { IfOk result (λ acts. self.new ≡ book_with_entry self.old actor event acts) }
         ensures room { length self.old.entries < self.old.limit → IsOk result }
         ensures over { IfErr result (λ over. (self.new ≡ self.old) × (over.entries ≡ length self.old.entries) × (length self.old.entries ≡ self.old.limit)) }
     {
-        self.enter(actor, &event)
+        self.apply_borrowed(actor, &event)
     }
 
     /// Does the same as [`apply`](Book::apply), for a borrowed event.
-    fn enter(&mut self, actor: u8, event: &Event) -> Result<Acts, TermOver>
+    fn apply_borrowed(&mut self, actor: u8, event: &Event) -> Result<Acts, TermOver>
         ensures acts { IfOk result (λ acts. acts ≡ answer_to self.old event.now) }
-        ensures entered { IfOk result (λ acts. self.new ≡ pages_with_entry self.old actor event.now acts) }
+        ensures entered { IfOk result (λ acts. self.new ≡ book_with_entry self.old actor event.now acts) }
         ensures room { length self.old.entries < self.old.limit → IsOk result }
         ensures over { IfErr result (λ over. (self.new ≡ self.old) × (over.entries ≡ length self.old.entries) × (length self.old.entries ≡ self.old.limit)) }
     {
@@ -110,8 +110,8 @@ impl Book {
     }
 
     /// Does nothing. By its contract every book's journal is legal and within its limit, and every act in it is safe.
-    pub fn keeps(&self)
-        ensures kept { AreSoundPages self.now }
+    pub fn use_invariant(&self)
+        ensures kept { IsSoundBook self.now }
         ensures safe { IsSafe self.now.opening.plan self.now.opening.facts (reverse self.now.entries) }
     {
         each_act_is_safe();

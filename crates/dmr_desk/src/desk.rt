@@ -1,13 +1,13 @@
 //! The desk: a book that a lock guards, and its seats.
 
 ghost use Rattle.std.specs.Prelude.{◌≡◌, ◌≤◌, ◌+◌, ◌↔◌, ◌⊎◌, length, true, false, IsTrue, IfOk, IfErr, OnOk};
-ghost use Rattle.dmr_desk.specs.Pages.{answer_to, pages_with_entry};
-ghost use Rattle.dmr_desk.specs.Sitting.{seat_with_deposit, empty_seats};
+ghost use Rattle.dmr_desk.specs.BookState.{answer_to, book_with_entry};
+ghost use Rattle.dmr_desk.specs.Seats.{seat_with_deposit, empty_seats};
 ghost use Rattle.dmr_desk.specs.Limits.{most_actors};
 ghost use Rattle.dmr_desk.specs.Opening.{IsLimit, IsNumber, IsRefused};
 ghost use Rattle.dmr_desk.specs.Audited.{IsAudited, IsFault};
 
-use crate::audit::{audited, gathered};
+use crate::audit::{audit_book, gather_views};
 use crate::book::Book;
 use crate::desk_ledger::DeskLedger;
 use crate::fault::{CloseFault, OpenFault};
@@ -40,9 +40,9 @@ struct Locked<L: DeskLedger> {
 impl<L: DeskLedger> Locked<L> {
     /// Applies an event to the site for a seat, and returns the answer. On an error the book has no room or the desk was abandoned; nothing
     /// has changed, and the error has the number of the book's entries.
-    fn tell(&mut self, seat: &mut Seat<L>, event: &Event) -> Result<Acts, TermOver>
+    fn deposit(&mut self, seat: &mut Seat<L>, event: &Event) -> Result<Acts, TermOver>
         ensures acts { IfOk result (λ acts. acts ≡ answer_to self.old.book event.now) }
-        ensures entered { IfOk result (λ acts. self.new.book ≡ pages_with_entry self.old.book seat.old.actor event.now acts) }
+        ensures entered { IfOk result (λ acts. self.new.book ≡ book_with_entry self.old.book seat.old.actor event.now acts) }
         ensures deposited { IfOk result (λ acts. seat.new ≡ seat_with_deposit seat.old event.now acts) }
         ensures over { IfErr result (λ over. (self.new.book ≡ self.old.book) × (seat.new ≡ seat.old) × (over.entries ≡ length self.old.book.entries)) }
         ensures among { IfErr result (λ over. length seat.old.deposits ≤ over.entries) }
@@ -58,7 +58,7 @@ impl<L: DeskLedger> Locked<L> {
         if *abandoned {
             return Err(seat.refusal(book, total));
         }
-        seat.tell(book, total, event)
+        seat.apply_event(book, total, event)
     }
 
     /// Whether the term is over: the book is at its limit, or the desk was abandoned.
@@ -78,7 +78,7 @@ impl<L: DeskLedger> Locked<L> {
 
     /// Returns the report of the book and these seats. On an error a seat is missing, and the error names the least such actor. If none is
     /// missing, a seat differs from the journal, and the error names the least such actor.
-    fn audit(self, seats: Vec<Seat<L>>) -> Result<Report, CloseFault>
+    fn audit_seats(self, seats: Vec<Seat<L>>) -> Result<Report, CloseFault>
         requires { L.parts ≡ most_actors }
         ensures ok { IfOk result (λ report. IsAudited (record { site = self.book.opening; limit = self.book.limit; actors = self.actors }) seats.items report) }
         ensures fault { IfErr result (λ fault. IsFault (record { site = self.book.opening; limit = self.book.limit; actors = self.actors }) seats.items fault) }
@@ -90,11 +90,11 @@ impl<L: DeskLedger> Locked<L> {
             actors,
             ..
         } = self;
-        book.keeps();
-        match gathered(seats, rest, actors) {
+        book.use_invariant();
+        match gather_views(seats, rest, actors) {
             Ok((views, mut all)) => {
                 total.audit(&mut all);
-                match audited(book, views) {
+                match audit_book(book, views) {
                     Ok(report) => Ok(report),
                     Err(actor) => Err(CloseFault::Differs(actor)),
                 }
@@ -138,7 +138,7 @@ pub struct SharedDesk<L: DeskLedger> {
 }
 
 impl<L: DeskLedger> Model for SharedDesk<L> {
-    ghost use Rattle.dmr_desk.specs.Sitting.{Opened};
+    ghost use Rattle.dmr_desk.specs.Seats.{Opened};
 
     ghost Value = { Opened };
 
@@ -206,7 +206,7 @@ impl<L: DeskLedger> SharedDesk<L> {
         ensures ok { IfOk result (λ acts. seat.new ≡ seat_with_deposit seat.old event acts) }
         ensures over { IfErr result (λ over. (seat.new ≡ seat.old) × (length seat.old.deposits ≤ over.entries)) }
     {
-        self.locked.lock(rt).tell(seat, &event)
+        self.locked.lock(rt).deposit(seat, &event)
     }
 
     /// Whether the journal is at its limit, or a thread of the desk's term could not be started. It waits for the lock, as
@@ -234,6 +234,6 @@ impl<L: DeskLedger> SharedDesk<L> {
         ensures fault { IfErr result (λ fault. IsFault self seats.items fault) }
     {
         let SharedDesk { locked } = self;
-        locked.into_inner().audit(seats)
+        locked.into_inner().audit_seats(seats)
     }
 }

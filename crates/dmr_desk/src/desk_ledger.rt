@@ -1,6 +1,6 @@
 //! The ledger of one desk.
 
-ghost use Rattle.dmr_desk.specs.Sitting.{Opened, unopened};
+ghost use Rattle.dmr_desk.specs.Seats.{Opened, unopened};
 
 use std::marker::Brand;
 use std::sync::ledger::Ledger;

@@ -6,7 +6,7 @@ ghost use Rattle.dmr_core.specs.Journal.{IsLegal};
 ghost use Rattle.dmr_core.specs.declared.entry.Entry.{Entry as AnEntry};
 ghost use Rattle.dmr_link.specs.Runs.{IsSafe};
 ghost use Rattle.dmr_desk.specs.Audited.{IsAudited};
-ghost use Rattle.dmr_desk.specs.Sitting.{HasSeat, Opened, Sitting};
+ghost use Rattle.dmr_desk.specs.Seats.{HasSeat, Opened, SeatState};
 ghost use Rattle.dmr_desk.specs.Views.{view_of};
 ghost use Rattle.dmr_desk.specs.declared.report.Report.{Report as AReport};
 
@@ -19,13 +19,13 @@ ghost use Rattle.dmr_desk.specs.declared.report.Report.{Report as AReport};
 /// - No entry belongs to another actor.
 /// - The safety laws hold of the journal.
 pub fn reports_account()
-    ensures legal { (desk : Opened) (seats : List Sitting) (report : AReport) → IsAudited desk seats report → IsLegal desk.site.plan desk.site.facts (reverse report.journal) }
-    ensures within { (desk : Opened) (seats : List Sitting) (report : AReport) → IsAudited desk seats report → length report.journal ≤ desk.limit }
-    ensures site { (desk : Opened) (seats : List Sitting) (report : AReport) → IsAudited desk seats report → report.site ≡ record { plan = desk.site.plan; facts = facts_after desk.site.plan desk.site.facts (reverse report.journal) } }
-    ensures as_many { (desk : Opened) (seats : List Sitting) (report : AReport) → IsAudited desk seats report → length report.views.items ≡ length seats }
-    ensures actors { (desk : Opened) (seats : List Sitting) (report : AReport) → IsAudited desk seats report → length report.views.items ≡ desk.actors }
-    ensures every_actor { (desk : Opened) (seats : List Sitting) (report : AReport) (actor : ℕ) → IsAudited desk seats report → actor < length seats → HasSeat seats actor }
-    ensures views { (desk : Opened) (seats : List Sitting) (report : AReport) (seat : Sitting) → IsAudited desk seats report → Contains seats seat → (slice_get report.views.items seat.actor ≡ Some seat.deposits) × (seat.deposits ≡ view_of seat.actor report.journal) }
-    ensures others { (desk : Opened) (seats : List Sitting) (report : AReport) → IsAudited desk seats report → All (λ (entry : AnEntry). entry.actor < length seats) report.journal }
-    ensures safe { (desk : Opened) (seats : List Sitting) (report : AReport) → IsAudited desk seats report → IsSafe desk.site.plan desk.site.facts (reverse report.journal) }
+    ensures legal { (desk : Opened) (seats : List SeatState) (report : AReport) → IsAudited desk seats report → IsLegal desk.site.plan desk.site.facts (reverse report.journal) }
+    ensures within { (desk : Opened) (seats : List SeatState) (report : AReport) → IsAudited desk seats report → length report.journal ≤ desk.limit }
+    ensures site { (desk : Opened) (seats : List SeatState) (report : AReport) → IsAudited desk seats report → report.site ≡ record { plan = desk.site.plan; facts = facts_after desk.site.plan desk.site.facts (reverse report.journal) } }
+    ensures as_many { (desk : Opened) (seats : List SeatState) (report : AReport) → IsAudited desk seats report → length report.views.items ≡ length seats }
+    ensures actors { (desk : Opened) (seats : List SeatState) (report : AReport) → IsAudited desk seats report → length report.views.items ≡ desk.actors }
+    ensures every_actor { (desk : Opened) (seats : List SeatState) (report : AReport) (actor : ℕ) → IsAudited desk seats report → actor < length seats → HasSeat seats actor }
+    ensures views { (desk : Opened) (seats : List SeatState) (report : AReport) (seat : SeatState) → IsAudited desk seats report → Contains seats seat → (slice_get report.views.items seat.actor ≡ Some seat.deposits) × (seat.deposits ≡ view_of seat.actor report.journal) }
+    ensures others { (desk : Opened) (seats : List SeatState) (report : AReport) → IsAudited desk seats report → All (λ (entry : AnEntry). entry.actor < length seats) report.journal }
+    ensures safe { (desk : Opened) (seats : List SeatState) (report : AReport) → IsAudited desk seats report → IsSafe desk.site.plan desk.site.facts (reverse report.journal) }
 {}

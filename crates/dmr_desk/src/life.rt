@@ -5,16 +5,16 @@ ghost use Rattle.std.specs.List.{flat_map};
 ghost use Rattle.dmr_core.specs.Journal.{IsLegal};
 ghost use Rattle.dmr_core.specs.State.{IsSite};
 ghost use Rattle.dmr_core.specs.declared.entry.Entry.{Entry as AnEntry};
-ghost use Rattle.dmr_wire.specs.Told.{Answer};
+ghost use Rattle.dmr_wire.specs.Answers.{Answer};
 ghost use Rattle.dmr_link.specs.Runs.{IsSafe};
-ghost use Rattle.dmr_link.specs.Sessions.{Session, StandsFor};
+ghost use Rattle.dmr_link.specs.Sessions.{Session, HasPast};
 ghost use Rattle.dmr_desk.specs.Life.{HasTickedOn, HasWorkedOn, WentOn, answers_of_terms, joined_answers, joined_journal, joined_view, past_after_terms, read_terms};
 ghost use Rattle.dmr_desk.specs.Meaning.{IsOneMeaning, in_record};
-ghost use Rattle.dmr_desk.specs.Pages.{site_after_entries};
+ghost use Rattle.dmr_desk.specs.BookState.{site_after_entries};
 ghost use Rattle.dmr_desk.specs.Term.{End, Start};
 ghost use Rattle.dmr_desk.specs.Terms.{AreTerms, Fits, HaveRun, journals_of, start_after};
 ghost use Rattle.dmr_desk.specs.Views.{view_of};
-ghost use Rattle.dmr_desk.specs.Work.{Doing, Moment, Stand};
+ghost use Rattle.dmr_desk.specs.Work.{Step, WorkState, StationState};
 
 use crate::meaning::{one_meaning, one_record};
 use dmr_core::each_act_is_safe;
@@ -48,16 +48,16 @@ pub fn one_life()
     ensures handed_back { (start : Start) (ends : List End) → AreTerms start ends → length (start_after start ends).stations ≡ length start.stations }
     // Stations and limit fit every further term, if they fit the first.
     ensures fits { (start : Start) (ends : List End) → AreTerms start ends → Fits start → Fits (start_after start ends) }
-    ensures carriers { (start : Start) (ends : List End) (k : ℕ) (s t : Stand) → AreTerms start ends → slice_get start.stations k ≡ Some s → slice_get (start_after start ends).stations k ≡ Some t →
+    ensures carriers { (start : Start) (ends : List End) (k : ℕ) (s t : StationState) → AreTerms start ends → slice_get start.stations k ≡ Some s → slice_get (start_after start ends).stations k ≡ Some t →
         HasWorkedOn (length ends) s t (view_of k (joined_journal ends)) }
     ensures console { (start : Start) (ends : List End) → AreTerms start ends → HasWorkedOn (length ends) start.console (start_after start ends).console (view_of (length start.stations + 1) (joined_journal ends)) }
     ensures ticker { (start : Start) (ends : List End) → AreTerms start ends → HasTickedOn (length ends) start.pacer (start_after start ends).pacer (view_of (length start.stations) (joined_journal ends)) }
     // What a worker's connections mean after its steps in all terms.
-    ensures meaning { (m n : Moment) (past : List Session) (terms : List (List Doing)) → WentOn m n terms → StandsFor m.at.link past → IsOneMeaning n.at.link (past_after_terms past terms) }
+    ensures meaning { (m n : WorkState) (past : List Session) (terms : List (List Step)) → WentOn m n terms → HasPast m.at.link past → IsOneMeaning n.at.link (past_after_terms past terms) }
     // The answers of the port, read term by term, give these connections, except for their deposits.
-    ensures records { (m n : Moment) (past : List Session) (terms : List (List Doing)) → WentOn m n terms → StandsFor m.at.link past → map in_record (past_after_terms past terms) ≡ read_terms past (answers_of_terms terms) }
+    ensures records { (m n : WorkState) (past : List Session) (terms : List (List Step)) → WentOn m n terms → HasPast m.at.link past → map in_record (past_after_terms past terms) ≡ read_terms past (answers_of_terms terms) }
     // If the port reports its record, these are its answers since the first start.
-    ensures since { (m n : Moment) (terms : List (List Doing)) (begun whole : List Answer) → WentOn m n terms → m.at.told ≡ Some begun → n.at.told ≡ Some whole → whole ≡ begun ++ joined_answers (answers_of_terms terms) }
+    ensures since { (m n : WorkState) (terms : List (List Step)) (begun whole : List Answer) → WentOn m n terms → m.at.reported ≡ Some begun → n.at.reported ≡ Some whole → whole ≡ begun ++ joined_answers (answers_of_terms terms) }
 {
     each_act_is_safe();
     happenings_follow();

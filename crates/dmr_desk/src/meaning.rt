@@ -1,12 +1,12 @@
 //! Laws on what all connections of a worker mean together. These functions do nothing: their contracts are the laws.
 
 ghost use Rattle.std.specs.Prelude.{◌≡◌, ◌++◌, List, [], Some, map};
-ghost use Rattle.dmr_wire.specs.Told.{Answer};
+ghost use Rattle.dmr_wire.specs.Answers.{Answer};
 ghost use Rattle.dmr_link.specs.declared.stream.Peer.{Peer as APeer};
 ghost use Rattle.dmr_link.specs.declared.link_state.LinkState.{LinkState as ALinkState};
-ghost use Rattle.dmr_link.specs.Sessions.{Session, StandsFor};
+ghost use Rattle.dmr_link.specs.Sessions.{Session, HasPast};
 ghost use Rattle.dmr_desk.specs.Meaning.{IsOneMeaning, IsOneRecord, in_record, read_on};
-ghost use Rattle.dmr_desk.specs.Work.{Doing, IsOrderly, Moment, Went, past_after};
+ghost use Rattle.dmr_desk.specs.Work.{Step, IsOrderly, WorkState, Steps, past_after};
 
 use dmr_link::laws::{links_account, links_rest, records_read};
 
@@ -14,12 +14,12 @@ use dmr_link::laws::{links_account, links_rest, records_read};
 /// for their deposits. So the port's record alone says what came on each connection, what the connection took, and how it ended; no reader
 /// needs to know when a call began.
 pub fn one_record()
-    ensures steps { (who : APeer) (past : List Session) (doings : List Doing) → IsOrderly who past doings → IsOneRecord past doings }
+    ensures steps { (who : APeer) (past : List Session) (doings : List Step) → IsOrderly who past doings → IsOneRecord past doings }
     // If the port reports its record, these are the connections that its answers since then give.
-    ensures since { (m n : Moment) (past : List Session) (doings : List Doing) (begun whole : List Answer) → Went m n doings → StandsFor m.at.link past → m.at.told ≡ Some begun → n.at.told ≡ Some whole →
+    ensures since { (m n : WorkState) (past : List Session) (doings : List Step) (begun whole : List Answer) → Steps m n doings → HasPast m.at.link past → m.at.reported ≡ Some begun → n.at.reported ≡ Some whole →
         (answers : List Answer) × (whole ≡ begun ++ answers) × (map in_record (past_after past doings) ≡ read_on past answers) }
     // If link and port were new, these are the connections of the port's whole record.
-    ensures whole { (m n : Moment) (doings : List Doing) (whole : List Answer) → Went m n doings → StandsFor m.at.link [] → m.at.told ≡ Some [] → n.at.told ≡ Some whole →
+    ensures whole { (m n : WorkState) (doings : List Step) (whole : List Answer) → Steps m n doings → HasPast m.at.link [] → m.at.reported ≡ Some [] → n.at.reported ≡ Some whole →
         map in_record (past_after [] doings) ≡ read_on [] whole }
 {
     records_read();
@@ -29,9 +29,9 @@ pub fn one_record()
 /// notices. The events of the former are those that the desk took from these connections. Each connection took the text of its own part. It
 /// took only the first part of the text if a write failed, or if the connection was cut while an event was kept.
 pub fn one_meaning()
-    ensures stands { (link : ALinkState) (past : List Session) → StandsFor link past → IsOneMeaning link past }
+    ensures stands { (link : ALinkState) (past : List Session) → HasPast link past → IsOneMeaning link past }
     // The same of a worker's link, after the worker's steps.
-    ensures works { (m n : Moment) (past : List Session) (doings : List Doing) → Went m n doings → StandsFor m.at.link past → IsOneMeaning n.at.link (past_after past doings) }
+    ensures works { (m n : WorkState) (past : List Session) (doings : List Step) → Steps m n doings → HasPast m.at.link past → IsOneMeaning n.at.link (past_after past doings) }
 {
     links_account();
     links_rest();

@@ -5,7 +5,7 @@ ghost use Rattle.dmr_desk.specs.Limits.{most_actors};
 ghost use Rattle.dmr_desk.specs.Opening.{IsLimit};
 ghost use Rattle.dmr_desk.specs.Refusing.{AreStations, IsFaultFor, IsTermFault, carrier_of_peer, numbers_from};
 ghost use Rattle.dmr_desk.specs.Term.{IsTerm, end_of_term, start_of_term};
-ghost use Rattle.dmr_desk.specs.Work.{stand};
+ghost use Rattle.dmr_desk.specs.Work.{station_state};
 
 use crate::actors::LinkWork;
 use crate::desk::SharedDesk;
@@ -15,7 +15,7 @@ use crate::fault::{OpenFault, TermFault};
 use crate::limits::PARTS;
 use crate::pace::Pacer;
 use crate::station::{ConsoleStation, Serving, Station};
-use crate::term::{Back, Term, finish, run_threads};
+use crate::term::{HandedBack, Term, close_term, run_threads};
 use arrayvec::ArrayVec;
 use dmr_core::Site;
 use dmr_link::Gate;
@@ -55,7 +55,7 @@ fn are_stations<P, G>(plan: &Plan, many: u32, stations: &[Station<P, G>]) -> boo
 fn room_for<S: Drop, L: Ledger>(
     alloc: Global,
     stations: usize,
-) -> Result<(Vec<LinkWork<S, L>>, Back<S, L>), OutOfMemory>
+) -> Result<(Vec<LinkWork<S, L>>, HandedBack<S, L>), OutOfMemory>
     requires few { stations ≤ 16 }
     ensures room { IfOk result (λ r. (r.0.items ≡ []) × (stations ≤ vec_capacity r.0)) }
     ensures stations { IfOk result (λ r. (r.1.stations.items ≡ []) × (stations ≤ vec_capacity r.1.stations)) }
@@ -63,7 +63,7 @@ fn room_for<S: Drop, L: Ledger>(
     ensures ends { IfOk result (λ r. r.1.ends.items ≡ []) }
 {
     let room = Vec::with_capacity(alloc, stations)?;
-    let back = Back {
+    let back = HandedBack {
         stations: Vec::with_capacity(alloc, stations)?,
         seats: Vec::with_capacity(alloc, stations + 2)?,
         ends: ArrayVec::new(),
@@ -93,11 +93,11 @@ where
     requires eighteen { blank.parts ≡ most_actors }
     requires few { vec_len stations ≤ 16 }
     requires desk { L.desk ≡ record { site = site; limit = limit; actors = vec_len stations + 2 } }
-    ensures term { IfOk result (λ t. IsTerm (start_of_term site limit (map (λ s. S.stand s) stations.items) (T.paced pacer) (C.stand console))
-        (end_of_term t.report t.ends.items (map (λ s. S.stand s) t.stations.items) (T.paced t.pacer) (C.stand t.console))) }
+    ensures term { IfOk result (λ t. IsTerm (start_of_term site limit (map (λ s. S.state s) stations.items) (T.paced pacer) (C.state console))
+        (end_of_term t.report t.ends.items (map (λ s. S.state s) t.stations.items) (T.paced t.pacer) (C.state t.console))) }
     ensures shut { IfOk result (λ t. (k : ℕ) (s : _) → slice_get t.stations.items k ≡ Some s → slice_get t.ends.items k ≡ Some Ending.GateShut → S.shut s) }
     ensures open { IfOk result (λ t. slice_get t.ends.items (vec_len stations + 1) ≡ Some Ending.GateShut → C.shut t.console) }
-    ensures fault { IfErr result (IsFaultFor (start_of_term site limit (map (λ s. S.stand s) stations.items) (T.paced pacer) (C.stand console))) }
+    ensures fault { IfErr result (IsFaultFor (start_of_term site limit (map (λ s. S.state s) stations.items) (T.paced pacer) (C.state console))) }
     ensures limit { OnOk result (IsLimit limit) }
 {
     let count = stations.len();
@@ -114,7 +114,7 @@ where
         return Err(TermFault::Open(OpenFault::OutOfMemory));
     };
     match run_threads(rt, &desk, stations, seats, pacer, console, room) {
-        Some(all) => finish(rt, desk, limit, all, back),
+        Some(all) => close_term(rt, desk, limit, all, back),
         None => {
             drop(desk);
             Err(TermFault::NoThread)
@@ -144,12 +144,12 @@ where
     T: Pacer + Send + Drop,
     C: Port + Send + Drop,
     R: Wait + Threads + Sync,
-    ensures term { IfOk result (λ t. IsTerm (start_of_term site limit (map (λ s. stand s.link (P.told s.port) (G.passed s.gate)) stations.items) (T.paced pacer) (stand console.link (C.told console.port) None))
-        (end_of_term t.report t.ends.items (map (λ s. stand s.link (P.told s.port) (G.passed s.gate)) t.stations.items) (T.paced t.pacer) (stand t.console.link (C.told t.console.port) None))) }
+    ensures term { IfOk result (λ t. IsTerm (start_of_term site limit (map (λ s. station_state s.link (P.reported s.port) (G.passed s.gate)) stations.items) (T.paced pacer) (station_state console.link (C.reported console.port) None))
+        (end_of_term t.report t.ends.items (map (λ s. station_state s.link (P.reported s.port) (G.passed s.gate)) t.stations.items) (T.paced t.pacer) (station_state t.console.link (C.reported t.console.port) None))) }
     ensures shut { IfOk result (λ t. (k : ℕ) (s : _) → slice_get t.stations.items k ≡ Some s → slice_get t.ends.items k ≡ Some Ending.GateShut → (before : _) × G.shuts before s.gate) }
     ensures open { IfOk result (λ t. slice_get t.ends.items (vec_len stations + 1) ≡ Some Ending.GateShut → ⊥) }
-    ensures fault { IfErr result (IsTermFault (start_of_term site limit (map (λ s. stand s.link (P.told s.port) (G.passed s.gate)) stations.items) (T.paced pacer) (stand console.link (C.told console.port) None))) }
-    ensures fits { OnOk result (AreStations site.plan (map (λ s. stand s.link (P.told s.port) (G.passed s.gate)) stations.items) × IsLimit limit) }
+    ensures fault { IfErr result (IsTermFault (start_of_term site limit (map (λ s. station_state s.link (P.reported s.port) (G.passed s.gate)) stations.items) (T.paced pacer) (station_state console.link (C.reported console.port) None))) }
+    ensures fits { OnOk result (AreStations site.plan (map (λ s. station_state s.link (P.reported s.port) (G.passed s.gate)) stations.items) × IsLimit limit) }
 {
     if !are_stations(site.plan(), 16, stations.as_slice()) {
         return Err(TermFault::BadStations);

@@ -1,8 +1,8 @@
 //! A seat at the desk.
 
 ghost use Rattle.std.specs.Prelude.{◌≡◌, ◌≤◌, ◌+◌, [], length, IfOk, IfErr, OnOk};
-ghost use Rattle.dmr_desk.specs.Pages.{answer_to, pages_with_entry};
-ghost use Rattle.dmr_desk.specs.Sitting.{seat_with_deposit};
+ghost use Rattle.dmr_desk.specs.BookState.{answer_to, book_with_entry};
+ghost use Rattle.dmr_desk.specs.Seats.{seat_with_deposit};
 
 use crate::book::Book;
 use crate::room::push_copy;
@@ -27,9 +27,9 @@ pub struct Seat<L: Ledger> {
 
 impl<L: Ledger> Model for Seat<L> {
     ghost use Rattle.std.specs.Prelude.{◌≡◌, ◌≤◌, vec_len, vec_capacity};
-    ghost use Rattle.dmr_desk.specs.Sitting.{Sitting};
+    ghost use Rattle.dmr_desk.specs.Seats.{SeatState};
 
-    ghost Value = { Sitting };
+    ghost Value = { SeatState };
 
     ghost view = { λ s. record { actor = s.actor; deposits = s.deposits.items } };
 
@@ -74,14 +74,14 @@ impl<L: Ledger> Seat<L> {
 
     /// Applies an event to the book for this actor, counts it in the ledger, and keeps it with the answer. On an error the book or the seat
     /// has no room, and nothing has changed; the error has the number of the book's entries.
-    pub(crate) fn tell(
+    pub(crate) fn apply_event(
         &mut self,
         book: &mut Book,
         total: &mut ledger::Book<L>,
         event: &Event,
     ) -> Result<Acts, TermOver>
         ensures acts { IfOk result (λ acts. acts ≡ answer_to book.old event.now) }
-        ensures entered { IfOk result (λ acts. book.new ≡ pages_with_entry book.old self.old.actor event.now acts) }
+        ensures entered { IfOk result (λ acts. book.new ≡ book_with_entry book.old self.old.actor event.now acts) }
         ensures deposited { IfOk result (λ acts. self.new ≡ seat_with_deposit self.old event.now acts) }
         ensures among { length self.old.deposits ≤ total.old.total }
         ensures counted { OnOk result (total.new.total ≡ total.old.total + 1) }

@@ -3,10 +3,10 @@
 ghost use Rattle.std.specs.Prelude.{◌≡◌, true, false, not, [], ◌∷◌, IfOk, IfErr, List};
 ghost use Rattle.dmr_core.specs.declared.event.Event.{Event as AnEvent};
 ghost use Rattle.dmr_link.specs.declared.desk.TermOver.{TermOver as ATermOver};
-ghost use Rattle.dmr_wire.specs.Told.{Tells, of_connect, of_wait};
-ghost use Rattle.dmr_link.specs.Sessions.{Session, new_session, StandsFor, IsOver, Serves, Cuts};
+ghost use Rattle.dmr_wire.specs.Answers.{Reports, of_connect, of_wait};
+ghost use Rattle.dmr_link.specs.Sessions.{Session, new_session, HasPast, IsOver, Serves, Cuts};
 ghost use Rattle.dmr_link.specs.LinkSteps.{is_live};
-ghost use Rattle.dmr_desk.specs.Work.{Stand, Answers, Turns, sides_at};
+ghost use Rattle.dmr_desk.specs.Work.{StationState, Answers, ChangesLink, sides_at};
 
 use dmr_link::{ConsoleLink, Desk, Ended, Gate, Link, TermOver};
 use dmr_wire::{Connect, Port, Waited};
@@ -31,57 +31,57 @@ pub struct ConsoleStation<P> {
     pub port: P,
 }
 
-/// A station that a worker serves. Contracts see its state (`Stand`).
+/// A station that a worker serves. Contracts see its state (`StationState`).
 pub trait Serving {
     /// The link, and the records that its port and its gate report. A console has no gate, and reports nothing of one.
-    ghost stand: { Self → Stand };
+    ghost state: { Self → StationState };
 
     /// The gate was shut at the last try to pass it.
     ghost shut: { Self → Type 0 };
 
     /// Whether the link is live.
     fn live(&self) -> bool
-        ensures { result ≡ is_live (stand self.now).link };
+        ensures { result ≡ is_live (state self.now).link };
 
     /// Asks the port for the next connection.
     fn connect(&mut self) -> Connect
-        ensures { Answers (stand self.old) (of_connect result) (stand self.new) };
+        ensures { Answers (state self.old) (of_connect result) (state self.new) };
 
     /// Begins a connection.
     fn open(&mut self)
-        requires { is_live (stand self.old).link ≡ false }
-        ensures turns { Turns (stand self.old) (stand self.new) }
-        ensures stands { (past : List Session) → StandsFor (stand self.old).link past → StandsFor (stand self.new).link (new_session ∷ past) };
+        requires { is_live (state self.old).link ≡ false }
+        ensures turns { ChangesLink (state self.old) (state self.new) }
+        ensures stands { (past : List Session) → HasPast (state self.old).link past → HasPast (state self.new).link (new_session ∷ past) };
 
     /// Serves the link until it has to stop.
     fn serve<D: Desk>(&mut self, desk: &mut D) -> Ended
         ensures actor { D.actor desk.new ≡ D.actor desk.old }
-        ensures serves { Serves (stand self.old).link (stand self.new).link (sides_at (stand self.old) (D.calls desk.old)) (sides_at (stand self.new) (D.calls desk.new)) result }
+        ensures serves { Serves (state self.old).link (state self.new).link (sides_at (state self.old) (D.calls desk.old)) (sides_at (state self.new) (D.calls desk.new)) result }
         ensures over { result ≡ Ended.TermOver → (before : _) × (event : AnEvent) × (over : ATermOver) × D.refuses before event over desk.new }
         ensures shut { result ≡ Ended.GateShut → shut self.new };
 
     /// Waits on the port.
     fn wait(&mut self) -> Waited
-        ensures { Answers (stand self.old) (of_wait result) (stand self.new) };
+        ensures { Answers (state self.old) (of_wait result) (state self.new) };
 
     /// Cuts the link.
     fn cut<D: Desk>(&mut self, desk: &mut D) -> Result<(), TermOver>
-        requires { is_live (stand self.old).link ≡ true }
+        requires { is_live (state self.old).link ≡ true }
         ensures actor { D.actor desk.new ≡ D.actor desk.old }
-        ensures turns { Turns (stand self.old) (stand self.new) }
-        ensures cuts { Cuts (stand self.old).link (stand self.new).link (D.calls desk.old) (D.calls desk.new) }
-        ensures done { IfOk result (λ _. IsOver (stand self.new).link) }
+        ensures turns { ChangesLink (state self.old) (state self.new) }
+        ensures cuts { Cuts (state self.old).link (state self.new).link (D.calls desk.old) (D.calls desk.new) }
+        ensures done { IfOk result (λ _. IsOver (state self.new).link) }
         ensures over { IfErr result (λ over. (before : _) × (event : AnEvent) × D.refuses before event over desk.new) };
 
     /// Reports to the port how the link's connection was closed.
     fn report_closing(&mut self)
-        ensures { stand self.new ≡ stand self.old };
+        ensures { state self.new ≡ state self.old };
 }
 
 impl<P: Port, G: Gate> Serving for Station<P, G> {
-    ghost use Rattle.dmr_desk.specs.Work.{stand as stand_of};
+    ghost use Rattle.dmr_desk.specs.Work.{station_state as state_of};
 
-    ghost stand = { λ s. stand_of s.link (P.told s.port) (G.passed s.gate) };
+    ghost state = { λ s. state_of s.link (P.reported s.port) (G.passed s.gate) };
 
     ghost shut = { λ s. (before : _) × G.shuts before s.gate };
 
@@ -116,9 +116,9 @@ impl<P: Port, G: Gate> Serving for Station<P, G> {
 
 impl<P: Port> Serving for ConsoleStation<P> {
     ghost use Rattle.std.specs.Prelude.{None};
-    ghost use Rattle.dmr_desk.specs.Work.{stand as stand_of};
+    ghost use Rattle.dmr_desk.specs.Work.{station_state as state_of};
 
-    ghost stand = { λ s. stand_of s.link (P.told s.port) None };
+    ghost state = { λ s. state_of s.link (P.reported s.port) None };
 
     ghost shut = { λ s. ⊥ };
 
@@ -131,9 +131,9 @@ impl<P: Port> Serving for ConsoleStation<P> {
     }
 
     fn open(&mut self) {
-        self.link.keeps();
+        self.link.use_invariant();
         self.link.open();
-        self.link.keeps();
+        self.link.use_invariant();
     }
 
     fn serve<D: Desk>(&mut self, desk: &mut D) -> Ended {

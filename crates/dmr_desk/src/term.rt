@@ -5,9 +5,9 @@ ghost use Rattle.arrayvec.specs.ArrayVec.{array_vec_len};
 ghost use Rattle.dmr_desk.specs.Limits.{most_actors};
 ghost use Rattle.dmr_desk.specs.Pace.{Paced};
 ghost use Rattle.dmr_desk.specs.Refusing.{IsLate, early_actor, first_over};
-ghost use Rattle.dmr_desk.specs.Sitting.{empty_seats};
+ghost use Rattle.dmr_desk.specs.Seats.{empty_seats};
 ghost use Rattle.dmr_desk.specs.Term.{AllDone, IsWorkDone, IsTerm, IsTicked, work_done, end_of_term, start_of_term};
-ghost use Rattle.dmr_desk.specs.Work.{Stand};
+ghost use Rattle.dmr_desk.specs.Work.{StationState};
 
 use crate::actors::LinkWork;
 use crate::desk::SharedDesk;
@@ -19,7 +19,7 @@ use crate::pace::Pacer;
 use crate::report::{Journal, Report};
 use crate::seat::Seat;
 use crate::station::Serving;
-use crate::threads::{AllWork, Crew, Others, start};
+use crate::threads::{AllWork, TickerAndConsole, Workers, run_workers};
 use arrayvec::ArrayVec;
 use std::sync::Wait;
 use std::sync::ledger::Ledger;
@@ -41,23 +41,27 @@ pub struct Term<S, T, C> {
 }
 
 /// The number of the first worker that ended because the term was over; numbers begin with `from`.
-fn first_told(from: u8, ends: &[Ending]) -> Option<u8>
+fn first_term_over(from: u8, ends: &[Ending]) -> Option<u8>
     requires { from + length ends.now < 256 }
     ensures { result ≡ first_over from ends.now }
 {
     match ends {
         [] => None,
         [Ending::TermOver, ..] => Some(from),
-        [_, rest @ ..] => first_told(from + 1, rest),
+        [_, rest @ ..] => first_term_over(from + 1, rest),
     }
 }
 
 /// The least actor that ended because the term was over although the journal is below its limit.
-fn early(journal: &Journal, limit: usize, ends: &ArrayVec<Ending, MOST_ACTORS>) -> Option<u8>
+fn find_early_actor(
+    journal: &Journal,
+    limit: usize,
+    ends: &ArrayVec<Ending, MOST_ACTORS>,
+) -> Option<u8>
     ensures { result ≡ early_actor (length journal.now) limit ends.now.items }
 {
     if journal.as_slice().len() < limit {
-        first_told(0, ends.as_slice())
+        first_term_over(0, ends.as_slice())
     } else {
         None
     }
@@ -65,7 +69,7 @@ fn early(journal: &Journal, limit: usize, ends: &ArrayVec<Ending, MOST_ACTORS>) 
 
 /// The workers' results, each kind in a list of its own.
 #[derive(Drop)]
-pub struct Back<S, L: Ledger> {
+pub struct HandedBack<S, L: Ledger> {
     /// The stations.
     pub stations: Vec<S>,
     /// The seats.
@@ -75,7 +79,10 @@ pub struct Back<S, L: Ledger> {
 }
 
 /// Splits the results of the carriers' workers, and appends them to `back`.
-fn gather<S: Drop, L: Ledger>(mut works: Vec<LinkWork<S, L>>, back: Back<S, L>) -> Back<S, L>
+fn split_works<S: Drop, L: Ledger>(
+    mut works: Vec<LinkWork<S, L>>,
+    back: HandedBack<S, L>,
+) -> HandedBack<S, L>
     requires stations { vec_len back.stations + vec_len works ≤ vec_capacity back.stations }
     requires seats { vec_len back.seats + vec_len works ≤ vec_capacity back.seats }
     requires ends { array_vec_len back.ends + vec_len works ≤ most_actors }
@@ -96,7 +103,7 @@ fn gather<S: Drop, L: Ledger>(mut works: Vec<LinkWork<S, L>>, back: Back<S, L>) 
         seat,
         ending,
     } = work;
-    let mut back = gather(works, back);
+    let mut back = split_works(works, back);
     back.stations.push_reserved(station);
     back.seats.push_reserved(seat);
     back.ends.push(ending);
@@ -104,10 +111,10 @@ fn gather<S: Drop, L: Ledger>(mut works: Vec<LinkWork<S, L>>, back: Back<S, L>) 
 }
 
 /// Splits the results of all workers: the carriers', then the ticker's, then the console's.
-fn gather_all<S: Drop, T: Drop, C: Drop, L: Ledger>(
+fn split_all_works<S: Drop, T: Drop, C: Drop, L: Ledger>(
     all: AllWork<S, T, C, L>,
-    back: Back<S, L>,
-) -> (Back<S, L>, T, C)
+    back: HandedBack<S, L>,
+) -> (HandedBack<S, L>, T, C)
     requires few { vec_len all.carriers ≤ 16 }
     requires stations { back.stations.items ≡ [] }
     requires seats { back.seats.items ≡ [] }
@@ -125,7 +132,7 @@ fn gather_all<S: Drop, T: Drop, C: Drop, L: Ledger>(
         ticker,
         console,
     } = all;
-    let mut back = gather(carriers, back);
+    let mut back = split_works(carriers, back);
     back.seats.push_reserved(ticker.seat);
     back.seats.push_reserved(console.seat);
     back.ends.push(ticker.ending);
@@ -135,12 +142,12 @@ fn gather_all<S: Drop, T: Drop, C: Drop, L: Ledger>(
 
 /// Closes the desk with the workers' seats. `back` has room for their results. On an error the desk returned no report, or else a worker
 /// ended early; the error names the least such actor.
-pub fn finish<S, T, C, L, R>(
+pub fn close_term<S, T, C, L, R>(
     rt: &R,
     desk: SharedDesk<L>,
     limit: usize,
     all: AllWork<S, T, C, L>,
-    back: Back<S, L>,
+    back: HandedBack<S, L>,
 ) -> Result<Term<S, T, C>, TermFault>
 where
     S: Serving + Drop,
@@ -157,23 +164,23 @@ where
     requires ends { back.ends.items ≡ [] }
     requires room { vec_len all.carriers ≤ vec_capacity back.stations }
     requires seats_room { vec_len all.carriers + 2 ≤ vec_capacity back.seats }
-    ensures term { IfOk result (λ t. (stations : List Stand) (pacer : Option Paced) (console : Stand)
-        → AllDone 0 stations (map (λ w. work_done (S.stand w.station) w.seat w.ending) all.carriers.items)
+    ensures term { IfOk result (λ t. (stations : List StationState) (pacer : Option Paced) (console : StationState)
+        → AllDone 0 stations (map (λ w. work_done (S.state w.station) w.seat w.ending) all.carriers.items)
         → IsTicked (length stations) pacer (T.paced all.ticker.pacer) all.ticker.seat all.ticker.ending
-        → IsWorkDone (length stations + 1) console (work_done (C.stand all.console.station) all.console.seat all.console.ending)
-        → IsTerm (start_of_term desk.site desk.limit stations pacer console) (end_of_term t.report t.ends.items (map (λ s. S.stand s) t.stations.items) (T.paced t.pacer) (C.stand t.console))) }
+        → IsWorkDone (length stations + 1) console (work_done (C.state all.console.station) all.console.seat all.console.ending)
+        → IsTerm (start_of_term desk.site desk.limit stations pacer console) (end_of_term t.report t.ends.items (map (λ s. S.state s) t.stations.items) (T.paced t.pacer) (C.state t.console))) }
     ensures shut { IfOk result (λ t. All (λ w. w.ending ≡ Ending.GateShut → S.shut w.station) all.carriers.items
         → (k : ℕ) (s : _) → slice_get t.stations.items k ≡ Some s → slice_get t.ends.items k ≡ Some Ending.GateShut → S.shut s) }
     ensures open { IfOk result (λ t. (all.console.ending ≡ Ending.GateShut → C.shut all.console.station)
         → slice_get t.ends.items (vec_len all.carriers + 1) ≡ Some Ending.GateShut → C.shut t.console) }
-    ensures late { IfErr result (λ fault. (stations : List Stand) (pacer : Option Paced) (console : Stand)
-        → AllDone 0 stations (map (λ w. work_done (S.stand w.station) w.seat w.ending) all.carriers.items)
+    ensures late { IfErr result (λ fault. (stations : List StationState) (pacer : Option Paced) (console : StationState)
+        → AllDone 0 stations (map (λ w. work_done (S.state w.station) w.seat w.ending) all.carriers.items)
         → IsTicked (length stations) pacer (T.paced all.ticker.pacer) all.ticker.seat all.ticker.ending
-        → IsWorkDone (length stations + 1) console (work_done (C.stand all.console.station) all.console.seat all.console.ending)
+        → IsWorkDone (length stations + 1) console (work_done (C.state all.console.station) all.console.seat all.console.ending)
         → IsLate (start_of_term desk.site desk.limit stations pacer console) fault) }
 {
-    let (back, pacer, console) = gather_all(all, back);
-    let Back {
+    let (back, pacer, console) = split_all_works(all, back);
+    let HandedBack {
         stations,
         seats,
         ends,
@@ -182,7 +189,7 @@ where
         Ok(report) => report,
         Err(fault) => return Err(TermFault::Audit(fault)),
     };
-    match early(&report.journal, limit, &ends) {
+    match find_early_actor(&report.journal, limit, &ends) {
         Some(actor) => {
             drop(report);
             Err(TermFault::Early(actor))
@@ -218,26 +225,26 @@ where
     requires seats { seats.items ≡ empty_seats (vec_len stations + 2) }
     requires empty { room.items ≡ [] }
     requires room { vec_len stations ≤ vec_capacity room }
-    ensures carriers { IfSome result (λ r. AllDone 0 (map (λ s. S.stand s) stations.items) (map (λ w. work_done (S.stand w.station) w.seat w.ending) r.carriers.items)) }
+    ensures carriers { IfSome result (λ r. AllDone 0 (map (λ s. S.state s) stations.items) (map (λ w. work_done (S.state w.station) w.seat w.ending) r.carriers.items)) }
     ensures shut { IfSome result (λ r. All (λ w. w.ending ≡ Ending.GateShut → S.shut w.station) r.carriers.items) }
     ensures len { IfSome result (λ r. vec_len r.carriers ≡ vec_len stations) }
     ensures ticker { IfSome result (λ r. IsTicked (vec_len stations) (T.paced pacer) (T.paced r.ticker.pacer) r.ticker.seat r.ticker.ending) }
-    ensures console { IfSome result (λ r. IsWorkDone (vec_len stations + 1) (C.stand console) (work_done (C.stand r.console.station) r.console.seat r.console.ending)) }
+    ensures console { IfSome result (λ r. IsWorkDone (vec_len stations + 1) (C.state console) (work_done (C.state r.console.station) r.console.seat r.console.ending)) }
     ensures open { IfSome result (λ r. r.console.ending ≡ Ending.GateShut → C.shut r.console.station) }
 {
     let console_seat = seats.pop()?;
     let pacer_seat = seats.pop()?;
-    let others = Others {
+    let others = TickerAndConsole {
         pacer,
         pacer_seat,
         console,
         console_seat,
     };
-    let crew = Crew {
+    let crew = Workers {
         stations,
         seats,
         others,
         room,
     };
-    start(rt, desk, crew)
+    run_workers(rt, desk, crew)
 }

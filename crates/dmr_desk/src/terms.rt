@@ -5,7 +5,7 @@ ghost use Rattle.dmr_core.specs.declared.entry.Entry.{Entry as AnEntry};
 ghost use Rattle.dmr_desk.specs.Refusing.{IsTermFault};
 ghost use Rattle.dmr_desk.specs.Term.{start_of_term};
 ghost use Rattle.dmr_desk.specs.Terms.{HaveRun, HaveStopped, Sees};
-ghost use Rattle.dmr_desk.specs.Work.{stand};
+ghost use Rattle.dmr_desk.specs.Work.{station_state};
 
 use crate::fault::{TermFault, TermsFault};
 use crate::pace::Pacer;
@@ -91,9 +91,9 @@ where
     C: Port + Send + Drop,
     O: Observer,
     R: Wait + Threads + Sync,
-    ensures run { IfOk result (λ next. HaveRun (start_of_term service.site limit (map (λ s. stand s.link (P.told s.port) (G.passed s.gate)) service.stations.items) (T.paced service.pacer) (stand service.console.link (C.told service.console.port) None)) 1
-        (start_of_term next.site limit (map (λ s. stand s.link (P.told s.port) (G.passed s.gate)) next.stations.items) (T.paced next.pacer) (stand next.console.link (C.told next.console.port) None)) (O.seen observer.old) (O.seen observer.new)) }
-    ensures fault { IfErr result (IsTermFault (start_of_term service.site limit (map (λ s. stand s.link (P.told s.port) (G.passed s.gate)) service.stations.items) (T.paced service.pacer) (stand service.console.link (C.told service.console.port) None))) }
+    ensures run { IfOk result (λ next. HaveRun (start_of_term service.site limit (map (λ s. station_state s.link (P.reported s.port) (G.passed s.gate)) service.stations.items) (T.paced service.pacer) (station_state service.console.link (C.reported service.console.port) None)) 1
+        (start_of_term next.site limit (map (λ s. station_state s.link (P.reported s.port) (G.passed s.gate)) next.stations.items) (T.paced next.pacer) (station_state next.console.link (C.reported next.console.port) None)) (O.seen observer.old) (O.seen observer.new)) }
+    ensures fault { IfErr result (IsTermFault (start_of_term service.site limit (map (λ s. station_state s.link (P.reported s.port) (G.passed s.gate)) service.stations.items) (T.paced service.pacer) (station_state service.console.link (C.reported service.console.port) None))) }
     ensures unseen { OnErr result (O.seen observer.new ≡ O.seen observer.old) }
 {
     let Service {
@@ -129,9 +129,9 @@ where
     C: Port + Send + Drop,
     O: Observer,
     R: Wait + Threads + Sync,
-    ensures run { IfOk result (λ next. HaveRun (start_of_term service.site limit (map (λ s. stand s.link (P.told s.port) (G.passed s.gate)) service.stations.items) (T.paced service.pacer) (stand service.console.link (C.told service.console.port) None)) terms
-        (start_of_term next.site limit (map (λ s. stand s.link (P.told s.port) (G.passed s.gate)) next.stations.items) (T.paced next.pacer) (stand next.console.link (C.told next.console.port) None)) (O.seen observer.old) (O.seen observer.new)) }
-    ensures fault { IfErr result (λ fault. HaveStopped (start_of_term service.site limit (map (λ s. stand s.link (P.told s.port) (G.passed s.gate)) service.stations.items) (T.paced service.pacer) (stand service.console.link (C.told service.console.port) None)) terms
+    ensures run { IfOk result (λ next. HaveRun (start_of_term service.site limit (map (λ s. station_state s.link (P.reported s.port) (G.passed s.gate)) service.stations.items) (T.paced service.pacer) (station_state service.console.link (C.reported service.console.port) None)) terms
+        (start_of_term next.site limit (map (λ s. station_state s.link (P.reported s.port) (G.passed s.gate)) next.stations.items) (T.paced next.pacer) (station_state next.console.link (C.reported next.console.port) None)) (O.seen observer.old) (O.seen observer.new)) }
+    ensures fault { IfErr result (λ fault. HaveStopped (start_of_term service.site limit (map (λ s. station_state s.link (P.reported s.port) (G.passed s.gate)) service.stations.items) (T.paced service.pacer) (station_state service.console.link (C.reported service.console.port) None)) terms
         fault (O.seen observer.old) (O.seen observer.new)) }
 {
     for done in 0..terms {

@@ -3,7 +3,9 @@
 ghost use Rattle.std.specs.Prelude.{◌≡◌, ◌≤◌, ◌+◌, [], All, IfSome, true, map, vec_len, vec_capacity};
 ghost use Rattle.dmr_desk.specs.Term.{AllDone, AreNew, IsWorkDone, IsNew, IsTicked, are_new, work_done, is_new};
 
-use crate::actors::{LinkKept, LinkWork, TickerKept, TickerWork, serve_at, tick_at};
+use crate::actors::{
+    LinkPromise, LinkWork, TickerPromise, TickerWork, tick_from_seat, work_from_seat,
+};
 use crate::desk::SharedDesk;
 use crate::desk_ledger::DeskLedger;
 use crate::ending::Ending;
@@ -18,7 +20,7 @@ use std::thread::{Scope, Threads};
 
 /// The pacer and the console, with their seats.
 #[derive(Drop)]
-pub struct Others<T, C, L: Ledger> {
+pub struct TickerAndConsole<T, C, L: Ledger> {
     /// The pacer.
     pub pacer: T,
     /// The ticker's seat.
@@ -53,16 +55,16 @@ where
     L: DeskLedger + Send + Sync + 's,
     R: Wait + Threads + Sync,
     requires { seat.deposits ≡ [] }
-    ensures done { IfSome result (λ r. IsWorkDone seat.actor (C.stand station) (work_done (C.stand r.station) r.seat r.ending)) }
+    ensures done { IfSome result (λ r. IsWorkDone seat.actor (C.state station) (work_done (C.state r.station) r.seat r.ending)) }
     ensures shut { IfSome result (λ r. r.ending ≡ Ending.GateShut → C.shut r.station) }
 {
-    let promise = LinkKept(Snapshot::of(&station), seat.actor());
+    let promise = LinkPromise(Snapshot::of(&station), seat.actor());
     match scope.spawn_with(
         promise,
         move || -> LinkWork<C, L>
             requires { seat.deposits ≡ [] }
-            ensures { IsWorkDone seat.actor (C.stand station) (work_done (C.stand result.station) result.seat result.ending) × (result.ending ≡ Ending.GateShut → C.shut result.station) }
-        { serve_at(rt, desk, station, seat) },
+            ensures { IsWorkDone seat.actor (C.state station) (work_done (C.state result.station) result.seat result.ending) × (result.ending ≡ Ending.GateShut → C.shut result.station) }
+        { work_from_seat(rt, desk, station, seat) },
     ) {
         Ok(child) => Some(child.join(rt)),
         Err(_) => {
@@ -74,11 +76,11 @@ where
 
 /// Starts the ticker and the console's worker, and waits for both. If a thread cannot be started, abandons the desk, so that a started one
 /// ends, and returns `None`.
-fn run_others<'s, E, S, T, C, L, R>(
+fn run_ticker_and_console<'s, E, S, T, C, L, R>(
     rt: &'s R,
     scope: &'s Scope<'s, E>,
     desk: &'s SharedDesk<L>,
-    others: Others<T, C, L>,
+    others: TickerAndConsole<T, C, L>,
     carriers: Vec<LinkWork<S, L>>,
 ) -> Option<AllWork<S, T, C, L>>
 where
@@ -91,22 +93,22 @@ where
     requires console { others.console_seat.deposits ≡ [] }
     ensures carriers { IfSome result (λ r. r.carriers ≡ carriers) }
     ensures ticker { IfSome result (λ r. IsTicked others.pacer_seat.actor (T.paced others.pacer) (T.paced r.ticker.pacer) r.ticker.seat r.ticker.ending) }
-    ensures console { IfSome result (λ r. IsWorkDone others.console_seat.actor (C.stand others.console) (work_done (C.stand r.console.station) r.console.seat r.console.ending)) }
+    ensures console { IfSome result (λ r. IsWorkDone others.console_seat.actor (C.state others.console) (work_done (C.state r.console.station) r.console.seat r.console.ending)) }
     ensures shut { IfSome result (λ r. r.console.ending ≡ Ending.GateShut → C.shut r.console.station) }
 {
-    let Others {
+    let TickerAndConsole {
         pacer,
         pacer_seat,
         console,
         console_seat,
     } = others;
-    let promise = TickerKept(Snapshot::of(&pacer), pacer_seat.actor());
+    let promise = TickerPromise(Snapshot::of(&pacer), pacer_seat.actor());
     match scope.spawn_with(
         promise,
         move || -> TickerWork<T, L>
             requires { pacer_seat.deposits ≡ [] }
             ensures { IsTicked pacer_seat.actor (T.paced pacer) (T.paced result.pacer) result.seat result.ending }
-        { tick_at(rt, desk, pacer, pacer_seat) },
+        { tick_from_seat(rt, desk, pacer, pacer_seat) },
     ) {
         Ok(child) => {
             let console = run_console(rt, scope, desk, console, console_seat);
@@ -129,13 +131,13 @@ where
 
 /// Starts the last station's worker, runs the rest, and waits for the worker. If a thread could not be started, returns `None`; the desk
 /// was abandoned, and all started threads have ended.
-fn run_all<'s, E, S, T, C, L, R>(
+fn run_stations<'s, E, S, T, C, L, R>(
     rt: &'s R,
     scope: &'s Scope<'s, E>,
     desk: &'s SharedDesk<L>,
     mut stations: Vec<S>,
     mut seats: Vec<Seat<L>>,
-    others: Others<T, C, L>,
+    others: TickerAndConsole<T, C, L>,
     room: Vec<LinkWork<S, L>>,
 ) -> Option<AllWork<S, T, C, L>>
 where
@@ -150,30 +152,30 @@ where
     requires console { others.console_seat.deposits ≡ [] }
     requires empty { room.items ≡ [] }
     requires room { vec_len stations ≤ vec_capacity room }
-    ensures carriers { IfSome result (λ r. AllDone 0 (map (λ s. S.stand s) stations.items) (map (λ w. work_done (S.stand w.station) w.seat w.ending) r.carriers.items)) }
+    ensures carriers { IfSome result (λ r. AllDone 0 (map (λ s. S.state s) stations.items) (map (λ w. work_done (S.state w.station) w.seat w.ending) r.carriers.items)) }
     ensures shut { IfSome result (λ r. All (λ w. w.ending ≡ Ending.GateShut → S.shut w.station) r.carriers.items) }
     ensures len { IfSome result (λ r. vec_len r.carriers ≡ vec_len stations) }
     ensures room { IfSome result (λ r. vec_capacity r.carriers ≡ vec_capacity room) }
     ensures ticker { IfSome result (λ r. IsTicked others.pacer_seat.actor (T.paced others.pacer) (T.paced r.ticker.pacer) r.ticker.seat r.ticker.ending) }
-    ensures console { IfSome result (λ r. IsWorkDone others.console_seat.actor (C.stand others.console) (work_done (C.stand r.console.station) r.console.seat r.console.ending)) }
+    ensures console { IfSome result (λ r. IsWorkDone others.console_seat.actor (C.state others.console) (work_done (C.state r.console.station) r.console.seat r.console.ending)) }
     ensures open { IfSome result (λ r. r.console.ending ≡ Ending.GateShut → C.shut r.console.station) }
 {
     let Some(station) = stations.pop() else {
-        return run_others(rt, scope, desk, others, room);
+        return run_ticker_and_console(rt, scope, desk, others, room);
     };
     let Some(seat) = seats.pop() else {
         unreachable!()
     };
-    let promise = LinkKept(Snapshot::of(&station), seat.actor());
+    let promise = LinkPromise(Snapshot::of(&station), seat.actor());
     match scope.spawn_with(
         promise,
         move || -> LinkWork<S, L>
             requires { seat.deposits ≡ [] }
-            ensures { IsWorkDone seat.actor (S.stand station) (work_done (S.stand result.station) result.seat result.ending) × (result.ending ≡ Ending.GateShut → S.shut result.station) }
-        { serve_at(rt, desk, station, seat) },
+            ensures { IsWorkDone seat.actor (S.state station) (work_done (S.state result.station) result.seat result.ending) × (result.ending ≡ Ending.GateShut → S.shut result.station) }
+        { work_from_seat(rt, desk, station, seat) },
     ) {
         Ok(child) => {
-            let rest = run_all(rt, scope, desk, stations, seats, others, room);
+            let rest = run_stations(rt, scope, desk, stations, seats, others, room);
             let work = child.join(rt);
             match rest {
                 Some(mut all) => {
@@ -192,13 +194,13 @@ where
 
 /// The crew of a term: the stations, the pacer and the console, a new seat for each, and room for the results.
 #[derive(Drop)]
-pub struct Crew<S, T, C, L: Ledger> {
+pub struct Workers<S, T, C, L: Ledger> {
     /// The stations.
     pub stations: Vec<S>,
     /// Their seats.
     pub seats: Vec<Seat<L>>,
     /// The pacer and the console.
-    pub others: Others<T, C, L>,
+    pub others: TickerAndConsole<T, C, L>,
     /// Room for the results of the stations' workers.
     pub room: Vec<LinkWork<S, L>>,
     ghost each: { vec_len seats ≡ vec_len stations },
@@ -215,7 +217,7 @@ fn run_crew<'s, E, S, T, C, L, R>(
     rt: &'s R,
     scope: &'s Scope<'s, E>,
     desk: &'s SharedDesk<L>,
-    crew: Crew<S, T, C, L>,
+    crew: Workers<S, T, C, L>,
 ) -> Option<AllWork<S, T, C, L>>
 where
     S: Serving + Send + Drop + 's,
@@ -223,28 +225,28 @@ where
     C: Serving + Send + Drop + 's,
     L: DeskLedger + Send + Sync + 's,
     R: Wait + Threads + Sync,
-    ensures carriers { IfSome result (λ r. AllDone 0 (map (λ s. S.stand s) crew.stations.items) (map (λ w. work_done (S.stand w.station) w.seat w.ending) r.carriers.items)) }
+    ensures carriers { IfSome result (λ r. AllDone 0 (map (λ s. S.state s) crew.stations.items) (map (λ w. work_done (S.state w.station) w.seat w.ending) r.carriers.items)) }
     ensures shut { IfSome result (λ r. All (λ w. w.ending ≡ Ending.GateShut → S.shut w.station) r.carriers.items) }
     ensures len { IfSome result (λ r. vec_len r.carriers ≡ vec_len crew.stations) }
     ensures ticker { IfSome result (λ r. IsTicked (vec_len crew.stations) (T.paced crew.others.pacer) (T.paced r.ticker.pacer) r.ticker.seat r.ticker.ending) }
-    ensures console { IfSome result (λ r. IsWorkDone (vec_len crew.stations + 1) (C.stand crew.others.console) (work_done (C.stand r.console.station) r.console.seat r.console.ending)) }
+    ensures console { IfSome result (λ r. IsWorkDone (vec_len crew.stations + 1) (C.state crew.others.console) (work_done (C.state r.console.station) r.console.seat r.console.ending)) }
     ensures open { IfSome result (λ r. r.console.ending ≡ Ending.GateShut → C.shut r.console.station) }
 {
-    let Crew {
+    let Workers {
         stations,
         seats,
         others,
         room,
     } = crew;
-    run_all(rt, scope, desk, stations, seats, others, room)
+    run_stations(rt, scope, desk, stations, seats, others, room)
 }
 
 /// Runs all workers, each in a thread of its own, and waits for them. If a thread could not be started, returns `None`; the desk was
 /// abandoned, and each started worker ended when it next asked whether the term is over.
-pub fn start<S, T, C, L, R>(
+pub fn run_workers<S, T, C, L, R>(
     rt: &R,
     desk: &SharedDesk<L>,
-    crew: Crew<S, T, C, L>,
+    crew: Workers<S, T, C, L>,
 ) -> Option<AllWork<S, T, C, L>>
 where
     S: Serving + Send + Drop,
@@ -252,11 +254,11 @@ where
     C: Serving + Send + Drop,
     L: DeskLedger + Send + Sync,
     R: Wait + Threads + Sync,
-    ensures carriers { IfSome result (λ r. AllDone 0 (map (λ s. S.stand s) crew.stations.items) (map (λ w. work_done (S.stand w.station) w.seat w.ending) r.carriers.items)) }
+    ensures carriers { IfSome result (λ r. AllDone 0 (map (λ s. S.state s) crew.stations.items) (map (λ w. work_done (S.state w.station) w.seat w.ending) r.carriers.items)) }
     ensures shut { IfSome result (λ r. All (λ w. w.ending ≡ Ending.GateShut → S.shut w.station) r.carriers.items) }
     ensures len { IfSome result (λ r. vec_len r.carriers ≡ vec_len crew.stations) }
     ensures ticker { IfSome result (λ r. IsTicked (vec_len crew.stations) (T.paced crew.others.pacer) (T.paced r.ticker.pacer) r.ticker.seat r.ticker.ending) }
-    ensures console { IfSome result (λ r. IsWorkDone (vec_len crew.stations + 1) (C.stand crew.others.console) (work_done (C.stand r.console.station) r.console.seat r.console.ending)) }
+    ensures console { IfSome result (λ r. IsWorkDone (vec_len crew.stations + 1) (C.state crew.others.console) (work_done (C.state r.console.station) r.console.seat r.console.ending)) }
     ensures open { IfSome result (λ r. r.console.ending ≡ Ending.GateShut → C.shut r.console.station) }
 {
     thread::scope(thread::scope_env(), rt, move |scope| {

@@ -23,7 +23,7 @@ pub(crate) fn deposit_of(event: &Event, acts: &Acts) -> Deposit
 fn is_of(deposit: &Deposit, entry: &Entry) -> bool
     ensures { IsTrue result ↔ (deposit.now ≡ deposit_in entry.now) }
 {
-    deposit.event.is(&entry.event) && deposit.acts.is(&entry.acts)
+    deposit.event.equals(&entry.event) && deposit.acts.equals(&entry.acts)
 }
 
 /// Whether these deposits are the journal's list for an actor, in its order.

@@ -4,7 +4,7 @@ ghost use Rattle.std.specs.Prelude.{◌≡◌, ◌⊎◌, true, false, None, Som
 ghost use Rattle.dmr_core.specs.declared.event.Event.{Event as AnEvent};
 ghost use Rattle.dmr_link.specs.declared.desk.TermOver.{TermOver as ATermOver};
 ghost use Rattle.dmr_link.specs.LinkSteps.{is_live};
-ghost use Rattle.dmr_desk.specs.Work.{stand, moment, Going, IsAboutToWait, GoesOn, WorksUntil};
+ghost use Rattle.dmr_desk.specs.Work.{station_state, work_state, IsAtWork, IsAboutToWait, IsNextStep, WorksUntil};
 
 use crate::ending::Ending;
 use crate::station::{ConsoleStation, Serving, Station};
@@ -14,10 +14,10 @@ use dmr_wire::{Connect, Port, Waited};
 use std::sync::Wait;
 
 /// Asks the port once for a connection, and opens it if there is one. Returns `Some` if the work has ended.
-fn connect<S: Serving, D: Desk>(station: &mut S, desk: &mut D) -> Option<Ending>
-    requires { is_live (S.stand station.old).link ≡ false }
+fn ask_for_connection<S: Serving, D: Desk>(station: &mut S, desk: &mut D) -> Option<Ending>
+    requires { is_live (S.state station.old).link ≡ false }
     ensures actor { D.actor desk.new ≡ D.actor desk.old }
-    ensures goes { (m : _) → Going m (moment (S.stand station.old) (D.calls desk.old)) → GoesOn m (moment (S.stand station.new) (D.calls desk.new)) result }
+    ensures goes { (m : _) → IsAtWork m (work_state (S.state station.old) (D.calls desk.old)) → IsNextStep m (work_state (S.state station.new) (D.calls desk.new)) result }
     ensures shut { result ≡ Some Ending.GateShut → ⊥ }
     ensures over { result ≡ Some Ending.TermOver → (before : _) × D.ends before desk.new }
 {
@@ -38,10 +38,10 @@ fn connect<S: Serving, D: Desk>(station: &mut S, desk: &mut D) -> Option<Ending>
 
 /// Waits after a read that would block. If the other side was silent, cuts the link and reports that to the port. Returns `Some` if the
 /// work has ended.
-fn wait<S: Serving, D: Desk>(station: &mut S, desk: &mut D) -> Option<Ending>
-    requires { is_live (S.stand station.old).link ≡ true }
+fn wait_for_port<S: Serving, D: Desk>(station: &mut S, desk: &mut D) -> Option<Ending>
+    requires { is_live (S.state station.old).link ≡ true }
     ensures actor { D.actor desk.new ≡ D.actor desk.old }
-    ensures goes { (m : _) → IsAboutToWait m (moment (S.stand station.old) (D.calls desk.old)) → GoesOn m (moment (S.stand station.new) (D.calls desk.new)) result }
+    ensures goes { (m : _) → IsAboutToWait m (work_state (S.state station.old) (D.calls desk.old)) → IsNextStep m (work_state (S.state station.new) (D.calls desk.new)) result }
     ensures shut { result ≡ Some Ending.GateShut → ⊥ }
     ensures over { result ≡ Some Ending.TermOver → ((before : _) × (event : AnEvent) × (over : ATermOver) × D.refuses before event over desk.new) ⊎ ((before : _) × D.ends before desk.new) }
 {
@@ -64,10 +64,10 @@ fn wait<S: Serving, D: Desk>(station: &mut S, desk: &mut D) -> Option<Ending>
 
 /// Serves the link once. Waits if a read would block; if the connection was closed, reports to the port how. Returns `Some` if the work has
 /// ended.
-fn serve<S: Serving, D: Desk>(station: &mut S, desk: &mut D) -> Option<Ending>
-    requires { is_live (S.stand station.old).link ≡ true }
+fn serve_once<S: Serving, D: Desk>(station: &mut S, desk: &mut D) -> Option<Ending>
+    requires { is_live (S.state station.old).link ≡ true }
     ensures actor { D.actor desk.new ≡ D.actor desk.old }
-    ensures goes { (m : _) → Going m (moment (S.stand station.old) (D.calls desk.old)) → GoesOn m (moment (S.stand station.new) (D.calls desk.new)) result }
+    ensures goes { (m : _) → IsAtWork m (work_state (S.state station.old) (D.calls desk.old)) → IsNextStep m (work_state (S.state station.new) (D.calls desk.new)) result }
     ensures shut { result ≡ Some Ending.GateShut → S.shut station.new }
     ensures over { result ≡ Some Ending.TermOver → ((before : _) × (event : AnEvent) × (over : ATermOver) × D.refuses before event over desk.new) ⊎ ((before : _) × D.ends before desk.new) }
 {
@@ -77,7 +77,7 @@ fn serve<S: Serving, D: Desk>(station: &mut S, desk: &mut D) -> Option<Ending>
         return Some(Ending::TermOver);
     }
     match station.serve(desk) {
-        Ended::Idle => wait(station, desk),
+        Ended::Idle => wait_for_port(station, desk),
         Ended::TermOver => Some(Ending::TermOver),
         Ended::GateShut => Some(Ending::GateShut),
         Ended::Paused => None,
@@ -90,30 +90,30 @@ fn serve<S: Serving, D: Desk>(station: &mut S, desk: &mut D) -> Option<Ending>
 }
 
 /// Serves the link if it is live, and otherwise asks for a connection. Returns `Some` if the work has ended.
-fn go_on<S: Serving, D: Desk>(station: &mut S, desk: &mut D) -> Option<Ending>
+fn do_step<S: Serving, D: Desk>(station: &mut S, desk: &mut D) -> Option<Ending>
     ensures actor { D.actor desk.new ≡ D.actor desk.old }
-    ensures goes { (m : _) → Going m (moment (S.stand station.old) (D.calls desk.old)) → GoesOn m (moment (S.stand station.new) (D.calls desk.new)) result }
+    ensures goes { (m : _) → IsAtWork m (work_state (S.state station.old) (D.calls desk.old)) → IsNextStep m (work_state (S.state station.new) (D.calls desk.new)) result }
     ensures shut { result ≡ Some Ending.GateShut → S.shut station.new }
     ensures over { result ≡ Some Ending.TermOver → ((before : _) × (event : AnEvent) × (over : ATermOver) × D.refuses before event over desk.new) ⊎ ((before : _) × D.ends before desk.new) }
 {
     if station.live() {
-        serve(station, desk)
+        serve_once(station, desk)
     } else {
-        connect(station, desk)
+        ask_for_connection(station, desk)
     }
 }
 
 /// Serves a station's connections, one after another, until the work has ended.
-pub fn work<R: Wait, S: Serving, D: Desk>(rt: &R, station: &mut S, desk: &mut D) -> Ending
+pub fn work_station<R: Wait, S: Serving, D: Desk>(rt: &R, station: &mut S, desk: &mut D) -> Ending
     ensures actor { D.actor desk.new ≡ D.actor desk.old }
-    ensures works { WorksUntil (moment (S.stand station.old) (D.calls desk.old)) (moment (S.stand station.new) (D.calls desk.new)) result }
+    ensures works { WorksUntil (work_state (S.state station.old) (D.calls desk.old)) (work_state (S.state station.new) (D.calls desk.new)) result }
     ensures shut { result ≡ Ending.GateShut → S.shut station.new }
     ensures over { result ≡ Ending.TermOver → ((before : _) × (event : AnEvent) × (over : ATermOver) × D.refuses before event over desk.new) ⊎ ((before : _) × D.ends before desk.new) }
 {
     links_rest();
     happenings_follow();
     for _ in rt.forever() {
-        if let Some(ending) = go_on(station, desk) {
+        if let Some(ending) = do_step(station, desk) {
             return ending;
         }
     }
@@ -129,11 +129,11 @@ pub fn work_carrier<R: Wait, P: Port, G: Gate, D: Desk>(
     desk: &mut D,
 ) -> Ending
     ensures actor { D.actor desk.new ≡ D.actor desk.old }
-    ensures works { WorksUntil (moment (stand station.old.link (P.told station.old.port) (G.passed station.old.gate)) (D.calls desk.old)) (moment (stand station.new.link (P.told station.new.port) (G.passed station.new.gate)) (D.calls desk.new)) result }
+    ensures works { WorksUntil (work_state (station_state station.old.link (P.reported station.old.port) (G.passed station.old.gate)) (D.calls desk.old)) (work_state (station_state station.new.link (P.reported station.new.port) (G.passed station.new.gate)) (D.calls desk.new)) result }
     ensures shut { result ≡ Ending.GateShut → (before : _) × G.shuts before station.new.gate }
     ensures over { result ≡ Ending.TermOver → ((before : _) × (event : AnEvent) × (over : ATermOver) × D.refuses before event over desk.new) ⊎ ((before : _) × D.ends before desk.new) }
 {
-    work(rt, station, desk)
+    work_station(rt, station, desk)
 }
 
 /// Serves the console's connections, one after another, until its port has no more of them, or the term is over. Before each request for a
@@ -145,9 +145,9 @@ pub fn work_console<R: Wait, P: Port, D: Desk>(
     desk: &mut D,
 ) -> Ending
     ensures actor { D.actor desk.new ≡ D.actor desk.old }
-    ensures works { WorksUntil (moment (stand station.old.link (P.told station.old.port) None) (D.calls desk.old)) (moment (stand station.new.link (P.told station.new.port) None) (D.calls desk.new)) result }
+    ensures works { WorksUntil (work_state (station_state station.old.link (P.reported station.old.port) None) (D.calls desk.old)) (work_state (station_state station.new.link (P.reported station.new.port) None) (D.calls desk.new)) result }
     ensures open { result ≡ Ending.GateShut → ⊥ }
     ensures over { result ≡ Ending.TermOver → ((before : _) × (event : AnEvent) × (over : ATermOver) × D.refuses before event over desk.new) ⊎ ((before : _) × D.ends before desk.new) }
 {
-    work(rt, station, desk)
+    work_station(rt, station, desk)
 }

@@ -16,7 +16,7 @@ use Rattle.dmr_frames.specs.Frames.{IsFrame, spelling}
 use Rattle.dmr_frames.specs.Rest.{Rest, Open, Faulty, rest_of}
 use Rattle.dmr_frames.specs.Stream.{IsOpen, IsFaulty, Reads, AreFrames, IsStep}
 use Rattle.dmr_frames.specs.Shape.{AreSmall}
-use Rattle.dmr_frames.specs.Reading.{BringAtLast, step_at, step_from, rest_after_octet, rest_after, frame_of, frames_from, rest_after_octets}
+use Rattle.dmr_frames.specs.Reading.{ProduceAtLast, step_at, step_from, rest_after_octet, rest_after, frame_of, frames_from, rest_after_octets}
 use Rattle.dmr_frames.proofs.TableLemmas.{small-front, small-tail, small-take}
 use Rattle.dmr_frames.proofs.OneFrameLemmas.{step-inside, step-at_last}
 use Rattle.dmr_frames.proofs.EachFrame.{length-spelling}
@@ -127,14 +127,14 @@ reads_frame table f h = record {
 }
 
 -- a part of a frame produces no frame, and is kept
-pub open-brings : (table : FrameTable) (q : List ℕ) → IsOpen (version_of table) q → (frames_from (Open table []) q ≡ []) × (rest_after_octets (Open table []) q ≡ Open table q)
-open-brings table q h =
+pub open-produces : (table : FrameTable) (q : List ℕ) → IsOpen (version_of table) q → (frames_from (Open table []) q ≡ []) × (rest_after_octets (Open table []) q ≡ Open table q)
+open-produces table q h =
     readings-same table q (frames_from (Open table []) q) [] (rest_after_octets (Open table []) q) (Open table q) (reads_all table q (all_small q (open-small (version_of table) q h))) (reads_open table q h)
 
 -- the octets of a frame produce it, and nothing is left
-pub spelling-brings : (table : FrameTable) (f : FrameIn) → IsFrame (version_of table) f →
+pub spelling-produces : (table : FrameTable) (f : FrameIn) → IsFrame (version_of table) f →
     (frames_from (Open table []) (spelling f) ≡ f ∷ []) × (rest_after_octets (Open table []) (spelling f) ≡ Open (table_after table f) [])
-spelling-brings table f h =
+spelling-produces table f h =
     readings-same table (spelling f) (frames_from (Open table []) (spelling f)) (f ∷ []) (rest_after_octets (Open table []) (spelling f)) (Open (table_after table f) [])
     (reads_all table (spelling f) (all_small (spelling f) (spelling-small (version_of table) f h))) (reads_frame table f h)
 
@@ -150,20 +150,20 @@ needs-more rest [] x needs e = (e, tt)
 needs-more rest (y ∷ octets) x needs e = (needs.0, needs-more (rest_after_octet rest y) octets x needs.1 e)
 
 -- the last of them has a step
-pub brings-at_last : (rest : Rest) (octets : List ℕ) (x : ℕ) (step : Step) → AreNeeds rest octets → step_from (rest_after_octets rest octets) x ≡ step → BringAtLast rest (octets ++ x ∷ []) step
-brings-at_last rest [] x step needs e = e
-brings-at_last rest (y ∷ []) x step needs e = (needs.0, e)
-brings-at_last rest (y ∷ z ∷ octets) x step needs e = (needs.0, brings-at_last (rest_after_octet rest y) (z ∷ octets) x step needs.1 e)
+pub produces-at_last : (rest : Rest) (octets : List ℕ) (x : ℕ) (step : Step) → AreNeeds rest octets → step_from (rest_after_octets rest octets) x ≡ step → ProduceAtLast rest (octets ++ x ∷ []) step
+produces-at_last rest [] x step needs e = e
+produces-at_last rest (y ∷ []) x step needs e = (needs.0, e)
+produces-at_last rest (y ∷ z ∷ octets) x step needs e = (needs.0, produces-at_last (rest_after_octet rest y) (z ∷ octets) x step needs.1 e)
 
 -- all of them need more, including the last
-pub needs-all : (rest : Rest) (octets : List ℕ) → AreNeeds rest octets → 0 < length octets → BringAtLast rest octets Need
+pub needs-all : (rest : Rest) (octets : List ℕ) → AreNeeds rest octets → 0 < length octets → ProduceAtLast rest octets Need
 needs-all rest [] needs l = absurd (omega arith)
 needs-all rest (x ∷ []) needs l = needs.0
 needs-all rest (x ∷ y ∷ octets) needs l = (needs.0, needs-all (rest_after_octet rest x) (y ∷ octets) needs.1 (omega arith))
 
 -- the octets of a whole frame, after a front of it
 pub frame-at_last : (table : FrameTable) (q octets : List ℕ) (f : FrameIn) → IsFrame (version_of table) f → AreSmall octets → 0 < length octets → q ++ octets ≡ spelling f →
-    BringAtLast (Open table q) octets (Frame f) × (rest_after_octets (Open table q) octets ≡ Open (table_after table f) [])
+    ProduceAtLast (Open table q) octets (Frame f) × (rest_after_octets (Open table q) octets ≡ Open (table_after table f) [])
 frame-at_last table q [] f is small l e = absurd (omega arith)
 frame-at_last table q (x ∷ []) f is small l e =
     let at : step_at (version_of table) q x ≡ Frame f = step-at_last (version_of table) q x f (small 0) is e in
@@ -171,15 +171,15 @@ frame-at_last table q (x ∷ []) f is small l e =
 frame-at_last table q (x ∷ y ∷ octets) f is small l e =
     let at : step_at (version_of table) q x ≡ Need = step-inside (version_of table) q x (y ∷ octets) f (small 0) is e (omega arith) in
     let left : rest_after_octet (Open table q) x ≡ Open table (q ++ x ∷ []) = ap (rest_after table q x) at in
-    let later : BringAtLast (Open table (q ++ x ∷ [])) (y ∷ octets) (Frame f) × (rest_after_octets (Open table (q ++ x ∷ [])) (y ∷ octets) ≡ Open (table_after table f) []) =
+    let later : ProduceAtLast (Open table (q ++ x ∷ [])) (y ∷ octets) (Frame f) × (rest_after_octets (Open table (q ++ x ∷ [])) (y ∷ octets) ≡ Open (table_after table f) []) =
     frame-at_last table (q ++ x ∷ []) (y ∷ octets) f is (small-tail x (y ∷ octets) small) (omega arith) (append_assoc q (x ∷ []) (y ∷ octets) ∙ e) in
-    let P : Rest → Type 0 = λ r. BringAtLast r (y ∷ octets) (Frame f) × (rest_after_octets r (y ∷ octets) ≡ Open (table_after table f) []) in
-    let all : BringAtLast (rest_after_octet (Open table q) x) (y ∷ octets) (Frame f) × (rest_after_octets (rest_after_octet (Open table q) x) (y ∷ octets) ≡ Open (table_after table f) []) = subst P (sym left) later in
+    let P : Rest → Type 0 = λ r. ProduceAtLast r (y ∷ octets) (Frame f) × (rest_after_octets r (y ∷ octets) ≡ Open (table_after table f) []) in
+    let all : ProduceAtLast (rest_after_octet (Open table q) x) (y ∷ octets) (Frame f) × (rest_after_octets (rest_after_octet (Open table q) x) (y ∷ octets) ≡ Open (table_after table f) []) = subst P (sym left) later in
     ((at, all.0), all.1)
 
 -- a whole frame at the front of octets, after an empty rest
 pub frame-first : (table : FrameTable) (octets : List ℕ) (n : ℕ) (f : FrameIn) → AreSmall octets → IsFrame (version_of table) f → take n octets ≡ spelling f →
-    BringAtLast (Open table []) (take n octets) (Frame f) × (rest_after_octets (Open table []) (take n octets) ≡ Open (table_after table f) [])
+    ProduceAtLast (Open table []) (take n octets) (Frame f) × (rest_after_octets (Open table []) (take n octets) ≡ Open (table_after table f) [])
 frame-first table octets n f small is e = frame-at_last table [] (take n octets) f is (small-take n octets small) (omega (arith, ap length e, length-spelling f)) e
 
 -- if there was no fault, the rest is open

@@ -101,18 +101,18 @@ in_field : (b : Bool) (f : Field) (fields : List Field) (place x : ℕ) → plac
 in_field b f fields place x lt = rw (lt-ltb place (field_length b f) lt) refl
 
 -- a place after a field is one of the fields after it
-behind_field : (b : Bool) (f : Field) (fields : List Field) (place n x : ℕ) → field_length b f + n ≡ place → fields_fault b (f ∷ fields) place x ≡ fields_fault b fields n x
-behind_field b f fields place n x e =
+after_field : (b : Bool) (f : Field) (fields : List Field) (place n x : ℕ) → field_length b f + n ≡ place → fields_fault b (f ∷ fields) place x ≡ fields_fault b fields n x
+after_field b f fields place n x e =
     let past : nat_lt place (field_length b f) ≡ false = le-ltb place (field_length b f) (omega (arith, e)) in
     let left : place - field_length b f ≡ n = omega (arith, e) in
     rw (past, left) refl
 
 -- a place after the slot of an RX is one of its word
 pub plain_word : (i x : ℕ) → body_fault false kind.Rx (suc i) x ≡ fields_fault false (field.Word ∷ []) i x
-plain_word i x = behind_field false field.Number (field.Slot ∷ field.Word ∷ []) (suc i) (suc i) x (omega arith) ∙ behind_field false field.Slot (field.Word ∷ []) (suc i) i x (omega arith)
+plain_word i x = after_field false field.Number (field.Slot ∷ field.Word ∷ []) (suc i) (suc i) x (omega arith) ∙ after_field false field.Slot (field.Word ∷ []) (suc i) i x (omega arith)
 
 pub numbered_word : (i x : ℕ) → body_fault true kind.Rx (suc (suc i)) x ≡ fields_fault true (field.Word ∷ []) i x
-numbered_word i x = behind_field true field.Number (field.Slot ∷ field.Word ∷ []) (suc (suc i)) (suc i) x (omega arith) ∙ behind_field true field.Slot (field.Word ∷ []) (suc i) i x (omega arith)
+numbered_word i x = after_field true field.Number (field.Slot ∷ field.Word ∷ []) (suc (suc i)) (suc i) x (omega arith) ∙ after_field true field.Slot (field.Word ∷ []) (suc i) i x (omega arith)
 
 pub fitting-append : (b : Bool) (k : FrameKind) (body rest : List ℕ) → AreFitting b k body →
     ((i : ℕ) → length body ≤ i → i < length (body ++ rest) → body_fault b k i (get_or (body ++ rest) i 0) ≡ None) → AreFitting b k (body ++ rest)
@@ -165,7 +165,7 @@ faultless-field b f fields octets rest len last later k lt =
     let P : ℕ → Type 0 = λ x. fields_fault b (f ∷ fields) k x ≡ None in
     let n : ℕ = k - length octets in
     let at : get_or (octets ++ rest) k 0 ≡ get_or rest n 0 = get_or-append_right octets rest (length octets) k 0 refl past in
-    subst P (sym at) (behind_field b f fields k n (get_or rest n 0) (omega (arith, past, len)) ∙ later n (omega (arith, lt, past, length-append octets rest))))
+    subst P (sym at) (after_field b f fields k n (get_or rest n 0) (omega (arith, past, len)) ∙ later n (omega (arith, lt, past, length-append octets rest))))
     (cases_lt k (length octets))
   where
     one : (k : ℕ) → k < length octets → field_fault f k (get_or octets k 0) ≡ None
@@ -198,7 +198,7 @@ rx_cause true (suc (suc i)) x cause e = let is : (i ≡ 24) × (Some BadPad ≡ 
 
 pub active_cause : (b : Bool) (place x : ℕ) (cause : Cause) → body_fault b kind.Active place x ≡ Some cause → fault_at b (suc (suc place)) ≡ Some cause
 active_cause b zero x cause e = slot_cause x cause e
-active_cause b (suc i) x cause e = absurd (none_some cause (sym (behind_field b field.Slot [] (suc i) i x (omega arith)) ∙ e))
+active_cause b (suc i) x cause e = absurd (none_some cause (sym (after_field b field.Slot [] (suc i) i x (omega arith)) ∙ e))
 
 pub free_cause : (b : Bool) (k : FrameKind) (place x : ℕ) (cause : Cause) → AreFree (frame_row k).body → body_fault b k place x ≡ Some cause → fault_at b (suc (suc place)) ≡ Some cause
 free_cause b k place x cause free e = absurd (none_some cause (sym (free_none b (frame_row k).body place x free) ∙ e))

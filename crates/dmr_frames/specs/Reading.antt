@@ -67,10 +67,10 @@ abbrev pub frames_from : Rest → List ℕ → List FrameIn
 frames_from rest octets = flat_map frame_of (scan rest_after_octet step_from rest octets)
 
 -- each of these octets needs more, except the last, which has this step
-abbrev pub BringAtLast : Rest → List ℕ → Step → Type 0
-BringAtLast rest [] step = ⊥
-BringAtLast rest (x ∷ []) step = step_from rest x ≡ step
-BringAtLast rest (x ∷ y ∷ octets) step = (step_from rest x ≡ Need) × BringAtLast (rest_after_octet rest x) (y ∷ octets) step
+abbrev pub ProduceAtLast : Rest → List ℕ → Step → Type 0
+ProduceAtLast rest [] step = ⊥
+ProduceAtLast rest (x ∷ []) step = step_from rest x ≡ step
+ProduceAtLast rest (x ∷ y ∷ octets) step = (step_from rest x ≡ Need) × ProduceAtLast (rest_after_octet rest x) (y ∷ octets) step
 
 -- the rest after octets
 abbrev pub rest_after_octets : Rest → List ℕ → Rest

@@ -9,7 +9,7 @@ ghost use Rattle.dmr_frames.specs.Shape.{IsShape, IsBegun, IsWhole, IsRxBody, Is
 ghost use Rattle.dmr_frames.specs.declared.frame.FrameIn.{FrameIn};
 ghost use Rattle.dmr_frames.specs.declared.version.FrameTable.{FrameTable};
 ghost use Rattle.dmr_frames.specs.Stream.{Reads};
-ghost use Rattle.dmr_frames.specs.Reading.{BringAtLast, frame_of, step_from, rest_after_octet, rest_after_octets};
+ghost use Rattle.dmr_frames.specs.Reading.{ProduceAtLast, frame_of, step_from, rest_after_octet, rest_after_octets};
 ghost use Rattle.dmr_frames.specs.Frames.{IsFrame, spelling, whole_step, hello_step, rx_step, burst_step, active_step};
 ghost use Rattle.dmr_frames.specs.Reading.{step_at, length_step, body_step};
 
@@ -60,11 +60,11 @@ impl Cutter {
     pub fn new(greatest: Version) -> Self
         ensures { result ≡ Open (FrameTable.First greatest) [] }
     {
-        Cutter::by(FrameTable::First(greatest))
+        Cutter::with_table(FrameTable::First(greatest))
     }
 
     /// Makes the cutter of a connection whose octets are now cut by this table: no octets, no fault.
-    pub(crate) fn by(table: FrameTable) -> Self
+    pub(crate) fn with_table(table: FrameTable) -> Self
         ensures { result ≡ Open table [] }
     {
         Cutter {
@@ -101,7 +101,7 @@ impl Cutter {
         ensures step { result ≡ step_from self.old octet }
         ensures rest { self.new ≡ rest_after_octet self.old octet }
     {
-        self.take(octet)
+        self.take_octet(octet)
     }
 
     /// Takes octets up to the end of the next frame, up to a fault, or all of them. Returns how many it took, and the step of the last of
@@ -110,12 +110,12 @@ impl Cutter {
         requires { 0 < length octets.now }
         ensures count { result.0 ≤ length octets.now }
         ensures all { result.1 ≡ Step.Need → result.0 ≡ length octets.now }
-        ensures step { BringAtLast self.old (take result.0 octets.now) result.1 }
+        ensures step { ProduceAtLast self.old (take result.0 octets.now) result.1 }
         ensures rest { self.new ≡ rest_after_octets self.old (take result.0 octets.now) }
     {
         if self.count == 0 && self.fault.is_none() {
             if let Some((count, frame)) = read_frame(self.table.version(), octets) {
-                self.table = self.table.after(&frame);
+                self.table = self.table.next_table(&frame);
                 return (count, Step::Frame(frame));
             }
         }
@@ -127,13 +127,13 @@ impl Cutter {
         requires { 0 < length octets.now }
         ensures count { result.0 ≤ length octets.now }
         ensures all { result.1 ≡ Step.Need → result.0 ≡ length octets.now }
-        ensures step { BringAtLast self.old (take result.0 octets.now) result.1 }
+        ensures step { ProduceAtLast self.old (take result.0 octets.now) result.1 }
         ensures rest { self.new ≡ rest_after_octets self.old (take result.0 octets.now) }
     {
         let mut count = 0;
         for octet in octets {
             count += 1;
-            match self.take(*octet) {
+            match self.take_octet(*octet) {
                 Step::Need => {}
                 step => return (count, step),
             }
@@ -142,7 +142,7 @@ impl Cutter {
     }
 
     /// Takes the next octet.
-    fn take(&mut self, octet: u8) -> Step
+    fn take_octet(&mut self, octet: u8) -> Step
         ensures step { result ≡ step_from self.old octet }
         ensures rest { self.new ≡ rest_after_octet self.old octet }
     {
@@ -157,7 +157,7 @@ impl Cutter {
             }
             Step::Frame(frame) => {
                 self.count = 0;
-                self.table = self.table.after(&frame);
+                self.table = self.table.next_table(&frame);
                 Step::Frame(frame)
             }
             Step::Fault(cause) => {

@@ -35,7 +35,7 @@ pub fn one_reading()
 
 /// Each frame has one spelling, and no spelling is a proper prefix of another's. So octets that begin with the spelling of one frame do not
 /// begin with that of another, of whichever version the two are. The second octet of a spelling counts the octets after it.
-pub fn spellings_part()
+pub fn spellings_are_prefix_free()
     ensures from_carrier { (v w : Version) (f g : FrameIn) (a b : List ℕ) → IsFrame v f → IsFrame w g →
         spelling f ++ a ≡ spelling g ++ b → (f ≡ g) × (a ≡ b) }
     ensures to_carrier { (f g : FrameOut) (a b : List ℕ) → IsFrameOut f → IsFrameOut g →

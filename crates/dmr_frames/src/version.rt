@@ -60,7 +60,7 @@ impl Version {
     }
 
     /// The version of an octet, if it is at most this one, the greatest that is served. `None` if the octet names no such version.
-    pub fn named(self, octet: u8) -> Option<Version>
+    pub fn served_version(self, octet: u8) -> Option<Version>
         ensures { result ≡ version_named self octet }
     {
         let version = match octet {
@@ -76,10 +76,10 @@ impl Version {
     }
 
     /// Returns the version of an octet, or version 1 if the octet names none.
-    pub fn named_or_first(octet: u8) -> Version
+    pub fn version_or_first(octet: u8) -> Version
         ensures { result ≡ named_or_first octet }
     {
-        match Version::NEWEST.named(octet) {
+        match Version::NEWEST.served_version(octet) {
             Some(version) => version,
             None => Version::V1,
         }
@@ -93,7 +93,7 @@ impl Version {
         let FrameIn::Hello { version, .. } = frame else {
             return Version::V1;
         };
-        match self.named(*version) {
+        match self.served_version(*version) {
             Some(version) => version,
             None => Version::V1,
         }
@@ -122,7 +122,7 @@ impl FrameTable {
 
     /// The table after a frame. A first frame that is a HELLO of a served version chooses that version; any other first frame chooses
     /// version 1.
-    pub fn after(self, frame: &FrameIn) -> FrameTable
+    pub fn next_table(self, frame: &FrameIn) -> FrameTable
         ensures { result ≡ table_after self frame.now }
     {
         match self {

@@ -17,7 +17,7 @@ pub fn whole_frame(version: Version, octets: &[u8]) -> Option<FrameIn>
     let [front @ .., last] = octets else {
         return None;
     };
-    let mut cutter = Cutter::by(FrameTable::Later(version));
+    let mut cutter = Cutter::with_table(FrameTable::Later(version));
     for octet in front {
         let Step::Need = cutter.feed_byte(*octet) else {
             return None;

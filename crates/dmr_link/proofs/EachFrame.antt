@@ -62,9 +62,9 @@ last_closes frame.Poll = refl
 last_closes (frame.Active slot) = refl
 last_closes frame.Bye = (_, refl)
 
-heard_up : (c : ℕ) (slot : Slot) (found : Option Pdu) → slot.carrier ≡ c → IsOfUp c (event_of_burst slot found)
-heard_up c slot (Some pdu) is = is
-heard_up c slot None is = is
+burst_up : (c : ℕ) (slot : Slot) (found : Option Pdu) → slot.carrier ≡ c → IsOfUp c (event_of_burst slot found)
+burst_up c slot (Some pdu) is = is
+burst_up c slot None is = is
 
 -- a last frame produces the carrier's Lost, and any other an event of a carrier that is up
 abbrev pub IsEventIf : Bool → ℕ → Event → Type 0
@@ -73,7 +73,7 @@ IsEventIf true c event = event ≡ Lost c
 
 pub event_is : (c : ℕ) (newest : Option ℕ) (f : FrameIn) → is_repeat newest f ≡ false → IsEventIf (is_last f) c (event_of c f)
 event_is c newest (frame.Hello version carrier lpcn) brings = refl
-event_is c newest (frame.Rx number slot word) brings = heard_up c (record { carrier = c; slot = slot }) (meaning_of word) refl
+event_is c newest (frame.Rx number slot word) brings = burst_up c (record { carrier = c; slot = slot }) (meaning_of word) refl
 event_is c newest frame.Poll brings = refl
 event_is c newest (frame.Active slot) brings = refl
 event_is c newest frame.Bye brings = refl

@@ -17,12 +17,12 @@ use Rattle.dmr_link.specs.Identities.{greatest_of, who_of}
 use Rattle.dmr_link.specs.Numbering.{frames_text, next_after_frames}
 use Rattle.dmr_link.specs.Input.{Piece}
 use Rattle.dmr_link.specs.Notices.{Notice}
-use Rattle.dmr_link.specs.Inputs.{piece_brings, piece_leaves, leaves_by, texts_by}
+use Rattle.dmr_link.specs.Inputs.{piece_produces, piece_leaves, leaves_by, texts_by}
 use Rattle.dmr_link.specs.Session.{frames_said}
 use Rattle.dmr_link.specs.Sound.{IsConnectionSound, IsNumberingOf}
 use Rattle.dmr_link.specs.State.{State, connection_of, next_of, AreConnections}
 use Rattle.dmr_frames.specs.declared.version.Version.{Version}
-use Rattle.dmr_link.proofs.PastsStandForEngines.{who_carrier, who_greatest, get_or-all_same}
+use Rattle.dmr_link.proofs.PastsOfEngines.{who_carrier, who_greatest, get_or-all_same}
 
 pub read_connection : (sessions : List (Option CarrierState)) (c : ℕ) → get_or (map connection_in sessions) c Closed ≡ connection_in (get_or sessions c None)
 read_connection [] zero = refl
@@ -163,45 +163,45 @@ module _ (plan : Settings) (facts : Facts) (sessions : List (Option CarrierState
     its_next = ap (next_of (engine_with plan facts sessions console)) its_number ∙ read_next sessions c ∙ ap next_in at
 
     -- the notices that the piece produces, and the frames that answer them
-    abbrev brought_by : Connection → List Notice
-    brought_by k = piece_brings old.who k piece
+    abbrev produced_by : Connection → List Notice
+    produced_by k = piece_produces old.who k piece
 
     pub some_leaves : (new : CarrierState) (later : Facts) → new.connection ≡ piece_leaves old.who old.connection piece →
-        new.numbering ≡ next_after_frames old.numbering (frames_said plan facts (brought_by old.connection)) → later ≡ facts_from plan facts (brought_by old.connection) →
+        new.numbering ≡ next_after_frames old.numbering (frames_said plan facts (produced_by old.connection)) → later ≡ facts_from plan facts (produced_by old.connection) →
         engine_with plan later (set sessions c (Some new)) console ≡ leaves_by (engine_with plan facts sessions console) (who_of plan c) piece
     some_leaves new later left counted brought =
         (λ i. record {
           plan = plan;
-          facts = (brought ∙ ap (λ (k : Connection). facts_from plan facts (brought_by k)) (sym its_connection)) i;
+          facts = (brought ∙ ap (λ (k : Connection). facts_from plan facts (produced_by k)) (sym its_connection)) i;
           connections = (map-set connection_in sessions c (Some new)
               ∙ (λ j. set (map connection_in sessions) (sym its_number j) ((left ∙ ap (λ (k : Connection). piece_leaves old.who k piece) (sym its_connection)) j))) i;
           numbers = (map-set next_in sessions c (Some new)
-              ∙ (λ j. set (map next_in sessions) (sym its_number j) ((counted ∙ (λ m. next_after_frames (sym its_next m) (frames_said plan facts (brought_by (sym its_connection m))))) j))) i;
+              ∙ (λ j. set (map next_in sessions) (sym its_number j) ((counted ∙ (λ m. next_after_frames (sym its_next m) (frames_said plan facts (produced_by (sym its_connection m))))) j))) i;
           console = console;
         })
         ∙ ap (λ (who : Option CarrierIdentity). leaves_by (engine_with plan facts sessions console) who piece) its_carrier
 
-    pub some_texts : (texts : List (List ℕ)) (more : List ℕ) → more ≡ get_or texts c [] ++ frames_text old.numbering (frames_said plan facts (brought_by old.connection)) →
+    pub some_texts : (texts : List (List ℕ)) (more : List ℕ) → more ≡ get_or texts c [] ++ frames_text old.numbering (frames_said plan facts (produced_by old.connection)) →
         set texts c more ≡ texts_by (engine_with plan facts sessions console) texts (who_of plan c) piece
     some_texts texts more put =
         (λ i. set texts (sym its_number i)
-        ((put ∙ (λ j. get_or texts (sym its_number j) [] ++ frames_text (sym its_next j) (frames_said plan facts (brought_by (sym its_connection j))))) i))
+        ((put ∙ (λ j. get_or texts (sym its_number j) [] ++ frames_text (sym its_next j) (frames_said plan facts (produced_by (sym its_connection j))))) i))
         ∙ ap (λ (who : Option CarrierIdentity). texts_by (engine_with plan facts sessions console) texts who piece) its_carrier
 
 -- ---- an input of a carrier of the plan, as the engine processes it
 
 module _ (site later : Site) (sessions : List (Option CarrierState)) (console : List ℕ) (n c : ℕ) (small : n < 16) (same : n ≡ c) (are : AreCarrierStates site.plan sessions)
     (found : Option CarrierState) (read : found ≡ get_or sessions n found) (old : CarrierState) (is : found ≡ Some old) (piece : Piece)
-    (brought : later ≡ site_after_notices site (piece_brings old.who old.connection piece)) where
+    (brought : later ≡ site_after_notices site (piece_produces old.who old.connection piece)) where
   its_session : get_or sessions n None ≡ Some old
   its_session = sym (get_or_read sessions n found (omega (arith, are.sixteen)) read None) ∙ is
 
   pub session_leaves : (s : State) → engine_with site.plan site.facts sessions console ≡ s → (new : CarrierState) → new.connection ≡ piece_leaves old.who old.connection piece →
-      new.numbering ≡ next_after_frames old.numbering (frames_said site.plan site.facts (piece_brings old.who old.connection piece)) →
+      new.numbering ≡ next_after_frames old.numbering (frames_said site.plan site.facts (piece_produces old.who old.connection piece)) →
       engine_with later.plan later.facts (set sessions n (Some new)) console ≡ leaves_by s (who_of s.plan c) piece
   session_leaves s view new left counted =
       (λ i. engine_with (brought i).plan (brought i).facts (set sessions n (Some new)) console)
-      ∙ some_leaves site.plan site.facts sessions console n small are piece old its_session new (facts_from site.plan site.facts (piece_brings old.who old.connection piece)) left counted refl
+      ∙ some_leaves site.plan site.facts sessions console n small are piece old its_session new (facts_from site.plan site.facts (piece_produces old.who old.connection piece)) left counted refl
       ∙ (λ i. leaves_by (view i) (who_of (view i).plan (same i)) piece)
 
   pub session_stays : (new : CarrierState) → new.who ≡ old.who → IsStateSound new → AreCarrierStates later.plan (set sessions n (Some new))

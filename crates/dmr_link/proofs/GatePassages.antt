@@ -1,11 +1,11 @@
 -- The passages of a gate in a call whose happenings are in order.
 use Rattle.std.proofs.Common.{◌≡◌, ◌==◌, List, [], ◌∷◌, Bool, true, false, cond, refl, sym, ap, subst, ◌∙◌}
-use Rattle.dmr_wire.specs.Told.{Opened, NotYet, Finished, Came, InputEnded, ReadInterrupted, ReadBlocked, ReadFailed, Took, WriteInterrupted, WriteBlocked, WriteFailed, Again, Silent}
+use Rattle.dmr_wire.specs.Answers.{Opened, NotYet, Finished, Came, InputEnded, ReadInterrupted, ReadBlocked, ReadFailed, Took, WriteInterrupted, WriteBlocked, WriteFailed, Again, Silent}
 use Rattle.dmr_link.specs.declared.desk.Deposit.{Deposit}
 use Rattle.dmr_link.specs.declared.ended.Ended.{Ended}
 use Rattle.dmr_link.specs.declared.ended.Ended.TheVariants as ended
 use Rattle.dmr_link.specs.Passages.{Passage, Entered, Shut, Left}
-use Rattle.dmr_link.specs.Happenings.{Happening, Answered, Handed, Passed, deposits_in, passages_in, is_read, Stage, Outside, Within, Answering, TurnedAway, ShutOut, Blocked, Disordered, stage_then, stage_after_all, stage_at, passages_of}
+use Rattle.dmr_link.specs.Happenings.{Happening, Answered, Deposited, Passed, deposits_in, passages_in, is_read, Stage, Outside, Within, Answering, TurnedAway, ShutOut, Blocked, Disordered, stage_then, stage_after_all, stage_at, passages_of}
 
 stays_disordered : (xs : List Happening) → stage_after_all Disordered xs ≡ Disordered
 stays_disordered [] = refl
@@ -61,14 +61,14 @@ module _ (xs : List Happening) (stop : Ended) where
   passed_outside (Answered WriteFailed) at h = h
   passed_outside (Answered Again) at h = h
   passed_outside (Answered Silent) at h = h
-  passed_outside (Handed d) at h = stray at
+  passed_outside (Deposited d) at h = stray at
   passed_outside (Passed Entered) at h = h
   passed_outside (Passed Shut) at h = h
   passed_outside (Passed Left) at h = stray at
 
   passed_within : (x : Happening) → stage_after_all (stage_then Within x) xs ≡ stage_at stop → IsPassed (stage_then Within x) xs stop → IsPassed Within (x ∷ xs) stop
   passed_within (Answered a) at h = stray at
-  passed_within (Handed d) at h = h d
+  passed_within (Deposited d) at h = h d
   passed_within (Passed Entered) at h = stray at
   passed_within (Passed Shut) at h = stray at
   passed_within (Passed Left) at h = h
@@ -79,7 +79,7 @@ module _ (xs : List Happening) (stop : Ended) where
 
   passed_answering : (x : Happening) → stage_after_all (stage_then Answering x) xs ≡ stage_at stop → IsPassed (stage_then Answering x) xs stop → IsPassed Answering (x ∷ xs) stop
   passed_answering (Answered a) at h = written (is_read a == 0) at h
-  passed_answering (Handed d) at h = stray at
+  passed_answering (Deposited d) at h = stray at
   passed_answering (Passed Entered) at h = stray at
   passed_answering (Passed Shut) at h = stray at
   passed_answering (Passed Left) at h = λ d. ap (λ (ps : List Passage). Entered ∷ Left ∷ ps) h

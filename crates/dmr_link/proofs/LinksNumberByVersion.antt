@@ -28,17 +28,17 @@ use Rattle.dmr_link.specs.declared.stream.Stream.{Stream}
 use Rattle.dmr_link.specs.declared.stream.Stream.TheVariants as stream
 use Rattle.dmr_link.specs.declared.link_state.LinkState.{LinkState}
 use Rattle.dmr_link.specs.Meaning.{is_accepted, is_last, is_repeat, newest_after, event_of, refusal_of_first, list_of_notice, meaning_of_octets, left_by_octets}
-use Rattle.dmr_link.specs.Notices.{Notice, Happened, Accepted, Refused, Unheeded}
+use Rattle.dmr_link.specs.Notices.{Notice, Happened, Accepted, Refused, Rejected}
 use Rattle.dmr_link.specs.Numbering.{next_after, first_number, next_after_frames}
 use Rattle.dmr_link.specs.Peers.{entry_of_deposit, next_onward, left_from, meaning_from}
 use Rattle.dmr_link.specs.Session.{event_frames, is_poll_of, session_frames, welcome, events_in}
 use Rattle.dmr_link.specs.CarrierStates.{is_open}
-use Rattle.dmr_link.specs.Sessions.{Session, How, Going, InputOver, ReadFaulty, WriteFaulty, CutAfter, IsAt, StandsFor, IsClosed, kept_of, lost_of, notices_waiting, has_ended}
+use Rattle.dmr_link.specs.Sessions.{Session, How, Going, InputOver, ReadFaulty, WriteFaulty, CutAfter, IsAt, HasPast, IsClosed, kept_of, lost_of, notices_waiting, has_ended}
 use Rattle.dmr_link.specs.Sound.{IsNumberingOf}
-use Rattle.dmr_link.specs.Steps.{new_connection, waiting_brings, running_brings, waiting_leaves, running_leaves, notice_of_octet, connection_after_octet, notices_of_octets, connection_after_octets}
+use Rattle.dmr_link.specs.Steps.{new_connection, waiting_produces, running_produces, waiting_leaves, running_leaves, notice_of_octet, connection_after_octet, notices_of_octets, connection_after_octets}
 use Rattle.dmr_link.specs.LinkSteps.{next_when_answered, IsLinkNumbering}
 use Rattle.dmr_link.proofs.NumbersFollowVersions.{begins_numbered, event_frames_number}
-use Rattle.dmr_link.proofs.OctetsMeanWhatTheyBring.{octets-open, octets-left}
+use Rattle.dmr_link.proofs.OctetsMeanWhatTheyProduce.{octets-open, octets-left}
 
 -- ---- the notices of a connection whose carrier is up: an acceptance in its version, and then events
 
@@ -46,7 +46,7 @@ abbrev IsEvent : Notice → Type 0
 IsEvent (Happened event) = Unit {0}
 IsEvent (Accepted c version) = ⊥
 IsEvent (Refused c refusal) = ⊥
-IsEvent (Unheeded fault) = ⊥
+IsEvent (Rejected fault) = ⊥
 
 abbrev AreEvents : List Notice → Type 0
 AreEvents [] = Unit {0}
@@ -85,7 +85,7 @@ module _ (who : CarrierIdentity) (ns : List Notice) where
   first_led f true none = record { events = []; is = ap (λ (xs : List Notice). xs ++ Accepted who.carrier (chosen_by who.greatest f) ∷ []) none; each = tt }
   first_led f false none = tt
 
-  waiting_led : (q : List ℕ) (x : ℕ) (s : Step) → ns ≡ [] → HasLed who (ns ++ list_of_notice (waiting_brings who s)) (waiting_leaves who (rest_after (First who.greatest) q x s) s)
+  waiting_led : (q : List ℕ) (x : ℕ) (s : Step) → ns ≡ [] → HasLed who (ns ++ list_of_notice (waiting_produces who s)) (waiting_leaves who (rest_after (First who.greatest) q x s) s)
   waiting_led q x Need none = (refl, append-nil ns ∙ none)
   waiting_led q x (Frame f) none = first_led f (is_accepted who f) none
   waiting_led q x (Fault cause) none = tt
@@ -97,7 +97,7 @@ module _ (who : CarrierIdentity) (ns : List Notice) where
   later_led version newest f false false began = began_more who version ns (Some (Happened (event_of who.carrier f))) (tt, tt) began
 
   running_led : (version : Version) (newest : Option ℕ) (q : List ℕ) (x : ℕ) (s : Step) → BeganIn who version ns →
-      HasLed who (ns ++ list_of_notice (running_brings who.carrier newest s)) (running_leaves (rest_after (Later version) q x s) newest s)
+      HasLed who (ns ++ list_of_notice (running_produces who.carrier newest s)) (running_leaves (rest_after (Later version) q x s) newest s)
   running_led version newest q x Need began = began_more who version ns None tt began
   running_led version newest q x (Frame f) began = later_led version (newest_after newest f) f (is_last f) (is_repeat newest f) began
   running_led version newest q x (Fault cause) began = tt
@@ -134,7 +134,7 @@ events_number : (version : Version) (carrier : ℕ) (events : List Notice) (entr
 events_number version carrier [] entries next are is = is
 events_number version carrier (Accepted c v ∷ events) entries next are is = absurd are.0
 events_number version carrier (Refused c refusal ∷ events) entries next are is = absurd are.0
-events_number version carrier (Unheeded fault ∷ events) entries next are is = absurd are.0
+events_number version carrier (Rejected fault ∷ events) entries next are is = absurd are.0
 events_number version carrier (Happened event ∷ events) [] next are is = is
 events_number version carrier (Happened event ∷ events) (entry ∷ entries) next are is =
     let P : Option ℕ → Type 0 = IsNumbered version in
@@ -175,9 +175,9 @@ abbrev carrier_first : ℕ → List Notice → ℕ
 carrier_first carrier (Accepted c v ∷ ns) = c
 carrier_first carrier other = carrier
 
-abbrev behind_first : List Notice → List Notice
-behind_first [] = []
-behind_first (n ∷ ns) = ns
+abbrev after_first : List Notice → List Notice
+after_first [] = []
+after_first (n ∷ ns) = ns
 
 -- the acceptance is kept
 first_kept : (who : CarrierIdentity) (version : Version) (kept : Option SiteNotice) → BeganIn who version (kept_of kept) → IsNumbered version (next_when_answered kept None)
@@ -190,7 +190,7 @@ first_kept who version (Some (site.Accepted c v)) began =
 -- the acceptance was answered, and events came after it
 module _ (who : CarrierIdentity) (version v : Version) (c : ℕ) (ds : List Notice) (kept : Option SiteNotice) (began : BeganIn who version (Accepted c v ∷ (ds ++ kept_of kept))) where
   its_events : AreEvents ds × AreEvents (kept_of kept)
-  its_events = tail_events ds (kept_of kept) began.events (sym (ap behind_first began.is)) began.each
+  its_events = tail_events ds (kept_of kept) began.events (sym (ap after_first began.is)) began.each
 
   is_its_carrier : c == who.carrier ≡ true
   is_its_carrier = eq-eqb c who.carrier (ap (carrier_first c) began.is)
@@ -209,7 +209,7 @@ answered_number : (who : CarrierIdentity) (version : Version) (done : List Notic
 answered_number who version [] kept calls began events = first_kept who version kept began
 answered_number who version (Happened event ∷ ds) kept calls began events = absurd (false≢true (ap accepts_first began.is))
 answered_number who version (Refused c refusal ∷ ds) kept calls began events = absurd (false≢true (ap accepts_first began.is))
-answered_number who version (Unheeded fault ∷ ds) kept calls began events = absurd (false≢true (ap accepts_first began.is))
+answered_number who version (Rejected fault ∷ ds) kept calls began events = absurd (false≢true (ap accepts_first began.is))
 answered_number who version (Accepted c v ∷ ds) kept [] began events = let none : suc (length (events_in ds)) ≡ 0 = ap (λ (es : List Event). length es) events in absurd (omega (arith, none))
 answered_number who version (Accepted c v ∷ ds) kept (call ∷ calls) began events = first_answered who version v c ds kept began (entry_of_deposit call) (map entry_of_deposit calls)
 
@@ -254,6 +254,6 @@ module _ (who : CarrierIdentity) (l : LinkState) (whose : l.who ≡ Carrier who)
   how_numbered (CutAfter n false) read behind done calls means events place = closed_numbered l.connection l.pending.kept place.1
   how_numbered (CutAfter n true) read behind done calls means events place = closed_numbered l.connection l.pending.kept place.1
 
-  pub link_numbered : (past : List Session) → StandsFor l past → IsLinkNumbering l.connection l.pending.kept
+  pub link_numbered : (past : List Session) → HasPast l past → IsLinkNumbering l.connection l.pending.kept
   link_numbered [] is = closed_numbered l.connection l.pending.kept is.0.connection
   link_numbered (s ∷ ss) is = how_numbered s.how is.0.read is.0.behind is.0.done s.calls is.0.means is.0.events is.0.place

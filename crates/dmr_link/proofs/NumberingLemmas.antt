@@ -52,9 +52,9 @@ module _ {X : Type 0} (f : X → List FrameOut) (start next : Option ℕ) (items
       ∙ ap (λ (t : List ℕ). before ++ t) (sym text_item)
 
 -- the octets of DONE after all items
-pub put_done : (start : Option ℕ) (before text octets out : List ℕ) (frames all : List FrameOut) → frames ≡ all → text ≡ before ++ frames_text start frames → octets ≡ spelling_out Done → out ≡ text ++ octets →
+pub write_done : (start : Option ℕ) (before text octets out : List ℕ) (frames all : List FrameOut) → frames ≡ all → text ≡ before ++ frames_text start frames → octets ≡ spelling_out Done → out ≡ text ++ octets →
     out ≡ before ++ frames_text start (all ++ Done ∷ [])
-put_done start before text octets out frames all same put done whole =
+write_done start before text octets out frames all same put done whole =
     whole
     ∙ (λ i. put i ++ done i)
     ∙ append_assoc before (frames_text start frames) (spelling_out Done)

@@ -27,12 +27,12 @@ use Rattle.dmr_link.specs.declared.connection.Connection.{Connection}
 use Rattle.dmr_link.specs.declared.connection.Connection.TheVariants.{Closed, Waiting, Running}
 use Rattle.dmr_link.specs.Answering.{acts_for_event}
 use Rattle.dmr_link.specs.Meaning.{is_accepted, is_last, is_repeat, newest_after, event_of, refusal_of_first, list_of_notice}
-use Rattle.dmr_link.specs.Notices.{Notice, Happened, Accepted, Refused, Unheeded}
+use Rattle.dmr_link.specs.Notices.{Notice, Happened, Accepted, Refused, Rejected}
 use Rattle.dmr_link.specs.Numbering.{first_number, next_after_frames}
 use Rattle.dmr_link.specs.Room.{numbered_after_all}
 use Rattle.dmr_link.specs.Session.{transmissions, event_frames, frames_said}
 use Rattle.dmr_link.specs.Sound.{IsConnectionSound, IsNumberingOf}
-use Rattle.dmr_link.specs.Steps.{waiting_brings, running_brings, waiting_leaves, running_leaves, notice_of_octet, connection_after_octet}
+use Rattle.dmr_link.specs.Steps.{waiting_produces, running_produces, waiting_leaves, running_leaves, notice_of_octet, connection_after_octet}
 
 -- ---- a property that each next number keeps is kept by the answer to an event
 
@@ -80,7 +80,7 @@ numbered_said plan facts next None = refl
 numbered_said plan facts next (Some (Happened event)) = event_keeps (λ n. is_some n ≡ is_some next) (counted_stays (is_some next)) plan facts event next refl
 numbered_said plan facts next (Some (Accepted c version)) = refl
 numbered_said plan facts next (Some (Refused c refusal)) = refl
-numbered_said plan facts next (Some (Unheeded fault)) = refl
+numbered_said plan facts next (Some (Rejected fault)) = refl
 
 -- ---- the number of a version
 
@@ -137,7 +137,7 @@ module _ (who : CarrierIdentity) (plan : Settings) (facts : Facts) (next : Optio
   first_numbered f true = begins_numbered (chosen_by who.greatest f)
   first_numbered f false = tt
 
-  waiting_numbered : (q : List ℕ) (x : ℕ) (s : Step) → IsNumberingOf (waiting_leaves who (rest_after (First who.greatest) q x s) s) (next_by (waiting_brings who s))
+  waiting_numbered : (q : List ℕ) (x : ℕ) (s : Step) → IsNumberingOf (waiting_leaves who (rest_after (First who.greatest) q x s) s) (next_by (waiting_produces who s))
   waiting_numbered q x Need = tt
   waiting_numbered q x (Frame f) = first_numbered f (is_accepted who f)
   waiting_numbered q x (Fault cause) = tt
@@ -149,7 +149,7 @@ module _ (who : CarrierIdentity) (plan : Settings) (facts : Facts) (next : Optio
   kept_numbered version newest later f false false is = event_keeps (IsNumbered version) (counted_numbered version) plan facts (event_of who.carrier f) next is
 
   running_numbered : (version : Version) (newest : Option ℕ) (q : List ℕ) (x : ℕ) (s : Step) → IsNumbered version next →
-      IsNumberingOf (running_leaves (rest_after (Later version) q x s) newest s) (next_by (running_brings who.carrier newest s))
+      IsNumberingOf (running_leaves (rest_after (Later version) q x s) newest s) (next_by (running_produces who.carrier newest s))
   running_numbered version newest q x Need is = is
   running_numbered version newest q x (Frame f) is = kept_numbered version newest (newest_after newest f) f (is_last f) (is_repeat newest f) is
   running_numbered version newest q x (Fault cause) is = tt

@@ -13,7 +13,7 @@ use Rattle.dmr_link.specs.Room.{most_in, numbered_after_all}
 use Rattle.dmr_link.specs.Session.{frames_said}
 use Rattle.dmr_link.specs.Steps.{connection_after_octet, notices_of_octets, connection_after_octets}
 use Rattle.dmr_link.proofs.NumberingLemmas.{frames_text-append, next_after_frames-append}
-use Rattle.dmr_link.proofs.OctetsMeanWhatTheyBring.{notices_of_octets-append}
+use Rattle.dmr_link.proofs.OctetsMeanWhatTheyProduce.{notices_of_octets-append}
 use Rattle.dmr_link.proofs.PiecesInTwo.{frames_said-append}
 
 site-append : (site : Site) (a b : List Notice) → site_after_notices site (a ++ b) ≡ site_after_notices (site_after_notices site a) b
@@ -62,10 +62,10 @@ module _ (who whose : CarrierIdentity) (same : whose ≡ who) (k later : Connect
       omega (arith, most_goes numbered, left, put, kept, fits)
 
   -- the site after that notice
-  module _ (site new : Site) (told : new ≡ site_after_notices site (list_of_notice brought)) where
+  module _ (site new : Site) (reported : new ≡ site_after_notices site (list_of_notice brought)) where
     pub site_goes : (whole : Site) → site_after_notices site before ≡ whole → site_after_notices new behind ≡ whole
     site_goes whole e =
-        ap (λ (s : Site). site_after_notices s behind) told
+        ap (λ (s : Site). site_after_notices s behind) reported
         ∙ sym (site-append site (list_of_notice brought) behind)
         ∙ ap (site_after_notices site) (sym notices_go)
         ∙ e
@@ -80,7 +80,7 @@ module _ (who whose : CarrierIdentity) (same : whose ≡ who) (k later : Connect
     frames_go =
         ap (frames_said site.plan site.facts) notices_go
         ∙ frames_said-append site.plan site.facts (list_of_notice brought) behind
-        ∙ ap (λ (s : Site). here ++ frames_said s.plan s.facts behind) (sym told)
+        ∙ ap (λ (s : Site). here ++ frames_said s.plan s.facts behind) (sym reported)
 
     module _ (next later_next : Option ℕ) (counted : later_next ≡ next_after_frames next here) where
       pub items_go : (text more whole : List ℕ) → more ≡ text ++ frames_text next here → text ++ frames_text next (frames_said site.plan site.facts before) ≡ whole → more ++ frames_text later_next there ≡ whole

@@ -6,7 +6,7 @@ use Rattle.dmr_frames.specs.declared.frame.FrameIn.{FrameIn}
 use Rattle.dmr_frames.specs.declared.cutter.Step.{Step}
 use Rattle.dmr_frames.specs.declared.version.FrameTable.{FrameTable}
 use Rattle.dmr_frames.specs.Rest.{Rest}
-use Rattle.dmr_frames.specs.Reading.{BringAtLast, frame_of, step_from, rest_after_octet, rest_after_octets}
+use Rattle.dmr_frames.specs.Reading.{ProduceAtLast, frame_of, step_from, rest_after_octet, rest_after_octets}
 use Rattle.dmr_frames.specs.Stream.{Reads}
 use Rattle.dmr_plan.specs.declared.settings.Settings.{Settings}
 use Rattle.dmr_core.specs.Facts.{Facts}
@@ -19,7 +19,7 @@ use Rattle.dmr_link.specs.Notices.{Notice}
 use Rattle.dmr_link.specs.Numbering.{next_after_frames}
 use Rattle.dmr_link.specs.Session.{frames_said}
 use Rattle.dmr_link.specs.Sound.{IsConnectionSound, IsNumberingOf}
-use Rattle.dmr_link.specs.Steps.{waiting_brings, waiting_leaves, running_brings, running_leaves, notice_of_octet, connection_after_octet, notices_of_octets, connection_after_octets}
+use Rattle.dmr_link.specs.Steps.{waiting_produces, waiting_leaves, running_produces, running_leaves, notice_of_octet, connection_after_octet, notices_of_octets, connection_after_octets}
 use Rattle.dmr_link.proofs.ConnectionsStaySound.{GoesBy, waiting_stays, running_stays}
 use Rattle.dmr_link.proofs.NumberingLemmas.{next_after_frames-append}
 use Rattle.dmr_link.proofs.NumbersFollowVersions.{next_by, numbering_goes}
@@ -27,25 +27,25 @@ use Rattle.dmr_link.proofs.PiecesInTwo.{frames_said-append}
 
 -- ---- up to the end of a frame
 
-pub waiting-piece : (who : CarrierIdentity) (rest : Rest) (octets : List ℕ) (step : Step) → BringAtLast rest octets step →
-    (notices_of_octets who (Waiting rest) octets ≡ list_of_notice (waiting_brings who step)) × (connection_after_octets who (Waiting rest) octets ≡ waiting_leaves who (rest_after_octets rest octets) step)
+pub waiting-piece : (who : CarrierIdentity) (rest : Rest) (octets : List ℕ) (step : Step) → ProduceAtLast rest octets step →
+    (notices_of_octets who (Waiting rest) octets ≡ list_of_notice (waiting_produces who step)) × (connection_after_octets who (Waiting rest) octets ≡ waiting_leaves who (rest_after_octets rest octets) step)
 waiting-piece who rest [] step h = absurd h
-waiting-piece who rest (x ∷ []) step h = (append-nil (list_of_notice (waiting_brings who (step_from rest x))) ∙ ap (λ (s : Step). list_of_notice (waiting_brings who s)) h, ap (waiting_leaves who (rest_after_octet rest x)) h)
+waiting-piece who rest (x ∷ []) step h = (append-nil (list_of_notice (waiting_produces who (step_from rest x))) ∙ ap (λ (s : Step). list_of_notice (waiting_produces who s)) h, ap (waiting_leaves who (rest_after_octet rest x)) h)
 waiting-piece who rest (x ∷ y ∷ octets) step h =
     let here : connection_after_octet who (Waiting rest) x ≡ Waiting (rest_after_octet rest x) = ap (waiting_leaves who (rest_after_octet rest x)) h.0 in
     let later = waiting-piece who (rest_after_octet rest x) (y ∷ octets) step h.1 in (
-      (λ i. list_of_notice (waiting_brings who (h.0 i)) ++ notices_of_octets who (here i) (y ∷ octets)) ∙ later.0,
+      (λ i. list_of_notice (waiting_produces who (h.0 i)) ++ notices_of_octets who (here i) (y ∷ octets)) ∙ later.0,
       ap (λ (k : Connection). connection_after_octets who k (y ∷ octets)) here ∙ later.1,
     )
 
-pub running-piece : (who : CarrierIdentity) (newest : Option ℕ) (rest : Rest) (octets : List ℕ) (step : Step) → BringAtLast rest octets step →
-    (notices_of_octets who (Running rest newest) octets ≡ list_of_notice (running_brings who.carrier newest step)) × (connection_after_octets who (Running rest newest) octets ≡ running_leaves (rest_after_octets rest octets) newest step)
+pub running-piece : (who : CarrierIdentity) (newest : Option ℕ) (rest : Rest) (octets : List ℕ) (step : Step) → ProduceAtLast rest octets step →
+    (notices_of_octets who (Running rest newest) octets ≡ list_of_notice (running_produces who.carrier newest step)) × (connection_after_octets who (Running rest newest) octets ≡ running_leaves (rest_after_octets rest octets) newest step)
 running-piece who newest rest [] step h = absurd h
-running-piece who newest rest (x ∷ []) step h = (append-nil (list_of_notice (running_brings who.carrier newest (step_from rest x))) ∙ ap (λ (s : Step). list_of_notice (running_brings who.carrier newest s)) h, ap (running_leaves (rest_after_octet rest x) newest) h)
+running-piece who newest rest (x ∷ []) step h = (append-nil (list_of_notice (running_produces who.carrier newest (step_from rest x))) ∙ ap (λ (s : Step). list_of_notice (running_produces who.carrier newest s)) h, ap (running_leaves (rest_after_octet rest x) newest) h)
 running-piece who newest rest (x ∷ y ∷ octets) step h =
     let here : connection_after_octet who (Running rest newest) x ≡ Running (rest_after_octet rest x) newest = ap (running_leaves (rest_after_octet rest x) newest) h.0 in
     let later = running-piece who newest (rest_after_octet rest x) (y ∷ octets) step h.1 in (
-      (λ i. list_of_notice (running_brings who.carrier newest (h.0 i)) ++ notices_of_octets who (here i) (y ∷ octets)) ∙ later.0,
+      (λ i. list_of_notice (running_produces who.carrier newest (h.0 i)) ++ notices_of_octets who (here i) (y ∷ octets)) ∙ later.0,
       ap (λ (k : Connection). connection_after_octets who k (y ∷ octets)) here ∙ later.1,
     )
 

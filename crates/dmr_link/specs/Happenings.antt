@@ -1,6 +1,6 @@
 -- The happenings of a call of `serve`, in their order.
 use Rattle.std.specs.Prelude.{◌≡◌, ℕ, ◌==◌, List, [], ◌∷◌, ◌++◌, Option, Some, None, Result, Ok, Err, if◌then◌else◌, filter_map, fold}
-use Rattle.dmr_wire.specs.Told.{Answer, Came, InputEnded, ReadInterrupted, ReadBlocked, ReadFailed}
+use Rattle.dmr_wire.specs.Answers.{Answer, Came, InputEnded, ReadInterrupted, ReadBlocked, ReadFailed}
 use Rattle.dmr_link.specs.declared.desk.Deposit.{Deposit}
 use Rattle.dmr_link.specs.declared.ended.Ended.{Ended}
 use Rattle.dmr_link.specs.declared.ended.Ended.TheVariants as ended
@@ -9,25 +9,25 @@ use Rattle.dmr_link.specs.Passages.{Passage, Entered, Shut, Left}
 -- a port answers, a desk takes an event, or a gate is passed
 pub data Happening : Type 0 where
   Answered : (answer : Answer) → Happening
-  Handed : (deposit : Deposit) → Happening
+  Deposited : (deposit : Deposit) → Happening
   Passed : (passage : Passage) → Happening
 
 -- the answer of the port, if the happening is one
 abbrev pub port_answer : Happening → Option Answer
 port_answer (Answered a) = Some a
-port_answer (Handed d) = None
+port_answer (Deposited d) = None
 port_answer (Passed p) = None
 
 -- the event that the desk took, if the happening is one
 abbrev pub desk_deposit : Happening → Option Deposit
 desk_deposit (Answered a) = None
-desk_deposit (Handed d) = Some d
+desk_deposit (Deposited d) = Some d
 desk_deposit (Passed p) = None
 
 -- the passage of the gate, if the happening is one
 abbrev pub gate_passage : Happening → Option Passage
 gate_passage (Answered a) = None
-gate_passage (Handed d) = None
+gate_passage (Deposited d) = None
 gate_passage (Passed p) = Some p
 
 -- the answers of the port among happenings
@@ -70,7 +70,7 @@ pub data Stage : Type 0 where
 abbrev pub outside_then : Happening → Stage
 outside_then (Answered ReadBlocked) = Blocked
 outside_then (Answered a) = Outside
-outside_then (Handed d) = Disordered
+outside_then (Deposited d) = Disordered
 outside_then (Passed Entered) = Within
 outside_then (Passed Shut) = ShutOut
 outside_then (Passed Left) = Disordered
@@ -78,7 +78,7 @@ outside_then (Passed Left) = Disordered
 -- the stage after a happening within the gate: the call hands in the event, or leaves if the desk refuses it
 abbrev pub within_then : Happening → Stage
 within_then (Answered a) = Disordered
-within_then (Handed d) = Answering
+within_then (Deposited d) = Answering
 within_then (Passed Entered) = Disordered
 within_then (Passed Shut) = Disordered
 within_then (Passed Left) = TurnedAway
@@ -86,7 +86,7 @@ within_then (Passed Left) = TurnedAway
 -- the stage after a happening when the desk has taken the event: the call writes the answer, and leaves
 abbrev pub answering_then : Happening → Stage
 answering_then (Answered a) = if is_read a == 0 then Answering else Disordered
-answering_then (Handed d) = Disordered
+answering_then (Deposited d) = Disordered
 answering_then (Passed Entered) = Disordered
 answering_then (Passed Shut) = Disordered
 answering_then (Passed Left) = Outside

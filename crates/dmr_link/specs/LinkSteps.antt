@@ -2,9 +2,9 @@
 -- depends on the others.
 use Rattle.std.specs.Prelude.{◌≡◌, ℕ, ◌≤◌, Bool, true, false, ◌||◌, List, [], Option, Some, None, Result, Ok, Err}
 use Rattle.dmr_core.specs.declared.event.Event.TheVariants.{Lost}
-use Rattle.dmr_wire.specs.Told.{Answer}
+use Rattle.dmr_wire.specs.Answers.{Answer}
 use Rattle.dmr_link.specs.Notices.{Notice}
-use Rattle.dmr_link.specs.Notices.{Happened, Accepted, Refused, Unheeded}
+use Rattle.dmr_link.specs.Notices.{Happened, Accepted, Refused, Rejected}
 use Rattle.dmr_link.specs.declared.notices.SiteNotice.{SiteNotice}
 use Rattle.dmr_link.specs.declared.notices.SiteNotice.TheVariants as site
 use Rattle.dmr_wire.specs.declared.closing.Closing.{Closing}
@@ -18,12 +18,12 @@ use Rattle.dmr_link.specs.declared.pending.Pending.{Pending}
 use Rattle.dmr_link.specs.Closing.{ended_of}
 use Rattle.dmr_link.specs.Happenings.{Stage, Outside, Blocked, stage_at}
 use Rattle.dmr_link.specs.Limits.{most_interruptions, most_reads}
-use Rattle.dmr_link.specs.Moves.{Moves, Puts}
+use Rattle.dmr_link.specs.Moves.{Moves, WritesText}
 use Rattle.dmr_link.specs.Numbering.{first_number}
 use Rattle.dmr_link.specs.Sound.{IsNumberingOf}
 use Rattle.dmr_frames.specs.Versions.{version_octet}
-use Rattle.dmr_link.specs.Peers.{opened_for, is_going, up_of, brings, left_after, closes_by, numbered}
-use Rattle.dmr_link.specs.Sessions.{Sides, IsQuiet, IsOver, is_kept, is_lost, is_owing}
+use Rattle.dmr_link.specs.Peers.{opened_for, is_going, up_of, produces, left_after, closes_by, numbered}
+use Rattle.dmr_link.specs.Sessions.{Sides, IsQuiet, IsOver, is_kept, is_lost, is_pending}
 
 -- the number of the next TX after the WELCOME that is kept, if one is, is written
 abbrev pub next_when_answered : Option SiteNotice → Option ℕ → Option ℕ
@@ -89,12 +89,12 @@ kept_then kept (Some (Accepted c version)) = Some (site.Accepted c version)
 kept_then kept other = kept
 
 -- the notice, if it is for the peer alone
-abbrev pub aside_of : Option Notice → Option Notice
-aside_of None = None
-aside_of (Some (Happened event)) = None
-aside_of (Some (Accepted c version)) = None
-aside_of (Some (Refused c refusal)) = Some (Refused c refusal)
-aside_of (Some (Unheeded fault)) = Some (Unheeded fault)
+abbrev pub peer_notice_of : Option Notice → Option Notice
+peer_notice_of None = None
+peer_notice_of (Some (Happened event)) = None
+peer_notice_of (Some (Accepted c version)) = None
+peer_notice_of (Some (Refused c refusal)) = Some (Refused c refusal)
+peer_notice_of (Some (Rejected fault)) = Some (Rejected fault)
 
 -- how a connection was closed, after an octet that may have closed it
 abbrev pub closing_then : Closing → Option Closing → Closing
@@ -106,7 +106,7 @@ abbrev pub state_after_octet : LinkState → ℕ → LinkState
 state_after_octet l x = record {
   who = l.who;
   connection = left_after l.connection x;
-  pending = record { kept = kept_then l.pending.kept (brings l.connection x); lost = l.pending.lost };
+  pending = record { kept = kept_then l.pending.kept (produces l.connection x); lost = l.pending.lost };
   is_cut = l.is_cut;
   unread = l.unread;
   closing = closing_then l.closing (closes_by l.connection x);
@@ -121,27 +121,27 @@ abbrev pub with_next : LinkState → Option ℕ → LinkState
 with_next l next = record { who = l.who; connection = numbered l.connection next; pending = l.pending; is_cut = l.is_cut; unread = l.unread; closing = l.closing }
 
 -- a link after octets were written: the first if the port took all of them, else the second with its connection closed
-abbrev pub after_put : Bool → LinkState → LinkState → LinkState
-after_put true whole l = whole
-after_put false whole l = closed_as l WriteFailed
+abbrev pub after_write : Bool → LinkState → LinkState → LinkState
+after_write true whole l = whole
+after_write false whole l = closed_as l WriteFailed
 
 -- octets were written, unless the connection was cut
 abbrev pub Replies : Bool → LinkState → Option (List Answer) → List ℕ → LinkState → LinkState → Option (List Answer) → Type 0
-Replies true old told octets written new now = (new ≡ old) × (now ≡ told)
-Replies false old told octets written new now = (whole : Bool) × Puts told octets whole now × (new ≡ after_put whole written old)
+Replies true old reported octets written new now = (new ≡ old) × (now ≡ reported)
+Replies false old reported octets written new now = (whole : Bool) × WritesText reported octets whole now × (new ≡ after_write whole written old)
 
 -- an event could not be handed in and is pending, or this proposition holds
 abbrev pub IsHeld : {X : Type 0} → Result X Ended → LinkState → Type 0 → Type 0
 IsHeld (Ok done) l P = P
-IsHeld (Err ended.TermOver) l P = is_owing l ≡ true
-IsHeld (Err ended.GateShut) l P = is_owing l ≡ true
+IsHeld (Err ended.TermOver) l P = is_pending l ≡ true
+IsHeld (Err ended.GateShut) l P = is_pending l ≡ true
 IsHeld (Err other) l P = ⊥
 
 -- a step stopped for this reason: an event could not be handed in and is pending, or the connection is closed in this way and nothing is
 -- pending
 abbrev pub IsStop : Ended → LinkState → Type 0
-IsStop ended.TermOver l = is_owing l ≡ true
-IsStop ended.GateShut l = is_owing l ≡ true
+IsStop ended.TermOver l = is_pending l ≡ true
+IsStop ended.GateShut l = is_pending l ≡ true
 IsStop ended.Idle l = ⊥
 IsStop ended.Paused l = ⊥
 IsStop other l = IsOver l × (ended_of l.closing ≡ other)

@@ -4,8 +4,8 @@ use Rattle.dmr_core.specs.declared.event.Event.{Event}
 use Rattle.dmr_core.specs.declared.event.Event.TheVariants.{Up}
 use Rattle.dmr_frames.specs.declared.frame.Refusal.{Refusal}
 use Rattle.dmr_frames.specs.declared.version.Version.{Version}
-use Rattle.dmr_link.specs.declared.notices.Aside.{Aside}
-use Rattle.dmr_link.specs.declared.notices.Aside.TheVariants as aside
+use Rattle.dmr_link.specs.declared.notices.PeerNotice.{PeerNotice}
+use Rattle.dmr_link.specs.declared.notices.PeerNotice.TheVariants as aside
 use Rattle.dmr_link.specs.declared.notices.LineFault.{LineFault}
 use Rattle.dmr_link.specs.declared.notices.Notice.{Notice as ANotice}
 use Rattle.dmr_link.specs.declared.notices.Notice.TheVariants as notice
@@ -18,7 +18,7 @@ pub data Notice : Type 0 where
   Happened : (event : Event) → Notice
   Accepted : (carrier : ℕ) (version : Version) → Notice
   Refused : (carrier : ℕ) (refusal : Refusal) → Notice
-  Unheeded : (fault : LineFault) → Notice
+  Rejected : (fault : LineFault) → Notice
 
 -- the notice that a value of the program for the site means
 abbrev pub site_notice : SiteNotice → Notice
@@ -31,11 +31,11 @@ event_of_notice (site.Happened event) = event
 event_of_notice (site.Accepted c version) = Up c
 
 -- the notice that a value of the program for the peer alone means
-abbrev pub aside_notice : Aside → Notice
-aside_notice (aside.Refused c refusal) = Refused c refusal
-aside_notice (aside.Unheeded fault) = Unheeded fault
+abbrev pub peer_notice : PeerNotice → Notice
+peer_notice (aside.Refused c refusal) = Refused c refusal
+peer_notice (aside.Rejected fault) = Rejected fault
 
 -- the notice that a value of the program means
 abbrev pub notice_meant : ANotice → Notice
 notice_meant (notice.Site n) = site_notice n
-notice_meant (notice.Aside a) = aside_notice a
+notice_meant (notice.Peer a) = peer_notice a

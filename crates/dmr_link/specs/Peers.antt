@@ -10,10 +10,10 @@ use Rattle.dmr_frames.specs.Frames.{spelling_out}
 use Rattle.dmr_core.specs.declared.act.Acts.{Acts}
 use Rattle.dmr_core.specs.declared.entry.Entry.{Entry}
 use Rattle.dmr_core.specs.declared.event.Event.TheVariants.{Say}
-use Rattle.dmr_core.specs.Journal.{entry_by_nobody}
+use Rattle.dmr_core.specs.Journal.{unattributed_entry}
 use Rattle.dmr_link.specs.declared.notices.LineFault.TheVariants.{TooLong}
 use Rattle.dmr_link.specs.Notices.{Notice}
-use Rattle.dmr_link.specs.Notices.{Happened, Accepted, Refused, Unheeded}
+use Rattle.dmr_link.specs.Notices.{Happened, Accepted, Refused, Rejected}
 use Rattle.dmr_link.specs.declared.notices.SiteNotice.{SiteNotice}
 use Rattle.dmr_link.specs.declared.notices.SiteNotice.TheVariants as site
 use Rattle.dmr_link.specs.declared.desk.Deposit.{Deposit}
@@ -52,7 +52,7 @@ closing_from Operator octets = None
 
 -- the journal entry of an event that a desk took
 abbrev pub entry_of_deposit : Deposit → Entry
-entry_of_deposit d = entry_by_nobody d.event d.acts
+entry_of_deposit d = unattributed_entry d.event d.acts
 
 -- the octets written to a peer for notices and the events that a desk took, if the next TX has this number: a carrier's session text, or
 -- the console text
@@ -79,11 +79,11 @@ abbrev pub next_after_answer : Option ℕ → SiteNotice → Acts → Option ℕ
 next_after_answer next notice acts = next_after_frames next (answer_frames notice acts.list)
 
 -- the octets that answer a notice for the peer alone
-abbrev pub aside_text : Notice → List ℕ
-aside_text (Happened event) = []
-aside_text (Accepted c version) = []
-aside_text (Refused c refusal) = spelling_out (out.Refused refusal)
-aside_text (Unheeded fault) = fault_text fault
+abbrev pub peer_notice_text : Notice → List ℕ
+peer_notice_text (Happened event) = []
+peer_notice_text (Accepted c version) = []
+peer_notice_text (Refused c refusal) = spelling_out (out.Refused refusal)
+peer_notice_text (Rejected fault) = fault_text fault
 
 -- ---- octet by octet
 
@@ -115,16 +115,16 @@ up_of (stream.Frames state) = up_by state.who state.connection
 up_of other = None
 
 -- the notice that a step of the line cutter produces, if any
-abbrev pub line_brings : LineStep → Option Notice
-line_brings step.Need = None
-line_brings step.TooLong = Some (Unheeded TooLong)
-line_brings (step.Line line) = Some (notice_of_command (command_of line.items))
+abbrev pub line_produces : LineStep → Option Notice
+line_produces step.Need = None
+line_produces step.TooLong = Some (Rejected TooLong)
+line_produces (step.Line line) = Some (notice_of_command (command_of line.items))
 
 -- the notice that an octet produces, if any
-abbrev pub brings : Stream → ℕ → Option Notice
-brings stream.Closed x = None
-brings (stream.Frames state) x = notice_of_octet state.who state.connection x
-brings (stream.Lines begun) x = line_brings (line_step_at begun x)
+abbrev pub produces : Stream → ℕ → Option Notice
+produces stream.Closed x = None
+produces (stream.Frames state) x = notice_of_octet state.who state.connection x
+produces (stream.Lines begun) x = line_produces (line_step_at begun x)
 
 -- the connection after an octet
 abbrev pub left_after : Stream → ℕ → Stream
@@ -139,5 +139,5 @@ closes_by (stream.Frames state) x = closes state.who state.connection x
 closes_by (stream.Lines begun) x = None
 
 -- the notices that octets produce, one after another
-abbrev pub all_brings : Stream → List ℕ → List Notice
-all_brings k octets = flat_map list_of_notice (scan left_after brings k octets)
+abbrev pub all_produce : Stream → List ℕ → List Notice
+all_produce k octets = flat_map list_of_notice (scan left_after produces k octets)

@@ -5,7 +5,7 @@ use Rattle.dmr_core.specs.declared.event.Event.{Event}
 use Rattle.dmr_core.specs.declared.event.Event.TheVariants.{Poll}
 use Rattle.dmr_link.specs.Console.{ends_in}
 use Rattle.dmr_link.specs.Notices.{Notice}
-use Rattle.dmr_link.specs.Notices.{Happened, Accepted, Refused, Unheeded}
+use Rattle.dmr_link.specs.Notices.{Happened, Accepted, Refused, Rejected}
 use Rattle.dmr_link.specs.Numbering.{first_number}
 use Rattle.dmr_frames.specs.Versions.{version_octet}
 
@@ -33,7 +33,7 @@ abbrev pub most_of : Bool → Notice → ℕ
 most_of numbered (Happened event) = most_at numbered event
 most_of numbered (Accepted c version) = most_to_hello
 most_of numbered (Refused c refusal) = most_to_hello
-most_of numbered (Unheeded fault) = 0
+most_of numbered (Rejected fault) = 0
 
 -- whether TX are numbered after a notice: the version of a HELLO that is accepted decides
 abbrev pub numbered_after : Bool → Notice → Bool

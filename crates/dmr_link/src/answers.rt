@@ -52,7 +52,7 @@ fn append_frame(answer: &mut AnswerText, numbering: &mut Numbering, frame: &Fram
     ensures next { numbering.new ≡ next_after numbering.old frame.now }
     ensures len { array_vec_len answer.new ≡ array_vec_len answer.old + length (frame_text numbering.old frame.now) }
 {
-    let octets = numbering.spell(frame);
+    let octets = numbering.encode_frame(frame);
     let Ok(()) = answer.try_extend_from_slice(octets.as_slice()) else {
         unreachable!()
     };

@@ -5,14 +5,14 @@ ghost use Rattle.dmr_burst.specs.Functions.{meaning_of};
 ghost use Rattle.dmr_frames.specs.Versions.{chosen_by};
 ghost use Rattle.dmr_core.specs.declared.event.Event.TheVariants.{Lost};
 ghost use Rattle.dmr_frames.specs.declared.frame.FrameIn.TheVariants as frame;
-ghost use Rattle.dmr_link.specs.Meaning.{list_of_notice, event_of_burst as event_heard, is_accepted, is_repeat as is_newest_again, refusal_of_first};
+ghost use Rattle.dmr_link.specs.Meaning.{list_of_notice, event_of_burst as burst_event, is_accepted, is_repeat as is_newest_repeat, refusal_of_first};
 ghost use Rattle.dmr_link.specs.Closing.{cause_of_refusal, closes, first_fault, waiting_closes, running_closes};
 ghost use Rattle.dmr_wire.specs.declared.closing.Closing.TheVariants as closed;
 ghost use Rattle.dmr_link.specs.Notices.{Accepted, Happened, Refused, notice_meant};
 ghost use Rattle.dmr_link.specs.Sound.{IsConnectionSound};
-ghost use Rattle.dmr_link.specs.Steps.{new_connection, notice_of_octet, notices_of_octets, connection_after_octet, connection_after_octets, running_brings, waiting_brings, waiting_leaves, running_leaves};
+ghost use Rattle.dmr_link.specs.Steps.{new_connection, notice_of_octet, notices_of_octets, connection_after_octet, connection_after_octets, running_produces, waiting_produces, waiting_leaves, running_leaves};
 
-use crate::notices::{Aside, Notice, SiteNotice};
+use crate::notices::{Notice, PeerNotice, SiteNotice};
 use dmr_bits::Word196;
 use dmr_burst::read;
 use dmr_core::Event;
@@ -62,11 +62,11 @@ impl CarrierIdentity {
     /// Returns the version of the link that a HELLO with these numbers chooses, if that is served and the numbers are this carrier's.
     /// `Err` is the reason of the refusal: `BadVersion` if the version is not served, whatever the other numbers are, else
     /// `WrongCarrier`.
-    fn accept(&self, version: u8, carrier: u8, lpcn: u16) -> Result<Version, Refusal>
+    fn check_hello(&self, version: u8, carrier: u8, lpcn: u16) -> Result<Version, Refusal>
         ensures ok { IfOk result (λ v. (is_accepted self.now (frame.Hello version carrier lpcn) ≡ true) × (chosen_by self.now.greatest (frame.Hello version carrier lpcn) ≡ v)) }
         ensures err { IfErr result (λ r. (is_accepted self.now (frame.Hello version carrier lpcn) ≡ false) × (refusal_of_first self.now (frame.Hello version carrier lpcn) ≡ Some (Refused self.now.carrier r)) × (first_fault self.now (frame.Hello version carrier lpcn) ≡ closed.Refused (cause_of_refusal r) (record { version = version; carrier = carrier; lpcn = lpcn }))) }
     {
-        let Some(version) = self.greatest.named(version) else {
+        let Some(version) = self.greatest.served_version(version) else {
             return Err(Refusal::BadVersion);
         };
         if u32::from(carrier) == self.carrier.get() && u32::from(lpcn) == self.lpcn.get() {
@@ -78,7 +78,7 @@ impl CarrierIdentity {
 }
 
 /// Returns the cause for which a connection is closed when its HELLO is refused.
-fn cause_of(refusal: Refusal) -> Cause
+fn cause_of_refusal(refusal: Refusal) -> Cause
     ensures { result ≡ cause_of_refusal refusal }
 {
     match refusal {
@@ -88,8 +88,8 @@ fn cause_of(refusal: Refusal) -> Cause
 }
 
 /// Returns the event of a burst that was received in a slot.
-fn heard(slot: Slot, word: &Word196) -> Event
-    ensures { result ≡ event_heard slot (meaning_of word.now) }
+fn event_of_burst(slot: Slot, word: &Word196) -> Event
+    ensures { result ≡ burst_event slot (meaning_of word.now) }
 {
     match read(word) {
         Some(pdu) => Event::Heard(slot, pdu),
@@ -98,8 +98,8 @@ fn heard(slot: Slot, word: &Word196) -> Event
 }
 
 /// Returns whether an RX is a repeat: it has a number, and the newest RX before it has the same. Each number is `None` if there is none.
-fn is_again(newest: Option<u8>, number: Option<u8>) -> bool
-    ensures { (slot : _) (word : _) → result ≡ is_newest_again newest (frame.Rx number slot word) }
+fn is_repeat(newest: Option<u8>, number: Option<u8>) -> bool
+    ensures { (slot : _) (word : _) → result ≡ is_newest_repeat newest (frame.Rx number slot word) }
 {
     match (newest, number) {
         (Some(newest), Some(number)) => number == newest,
@@ -116,7 +116,7 @@ impl Outcome {
 }
 
 /// Returns the outcome of a HELLO that is accepted.
-fn accepts(carrier: CarrierNo, version: Version) -> Outcome
+fn acceptance(carrier: CarrierNo, version: Version) -> Outcome
     ensures notice { option_map notice_meant result.notice ≡ Some (Accepted carrier version) }
     ensures closing { result.closing ≡ None }
 {
@@ -127,18 +127,18 @@ fn accepts(carrier: CarrierNo, version: Version) -> Outcome
 }
 
 /// Returns the outcome of this HELLO, which is refused. That closes the connection.
-fn refuses(carrier: CarrierNo, refusal: Refusal, hello: Hello) -> Outcome
+fn rejection(carrier: CarrierNo, refusal: Refusal, hello: Hello) -> Outcome
     ensures notice { option_map notice_meant result.notice ≡ Some (Refused carrier refusal) }
     ensures closing { result.closing ≡ Some (closed.Refused (cause_of_refusal refusal) hello) }
 {
     Outcome {
-        notice: Some(Notice::Aside(Aside::Refused(carrier, refusal))),
-        closing: Some(Closing::Refused(cause_of(refusal), hello)),
+        notice: Some(Notice::Peer(PeerNotice::Refused(carrier, refusal))),
+        closing: Some(Closing::Refused(cause_of_refusal(refusal), hello)),
     }
 }
 
 /// Returns the outcome if the connection of a carrier that was not up yet is closed for this cause.
-fn closes_for(cause: Cause) -> Outcome
+fn fault_outcome(cause: Cause) -> Outcome
     ensures notice { result.notice ≡ None }
     ensures closing { result.closing ≡ Some (closed.Bad cause) }
 {
@@ -149,7 +149,7 @@ fn closes_for(cause: Cause) -> Outcome
 }
 
 /// Returns the outcome of an event of the site. The connection stays open.
-fn brings(event: Event) -> Outcome
+fn event_outcome(event: Event) -> Outcome
     ensures notice { option_map notice_meant result.notice ≡ Some (Happened event) }
     ensures closing { result.closing ≡ None }
 {
@@ -160,7 +160,7 @@ fn brings(event: Event) -> Outcome
 }
 
 /// Returns the outcome if the connection of a carrier that was up is closed: its Lost, and how the connection is closed.
-fn loses(carrier: CarrierNo, closing: Closing) -> Outcome
+fn loss(carrier: CarrierNo, closing: Closing) -> Outcome
     ensures notice { option_map notice_meant result.notice ≡ Some (Happened (Lost carrier)) }
     ensures closing { result.closing ≡ Some closing }
 {
@@ -171,23 +171,23 @@ fn loses(carrier: CarrierNo, closing: Closing) -> Outcome
 }
 
 /// Returns the outcome of a cutter's step on a connection that waits for its first frame, and the connection after it.
-fn take_first(who: &CarrierIdentity, cutter: Cutter, step: &Step) -> (Outcome, Connection)
-    ensures notice { option_map notice_meant result.0.notice ≡ waiting_brings who.now step.now }
+fn outcome_of_first(who: &CarrierIdentity, cutter: Cutter, step: &Step) -> (Outcome, Connection)
+    ensures notice { option_map notice_meant result.0.notice ≡ waiting_produces who.now step.now }
     ensures closing { result.0.closing ≡ waiting_closes who.now step.now }
     ensures connection { result.1 ≡ waiting_leaves who.now cutter step.now }
 {
     match step {
         Step::Need => (Outcome::NOTHING, Connection::Waiting(cutter)),
-        Step::Fault(cause) => (closes_for(*cause), Connection::Closed),
+        Step::Fault(cause) => (fault_outcome(*cause), Connection::Closed),
         Step::Frame(
             FrameIn::Hello {
                 version,
                 carrier,
                 lpcn,
             },
-        ) => match who.accept(*version, *carrier, *lpcn) {
+        ) => match who.check_hello(*version, *carrier, *lpcn) {
             Ok(version) => (
-                accepts(who.carrier, version),
+                acceptance(who.carrier, version),
                 Connection::Running {
                     cutter,
                     newest: None,
@@ -199,43 +199,43 @@ fn take_first(who: &CarrierIdentity, cutter: Cutter, step: &Step) -> (Outcome, C
                     carrier: *carrier,
                     lpcn: *lpcn,
                 };
-                (refuses(who.carrier, refusal, hello), Connection::Closed)
+                (rejection(who.carrier, refusal, hello), Connection::Closed)
             }
         },
-        Step::Frame(_) => (closes_for(Cause::NoHello), Connection::Closed),
+        Step::Frame(_) => (fault_outcome(Cause::NoHello), Connection::Closed),
     }
 }
 
 /// Returns the outcome of a cutter's step while the carrier is up, and the connection after it. `newest` is the number of the newest RX,
 /// if it has one.
-fn take_next(
+fn outcome_of_step(
     carrier: CarrierNo,
     cutter: Cutter,
     newest: Option<u8>,
     step: &Step,
 ) -> (Outcome, Connection)
-    ensures notice { option_map notice_meant result.0.notice ≡ running_brings carrier newest step.now }
+    ensures notice { option_map notice_meant result.0.notice ≡ running_produces carrier newest step.now }
     ensures closing { result.0.closing ≡ running_closes step.now }
     ensures connection { result.1 ≡ running_leaves cutter newest step.now }
 {
     match step {
         Step::Need => (Outcome::NOTHING, Connection::Running { cutter, newest }),
-        Step::Fault(cause) => (loses(carrier, Closing::Bad(*cause)), Connection::Closed),
+        Step::Fault(cause) => (loss(carrier, Closing::Bad(*cause)), Connection::Closed),
         Step::Frame(FrameIn::Rx { number, slot, word }) => {
             let slot = Slot {
                 carrier,
                 slot: *slot,
             };
-            let outcome = if is_again(newest, *number) {
+            let outcome = if is_repeat(newest, *number) {
                 Outcome::NOTHING
             } else {
-                brings(heard(slot, word))
+                event_outcome(event_of_burst(slot, word))
             };
             let newest = *number;
             (outcome, Connection::Running { cutter, newest })
         }
         Step::Frame(FrameIn::Poll) => (
-            brings(Event::Poll(carrier)),
+            event_outcome(Event::Poll(carrier)),
             Connection::Running { cutter, newest },
         ),
         Step::Frame(FrameIn::Active { slot }) => {
@@ -244,15 +244,15 @@ fn take_next(
                 slot: *slot,
             };
             (
-                brings(Event::Active(slot)),
+                event_outcome(Event::Active(slot)),
                 Connection::Running { cutter, newest },
             )
         }
         Step::Frame(FrameIn::Hello { .. }) => (
-            loses(carrier, Closing::Bad(Cause::SecondHello)),
+            loss(carrier, Closing::Bad(Cause::SecondHello)),
             Connection::Closed,
         ),
-        Step::Frame(FrameIn::Bye) => (loses(carrier, Closing::Bye), Connection::Closed),
+        Step::Frame(FrameIn::Bye) => (loss(carrier, Closing::Bye), Connection::Closed),
     }
 }
 
@@ -291,11 +291,11 @@ impl Connection {
             Connection::Closed => return Outcome::NOTHING,
             Connection::Waiting(mut cutter) => {
                 let step = cutter.feed_byte(octet);
-                take_first(who, cutter, &step)
+                outcome_of_first(who, cutter, &step)
             }
             Connection::Running { mut cutter, newest } => {
                 let step = cutter.feed_byte(octet);
-                take_next(who.carrier, cutter, newest, &step)
+                outcome_of_step(who.carrier, cutter, newest, &step)
             }
         };
         *self = next;
@@ -317,13 +317,13 @@ impl Connection {
             Connection::Closed => (octets.len(), None),
             Connection::Waiting(mut cutter) => {
                 let (count, step) = cutter.feed(octets);
-                let (outcome, next) = take_first(who, cutter, &step);
+                let (outcome, next) = outcome_of_first(who, cutter, &step);
                 *self = next;
                 (count, outcome.notice)
             }
             Connection::Running { mut cutter, newest } => {
                 let (count, step) = cutter.feed(octets);
-                let (outcome, next) = take_next(who.carrier, cutter, newest, &step);
+                let (outcome, next) = outcome_of_step(who.carrier, cutter, newest, &step);
                 *self = next;
                 (count, outcome.notice)
             }

@@ -4,7 +4,7 @@ ghost use Rattle.std.specs.Prelude.{◌≡◌, List, [], ◌∷◌, None, not, t
 ghost use Rattle.dmr_core.specs.declared.event.Event.{Event as AnEvent};
 ghost use Rattle.dmr_frames.specs.declared.frame.Cause.{Cause};
 ghost use Rattle.dmr_link.specs.Closing.{ended_of};
-ghost use Rattle.dmr_link.specs.Sessions.{Session, new_session, StandsFor, IsOver, sides, Serves, Cuts};
+ghost use Rattle.dmr_link.specs.Sessions.{Session, new_session, HasPast, IsOver, sides, Serves, Cuts};
 ghost use Rattle.dmr_link.specs.LinkSteps.{is_live};
 ghost use Rattle.dmr_link.specs.declared.desk.TermOver.{TermOver as ATermOver};
 ghost use Rattle.dmr_link.specs.declared.stream.Peer.TheVariants.{Operator};
@@ -20,7 +20,7 @@ use std::marker::Model;
 /// It is a [`Link`](crate::Link) with lines and replies in place of frames. An operator is not a carrier: there is no Lost, no line
 /// closes a connection, and there is no gate. A link has one connection or none. It keeps everything that a desk has not taken: a
 /// command, and octets of the last read that are not yet processed. Contracts see this state, and the connections that a link has had
-/// (`StandsFor`).
+/// (`HasPast`).
 #[derive(Drop)]
 pub struct ConsoleLink {
     state: LinkState,
@@ -30,20 +30,20 @@ impl Model for ConsoleLink {
     ghost use Rattle.std.specs.Prelude.{◌≡◌, List};
     ghost use Rattle.dmr_link.specs.declared.stream.Peer.TheVariants.{Operator};
     ghost use Rattle.dmr_link.specs.declared.link_state.LinkState.{LinkState as ALinkState};
-    ghost use Rattle.dmr_link.specs.Sessions.{Session, StandsFor};
+    ghost use Rattle.dmr_link.specs.Sessions.{Session, HasPast};
 
     ghost Value = { ALinkState };
 
     ghost view = { λ l. l.state };
 
-    ghost invariant = { λ l. (l.state.who ≡ Operator) × ((past : List Session) × StandsFor l.state past) };
+    ghost invariant = { λ l. (l.state.who ≡ Operator) × ((past : List Session) × HasPast l.state past) };
 }
 
 impl ConsoleLink {
     /// Creates a link with no connection. `serve` returns `Closed` until `open`.
     pub fn new() -> ConsoleLink
         ensures who { result.who ≡ Operator }
-        ensures past { StandsFor result [] }
+        ensures past { HasPast result [] }
     {
         ConsoleLink {
             state: LinkState::new(Peer::Operator),
@@ -66,10 +66,10 @@ impl ConsoleLink {
     }
 
     /// Does nothing. A proof that calls it learns that the peer of every console link is an operator, and that the link has a past
-    /// (`StandsFor`).
-    pub fn keeps(&self)
+    /// (`HasPast`).
+    pub fn use_invariant(&self)
         ensures who { self.now.who ≡ Operator }
-        ensures past { (past : List Session) × StandsFor self.now past }
+        ensures past { (past : List Session) × HasPast self.now past }
     {
         let _ = &self.state;
     }
@@ -79,12 +79,12 @@ impl ConsoleLink {
     pub fn open(&mut self) -> bool
         ensures answer { result ≡ not (is_live self.old) }
         ensures no { result ≡ false → self.new ≡ self.old }
-        ensures yes { result ≡ true → (past : List Session) → StandsFor self.old past → StandsFor self.new (new_session ∷ past) }
+        ensures yes { result ≡ true → (past : List Session) → HasPast self.old past → HasPast self.new (new_session ∷ past) }
     {
         if self.state.is_live() {
             return false;
         }
-        self.state.begin();
+        self.state.begin_connection();
         true
     }
 
@@ -95,7 +95,7 @@ impl ConsoleLink {
     /// [`MOST_INTERRUPTIONS`](crate::MOST_INTERRUPTIONS) times in a row. After a cut it neither reads nor writes.
     pub fn serve<W: Wire, D: Desk>(&mut self, port: &mut W, desk: &mut D) -> Ended
         ensures actor { D.actor desk.new ≡ D.actor desk.old }
-        ensures serves { Serves self.old self.new (sides (W.told port.old) (D.calls desk.old) None) (sides (W.told port.new) (D.calls desk.new) None) result }
+        ensures serves { Serves self.old self.new (sides (W.reported port.old) (D.calls desk.old) None) (sides (W.reported port.new) (D.calls desk.new) None) result }
         ensures over { result ≡ Ended.TermOver → (before : _) × (event : AnEvent) × (over : ATermOver) × D.refuses before event over desk.new }
         ensures open { result ≡ Ended.GateShut → ⊥ }
         ensures no_cause { (cause : Cause) → result ≡ Ended.BadFrame cause → ⊥ }
@@ -105,7 +105,7 @@ impl ConsoleLink {
         if !self.state.is_live() {
             return Ended::from(self.state.closing);
         }
-        self.state.listen(port, desk, &mut OpenGate)
+        self.state.serve_connection(port, desk, &mut OpenGate)
     }
 
     /// Cuts the connection, and hands in the command that is kept. It writes nothing, and an open line has no effect.
@@ -121,7 +121,7 @@ impl ConsoleLink {
         if !self.state.is_live() {
             return Ok(());
         }
-        self.state.break_off();
+        self.state.cut_connection();
         self.state.flush_pending(desk)
     }
 }
@@ -129,9 +129,9 @@ impl ConsoleLink {
 /// Creates a link with no connection.
 impl Default for ConsoleLink {
     ghost use Rattle.std.specs.Prelude.{◌≡◌, []};
-    ghost use Rattle.dmr_link.specs.Sessions.{StandsFor};
+    ghost use Rattle.dmr_link.specs.Sessions.{HasPast};
 
-    ghost is_default = { λ l. StandsFor l [] };
+    ghost is_default = { λ l. HasPast l [] };
 
     fn default() -> Self {
         ConsoleLink::new()

@@ -12,7 +12,7 @@ use dmr_plan::Plan;
 pub fn greatest_version(plan: &Plan) -> Version
     ensures { result ≡ greatest_of plan.now }
 {
-    Version::named_or_first(plan.link_version())
+    Version::version_or_first(plan.link_version())
 }
 
 /// Returns the identity of the plan's carrier with this number, if the plan has one.

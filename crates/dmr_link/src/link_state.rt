@@ -2,26 +2,26 @@
 
 ghost use Rattle.std.specs.Prelude.{◌≡◌, ◌+◌, ◌<◌, ◌≤◌, ℕ, Bool, List, [], ◌∷◌, Option, Some, None, option_map, Err, length, drop, true, false, IfOk, IfErr};
 ghost use Rattle.dmr_core.specs.declared.event.Event.{Event as AnEvent};
-ghost use Rattle.dmr_wire.specs.Told.{Answer};
+ghost use Rattle.dmr_wire.specs.Answers.{Answer};
 ghost use Rattle.dmr_link.specs.declared.desk.Deposit.{Deposit as ADeposit};
 ghost use Rattle.dmr_link.specs.declared.desk.TermOver.{TermOver as ATermOver};
 ghost use Rattle.dmr_link.specs.Happenings.{Outside, Disordered, stage_after};
 ghost use Rattle.dmr_link.specs.Limits.{most_interruptions};
 ghost use Rattle.dmr_link.specs.Moves.{Moves};
-ghost use Rattle.dmr_link.specs.Notices.{aside_notice};
+ghost use Rattle.dmr_link.specs.Notices.{peer_notice};
 ghost use Rattle.dmr_link.specs.Passages.{Passage};
-ghost use Rattle.dmr_link.specs.Peers.{answer_text, aside_text, brings, next_after_answer, numbering_of};
+ghost use Rattle.dmr_link.specs.Peers.{answer_text, peer_notice_text, produces, next_after_answer, numbering_of};
 ghost use Rattle.dmr_link.specs.Sessions.{IsQuiet, IsClosed, sides};
-ghost use Rattle.dmr_link.specs.LinkSteps.{state_after_octet, aside_of, closed_as, first_pending, nothing_pending, is_live, pending_weight, Replies, IsHeld, IsSettled, row_then, row_after, with_next, stage_then_read, HasTurned, Listens, cut_state, with_new_connection};
+ghost use Rattle.dmr_link.specs.LinkSteps.{state_after_octet, peer_notice_of, closed_as, first_pending, nothing_pending, is_live, pending_weight, Replies, IsHeld, IsSettled, row_then, row_after, with_next, stage_then_read, HasTurned, Listens, cut_state, with_new_connection};
 
 use crate::desk::{Desk, Gate, TermOver};
 use crate::ended::Ended;
 use crate::limits::{MOST_INTERRUPTIONS, MOST_READS};
-use crate::notices::{Aside, Notice, SiteNotice};
+use crate::notices::{Notice, PeerNotice, SiteNotice};
 use crate::pending::Pending;
 use crate::stream::{Peer, Stream};
 use crate::unread::Unread;
-use crate::writing::{write_answer, write_aside};
+use crate::writing::{write_answer, write_peer_answer};
 use dmr_console::lines_in_any_cutting;
 use dmr_core::Acts;
 use dmr_wire::{Closing, Got, Wire};
@@ -71,9 +71,9 @@ impl LinkState {
     }
 
     /// Processes an octet. A notice for the site is kept; a notice for the peer alone is returned.
-    fn receive(&mut self, octet: u8) -> Option<Aside>
+    fn receive(&mut self, octet: u8) -> Option<PeerNotice>
         ensures state { self.new ≡ state_after_octet self.old octet }
-        ensures aside { option_map aside_notice result ≡ aside_of (brings self.old.connection octet) }
+        ensures aside { option_map peer_notice result ≡ peer_notice_of (produces self.old.connection octet) }
     {
         let outcome = self.connection.receive(octet);
         if let Some(closing) = outcome.closing {
@@ -84,7 +84,7 @@ impl LinkState {
                 self.pending.kept = Some(notice);
                 None
             }
-            Some(Notice::Aside(aside)) => Some(aside),
+            Some(Notice::Peer(aside)) => Some(aside),
             None => None,
         }
     }
@@ -97,15 +97,15 @@ impl LinkState {
     }
 
     /// Writes the answer to a notice, unless the connection was cut. If a write fails, it closes the connection.
-    fn reply<W: Wire>(&mut self, notice: &SiteNotice, acts: &Acts, port: &mut W)
-        ensures { Replies self.old.is_cut self.old (W.told port.old) (answer_text (numbering_of self.old.connection) notice.now acts.now) (with_next self.old (next_after_answer (numbering_of self.old.connection) notice.now acts.now)) self.new (W.told port.new) }
+    fn answer_peer<W: Wire>(&mut self, notice: &SiteNotice, acts: &Acts, port: &mut W)
+        ensures { Replies self.old.is_cut self.old (W.reported port.old) (answer_text (numbering_of self.old.connection) notice.now acts.now) (with_next self.old (next_after_answer (numbering_of self.old.connection) notice.now acts.now)) self.new (W.reported port.new) }
     {
         if self.is_cut {
             return;
         }
         let mut numbering = self.connection.numbering();
         if write_answer(port, &mut numbering, notice, acts) {
-            self.connection.number(numbering);
+            self.connection.set_numbering(numbering);
         } else {
             self.close(Closing::WriteFailed);
         }
@@ -113,10 +113,10 @@ impl LinkState {
 
     /// Writes the answer to a notice for the peer alone. If a write fails, the connection is closed for that, even if its octets closed
     /// it before.
-    fn answer_aside<W: Wire>(&mut self, aside: &Aside, port: &mut W)
-        ensures { Replies false self.old (W.told port.old) (aside_text (aside_notice aside.now)) self.old self.new (W.told port.new) }
+    fn answer_peer_notice<W: Wire>(&mut self, aside: &PeerNotice, port: &mut W)
+        ensures { Replies false self.old (W.reported port.old) (peer_notice_text (peer_notice aside.now)) self.old self.new (W.reported port.new) }
     {
-        if !write_aside(port, aside) {
+        if !write_peer_answer(port, aside) {
             self.close(Closing::WriteFailed);
         }
     }
@@ -132,7 +132,7 @@ impl LinkState {
     ) -> Result<(), Ended>
         requires { first_pending self.old.pending ≡ Some notice.now }
         ensures actor { D.actor desk.new ≡ D.actor desk.old }
-        ensures moves { Moves self.old self.new (sides (W.told port.old) (D.calls desk.old) (G.passed gate.old)) (sides (W.told port.new) (D.calls desk.new) (G.passed gate.new)) 0 0 0 Outside (stage_after result) }
+        ensures moves { Moves self.old self.new (sides (W.reported port.old) (D.calls desk.old) (G.passed gate.old)) (sides (W.reported port.new) (D.calls desk.new) (G.passed gate.new)) 0 0 0 Outside (stage_after result) }
         ensures stops { IsHeld result self.new (pending_weight self.new.pending < pending_weight self.old.pending) }
         ensures unread { self.new.unread ≡ self.old.unread }
         ensures over { result ≡ Err Ended.TermOver → (before : _) × (event : AnEvent) × (over : ATermOver) × D.refuses before event over desk.new }
@@ -148,7 +148,7 @@ impl LinkState {
             }
             Ok(acts) => {
                 self.pending.remove_first();
-                self.reply(notice, &acts, port);
+                self.answer_peer(notice, &acts, port);
                 gate.leave();
                 Ok(())
             }
@@ -163,7 +163,7 @@ impl LinkState {
         gate: &mut G,
     ) -> Result<(), Ended>
         ensures actor { D.actor desk.new ≡ D.actor desk.old }
-        ensures moves { Moves self.old self.new (sides (W.told port.old) (D.calls desk.old) (G.passed gate.old)) (sides (W.told port.new) (D.calls desk.new) (G.passed gate.new)) 0 0 0 Outside (stage_after result) }
+        ensures moves { Moves self.old self.new (sides (W.reported port.old) (D.calls desk.old) (G.passed gate.old)) (sides (W.reported port.new) (D.calls desk.new) (G.passed gate.new)) 0 0 0 Outside (stage_after result) }
         ensures stops { IsSettled result self.new }
         ensures unread { self.new.unread ≡ self.old.unread }
         ensures over { result ≡ Err Ended.TermOver → (before : _) × (event : AnEvent) × (over : ATermOver) × D.refuses before event over desk.new }
@@ -181,7 +181,7 @@ impl LinkState {
     /// Processes the first unread octet, if there is one. An event that it produces is kept. The answer to another notice is written.
     fn take_unread<W: Wire>(&mut self, port: &mut W)
         requires { IsQuiet self.old }
-        ensures moves { (calls : List ADeposit) (passed : Option (List Passage)) → Moves self.old self.new (sides (W.told port.old) calls passed) (sides (W.told port.new) calls passed) 0 0 0 Outside Outside }
+        ensures moves { (calls : List ADeposit) (passed : Option (List Passage)) → Moves self.old self.new (sides (W.reported port.old) calls passed) (sides (W.reported port.new) calls passed) 0 0 0 Outside Outside }
         ensures unread { self.new.unread ≡ drop 1 self.old.unread }
     {
         lines_in_any_cutting();
@@ -189,19 +189,19 @@ impl LinkState {
             return;
         };
         if let Some(aside) = self.receive(octet) {
-            self.answer_aside(&aside, port);
+            self.answer_peer_notice(&aside, port);
         }
     }
 
     /// Hands in all pending notices, and processes all unread octets. `Err` says why it stopped.
-    fn work<W: Wire, D: Desk, G: Gate>(
+    fn process_unread<W: Wire, D: Desk, G: Gate>(
         &mut self,
         port: &mut W,
         desk: &mut D,
         gate: &mut G,
     ) -> Result<(), Ended>
         ensures actor { D.actor desk.new ≡ D.actor desk.old }
-        ensures moves { Moves self.old self.new (sides (W.told port.old) (D.calls desk.old) (G.passed gate.old)) (sides (W.told port.new) (D.calls desk.new) (G.passed gate.new)) 0 0 0 Outside (stage_after result) }
+        ensures moves { Moves self.old self.new (sides (W.reported port.old) (D.calls desk.old) (G.passed gate.old)) (sides (W.reported port.new) (D.calls desk.new) (G.passed gate.new)) 0 0 0 Outside (stage_after result) }
         ensures stops { IsSettled result self.new }
         ensures all { IfOk result (λ _. self.new.unread ≡ []) }
         ensures over { result ≡ Err Ended.TermOver → (before : _) × (event : AnEvent) × (over : ATermOver) × D.refuses before event over desk.new }
@@ -217,11 +217,11 @@ impl LinkState {
 
     /// Reads once. Returns how many reads were interrupted last, in a row; `None` if the read would block.
     /// `row` is that number before the read. The number starts again at 0 if the read closes the connection.
-    fn read<W: Wire>(&mut self, row: usize, port: &mut W) -> Option<usize>
+    fn read_once<W: Wire>(&mut self, row: usize, port: &mut W) -> Option<usize>
         requires quiet { IsQuiet self.old }
         requires none { self.old.unread ≡ [] }
         requires few { row ≤ most_interruptions }
-        ensures moves { (calls : List ADeposit) (passed : Option (List Passage)) → Moves self.old self.new (sides (W.told port.old) calls passed) (sides (W.told port.new) calls passed) row (row_then result) 1 Outside (stage_then_read result) }
+        ensures moves { (calls : List ADeposit) (passed : Option (List Passage)) → Moves self.old self.new (sides (W.reported port.old) calls passed) (sides (W.reported port.new) calls passed) row (row_then result) 1 Outside (stage_then_read result) }
         ensures few { row_then result ≤ most_interruptions }
         ensures same { (result ≡ Some 0 → ⊥) → self.new ≡ self.old }
     {
@@ -248,7 +248,7 @@ impl LinkState {
 
     /// Reads once, and processes all octets received. Returns how many reads were interrupted last, in a row, or why it stopped.
     /// `row` is that number before the read.
-    fn read_and_work<W: Wire, D: Desk, G: Gate>(
+    fn read_and_process<W: Wire, D: Desk, G: Gate>(
         &mut self,
         row: usize,
         port: &mut W,
@@ -259,39 +259,39 @@ impl LinkState {
         requires none { self.old.unread ≡ [] }
         requires few { row ≤ most_interruptions }
         ensures actor { D.actor desk.new ≡ D.actor desk.old }
-        ensures moves { Moves self.old self.new (sides (W.told port.old) (D.calls desk.old) (G.passed gate.old)) (sides (W.told port.new) (D.calls desk.new) (G.passed gate.new)) row (row_after result) 1 Outside (stage_after result) }
+        ensures moves { Moves self.old self.new (sides (W.reported port.old) (D.calls desk.old) (G.passed gate.old)) (sides (W.reported port.new) (D.calls desk.new) (G.passed gate.new)) row (row_after result) 1 Outside (stage_after result) }
         ensures stops { HasTurned result self.new }
         ensures over { result ≡ Err Ended.TermOver → (before : _) × (event : AnEvent) × (over : ATermOver) × D.refuses before event over desk.new }
         ensures shut { result ≡ Err Ended.GateShut → (before : _) × G.shuts before gate.new }
     {
-        let Some(row) = self.read(row, port) else {
+        let Some(row) = self.read_once(row, port) else {
             return Err(Ended::Idle);
         };
         if row > 0 {
             return Ok(row);
         }
-        self.work(port, desk, gate)?;
+        self.process_unread(port, desk, gate)?;
         Ok(0)
     }
 
     /// Works until it has to stop, or has made the most reads of one call. Returns why.
-    pub fn listen<W: Wire, D: Desk, G: Gate>(
+    pub fn serve_connection<W: Wire, D: Desk, G: Gate>(
         &mut self,
         port: &mut W,
         desk: &mut D,
         gate: &mut G,
     ) -> Ended
         ensures actor { D.actor desk.new ≡ D.actor desk.old }
-        ensures works { Listens self.old self.new (sides (W.told port.old) (D.calls desk.old) (G.passed gate.old)) (sides (W.told port.new) (D.calls desk.new) (G.passed gate.new)) result }
+        ensures works { Listens self.old self.new (sides (W.reported port.old) (D.calls desk.old) (G.passed gate.old)) (sides (W.reported port.new) (D.calls desk.new) (G.passed gate.new)) result }
         ensures over { result ≡ Ended.TermOver → (before : _) × (event : AnEvent) × (over : ATermOver) × D.refuses before event over desk.new }
         ensures shut { result ≡ Ended.GateShut → (before : _) × G.shuts before gate.new }
     {
-        if let Err(stop) = self.work(port, desk, gate) {
+        if let Err(stop) = self.process_unread(port, desk, gate) {
             return stop;
         }
         let mut row = 0;
         for _ in 0..MOST_READS {
-            match self.read_and_work(row, port, desk, gate) {
+            match self.read_and_process(row, port, desk, gate) {
                 Ok(next) => row = next,
                 Err(stop) => return stop,
             }
@@ -300,7 +300,7 @@ impl LinkState {
     }
 
     /// Begins a connection.
-    pub fn begin(&mut self)
+    pub fn begin_connection(&mut self)
         ensures { self.new ≡ with_new_connection self.old }
     {
         self.connection = Stream::open(self.who);
@@ -309,7 +309,7 @@ impl LinkState {
     }
 
     /// Cuts the connection. If its carrier was up, its Lost becomes pending.
-    pub fn break_off(&mut self)
+    pub fn cut_connection(&mut self)
         ensures { self.new ≡ cut_state self.old }
     {
         if self.pending.lost.is_none() {
@@ -324,7 +324,7 @@ impl LinkState {
     pub fn flush_pending<D: Desk>(&mut self, desk: &mut D) -> Result<(), TermOver>
         requires { self.old.is_cut ≡ true }
         ensures actor { D.actor desk.new ≡ D.actor desk.old }
-        ensures moves { (told : Option (List Answer)) (passed : Option (List Passage)) → Moves self.old self.new (sides told (D.calls desk.old) passed) (sides told (D.calls desk.new) passed) 0 0 0 Disordered Disordered }
+        ensures moves { (reported : Option (List Answer)) (passed : Option (List Passage)) → Moves self.old self.new (sides reported (D.calls desk.old) passed) (sides reported (D.calls desk.new) passed) 0 0 0 Disordered Disordered }
         ensures ok { IfOk result (λ _. (self.new.pending.kept ≡ None) × (self.new.pending.lost ≡ None)) }
         ensures over { IfErr result (λ over. (before : _) × (event : AnEvent) × D.refuses before event over desk.new) }
         ensures live { IfErr result (λ _. is_live self.new ≡ true) }

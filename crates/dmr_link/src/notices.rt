@@ -39,11 +39,11 @@ pub enum LineFault {
 
 /// A notice for the peer alone: the site does not learn of it.
 #[derive(Clone, Copy, Debug, PartialEq, Eq)]
-pub enum Aside {
+pub enum PeerNotice {
     /// This carrier is refused, for this reason.
     Refused(CarrierNo, Refusal),
     /// A line of an operator is rejected, for this reason.
-    Unheeded(LineFault),
+    Rejected(LineFault),
 }
 
 /// The result of a peer's octets, a carrier's or an operator's.
@@ -52,5 +52,5 @@ pub enum Notice {
     /// The site learns of it, and answers.
     Site(SiteNotice),
     /// The peer is answered, and the site does not learn of it.
-    Aside(Aside),
+    Peer(PeerNotice),
 }

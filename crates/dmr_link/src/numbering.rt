@@ -24,10 +24,10 @@ impl Model for Numbering {
 }
 
 /// Returns the number of a connection's first TX, or none, by the version octet of its WELCOME.
-fn first_of(version: u8) -> Option<u8>
+fn first_number(version: u8) -> Option<u8>
     ensures { result ≡ first_number version }
 {
-    if Version::named_or_first(version).has_numbers() {
+    if Version::version_or_first(version).has_numbers() {
         Some(0)
     } else {
         None
@@ -43,13 +43,13 @@ impl Numbering {
     }
 
     /// Encodes the next frame that goes out. A TX receives its number. A WELCOME starts the numbers, if its version has them.
-    pub fn spell(&mut self, frame: &FrameOut) -> ArrayVec<u8, LONGEST_FRAME>
+    pub fn encode_frame(&mut self, frame: &FrameOut) -> ArrayVec<u8, LONGEST_FRAME>
         ensures octets { result.items ≡ frame_text self.old frame.now }
         ensures next { self.new ≡ next_after self.old frame.now }
     {
         match frame {
             FrameOut::Welcome { version } => {
-                self.next = first_of(*version);
+                self.next = first_number(*version);
                 write_frame(frame)
             }
             FrameOut::Tx { slot, word, .. } => {
@@ -58,7 +58,7 @@ impl Numbering {
                     slot: *slot,
                     word: *word,
                 };
-                self.count();
+                self.advance();
                 write_frame(&numbered)
             }
             _ => write_frame(frame),
@@ -73,7 +73,7 @@ impl Numbering {
     }
 
     /// Advances the number after a TX; 0 follows 255.
-    fn count(&mut self)
+    fn advance(&mut self)
         ensures { self.new ≡ option_map (λ n. (n + 1) % 256) self.old }
     {
         if let Some(number) = self.next {

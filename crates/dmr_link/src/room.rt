@@ -8,7 +8,7 @@ ghost use Rattle.dmr_link.specs.Room.{MakesRoom, most_in, most_of, most_to_hello
 ghost use Rattle.dmr_link.specs.Steps.{notices_of_octets};
 
 use crate::connection::{CarrierIdentity, Connection};
-use crate::notices::{Aside, Notice, SiteNotice};
+use crate::notices::{Notice, PeerNotice, SiteNotice};
 use dmr_core::Event;
 use dmr_pdu::OutOfMemory;
 
@@ -23,7 +23,7 @@ fn most_for_poll(numbered: bool) -> usize
 }
 
 /// Returns the most octets of the site's answer to a notice. `numbered` is whether TX are numbered before it.
-fn most_of_site(notice: &SiteNotice, numbered: bool) -> usize
+fn most_for_site_notice(notice: &SiteNotice, numbered: bool) -> usize
     ensures { result ≡ most_of numbered (site_notice notice.now) }
 {
     match notice {
@@ -34,13 +34,13 @@ fn most_of_site(notice: &SiteNotice, numbered: bool) -> usize
 }
 
 /// Returns the most octets that answer a notice; 0 without one. `numbered` is whether TX are numbered before it.
-fn most(notice: &Option<Notice>, numbered: bool) -> usize
+fn most_for_notice(notice: &Option<Notice>, numbered: bool) -> usize
     ensures { result ≡ most_in numbered (list_of_notice (option_map notice_meant notice.now)) }
 {
     match notice {
-        Some(Notice::Site(notice)) => most_of_site(notice, numbered),
-        Some(Notice::Aside(Aside::Refused(..))) => ANSWER_TO_HELLO,
-        Some(Notice::Aside(Aside::Unheeded(_))) | None => 0,
+        Some(Notice::Site(notice)) => most_for_site_notice(notice, numbered),
+        Some(Notice::Peer(PeerNotice::Refused(..))) => ANSWER_TO_HELLO,
+        Some(Notice::Peer(PeerNotice::Rejected(_))) | None => 0,
     }
 }
 
@@ -72,7 +72,7 @@ pub fn room_for(
     let mut from = 0;
     while from < octets.len() {
         let (count, notice) = trial.receive_piece(who, &octets[from..]);
-        room = room.saturating_add(most(&notice, numbered));
+        room = room.saturating_add(most_for_notice(&notice, numbered));
         numbered = is_numbered_after(&notice, numbered);
         from += count;
     }

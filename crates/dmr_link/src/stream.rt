@@ -2,7 +2,7 @@
 
 ghost use Rattle.std.specs.Prelude.{◌≡◌, option_map};
 ghost use Rattle.dmr_link.specs.Notices.{notice_meant};
-ghost use Rattle.dmr_link.specs.Peers.{opened_for, is_going, up_of, brings, closes_by, left_after, numbered, numbering_of};
+ghost use Rattle.dmr_link.specs.Peers.{opened_for, is_going, up_of, produces, closes_by, left_after, numbered, numbering_of};
 
 use crate::carrier_state::CarrierState;
 use crate::connection::{CarrierIdentity, Outcome};
@@ -74,7 +74,7 @@ impl Stream {
     }
 
     /// Sets the number of the next TX. If no TX is sent on this connection, nothing changes.
-    pub fn number(&mut self, next: Numbering)
+    pub fn set_numbering(&mut self, next: Numbering)
         ensures { self.new ≡ numbered self.old next }
     {
         if let Stream::Frames(state) = self {
@@ -85,7 +85,7 @@ impl Stream {
     /// Processes the next octet. Returns the notice that it produces, if any, and how it closes the connection, if it does.
     /// No octet of an operator closes a connection.
     pub fn receive(&mut self, octet: u8) -> Outcome
-        ensures notice { option_map notice_meant result.notice ≡ brings self.old octet }
+        ensures notice { option_map notice_meant result.notice ≡ produces self.old octet }
         ensures closing { result.closing ≡ closes_by self.old octet }
         ensures stream { self.new ≡ left_after self.old octet }
     {

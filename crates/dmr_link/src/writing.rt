@@ -2,13 +2,13 @@
 
 ghost use Rattle.std.specs.Prelude.{◌≡◌, true};
 ghost use Rattle.dmr_link.specs.Console.{reply_text};
-ghost use Rattle.dmr_link.specs.Moves.{Puts};
-ghost use Rattle.dmr_link.specs.Notices.{aside_notice};
-ghost use Rattle.dmr_link.specs.Peers.{answer_text, aside_text, next_after_answer};
+ghost use Rattle.dmr_link.specs.Moves.{WritesText};
+ghost use Rattle.dmr_link.specs.Notices.{peer_notice};
+ghost use Rattle.dmr_link.specs.Peers.{answer_text, peer_notice_text, next_after_answer};
 
 use crate::answers::carrier_answer;
 use crate::limits::MOST_INTERRUPTIONS;
-use crate::notices::{Aside, LineFault, SiteNotice};
+use crate::notices::{LineFault, PeerNotice, SiteNotice};
 use crate::numbering::Numbering;
 use dmr_console::{line_too_long, print, unknown_command};
 use dmr_core::{Acts, Event, Reply};
@@ -18,8 +18,8 @@ use dmr_wire::{Put, Wire};
 /// Writes octets, write by write, and returns whether the port took all of them.
 /// Without octets it writes nothing. It stops at a write that takes no octet, would block or fails. It also stops at an interruption that
 /// follows [`MOST_INTERRUPTIONS`] others in a row. Octets that the port took until then are not written again.
-fn send<W: Wire>(port: &mut W, octets: &[u8]) -> bool
-    ensures { Puts (W.told port.old) octets.now result (W.told port.new) }
+fn write_octets<W: Wire>(port: &mut W, octets: &[u8]) -> bool
+    ensures { WritesText (W.reported port.old) octets.now result (W.reported port.new) }
 {
     if octets.is_empty() {
         return true;
@@ -50,12 +50,12 @@ fn send<W: Wire>(port: &mut W, octets: &[u8]) -> bool
 
 /// Writes the text of a reply, if there is one, and returns whether the port took all of it.
 fn write_reply<W: Wire>(port: &mut W, reply: &Option<Reply>) -> bool
-    ensures { Puts (W.told port.old) (reply_text reply.now) result (W.told port.new) }
+    ensures { WritesText (W.reported port.old) (reply_text reply.now) result (W.reported port.new) }
 {
     match reply {
         Some(reply) => {
             let printed = print(reply);
-            send(port, printed.as_str().as_bytes())
+            write_octets(port, printed.as_str().as_bytes())
         }
         None => true,
     }
@@ -71,29 +71,32 @@ pub fn write_answer<W: Wire>(
     notice: &SiteNotice,
     acts: &Acts,
 ) -> bool
-    ensures puts { Puts (W.told port.old) (answer_text numbering.old notice.now acts.now) result (W.told port.new) }
+    ensures puts { WritesText (W.reported port.old) (answer_text numbering.old notice.now acts.now) result (W.reported port.new) }
     ensures next { result ≡ true → numbering.new ≡ next_after_answer numbering.old notice.now acts.now }
 {
     match notice {
         SiteNotice::Happened(Event::Say(_)) => write_reply(port, &acts.said),
         _ => {
             let answer = carrier_answer(numbering, notice, acts.list.as_slice());
-            send(port, answer.as_slice())
+            write_octets(port, answer.as_slice())
         }
     }
 }
 
 /// Writes the answer to a notice for the peer alone, and returns whether the port took all of it.
 /// A carrier receives REFUSED; an operator receives what is wrong with a line.
-pub fn write_aside<W: Wire>(port: &mut W, aside: &Aside) -> bool
-    ensures { Puts (W.told port.old) (aside_text (aside_notice aside.now)) result (W.told port.new) }
+pub fn write_peer_answer<W: Wire>(port: &mut W, aside: &PeerNotice) -> bool
+    ensures { WritesText (W.reported port.old) (peer_notice_text (peer_notice aside.now)) result (W.reported port.new) }
 {
     match aside {
-        Aside::Refused(_, refusal) => {
+        PeerNotice::Refused(_, refusal) => {
             let octets = write_frame(&FrameOut::Refused(*refusal));
-            send(port, octets.as_slice())
+            write_octets(port, octets.as_slice())
         }
-        Aside::Unheeded(LineFault::UnknownCommand) => send(port, unknown_command().as_bytes()),
-        Aside::Unheeded(LineFault::TooLong) => send(port, line_too_long().as_bytes()),
+        PeerNotice::Rejected(LineFault::UnknownCommand) => write_octets(
+            port,
+            unknown_command().as_bytes(),
+        ),
+        PeerNotice::Rejected(LineFault::TooLong) => write_octets(port, line_too_long().as_bytes()),
     }
 }

@@ -3,13 +3,13 @@ use Rattle.std.specs.Prelude.{◌≡◌, ℕ, Bool, List, [], ◌∷◌, if◌th
 use Rattle.std.specs.List.{AllByRecursion}
 use Rattle.dmr_bits.specs.Bits.{field_of}
 use Rattle.dmr_pdu.specs.Channels.{IsChannel}
-use Rattle.dmr_pdu.specs.declared.layouts.Place.{Place}
+use Rattle.dmr_pdu.specs.declared.layouts.FieldPlace.{FieldPlace}
 use Rattle.dmr_pdu.specs.declared.pdu.Pdu.{Pdu}
 use Rattle.dmr_pdu.specs.declared.pdu.Pdu.TheVariants.{Aloha, Ahoy, Random, Ackd, Acku, Clear, PvGrant, TvGrant, Move, Other}
 
 -- a row of a layout: a place in ten octets, and the number there
 abbrev pub Row : Type 0
-Row = Place × ℕ
+Row = FieldPlace × ℕ
 
 -- the row with this first bit, this width in bits, and this number
 abbrev pub layout_row : ℕ → ℕ → ℕ → Row

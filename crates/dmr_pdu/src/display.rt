@@ -87,7 +87,7 @@ impl Reason {
 
 /// The value of a field, as it is written in words.
 #[derive(Clone, Copy)]
-pub(crate) enum Shown {
+pub(crate) enum FieldValue {
     /// A decimal number; 0 or 1 for a flag.
     Number(u32),
     /// The kind's name, if it has one, or else its number.
@@ -96,19 +96,19 @@ pub(crate) enum Shown {
     Reason(Reason),
 }
 
-impl fmt::Display for Shown {
+impl fmt::Display for FieldValue {
     fn fmt<W: fmt::Write>(&self, f: &mut fmt::Formatter<W>) -> fmt::Result {
         match self {
-            Shown::Number(number) => write!(f, "{number}"),
-            Shown::Kind(kind) => write!(f, "{kind}"),
-            Shown::Reason(reason) => write!(f, "{reason}"),
+            FieldValue::Number(number) => write!(f, "{number}"),
+            FieldValue::Kind(kind) => write!(f, "{kind}"),
+            FieldValue::Reason(reason) => write!(f, "{reason}"),
         }
     }
 }
 
 /// Writes ` name=value` for each field.
 pub(crate) fn show_all<W: fmt::Write>(
-    fields: &[(&'static str, Shown)],
+    fields: &[(&'static str, FieldValue)],
     f: &mut fmt::Formatter<W>,
 ) -> fmt::Result {
     for (name, value) in fields {

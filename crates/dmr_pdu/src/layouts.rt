@@ -8,7 +8,7 @@ ghost use Rattle.dmr_pdu.specs.Layout.{IsLaidOut, SpellsPdu};
 ghost use Rattle.dmr_pdu.specs.Rows.{HasNumber};
 ghost use Rattle.dmr_pdu.specs.Reading.{read_as, bit_of, channel};
 
-use crate::display::{Shown, show_all, show_octets};
+use crate::display::{FieldValue, show_all, show_octets};
 use crate::numbers::{Address, Kind, Number, Reason};
 use crate::pdu::Pdu;
 use crate::slots::{Lpcn, SlotNo};
@@ -18,7 +18,7 @@ use std::fmt;
 /// The place of a number in ten octets: its first bit, and its width in bits. Bit 0 is the most significant bit of
 /// octet 0.
 #[derive(Clone, Copy)]
-struct Place {
+struct FieldPlace {
     first: u32,
     width: u32,
 }
@@ -141,7 +141,7 @@ macro_rules! packed {
 macro_rules! octets_of {
     ($pdu:expr; $($name:ident = $opcode:literal { $($first:literal, $width:literal $(=> $field:ident: $type:ident)?;)* })*) => {
         match $pdu {
-            $(Pdu::$name { $($($field,)?)* } => spell($opcode, packed!($($first, $width $(=> $field: $type)?;)*)),)*
+            $(Pdu::$name { $($($field,)?)* } => write_rows($opcode, packed!($($first, $width $(=> $field: $type)?;)*)),)*
             Pdu::Other(octets) => copy_of(&octets),
         }
     };
@@ -156,7 +156,7 @@ macro_rules! field_at {
         channel_at($octets, $first)?
     };
     ($type:ident, $octets:expr, $first:literal, $width:literal) => {
-        $type::new(number_at($octets, Place { first: $first, width: $width }))
+        $type::new(number_at($octets, FieldPlace { first: $first, width: $width }))
     };
 }
 
@@ -166,7 +166,7 @@ macro_rules! pdu_of {
         match opcode_of($octets) {
             $($opcode => {
                 $($(let $field = field_at!($type, $octets, $first, $width);)?)*
-                if_written(Pdu::$name { $($($field,)?)* }, $octets, packed!($($first, $width $(=> $field: $type)?;)*))
+                pdu_if_equal(Pdu::$name { $($($field,)?)* }, $octets, packed!($($first, $width $(=> $field: $type)?;)*))
             })*
             _ => None,
         }
@@ -176,16 +176,16 @@ macro_rules! pdu_of {
 /// The value of a field, as it is written in words.
 macro_rules! shown {
     ($field:ident: bool) => {
-        Shown::Number(number_of(*$field))
+        FieldValue::Number(number_of(*$field))
     };
     ($field:ident: Kind) => {
-        Shown::Kind(*$field)
+        FieldValue::Kind(*$field)
     };
     ($field:ident: Reason) => {
-        Shown::Reason(*$field)
+        FieldValue::Reason(*$field)
     };
     ($field:ident: $type:ident) => {
-        Shown::Number($field.get())
+        FieldValue::Number($field.get())
     };
 }
 
@@ -207,7 +207,7 @@ pub(crate) fn show_fields<W: fmt::Write>(pdu: &Pdu, f: &mut fmt::Formatter<W>) -
 
 /// Returns the octets of a PDU: those of its layout, or those that `Other` carries.
 #[tactic(auto, unfolding(crate::specs::Layout::SpellsPdu, crate::specs::Layout::layout, crate::specs::Layout::IsListed, crate::specs::Layout::HasChannel))]
-pub(crate) fn written(pdu: &Pdu) -> Octets10
+pub(crate) fn write_pdu(pdu: &Pdu) -> Octets10
     ensures octets { IsOctets 10 result }
     ensures is { SpellsPdu pdu.now result }
 {
@@ -217,7 +217,7 @@ pub(crate) fn written(pdu: &Pdu) -> Octets10
 /// Returns the PDU of the table that is laid out in ten octets. `None` if there is no such PDU: the first octet is not that
 /// of a layout, a fixed bit is not as listed, or a channel number is 0 or 4095.
 #[tactic(auto, unfolding(crate::specs::Reading::read_as, crate::specs::Layout::layout, crate::specs::Layout::IsListed, crate::specs::Layout::HasChannel))]
-pub(crate) fn read(octets: &Octets10) -> Option<Pdu>
+pub(crate) fn read_pdu(octets: &Octets10) -> Option<Pdu>
     ensures found { IfSome result (λ pdu. IsLaidOut pdu octets.now) }
     ensures only { (pdu : APdu) → IsLaidOut pdu octets.now → result ≡ Some pdu }
 {
@@ -225,7 +225,7 @@ pub(crate) fn read(octets: &Octets10) -> Option<Pdu>
 }
 
 /// Returns the ten octets of an opcode and of the rows after octet 1, which is 0.
-fn spell(opcode: u8, number: u64) -> Octets10
+fn write_rows(opcode: u8, number: u64) -> Octets10
     ensures octets { IsOctets 10 result }
     ensures is { (pdu : APdu) → HasNumber pdu opcode number → SpellsPdu pdu result }
 {
@@ -234,7 +234,7 @@ fn spell(opcode: u8, number: u64) -> Octets10
 }
 
 /// Returns this PDU, whose fields were read in ten octets, if its own octets are these. `number` has its rows.
-fn if_written(pdu: Pdu, octets: &Octets10, number: u64) -> Option<Pdu>
+fn pdu_if_equal(pdu: Pdu, octets: &Octets10, number: u64) -> Option<Pdu>
     requires read { read_as (field_of octets.now 0 8) octets.now ≡ Some pdu }
     requires number { HasNumber pdu (field_of octets.now 0 8) number }
     ensures found { IfSome result (λ pdu. IsLaidOut pdu octets.now) }
@@ -272,7 +272,7 @@ fn rows_of(octets: &Octets10) -> u64
 }
 
 /// Returns the number at a place after octet 1.
-fn number_at(octets: &Octets10, place: Place) -> u32
+fn number_at(octets: &Octets10, place: FieldPlace) -> u32
     requires width { (1 ≤ place.width) × (place.width ≤ 32) }
     requires after { 16 ≤ place.first }
     requires inside { place.first + place.width ≤ 80 }
@@ -289,7 +289,7 @@ fn flag_at(octets: &Octets10, first: u32) -> bool
     requires inside { first < 80 }
     ensures { result ≡ bit_of octets.now first }
 {
-    number_at(octets, Place { first, width: 1 }) == 1
+    number_at(octets, FieldPlace { first, width: 1 }) == 1
 }
 
 /// Returns the channel whose 12 bits begin at a bit after octet 1, or `None` if its number is 0 or 4095.
@@ -298,7 +298,7 @@ fn channel_at(octets: &Octets10, first: u32) -> Option<Lpcn>
     requires inside { first + 12 ≤ 80 }
     ensures { result ≡ channel (field_of octets.now first 12) }
 {
-    Lpcn::try_new(number_at(octets, Place { first, width: 12 }))
+    Lpcn::try_new(number_at(octets, FieldPlace { first, width: 12 }))
 }
 
 /// Returns a copy of the octets. Its contract says that there are ten, each below 256.

@@ -6,7 +6,7 @@ ghost use Rattle.dmr_pdu.specs.declared.pdu.Pdu.{Pdu as APdu};
 ghost use Rattle.dmr_pdu.specs.Layout.{SpellsPdu, Agrees};
 ghost use Rattle.dmr_pdu.specs.Functions.{octets_of, pdu_of};
 
-use crate::layouts::{read, written};
+use crate::layouts::{read_pdu, write_pdu};
 use crate::numbers::{Address, Kind, Number, Options, Reason};
 use crate::slots::{Lpcn, SlotNo};
 use dmr_bits::Octets10;
@@ -150,7 +150,7 @@ impl Pdu {
         ensures alone { (octets : List ℕ) → IsOctets 10 octets → SpellsPdu self.now octets → octets ≡ result }
         ensures written { result ≡ octets_of self.now }
     {
-        written(self)
+        write_pdu(self)
     }
 
     /// Returns the one PDU that agrees with ten octets: the PDU that is laid out in them, or else `Other`.
@@ -160,14 +160,14 @@ impl Pdu {
         ensures only { (pdu : APdu) → Agrees pdu octets.now → pdu ≡ result }
         ensures pdu { result ≡ pdu_of octets.now }
     {
-        match read(octets) {
+        match read_pdu(octets) {
             Some(pdu) => pdu,
             None => Pdu::Other(*octets),
         }
     }
 
     /// Returns whether two PDUs are equal, as `==` does, but with a contract.
-    pub fn is(&self, other: &Pdu) -> bool
+    pub fn equals(&self, other: &Pdu) -> bool
         ensures { IsTrue result ↔ (self.now ≡ other.now) }
     {
         self == other

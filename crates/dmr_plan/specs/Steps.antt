@@ -10,9 +10,9 @@ abbrev pub ◌>>=◌ : {A B : Type 0} → Result A PlanFault → (A → Result B
 (Err e) >>= f = Err e
 
 -- the result of a function, seen by view, is that of the definition
-abbrev pub Gives : {X Y : Type 0} → (X → Y) → Result X PlanFault → Result Y PlanFault → Type 0
-Gives view (Ok x) read = read ≡ Ok (view x)
-Gives view (Err e) read = read ≡ Err e
+abbrev pub Returns : {X Y : Type 0} → (X → Y) → Result X PlanFault → Result Y PlanFault → Type 0
+Returns view (Ok x) read = read ≡ Ok (view x)
+Returns view (Err e) read = read ≡ Err e
 
 -- the fault is that of a key, and not of the text as a whole
 abbrev pub IsOfKey : PlanFault → Type 0

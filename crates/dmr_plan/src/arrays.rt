@@ -5,7 +5,7 @@ ghost use Rattle.std.specs.Bool.{OnTrue};
 ghost use Rattle.toml.specs.Data.{get_member};
 ghost use Rattle.toml.specs.View.{view, items_view, array_view, table_view};
 ghost use Rattle.dmr_plan.specs.Keys.{limits_of};
-ghost use Rattle.dmr_plan.specs.Steps.{IsOfKey, Gives};
+ghost use Rattle.dmr_plan.specs.Steps.{IsOfKey, Returns};
 ghost use Rattle.dmr_plan.specs.Arrays.{is_item, is_pair, two_of, all_items, array_of, array_in, count_of, is_count};
 
 use crate::fault::PlanFault;
@@ -35,14 +35,14 @@ fn admits_pair(value: &Value) -> bool
     let Some(pair) = value.as_array() else {
         return false;
     };
-    match two_in(pair.as_slice()) {
+    match pair_in(pair.as_slice()) {
         Some((first, last)) => first.is_integer() && last.is_integer(),
         None => false,
     }
 }
 
 /// Returns the two values, or `None` if there are more or fewer.
-pub fn two_in(values: &[Value]) -> Option<(&Value, &Value)>
+pub fn pair_in(values: &[Value]) -> Option<(&Value, &Value)>
     ensures { option_map (λ p. (view p.0.now, view p.1.now)) result ≡ two_of (items_view values.now) }
 {
     if values.len() != 2 {
@@ -66,7 +66,7 @@ fn admits_all(values: &[Value], content: Content) -> bool
 /// Returns the array that a value is. The error is `WrongType` if the value is not an array, or an item is not of the
 /// key's content.
 pub fn array_from(value: &Value, key: Key) -> Result<&Array, PlanFault>
-    ensures gives { Gives (λ a. array_view a.now) result (array_of key (view value.now)) }
+    ensures gives { Returns (λ a. array_view a.now) result (array_of key (view value.now)) }
     ensures of_key { IfErr result IsOfKey }
 {
     match value.as_array() {
@@ -84,7 +84,7 @@ pub fn array_from(value: &Value, key: Key) -> Result<&Array, PlanFault>
 /// Returns the array at a required key. The error is `Missing` or `WrongType`.
 #[tactic(auto, unfolding(crate::specs::Arrays::array_in))]
 pub fn array_at(table: &Table, key: Key) -> Result<&Array, PlanFault>
-    ensures gives { Gives (λ a. array_view a.now) result (array_in (table_view table.now) key) }
+    ensures gives { Returns (λ a. array_view a.now) result (array_in (table_view table.now) key) }
     ensures of_key { IfErr result IsOfKey }
 {
     match member(table, key) {

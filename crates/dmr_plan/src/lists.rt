@@ -10,7 +10,7 @@ ghost use Rattle.dmr_plan.specs.Lists.{has_repeat as repeats, address_of, addres
 ghost use Rattle.dmr_plan.specs.Kept.{IsAddress, IsRange, AreRadios, AreGroups};
 ghost use Rattle.dmr_plan.specs.Keys.{IsNumberOf};
 
-use crate::arrays::{array_at, array_from, has_count, two_in};
+use crate::arrays::{array_at, array_from, has_count, pair_in};
 use crate::fault::PlanFault;
 use crate::key::{Fallback, Key, MOST_GROUPS, MOST_RANGES};
 use crate::numbers::{member, number_between};
@@ -123,7 +123,7 @@ fn range_from(value: &Value) -> Result<RadioRange, PlanFault>
     let Some(pair) = value.as_array() else {
         return Err(PlanFault::WrongType(Key::Radios));
     };
-    let Some((first, last)) = two_in(pair.as_slice()) else {
+    let Some((first, last)) = pair_in(pair.as_slice()) else {
         return Err(PlanFault::WrongType(Key::Radios));
     };
     let first = number_between(first, Key::Radios, range.least, range.most)?;

@@ -17,7 +17,7 @@ use std::alloc::Global;
 use std::marker::Model;
 
 /// The contents of an accepted site file. A `Plan` is `Copy` and has no memory of its own. In contracts it is the
-/// settings, a field for each key. Every plan satisfies `IsPlan`; [`Plan::keeps`] is the law for it.
+/// settings, a field for each key. Every plan satisfies `IsPlan`; [`Plan::use_invariant`] is the law for it.
 #[derive(Clone, Copy, Debug)]
 pub struct Plan {
     settings: Settings,
@@ -315,7 +315,7 @@ impl Plan {
     }
 
     /// Does nothing. A proof learns from it that the plan satisfies `IsPlan`.
-    pub fn keeps(&self)
+    pub fn use_invariant(&self)
         ensures { IsPlan self.now }
     {
         let _ = &self.settings;

@@ -4,17 +4,17 @@ use Rattle.std.specs.Prelude.{◌==◌}
 use Rattle.std.specs.Int.{trailing_zeros, bit_not}
 use Rattle.std.proofs.lemmas.Nat.Bits.{bit_at_set_same, bit_at_set_other, bit_at_clear_same, bit_at_clear_other, bit_at-trailing_zeros}
 use Rattle.dmr_pool.specs.Slots.{place, slot_at}
-use Rattle.dmr_pool.specs.Marks.{has_bit, IsLowestBit, IsPut}
+use Rattle.dmr_pool.specs.Marks.{has_bit, IsLowestBit, IsSet}
 
 -- the bit of a place, as a power of two
-pub set_put : (bits k at : ℕ) (is_in : Bool) → k ≡ at → k < 32 → is_in ≡ true → IsPut bits (bit_or bits (1 * 2 ^ k % 2 ^ 32)) at is_in
-set_put bits k at is_in same within set = record {
+pub bit_set : (bits k at : ℕ) (is_in : Bool) → k ≡ at → k < 32 → is_in ≡ true → IsSet bits (bit_or bits (1 * 2 ^ k % 2 ^ 32)) at is_in
+bit_set bits k at is_in same within set = record {
   there = subst (λ n. has_bit (bit_or bits (1 * 2 ^ k % 2 ^ 32)) n ≡ is_in) same (ap (λ n. n == 1) (bit_at_set_same w32 bits k within) ∙ sym set);
   others = λ n below apart. ap (λ b. b == 1) (bit_at_set_other w32 bits k within n (λ e. apart (e ∙ same)));
 }
 
-pub clear_put : (bits k at : ℕ) (is_in : Bool) → k ≡ at → k < 32 → is_in ≡ false → IsPut bits (bit_and bits (bit_not w32 (1 * 2 ^ k % 2 ^ 32))) at is_in
-clear_put bits k at is_in same within clear = record {
+pub bit_cleared : (bits k at : ℕ) (is_in : Bool) → k ≡ at → k < 32 → is_in ≡ false → IsSet bits (bit_and bits (bit_not w32 (1 * 2 ^ k % 2 ^ 32))) at is_in
+bit_cleared bits k at is_in same within clear = record {
   there = subst (λ n. has_bit (bit_and bits (bit_not w32 (1 * 2 ^ k % 2 ^ 32))) n ≡ is_in) same (ap (λ n. n == 1) (bit_at_clear_same w32 bits k within) ∙ sym clear);
   others = λ n below apart. ap (λ b. b == 1) (bit_at_clear_other w32 bits k within n below (λ e. apart (e ∙ same)));
 }

@@ -18,7 +18,7 @@ use Rattle.dmr_plan.specs.Lists.{has_repeat}
 use Rattle.dmr_plan.specs.IsPlan.{IsPlan}
 use Rattle.dmr_pool.specs.Slots.{IsSlot, box, outboxes_without_carrier, place, outboxes_with_pdu, outboxes_after_send, slot_at}
 use Rattle.dmr_pool.specs.Free.{control_slot, is_control, is_granted, names}
-use Rattle.dmr_pool.specs.Grants.{AreCounted, AreOutboxes, grants_of, slot_counted, slot_granted, slot_tuned}
+use Rattle.dmr_pool.specs.Grants.{AreCounted, AreOutboxes, grants_of, slot_counted, slot_granted, slot_on_channel}
 use Rattle.dmr_pool.proofs.FreeLemmas.{slot_at-place}
 
 -- if no carrier of a list has a number, one that is found among them does not have it
@@ -93,7 +93,7 @@ tuned_this : (found : Option CarrierRow) (number : ℕ) (slot : Slot) → is_thi
 tuned_this None number slot = refl
 tuned_this (Some r) number slot = refl
 
-named_tuned : (plan : Settings) (slot : Slot) (channel number : ℕ) → IsPlan plan → option_map_or (λ (row : CarrierRow). (channel == row.lpcn) && (number == slot.slot)) (row_with plan.carriers slot.carrier) false ≡ is_this (slot_tuned plan channel number) slot
+named_tuned : (plan : Settings) (slot : Slot) (channel number : ℕ) → IsPlan plan → option_map_or (λ (row : CarrierRow). (channel == row.lpcn) && (number == slot.slot)) (row_with plan.carriers slot.carrier) false ≡ is_this (slot_on_channel plan channel number) slot
 named_tuned plan slot channel number is =
     parted (λ (row : CarrierRow). channel == row.lpcn) (number == slot.slot) (row_with plan.carriers slot.carrier)
     ∙ ap (λ b. b && (number == slot.slot)) (tuned plan.carriers slot.carrier channel is.carriers.apart.numbers is.carriers.apart.lpcns)

@@ -11,7 +11,7 @@ use Rattle.dmr_plan.specs.Carriers.{has_number_in}
 use Rattle.dmr_plan.specs.IsPlan.{IsPlan}
 use Rattle.dmr_pool.specs.Slots.{Slots, IsSlot, place, slot_at, box, is_up, is_slot_held, outboxes_with_pdu, outboxes_after_send}
 use Rattle.dmr_pool.specs.Free.{is_control, is_empty, is_free, is_free_by, is_granted, HasNoFreeSlot, IsLowestFree}
-use Rattle.dmr_pool.specs.Marks.{AreMarked, HasNoBit, IsLowestBit, IsPut, has_bit}
+use Rattle.dmr_pool.specs.Marks.{AreMarked, HasNoBit, IsLowestBit, IsSet, has_bit}
 use Rattle.dmr_pool.specs.Grants.{AreOutboxes, grants_of, slot_counted}
 use Rattle.dmr_pool.proofs.BitLemmas.{place-slot_at}
 use Rattle.dmr_pool.proofs.FreeLemmas.{slot_at-place}
@@ -32,9 +32,9 @@ pub marked_free : (bits : ℕ) (slots : Slots) (slot : Slot) → IsSlot slot →
 marked_free bits slots slot is marked = marked (place slot) (omega (arith, is.0, is.1)) ∙ ap (is_free slots) (slot_at-place slot is)
 
 -- one bit is written, and the others are unchanged
-pub one_put : (before after : ℕ) (old new : Slots) (slot : Slot) (b : Bool) → IsSlot slot → AreMarked before old → IsPut before after (place slot) b → b ≡ is_free new slot
+pub one_set : (before after : ℕ) (old new : Slots) (slot : Slot) (b : Bool) → IsSlot slot → AreMarked before old → IsSet before after (place slot) b → b ≡ is_free new slot
     → ((k : ℕ) → k < 32 → k ≢ place slot → is_free old (slot_at k) ≡ is_free new (slot_at k)) → AreMarked after new
-one_put before after old new slot b is marked put told others k below = either (k == place slot) refl
+one_set before after old new slot b is marked put told others k below = either (k == place slot) refl
   where
     either : (t : Bool) → (k == place slot) ≡ t → has_bit after k ≡ is_free new (slot_at k)
     either true e =
@@ -45,10 +45,10 @@ one_put before after old new slot b is marked put told others k below = either (
         put.others k below apart ∙ marked k below ∙ others k below apart
 
 -- two bits are written
-pub two_puts : (before between after : ℕ) (old new : Slots) (a b : Slot) (u v : Bool) → IsSlot a → IsSlot b → AreMarked before old → IsPut before between (place a) u → IsPut between after (place b) v
+pub two_set : (before between after : ℕ) (old new : Slots) (a b : Slot) (u v : Bool) → IsSlot a → IsSlot b → AreMarked before old → IsSet before between (place a) u → IsSet between after (place b) v
     → u ≡ is_free new a → v ≡ is_free new b
     → ((k : ℕ) → k < 32 → k ≢ place a → k ≢ place b → is_free old (slot_at k) ≡ is_free new (slot_at k)) → AreMarked after new
-two_puts before between after old new a b u v is_a is_b marked first second told_a told_b others k below = either (k == place b) (k == place a) refl refl
+two_set before between after old new a b u v is_a is_b marked first second told_a told_b others k below = either (k == place b) (k == place a) refl refl
   where
     either : (s t : Bool) → (k == place b) ≡ s → (k == place a) ≡ t → has_bit after k ≡ is_free new (slot_at k)
     either true t e d =
@@ -90,8 +90,8 @@ free_as_before plan up old new holds holding slot held boxes granted =
 pub held_there : (held : List Bool) (slot : Slot) (b : Bool) → IsSlot slot → length held ≡ 32 → is_slot_held (slice_set held (place slot) b) slot ≡ b
 held_there held slot b is size = get_or-set_same held (place slot) b false (omega (arith, is.0, is.1))
 
-pub held_beside : (held : List Bool) (slot : Slot) (b : Bool) (k : ℕ) → k ≢ place slot → is_slot_held held (slot_at k) ≡ is_slot_held (slice_set held (place slot) b) (slot_at k)
-held_beside held slot b k apart = sym (get_or-set_other held (place slot) (place (slot_at k)) b false (λ e. apart (omega (arith, e))))
+pub held_elsewhere : (held : List Bool) (slot : Slot) (b : Bool) (k : ℕ) → k ≢ place slot → is_slot_held held (slot_at k) ≡ is_slot_held (slice_set held (place slot) b) (slot_at k)
+held_elsewhere held slot b k apart = sym (get_or-set_other held (place slot) (place (slot_at k)) b false (λ e. apart (omega (arith, e))))
 
 -- no carrier is up at first
 down : (n c : ℕ) → slice_index_or (replicate n false) c false ≡ false
@@ -103,7 +103,7 @@ pub none_free : (bits : ℕ) (plan : Settings) (held : List Bool) (outboxes : Li
 none_free bits plan held outboxes none k below = none k below ∙ sym (down_not_free plan (replicate 16 false) outboxes (is_slot_held held) (slot_at k) (down 16 ((slot_at k).carrier)))
 
 -- the bit of one more place is right
-pub one_more : (before after : ℕ) (slots : Slots) (slot : Slot) (b : Bool) (n : ℕ) → slot ≡ slot_at n → n < 32 → IsPut before after (place slot) b → b ≡ is_free slots slot
+pub one_more : (before after : ℕ) (slots : Slots) (slot : Slot) (b : Bool) (n : ℕ) → slot ≡ slot_at n → n < 32 → IsSet before after (place slot) b → b ≡ is_free slots slot
     → ((k : ℕ) → k < n → has_bit before k ≡ is_free slots (slot_at k)) → (k : ℕ) → k < n + 1 → has_bit after k ≡ is_free slots (slot_at k)
 one_more before after slots slot b n at within put told marked k below = either (cases_lt k n)
   where
@@ -118,12 +118,12 @@ one_more before after slots slot b n at within put told marked k below = either 
 
 -- a call holds a slot, or holds it no longer
 pub reheld : (before after : ℕ) (plan : Settings) (up held : List Bool) (outboxes : List (List Pdu)) (slot : Slot) (i : ℕ) (holds b : Bool) → i ≡ place slot → IsSlot slot
-    → AreMarked before (record { plan = plan; up = up; held = held; outboxes = outboxes }) → IsPut before after (place slot) b → b ≡ is_free (record { plan = plan; up = up; held = slice_set held i holds; outboxes = outboxes }) slot
+    → AreMarked before (record { plan = plan; up = up; held = held; outboxes = outboxes }) → IsSet before after (place slot) b → b ≡ is_free (record { plan = plan; up = up; held = slice_set held i holds; outboxes = outboxes }) slot
     → AreMarked after (record { plan = plan; up = up; held = slice_set held i holds; outboxes = outboxes })
 reheld before after plan up held outboxes slot i holds b at is marked put told =
-    one_put before after (record { plan = plan; up = up; held = held; outboxes = outboxes }) (record { plan = plan; up = up; held = slice_set held i holds; outboxes = outboxes }) slot b is marked put told
+    one_set before after (record { plan = plan; up = up; held = held; outboxes = outboxes }) (record { plan = plan; up = up; held = slice_set held i holds; outboxes = outboxes }) slot b is marked put told
     (λ k below apart. free_as_before plan up outboxes outboxes (is_slot_held held) (is_slot_held (slice_set held i holds)) (slot_at k)
-    (subst (λ n. is_slot_held held (slot_at k) ≡ is_slot_held (slice_set held n holds) (slot_at k)) (sym at) (held_beside held slot holds k apart)) refl refl)
+    (subst (λ n. is_slot_held held (slot_at k) ≡ is_slot_held (slice_set held n holds) (slot_at k)) (sym at) (held_elsewhere held slot holds k apart)) refl refl)
 
 pub now_held : (plan : Settings) (up held : List Bool) (outboxes : List (List Pdu)) (slot : Slot) (i : ℕ) → i ≡ place slot → IsSlot slot → length held ≡ 32 → false ≡ is_free (record { plan = plan; up = up; held = slice_set held i true; outboxes = outboxes }) slot
 now_held plan up held outboxes slot i at is size =
@@ -176,22 +176,22 @@ module _ (plan : Settings) (up held : List Bool) (old : List (List Pdu)) (slot :
       positive : (n : ℕ) → nat_lt 0 (n + 1) ≡ true
       positive n = grind (arith, nat_tests)
 
-  pub put_none : (before after : ℕ) → AreMarked before (stands old) → IsPut before after (place slot) false → slot_counted plan slot pdu ≡ None → AreMarked after (stands (outboxes_with_pdu old slot pdu))
+  pub put_none : (before after : ℕ) → AreMarked before (stands old) → IsSet before after (place slot) false → slot_counted plan slot pdu ≡ None → AreMarked after (stands (outboxes_with_pdu old slot pdu))
   put_none before after marked put none =
-      one_put before after (stands old) (stands (outboxes_with_pdu old slot pdu)) slot false is marked put waits_now (λ k below apart. queued_same k apart (no_this k none))
+      one_set before after (stands old) (stands (outboxes_with_pdu old slot pdu)) slot false is marked put waits_now (λ k below apart. queued_same k apart (no_this k none))
 
-  pub put_one : (before between after : ℕ) (granted : Slot) → IsSlot granted → AreMarked before (stands old) → IsPut before between (place slot) false → IsPut between after (place granted) false → slot_counted plan slot pdu ≡ Some granted
+  pub added_one : (before between after : ℕ) (granted : Slot) → IsSlot granted → AreMarked before (stands old) → IsSet before between (place slot) false → IsSet between after (place granted) false → slot_counted plan slot pdu ≡ Some granted
       → AreMarked after (stands (outboxes_with_pdu old slot pdu))
-  put_one before between after granted is_granted marked first second one =
-      two_puts before between after (stands old) (stands (outboxes_with_pdu old slot pdu)) slot granted false false is is_granted marked first second waits_now (granted_now granted one)
+  added_one before between after granted is_granted marked first second one =
+      two_set before between after (stands old) (stands (outboxes_with_pdu old slot pdu)) slot granted false false is is_granted marked first second waits_now (granted_now granted one)
       (λ k below apart there. queued_same k apart (other_this granted k one is_granted there))
 
-  pub took_none : (before after : ℕ) (b : Bool) → slice_get (box old slot) 0 ≡ Some pdu → AreMarked before (stands old) → IsPut before after (place slot) b → b ≡ is_free (stands (outboxes_after_send old slot)) slot → slot_counted plan slot pdu ≡ None
+  pub took_none : (before after : ℕ) (b : Bool) → slice_get (box old slot) 0 ≡ Some pdu → AreMarked before (stands old) → IsSet before after (place slot) b → b ≡ is_free (stands (outboxes_after_send old slot)) slot → slot_counted plan slot pdu ≡ None
       → AreMarked after (stands (outboxes_after_send old slot))
   took_none before after b first marked put told none =
-      one_put before after (stands old) (stands (outboxes_after_send old slot)) slot b is marked put told (λ k below apart. sent_same k apart first (no_this k none))
+      one_set before after (stands old) (stands (outboxes_after_send old slot)) slot b is marked put told (λ k below apart. sent_same k apart first (no_this k none))
 
-  pub took_one : (before between after : ℕ) (granted : Slot) (u v : Bool) → slice_get (box old slot) 0 ≡ Some pdu → IsSlot granted → AreMarked before (stands old) → IsPut before between (place slot) u → IsPut between after (place granted) v
+  pub removed_one : (before between after : ℕ) (granted : Slot) (u v : Bool) → slice_get (box old slot) 0 ≡ Some pdu → IsSlot granted → AreMarked before (stands old) → IsSet before between (place slot) u → IsSet between after (place granted) v
       → u ≡ is_free (stands (outboxes_after_send old slot)) slot → v ≡ is_free (stands (outboxes_after_send old slot)) granted → slot_counted plan slot pdu ≡ Some granted → AreMarked after (stands (outboxes_after_send old slot))
-  took_one before between after granted u v head is_granted marked first second told there_told one =
-      two_puts before between after (stands old) (stands (outboxes_after_send old slot)) slot granted u v is is_granted marked first second told there_told (λ k below apart there. sent_same k apart head (other_this granted k one is_granted there))
+  removed_one before between after granted u v head is_granted marked first second told there_told one =
+      two_set before between after (stands old) (stands (outboxes_after_send old slot)) slot granted u v is is_granted marked first second told there_told (λ k below apart there. sent_same k apart head (other_this granted k one is_granted there))

@@ -33,14 +33,14 @@ abbrev pub AreCounted : Settings → List (List Pdu) → List ℕ → Type 0
 AreCounted plan outboxes counts = (place : ℕ) → place < slots_of_site → slice_index_or counts place 0 ≡ grants_of plan outboxes (slot_at place)
 
 -- the slot with this number on the plan's carrier with this channel
-abbrev pub slot_tuned : Settings → ℕ → ℕ → Option Slot
-slot_tuned plan channel number =
+abbrev pub slot_on_channel : Settings → ℕ → ℕ → Option Slot
+slot_on_channel plan channel number =
     option_map (λ (row : CarrierRow). record { carrier = row.number; slot = number }) (find (λ (row : CarrierRow). channel == row.lpcn) plan.carriers)
 
 -- the slot that a PDU grants, if it is a grant of a slot of the site
 abbrev pub slot_granted : Settings → Pdu → Option Slot
-slot_granted plan (PvGrant channel slot target source) = slot_tuned plan channel slot
-slot_granted plan (TvGrant channel slot late target source) = slot_tuned plan channel slot
+slot_granted plan (PvGrant channel slot target source) = slot_on_channel plan channel slot
+slot_granted plan (TvGrant channel slot late target source) = slot_on_channel plan channel slot
 slot_granted plan _ = None
 
 -- the slot whose count changes when a PDU is added to a slot's outbox or removed from it

@@ -21,7 +21,7 @@ pub record IsLowestBit (bits : ℕ) (slot : Slot) : Type 0 where
   pub lowest : (below : ℕ) → below < place slot → has_bit bits below ≡ false
 
 -- the bit of a place has this value, and the others are unchanged
-pub record IsPut (before after at : ℕ) (set : Bool) : Type 0 where
+pub record IsSet (before after at : ℕ) (set : Bool) : Type 0 where
   pub there : has_bit after at ≡ set
   pub others : (place : ℕ) → place < slots_of_site → place ≢ at → has_bit after place ≡ has_bit before place
 

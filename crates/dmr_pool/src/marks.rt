@@ -2,7 +2,7 @@
 
 ghost use Rattle.std.specs.Prelude.{◌≡◌, MatchOption};
 ghost use Rattle.dmr_pool.specs.Slots.{IsSlot, place};
-ghost use Rattle.dmr_pool.specs.Marks.{HasNoBit, IsLowestBit, IsPut, has_bit};
+ghost use Rattle.dmr_pool.specs.Marks.{HasNoBit, IsLowestBit, IsSet, has_bit};
 
 use dmr_pdu::Slot;
 
@@ -29,8 +29,8 @@ impl Marks {
     }
 
     /// Adds a slot to the set or removes it.
-    pub fn put(&mut self, slot: &Slot, is_in: bool)
-        ensures bits { IsPut self.old.bits self.new.bits (place slot.now) is_in }
+    pub fn set(&mut self, slot: &Slot, is_in: bool)
+        ensures bits { IsSet self.old.bits self.new.bits (place slot.now) is_in }
         ensures numbers { IsSlot slot.now }
     {
         let bit = 1u32 << slot.index();

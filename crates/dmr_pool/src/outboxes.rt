@@ -6,7 +6,7 @@ ghost use Rattle.dmr_plan.specs.IsPlan.{IsPlan};
 ghost use Rattle.dmr_pool.specs.declared.outbox.TheConstants.{MOST_PDUS_OF_A_SLOT};
 ghost use Rattle.dmr_pool.specs.Slots.{box, outboxes_without_carrier, outboxes_with_pdu, outboxes_after_send};
 ghost use Rattle.dmr_pool.specs.Free.{control_slot, is_control, is_granted};
-ghost use Rattle.dmr_pool.specs.Grants.{AreOutboxes, slot_counted, slot_granted, slot_tuned};
+ghost use Rattle.dmr_pool.specs.Grants.{AreOutboxes, slot_counted, slot_granted, slot_on_channel};
 ghost use Rattle.dmr_pool.specs.Same.{are_same_pdus};
 
 use crate::outbox::Outbox;
@@ -112,8 +112,8 @@ impl Outboxes {
     }
 
     /// The slot with this number on the plan's carrier with this channel.
-    fn slot_tuned(&self, channel: Lpcn, number: SlotNo) -> Option<Slot>
-        ensures { result ≡ slot_tuned self.now.plan channel number }
+    fn slot_on_channel(&self, channel: Lpcn, number: SlotNo) -> Option<Slot>
+        ensures { result ≡ slot_on_channel self.now.plan channel number }
     {
         let rows = self.plan.carrier();
         let row = rows.iter().find(|row| channel == row.lpcn)?;
@@ -126,7 +126,7 @@ impl Outboxes {
     {
         match *pdu {
             Pdu::PvGrant { lpcn, slot, .. } | Pdu::TvGrant { lpcn, slot, .. } => {
-                self.slot_tuned(lpcn, slot)
+                self.slot_on_channel(lpcn, slot)
             }
             _ => None,
         }
@@ -150,7 +150,7 @@ impl Outboxes {
         ensures { self.new ≡ record { plan = self.old.plan; outboxes = outboxes_with_pdu self.old.outboxes slot.now pdu.now } }
     {
         let granted = self.slot_counted(slot, pdu);
-        self.plan.keeps();
+        self.plan.use_invariant();
         self.outboxes[slot.index()].push(*pdu);
         if let Some(granted) = granted {
             self.grants[granted.index()] += 1;
@@ -163,7 +163,7 @@ impl Outboxes {
         ensures { self.new ≡ record { plan = self.old.plan; outboxes = outboxes_after_send self.old.outboxes slot.now } }
     {
         let granted = self.slot_counted(slot, pdu);
-        self.plan.keeps();
+        self.plan.use_invariant();
         self.outboxes[slot.index()].take();
         if let Some(granted) = granted {
             self.grants[granted.index()] -= 1;
@@ -198,17 +198,17 @@ impl Outboxes {
     }
 
     /// Reports whether the same PDUs wait for each slot.
-    pub fn is_as(&self, other: &Outboxes) -> bool
+    pub fn has_same_pdus(&self, other: &Outboxes) -> bool
         ensures { result ≡ pointwise are_same_pdus self.now.outboxes other.now.outboxes }
     {
         self.outboxes == other.outboxes
     }
 
     /// Does nothing. A proof calls it to use the invariant of the outboxes of every site.
-    pub fn keeps(&self)
+    pub fn use_invariant(&self)
         ensures outboxes { AreOutboxes self.now.outboxes }
         ensures plan { IsPlan self.now.plan }
     {
-        self.plan.keeps();
+        self.plan.use_invariant();
     }
 }

@@ -24,7 +24,7 @@ pub struct Full;
 /// The slots of a plan's site.
 ///
 /// Contracts see the plan, the carriers that are up, the slots that calls hold, and the PDUs that wait for each slot. Their
-/// invariant is `AreSlotsOfSite`; a proof gets it from [`Pool::keeps`].
+/// invariant is `AreSlotsOfSite`; a proof gets it from [`Pool::use_invariant`].
 #[derive(Drop)]
 pub struct Pool {
     up: [bool; 16],
@@ -82,7 +82,7 @@ fn all_free(outboxes: &Outboxes, up: &[bool; 16], held: &[bool; 32]) -> Marks
     let mut free = Marks::none();
     for place in 0..32usize {
         let slot = &Slot::at(place);
-        free.put(slot, is_free(outboxes, up, held, slot));
+        free.set(slot, is_free(outboxes, up, held, slot));
     }
     free
 }
@@ -138,7 +138,7 @@ impl Pool {
           outboxes = outboxes_without_carrier self.old.outboxes carrier;
         } }
     {
-        self.turn(carrier, true);
+        self.set_up(carrier, true);
     }
 
     /// Marks a carrier as not up. Its slots are released, and its outboxes emptied.
@@ -149,22 +149,22 @@ impl Pool {
           outboxes = outboxes_without_carrier self.old.outboxes carrier;
         } }
     {
-        self.turn(carrier, false);
+        self.set_up(carrier, false);
     }
 
     /// Releases the slots of a carrier and empties its outboxes. Whether it is up does not change.
-    pub fn empty(&mut self, carrier: CarrierNo)
+    pub fn empty_carrier(&mut self, carrier: CarrierNo)
         ensures { self.new ≡ record self.old {
           held = held_without_carrier self.old.held carrier;
           outboxes = outboxes_without_carrier self.old.outboxes carrier;
         } }
     {
         let is_up = self.is_up(carrier);
-        self.turn(carrier, is_up);
+        self.set_up(carrier, is_up);
     }
 
     /// Marks a carrier as up or not. Its slots are released, and its outboxes emptied.
-    fn turn(&mut self, carrier: CarrierNo, is_up: bool)
+    fn set_up(&mut self, carrier: CarrierNo, is_up: bool)
         ensures { self.new ≡ record self.old {
           up = slice_set self.old.up carrier is_up;
           held = held_without_carrier self.old.held carrier;
@@ -218,7 +218,7 @@ impl Pool {
         ensures { self.new ≡ record self.old { held = slice_set self.old.held (place slot) true } }
     {
         self.held[slot.index()] = true;
-        self.free.put(&slot, false);
+        self.free.set(&slot, false);
     }
 
     /// Marks a slot as not held. If no call held it, nothing changes.
@@ -227,7 +227,7 @@ impl Pool {
     {
         self.held[slot.index()] = false;
         let is_idle = is_free(&self.outboxes, &self.up, &self.held, &slot);
-        self.free.put(&slot, is_idle);
+        self.free.set(&slot, is_idle);
     }
 
     /// Adds a PDU after those that wait for a slot, whose carrier must be up.
@@ -242,20 +242,20 @@ impl Pool {
         if self.waiting(slot) >= MOST_PDUS_OF_A_SLOT {
             return Err(Full);
         }
-        self.put(&slot, &pdu);
+        self.add_pdu(&slot, &pdu);
         Ok(())
     }
 
     /// Adds a PDU after those that wait for a slot. There must be a place for it.
-    pub fn put(&mut self, slot: &Slot, pdu: &Pdu)
+    pub fn add_pdu(&mut self, slot: &Slot, pdu: &Pdu)
         requires { length (box self.old.outboxes slot.now) < MOST_PDUS_OF_A_SLOT }
         ensures { self.new ≡ record self.old { outboxes = outboxes_with_pdu self.old.outboxes slot.now pdu.now } }
     {
-        self.outboxes.keeps();
+        self.outboxes.use_invariant();
         self.outboxes.push(slot, pdu);
-        self.free.put(slot, false);
+        self.free.set(slot, false);
         if let Some(granted) = self.outboxes.slot_counted(slot, pdu) {
-            self.free.put(&granted, false);
+            self.free.set(&granted, false);
         }
     }
 
@@ -274,13 +274,13 @@ impl Pool {
         requires { slice_get (box self.old.outboxes slot.now) 0 ≡ Some pdu.now }
         ensures { self.new ≡ record self.old { outboxes = outboxes_after_send self.old.outboxes slot.now } }
     {
-        self.outboxes.keeps();
+        self.outboxes.use_invariant();
         self.outboxes.take(slot, pdu);
         let is_idle = is_free(&self.outboxes, &self.up, &self.held, slot);
-        self.free.put(slot, is_idle);
+        self.free.set(slot, is_idle);
         if let Some(granted) = self.outboxes.slot_counted(slot, pdu) {
             let is_idle = is_free(&self.outboxes, &self.up, &self.held, &granted);
-            self.free.put(&granted, is_idle);
+            self.free.set(&granted, is_idle);
         }
     }
 
@@ -300,27 +300,27 @@ impl Pool {
     }
 
     /// Reports whether two pools have the same plan, carriers up, held slots and waiting PDUs.
-    fn is(&self, other: &Pool) -> bool
+    fn equals(&self, other: &Pool) -> bool
         ensures { result ≡ are_same self.now other.now }
     {
         self.outboxes.plan() == other.outboxes.plan()
             && self.up == other.up
             && self.held == other.held
-            && self.outboxes.is_as(&other.outboxes)
+            && self.outboxes.has_same_pdus(&other.outboxes)
     }
 
     /// Reports whether the same carriers are up and the same PDUs wait for each slot. Held slots are not compared.
-    pub fn is_as(&self, other: &Pool) -> bool
+    pub fn has_same_carriers_and_pdus(&self, other: &Pool) -> bool
         ensures { result ≡ are_alike self.now other.now }
     {
-        self.up == other.up && self.outboxes.is_as(&other.outboxes)
+        self.up == other.up && self.outboxes.has_same_pdus(&other.outboxes)
     }
 
     /// Does nothing. A proof calls it to use the invariant of the slots of every site.
-    pub fn keeps(&self)
+    pub fn use_invariant(&self)
         ensures { AreSlotsOfSite self.now }
     {
-        self.outboxes.keeps();
+        self.outboxes.use_invariant();
         are_sized(&self.up, &self.held);
     }
 }
@@ -339,7 +339,7 @@ impl PartialEq for Pool {
         ensures gives { result ≡ are_same self.now other.now }
         ensures same { IsTrue result ↔ (self.now ≡ other.now) }
     {
-        self.is(other)
+        self.equals(other)
     }
 }
 

@@ -1,12 +1,12 @@
 -- Why a connection ended, as its link reports it.
-use Rattle.dmr_port.specs.declared.cause.Cause.{Cause}
-use Rattle.dmr_port.specs.declared.cause.Cause.TheVariants as cause
+use Rattle.dmr_port.specs.declared.cause.EndCause.{EndCause}
+use Rattle.dmr_port.specs.declared.cause.EndCause.TheVariants as cause
 use Rattle.dmr_port.specs.declared.whose.Whose.{Whose}
 use Rattle.dmr_wire.specs.declared.closing.Closing.{Closing}
 use Rattle.dmr_wire.specs.declared.closing.Closing.TheVariants.{Over, Bye, ReadFailed, WriteFailed, Bad, Refused}
 
 -- the cause of a closing on the port of this owner
-abbrev pub cause_of_closing : Closing → Whose → Cause
+abbrev pub cause_of_closing : Closing → Whose → EndCause
 cause_of_closing Over whose = cause.Controller
 cause_of_closing Bye whose = cause.Bye
 cause_of_closing ReadFailed whose = cause.ReadFault

@@ -2,8 +2,8 @@
 use Rattle.std.specs.Prelude.{◌≡◌, ◌↔◌, ℕ, ◌==◌, Bool, false, not, ◌&&◌, ◌||◌, if◌then◌else◌, List, take, Option, Some, IsTrue}
 use Rattle.dmr_wire.specs.declared.wire.Got.{Got}
 use Rattle.dmr_wire.specs.declared.wire.Got.TheVariants as got
-use Rattle.dmr_port.specs.declared.cause.Cause.{Cause}
-use Rattle.dmr_port.specs.declared.cause.Cause.TheVariants.{EndOfInput, ReadFault, Displaced}
+use Rattle.dmr_port.specs.declared.cause.EndCause.{EndCause}
+use Rattle.dmr_port.specs.declared.cause.EndCause.TheVariants.{EndOfInput, ReadFault, Displaced}
 use Rattle.dmr_port.specs.declared.patience.Patience.{Patience}
 use Rattle.dmr_port.specs.declared.served.Served.{Served}
 use Rattle.dmr_port.specs.declared.sockets.Ready.{Ready}
@@ -33,6 +33,6 @@ pub record HearsOctets (octets : List ℕ) (is_carrier : Bool) (old new : Served
   pub heard : new ≡ record old { first = new.first; patience = patience_after_octets octets has_hello (not is_carrier) old.patience }
 
 -- why the connection is given up after a wait. It is displaced if its place is claimed and it has sent no whole HELLO, or no octet for 1 s
-abbrev pub cause_of_served : ℕ → Bool → Bool → Bool → Patience → Option Cause
+abbrev pub cause_of_served : ℕ → Bool → Bool → Bool → Patience → Option EndCause
 cause_of_served silence keeps ready is_claimed p =
     if is_claimed && is_displaceable p then Some Displaced else cause_after_wait silence keeps ready p

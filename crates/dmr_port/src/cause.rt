@@ -10,7 +10,7 @@ use std::fmt;
 
 /// Why a connection ended.
 #[derive(Clone, Copy, Debug, PartialEq, Eq)]
-pub enum Cause {
+pub enum EndCause {
     /// The other side ended its output.
     EndOfInput,
     /// A read failed, for example because the other side reset the connection.
@@ -43,18 +43,18 @@ pub enum Cause {
     Controller,
 }
 
-impl Cause {
+impl EndCause {
     /// Returns the cause for a link's report of how it closed the connection to a port.
-    pub fn of_closing(closing: Closing, whose: Whose) -> Cause
+    pub fn of_closing(closing: Closing, whose: Whose) -> EndCause
         ensures { result ≡ cause_of_closing closing whose }
     {
         match closing {
-            Closing::Over => Cause::Controller,
-            Closing::Bye => Cause::Bye,
-            Closing::ReadFailed => Cause::ReadFault,
-            Closing::WriteFailed => Cause::WriteFault,
-            Closing::Bad(fault) => Cause::LinkFault(fault),
-            Closing::Refused(fault, hello) => Cause::Refused {
+            Closing::Over => EndCause::Controller,
+            Closing::Bye => EndCause::Bye,
+            Closing::ReadFailed => EndCause::ReadFault,
+            Closing::WriteFailed => EndCause::WriteFault,
+            Closing::Bad(fault) => EndCause::LinkFault(fault),
+            Closing::Refused(fault, hello) => EndCause::Refused {
                 fault,
                 hello,
                 whose,
@@ -63,21 +63,21 @@ impl Cause {
     }
 }
 
-impl fmt::Display for Cause {
+impl fmt::Display for EndCause {
     fn fmt<W: fmt::Write>(&self, f: &mut fmt::Formatter<W>) -> fmt::Result {
         match self {
-            Cause::EndOfInput => write!(f, "end of input"),
-            Cause::ReadFault => write!(f, "a read failed"),
-            Cause::WriteFault => write!(f, "a write failed"),
-            Cause::NotRead => write!(f, "what was written was not read"),
-            Cause::Silence => write!(f, "silence"),
-            Cause::NoHello => write!(f, "no HELLO"),
-            Cause::OpenLine => write!(f, "a line did not end"),
-            Cause::Displaced => write!(f, "displaced by a newcomer"),
-            Cause::Http => write!(f, "a request of HTTP"),
-            Cause::Bye => write!(f, "BYE"),
-            Cause::LinkFault(fault) => write!(f, "link fault: {fault}"),
-            Cause::Refused {
+            EndCause::EndOfInput => write!(f, "end of input"),
+            EndCause::ReadFault => write!(f, "a read failed"),
+            EndCause::WriteFault => write!(f, "a write failed"),
+            EndCause::NotRead => write!(f, "what was written was not read"),
+            EndCause::Silence => write!(f, "silence"),
+            EndCause::NoHello => write!(f, "no HELLO"),
+            EndCause::OpenLine => write!(f, "a line did not end"),
+            EndCause::Displaced => write!(f, "displaced by a newcomer"),
+            EndCause::Http => write!(f, "a request of HTTP"),
+            EndCause::Bye => write!(f, "BYE"),
+            EndCause::LinkFault(fault) => write!(f, "link fault: {fault}"),
+            EndCause::Refused {
                 fault,
                 hello,
                 whose,
@@ -86,7 +86,7 @@ impl fmt::Display for Cause {
                 write_numbers(*fault, *hello, *whose, f)?;
                 write!(f, ")")
             }
-            Cause::Controller => write!(f, "by the controller"),
+            EndCause::Controller => write!(f, "by the controller"),
         }
     }
 }

@@ -112,7 +112,7 @@ fn is_frame_for(greatest: Version, number: u32, channel: u32, frame: &Option<Fra
                 lpcn,
             },
         ) => {
-            greatest.named(*version).is_some()
+            greatest.served_version(*version).is_some()
                 && u32::from(*carrier) == number
                 && u32::from(*lpcn) == channel
         }

@@ -22,7 +22,7 @@ mod unsent;
 mod waiting_room;
 mod whose;
 
-pub use cause::Cause;
+pub use cause::EndCause;
 pub use note_limit::{NoteLimit, Verdict};
 pub use notes::{Note, NoteKind, PortNotes};
 pub use serving_port::ServingPort;

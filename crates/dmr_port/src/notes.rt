@@ -1,6 +1,6 @@
 //! Notes: what a port reports to the operator's log.
 
-use crate::cause::Cause;
+use crate::cause::EndCause;
 use std::net::SocketAddr;
 use std::{fmt, io};
 
@@ -14,7 +14,7 @@ pub enum Note<'a> {
     /// The connection has ended, for this cause.
     Ended {
         from: SocketAddr,
-        cause: Cause,
+        cause: EndCause,
     },
     /// A newcomer waits while another connection is served; `count` newcomers wait.
     Waits {

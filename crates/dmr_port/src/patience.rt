@@ -4,7 +4,7 @@ ghost use Rattle.std.specs.Prelude.{◌≡◌, ◌<◌, ◌||◌, true, length, 
 ghost use Rattle.std.specs.Option.{is_some};
 ghost use Rattle.dmr_port.specs.Patience.{cause_after_wait, has_lasted_if, is_displaceable, later, line_after, new_patience, patience_after_octets, patience_after_wait};
 
-use crate::cause::Cause;
+use crate::cause::EndCause;
 
 /// The milliseconds of a wait, by which the site file counts.
 const WAIT_MS: u32 = 100;
@@ -87,21 +87,21 @@ impl Patience {
 
     /// Returns why the connection is given up after a wait, if it is. `keeps`: octets are kept. `ready`: the connection can now be read; or
     /// if octets are kept, written.
-    pub fn cause_after_wait(&self, silence: u16, keeps: bool, ready: bool) -> Option<Cause>
+    pub fn cause_after_wait(&self, silence: u16, keeps: bool, ready: bool) -> Option<EndCause>
         ensures { result ≡ cause_after_wait silence keeps ready self.now }
     {
         let most = WAIT_MS * u32::from(silence);
         if !keeps && !ready && self.quiet >= most {
-            return Some(Cause::Silence);
+            return Some(EndCause::Silence);
         }
         if has_lasted(self.hello, most) {
-            return Some(Cause::NoHello);
+            return Some(EndCause::NoHello);
         }
         if has_lasted(self.line, most) {
-            return Some(Cause::OpenLine);
+            return Some(EndCause::OpenLine);
         }
         if keeps && !ready && self.unread >= WAIT_MS * SEND_WAITS {
-            return Some(Cause::NotRead);
+            return Some(EndCause::NotRead);
         }
         None
     }

@@ -1,13 +1,13 @@
 //! Reading from the connection that is served.
 
 ghost use Rattle.std.specs.Prelude.{◌≡◌, ◌≢◌, ◌≤◌, ◌<◌, ℕ, [], true, Some, length};
-ghost use Rattle.dmr_wire.specs.Told.{GotWithin};
+ghost use Rattle.dmr_wire.specs.Answers.{GotWithin};
 ghost use Rattle.dmr_port.specs.Budget.{Gives};
 ghost use Rattle.dmr_port.specs.PortState.{HasReadFrom, HasReadNothing, connection_of, count_of};
 ghost use Rattle.dmr_port.specs.Unsent.{PassesOctets};
 
 use crate::budget::Budget;
-use crate::cause::Cause;
+use crate::cause::EndCause;
 use crate::served::Served;
 use crate::sockets::Sockets;
 use crate::unsent::{Sent, Unsent};
@@ -20,7 +20,7 @@ fn send_kept<S: Sockets>(sockets: &mut S, unsent: &mut Unsent, served: &mut Serv
     ensures passes { PassesOctets (S.taken sockets.old) unsent.old [] (S.taken sockets.new) unsent.new }
     ensures all { result ≡ Sent.All → unsent.new ≡ [] }
     ensures goes { result ≢ Sent.Fault → HasReadNothing (connection_of served.old) (connection_of served.new) }
-    ensures fault { result ≡ Sent.Fault → served.new.ended ≡ Some Cause.WriteFault }
+    ensures fault { result ≡ Sent.Fault → served.new.ended ≡ Some EndCause.WriteFault }
     ensures unread { result ≢ Sent.All → served.new.patience.unread ≡ served.old.patience.unread }
     ensures connection { S.is_open sockets.new ≡ true }
     ensures waiting { S.waiting sockets.new ≡ S.waiting sockets.old }
@@ -35,7 +35,7 @@ fn send_kept<S: Sockets>(sockets: &mut S, unsent: &mut Unsent, served: &mut Serv
         }
         Sent::Part => Sent::Part,
         Sent::Fault => {
-            served.ended = Some(Cause::WriteFault);
+            served.ended = Some(EndCause::WriteFault);
             Sent::Fault
         }
     }

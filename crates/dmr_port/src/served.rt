@@ -7,7 +7,7 @@ ghost use Rattle.dmr_port.specs.Patience.{new_patience};
 ghost use Rattle.dmr_port.specs.PortState.{HasWaitedFor, answer_of_write, connection_after_write, connection_of, waited_by};
 ghost use Rattle.dmr_port.specs.Served.{HearsOctets, after_read, after_wait, cause_of_served};
 
-use crate::cause::Cause;
+use crate::cause::EndCause;
 use crate::first_octets::FirstOctets;
 use crate::patience::Patience;
 use crate::sockets::Ready;
@@ -29,7 +29,7 @@ pub struct Served {
     /// The other side has ended its output. The system may not report that again, so reads ask it until they find the end.
     pub input_closed: bool,
     /// Why the connection ended, once that is known.
-    pub ended: Option<Cause>,
+    pub ended: Option<EndCause>,
 }
 
 impl Served {
@@ -51,7 +51,7 @@ impl Served {
     }
 
     /// Keeps why the link closed the connection, unless the port has already noted its end.
-    pub fn keep_cause(&mut self, cause: Cause)
+    pub fn keep_cause(&mut self, cause: EndCause)
         ensures { self.new ≡ record self.old { ended = option_or self.old.ended (Some cause) } }
     {
         self.ended = self.ended.or(Some(cause));
@@ -70,10 +70,10 @@ impl Served {
     {
         match got {
             Got::Octets(count) => self.may_read = count == asked,
-            Got::End => self.ended = Some(Cause::EndOfInput),
+            Got::End => self.ended = Some(EndCause::EndOfInput),
             Got::Interrupted => {}
             Got::Block => self.may_read = false,
-            Got::Fault => self.ended = Some(Cause::ReadFault),
+            Got::Fault => self.ended = Some(EndCause::ReadFault),
         }
     }
 
@@ -85,11 +85,11 @@ impl Served {
     {
         match put {
             Put::Octets(0) | Put::Block => {
-                self.ended = Some(Cause::NotRead);
+                self.ended = Some(EndCause::NotRead);
                 Put::Block
             }
             Put::Fault => {
-                self.ended = Some(Cause::WriteFault);
+                self.ended = Some(EndCause::WriteFault);
                 Put::Fault
             }
             Put::Octets(count) => Put::Octets(count),
@@ -104,11 +104,11 @@ impl Served {
         ensures first { self.new.first.octets.items ≡ take 8 (self.old.first.octets.items ++ octets.now) }
         ensures given { result ≡ (is_carrier || not (begins_http self.new.first.octets.items)) }
         ensures heard { result ≡ true → HearsOctets octets.now is_carrier self.old self.new }
-        ensures http { result ≡ false → self.new ≡ record self.old { first = self.new.first; ended = Some Cause.Http } }
+        ensures http { result ≡ false → self.new ≡ record self.old { first = self.new.first; ended = Some EndCause.Http } }
     {
         self.first.add(octets);
         if !is_carrier && self.first.is_http() {
-            self.ended = Some(Cause::Http);
+            self.ended = Some(EndCause::Http);
             return false;
         }
         let has_hello = self.first.is_hello();
@@ -141,11 +141,11 @@ impl Served {
         keeps: bool,
         ready: bool,
         is_claimed: bool,
-    ) -> Option<Cause>
+    ) -> Option<EndCause>
         ensures { result ≡ cause_of_served silence keeps ready is_claimed self.now.patience }
     {
         if is_claimed && self.patience.is_displaceable() {
-            return Some(Cause::Displaced);
+            return Some(EndCause::Displaced);
         }
         self.patience.cause_after_wait(silence, keeps, ready)
     }
@@ -160,7 +160,7 @@ impl Served {
         keeps: bool,
         silence: u16,
         is_claimed: bool,
-    ) -> Option<Cause>
+    ) -> Option<EndCause>
         requires { milliseconds ≤ 25 }
         ensures { HasWaitedFor silence keeps (connection_of self.old) (connection_of self.new) (waited_by result) }
     {

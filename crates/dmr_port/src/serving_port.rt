@@ -2,7 +2,7 @@
 
 ghost use Rattle.std.specs.Prelude.{◌≡◌, ◌≢◌, ◌≤◌, ◌<◌, ◌+◌, ℕ, [], ◌∷◌, true, false, None, Some, length, option_map, IfOk, IfErr};
 ghost use Rattle.std.specs.Option.{is_some};
-ghost use Rattle.dmr_wire.specs.Told.{GotWithin, PutWithin, Tells, of_connect, of_read, of_wait, of_write};
+ghost use Rattle.dmr_wire.specs.Answers.{GotWithin, PutWithin, Reports, of_connect, of_read, of_wait, of_write};
 ghost use Rattle.dmr_port.specs.Budget.{Gives};
 ghost use Rattle.dmr_port.specs.Causes.{cause_of_closing};
 ghost use Rattle.dmr_port.specs.PortState.{HasRead, HasWaited, IsFresh, Passes, connection_after_write, count_of, empty_port, keeps_octets, unread_of, with_cause};
@@ -10,7 +10,7 @@ ghost use Rattle.dmr_port.specs.Settings.{is_carrier};
 ghost use Rattle.dmr_port.specs.Sockets.{taken_by};
 
 use crate::budget::Budget;
-use crate::cause::Cause;
+use crate::cause::EndCause;
 use crate::newcomers::{look_at_all, make_room};
 use crate::notes::{Note, PortNotes};
 use crate::port_log::PortLog;
@@ -149,7 +149,7 @@ impl<S: Sockets + Drop, N: PortNotes + Drop> ServingPort<S, N> {
         let _ = self.unsent.send_all(&mut self.sockets);
         self.unsent.clear();
         self.sockets.close();
-        let cause = served.ended.unwrap_or(Cause::Controller);
+        let cause = served.ended.unwrap_or(EndCause::Controller);
         self.note(&Note::Ended {
             from: served.from,
             cause,
@@ -179,7 +179,7 @@ impl<S: Sockets + Drop, N: PortNotes + Drop> ServingPort<S, N> {
                 self.note(&Note::CannotAccept(&error));
                 self.note(&Note::Ended {
                     from,
-                    cause: Cause::Controller,
+                    cause: EndCause::Controller,
                 });
                 false
             }
@@ -297,10 +297,10 @@ impl<S: Sockets + Drop, N: PortNotes + Drop> ServingPort<S, N> {
     }
 
     /// Notes that the connection yields its place to a claimant, if it was given up for that.
-    fn note_displaced(&mut self, cause: Cause, from: SocketAddr, quiet: u32)
+    fn note_displaced(&mut self, cause: EndCause, from: SocketAddr, quiet: u32)
         ensures { self.new ≡ self.old }
     {
-        if cause != Cause::Displaced {
+        if cause != EndCause::Displaced {
             return;
         }
         if let Some(place) = self.room.place_of_claimant() {
@@ -334,7 +334,7 @@ impl<S: Sockets + Drop, N: PortNotes + Drop> ServingPort<S, N> {
 }
 
 impl<S: Sockets + Drop, N: PortNotes + Drop> Wire for ServingPort<S, N> {
-    ghost told = { λ port. None };
+    ghost reported = { λ port. None };
 
     /// Reads octets of the connection, after sending those that are kept. The read would block if some of these are left, or if the window's
     /// octets have been returned. It would also block if the system had no more at the last read, and no wait has found any since. Without a
@@ -342,7 +342,7 @@ impl<S: Sockets + Drop, N: PortNotes + Drop> Wire for ServingPort<S, N> {
     fn read(&mut self, octets: &mut [u8]) -> Got
         requires { 0 < length octets.old }
         ensures within { GotWithin result (length octets.new) }
-        ensures told { Tells None (of_read result octets.new ∷ []) None }
+        ensures reported { Reports None (of_read result octets.new ∷ []) None }
         ensures passes { Passes self.old [] self.new }
         ensures behind { (count : ℕ) → result ≡ Got.Octets count → self.new.unsent ≡ [] }
         ensures budget { Gives self.old.window (count_of result) self.new.window }
@@ -370,7 +370,7 @@ impl<S: Sockets + Drop, N: PortNotes + Drop> Wire for ServingPort<S, N> {
     fn write(&mut self, octets: &[u8]) -> Put
         requires { 0 < length octets.now }
         ensures within { PutWithin result (length octets.now) }
-        ensures told { Tells None (of_write result octets.now ∷ []) None }
+        ensures reported { Reports None (of_write result octets.now ∷ []) None }
         ensures passes { Passes self.old (taken_by result octets.now) self.new }
         ensures connection { self.new.connection ≡ option_map (connection_after_write result) self.old.connection }
         ensures window { self.new.window ≡ self.old.window }
@@ -388,7 +388,7 @@ impl<S: Sockets + Drop, N: PortNotes + Drop> Wire for ServingPort<S, N> {
 impl<S: Sockets + Drop, N: PortNotes + Drop> Port for ServingPort<S, N> {
     /// Closes the connection that is served, and serves the next newcomer. If nobody waits, it waits for a part of a wait.
     fn connect(&mut self) -> Connect
-        ensures told { Tells None (of_connect result ∷ []) None }
+        ensures reported { Reports None (of_connect result ∷ []) None }
         ensures ready { result ≡ Connect.Ready → IsFresh self.new }
         ensures none { result ≡ Connect.NotYet → self.new.connection ≡ None }
         ensures goes { result ≢ Connect.Finished }
@@ -414,7 +414,7 @@ impl<S: Sockets + Drop, N: PortNotes + Drop> Port for ServingPort<S, N> {
     /// Waits until the connection can be read, or written if octets are kept, at most for a part of a wait. Accepts newcomers meanwhile.
     /// `Silent`: the connection is given up, or there is none.
     fn wait(&mut self) -> Waited
-        ensures told { Tells None (of_wait result ∷ []) None }
+        ensures reported { Reports None (of_wait result ∷ []) None }
         ensures judged { HasWaited self.old.settings.silence (keeps_octets self.old.unsent) self.old.connection self.new.connection result }
         ensures few { self.new.waiting ≤ 8 }
         ensures port { self.new ≡ record self.old { connection = self.new.connection; waiting = self.new.waiting } }
@@ -428,7 +428,7 @@ impl<S: Sockets + Drop, N: PortNotes + Drop> Port for ServingPort<S, N> {
     fn closed(&mut self, closing: Closing)
         ensures port { self.new ≡ record self.old { connection = option_map (with_cause (cause_of_closing closing self.old.settings.whose)) self.old.connection } }
     {
-        let cause = Cause::of_closing(closing, self.settings.whose);
+        let cause = EndCause::of_closing(closing, self.settings.whose);
         if let Some(served) = &mut self.served {
             served.keep_cause(cause);
         }

@@ -3,7 +3,7 @@
 
 ghost use Rattle.std.specs.Prelude.{◌≡◌, ℕ, ◌+◌, ◌<◌, Bool, true, false, List, Option, length, OnOk, OnErr};
 ghost use Rattle.std.specs.Io.KnownBytes.{Appends};
-ghost use Rattle.dmr_wire.specs.Told.{GotWithin, PutWithin};
+ghost use Rattle.dmr_wire.specs.Answers.{GotWithin, PutWithin};
 ghost use Rattle.dmr_port.specs.Sockets.{HasTakenNone, PeekedWithin, taken_by, waiting_after};
 
 use dmr_wire::{Got, Put};

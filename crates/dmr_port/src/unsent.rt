@@ -1,7 +1,7 @@
 //! Octets that were written to a connection and are kept until its other side takes them.
 
 ghost use Rattle.std.specs.Prelude.{◌≡◌, ◌≢◌, ◌<◌, ◌≤◌, ◌+◌, ◌-◌, [], ◌++◌, List, ℕ, true, length, take, drop, min, IfOk, nat_eq};
-ghost use Rattle.dmr_wire.specs.Told.{PutWithin};
+ghost use Rattle.dmr_wire.specs.Answers.{PutWithin};
 ghost use Rattle.dmr_port.specs.Sockets.{taken_by};
 ghost use Rattle.dmr_port.specs.Unsent.{PassesOctets, count_put};
 

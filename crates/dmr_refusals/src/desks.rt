@@ -30,7 +30,7 @@ pub fn open_desk(alloc: Global) -> Verdict {
     let Some((site, other)) = busy_site(alloc).zip(busy_site(alloc)) else {
         return Verdict::NotTried;
     };
-    match refused::<Brand>(alloc, Blank::new(PARTS), site) {
+    match refusal_of_desk::<Brand>(alloc, Blank::new(PARTS), site) {
         None => {
             drop(other);
             Verdict::Done
@@ -47,7 +47,11 @@ pub fn open_desk(alloc: Global) -> Verdict {
 }
 
 /// Returns why a desk is not opened, and its site.
-fn refused<L: DeskLedger>(alloc: Global, blank: Blank, site: Site) -> Option<(OpenFault, Site)>
+fn refusal_of_desk<L: DeskLedger>(
+    alloc: Global,
+    blank: Blank,
+    site: Site,
+) -> Option<(OpenFault, Site)>
     requires name { blank.name ≡ L.name }
     requires parts { blank.parts ≡ L.parts }
     requires eighteen { blank.parts ≡ 18 }

@@ -96,8 +96,8 @@ pub fn run_engine(alloc: Global) -> Verdict {
         Err(fault) => {
             let front = inputs.get(..fault.done).unwrap_or(&[]);
             let back = inputs.get(fault.done..).unwrap_or(&[]);
-            let same = puts_out(alloc, other, front, &fault.outputs);
-            let whole = gives_the_rest(alloc, engine, back, &fault.outputs);
+            let same = writes_same(alloc, other, front, &fault.outputs);
+            let whole = writes_the_rest(alloc, engine, back, &fault.outputs);
             verdict_if(same && whole, Verdict::Refused)
         }
     }
@@ -111,7 +111,7 @@ fn run_to_end(alloc: Global, mut engine: Engine, inputs: &[Input<'_>]) -> Option
 }
 
 /// Returns whether an engine writes the same outputs for these inputs.
-fn puts_out(alloc: Global, engine: Engine, inputs: &[Input<'_>], outputs: &Outputs) -> bool {
+fn writes_same(alloc: Global, engine: Engine, inputs: &[Input<'_>], outputs: &Outputs) -> bool {
     match run_to_end(alloc, engine, inputs) {
         Some(others) => {
             let (first, second) = (CarrierNo::new(0), CarrierNo::new(1));
@@ -124,7 +124,7 @@ fn puts_out(alloc: Global, engine: Engine, inputs: &[Input<'_>], outputs: &Outpu
 }
 
 /// Returns whether an engine writes the rest of these outputs for these inputs.
-fn gives_the_rest(alloc: Global, engine: Engine, inputs: &[Input<'_>], outputs: &Outputs) -> bool {
+fn writes_the_rest(alloc: Global, engine: Engine, inputs: &[Input<'_>], outputs: &Outputs) -> bool {
     match run_to_end(alloc, engine, inputs) {
         Some(rest) => are_whole(outputs, &rest),
         None => false,

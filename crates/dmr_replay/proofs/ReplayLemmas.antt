@@ -15,8 +15,8 @@ use Rattle.dmr_plan.specs.declared.fault.PlanFault.TheVariants.{NotToml}
 use Rattle.dmr_plan.specs.Plan.{plan_of_text}
 use Rattle.dmr_replay.specs.declared.replaying.ReplayFault.{ReplayFault}
 use Rattle.dmr_replay.specs.declared.replaying.ReplayFault.TheVariants.{SiteFile, ScriptLine, OutOfMemory}
-use Rattle.dmr_replay.specs.Script.{Given}
-use Rattle.dmr_replay.specs.Replay.{Outcome, Prints, SiteNotRead, NoPlan, ScriptNotRead, NoLine, TellsFault, carrier_line, line_of_number, lines_to, of_lines, of_plan, plan_in}
+use Rattle.dmr_replay.specs.Script.{RepeatedInput}
+use Rattle.dmr_replay.specs.Replay.{Outcome, Prints, SiteNotRead, NoPlan, ScriptNotRead, NoLine, ReportsFault, carrier_line, line_of_number, lines_to, of_lines, of_plan, plan_in}
 
 lines_more : (plan : Settings) (put_out : ℕ → List ℕ) (number : ℕ) → lines_to plan put_out (number + 1) ≡ lines_to plan put_out number ++ line_of_number plan put_out number
 lines_more plan put_out number =
@@ -56,22 +56,22 @@ plan_in_no_text site isnt = either (is_utf8 site) (λ (told : is_utf8 site ≡ t
 
 -- the reported faults, one after the other
 module _ (site_name script_name : List ℕ) (fault : ReplayFault) where
-  memory_told : (found : Outcome) → TellsFault site_name script_name found OutOfMemory
-  memory_told SiteNotRead = tt
-  memory_told ScriptNotRead = tt
-  memory_told (NoPlan told) = tt
-  memory_told (NoLine number) = tt
-  memory_told (Prints text) = tt
+  memory_reported : (found : Outcome) → ReportsFault site_name script_name found OutOfMemory
+  memory_reported SiteNotRead = tt
+  memory_reported ScriptNotRead = tt
+  memory_reported (NoPlan told) = tt
+  memory_reported (NoLine number) = tt
+  memory_reported (Prints text) = tt
 
-  pub no_plan : (read : Result Settings PlanFault) (script : Option (List ℕ)) → (fault ≡ OutOfMemory) ⊎ IsErrAnd read (λ told. fault ≡ SiteFile told) → TellsFault site_name script_name (of_plan read script) fault
-  no_plan read script (inl memory) = subst (TellsFault site_name script_name (of_plan read script)) (sym memory) (memory_told (of_plan read script))
-  no_plan (Err told) script (inr is) = subst (TellsFault site_name script_name (NoPlan told)) (sym is) refl
+  pub no_plan : (read : Result Settings PlanFault) (script : Option (List ℕ)) → (fault ≡ OutOfMemory) ⊎ IsErrAnd read (λ told. fault ≡ SiteFile told) → ReportsFault site_name script_name (of_plan read script) fault
+  no_plan read script (inl memory) = subst (ReportsFault site_name script_name (of_plan read script)) (sym memory) (memory_reported (of_plan read script))
+  no_plan (Err told) script (inr is) = subst (ReportsFault site_name script_name (NoPlan told)) (sym is) refl
   no_plan (Ok plan) script (inr is) = absurd is
 
-  pub no_lines : (plan : Settings) (read : Result (List Given) ℕ) → (fault ≡ OutOfMemory) ⊎ IsErrAnd read (λ number. fault ≡ ScriptLine number) → TellsFault site_name script_name (of_lines plan read) fault
-  no_lines plan read (inl memory) = subst (TellsFault site_name script_name (of_lines plan read)) (sym memory) (memory_told (of_lines plan read))
-  no_lines plan (Err number) (inr is) = subst (TellsFault site_name script_name (NoLine number)) (sym is) refl
+  pub no_lines : (plan : Settings) (read : Result (List RepeatedInput) ℕ) → (fault ≡ OutOfMemory) ⊎ IsErrAnd read (λ number. fault ≡ ScriptLine number) → ReportsFault site_name script_name (of_lines plan read) fault
+  no_lines plan read (inl memory) = subst (ReportsFault site_name script_name (of_lines plan read)) (sym memory) (memory_reported (of_lines plan read))
+  no_lines plan (Err number) (inr is) = subst (ReportsFault site_name script_name (NoLine number)) (sym is) refl
   no_lines plan (Ok given) (inr is) = absurd is
 
-  pub no_memory : (found : Outcome) → fault ≡ OutOfMemory → TellsFault site_name script_name found fault
-  no_memory found memory = subst (TellsFault site_name script_name found) (sym memory) (memory_told found)
+  pub no_memory : (found : Outcome) → fault ≡ OutOfMemory → ReportsFault site_name script_name found fault
+  no_memory found memory = subst (ReportsFault site_name script_name found) (sym memory) (memory_reported found)

@@ -9,9 +9,9 @@ opens_0 : script_of (codes "open 0") ≡ Ok (once (At 0 Opening) ∷ [])
 opens_0 = refl
 
 -- octets, in digits of either case
-brings_octets : script_of (codes "bytes 15 0300") ≡ Ok (once (At 15 (Octets (3 ∷ 0 ∷ []))) ∷ [])
+bytes_of_a_carrier : script_of (codes "bytes 15 0300") ≡ Ok (once (At 15 (Octets (3 ∷ 0 ∷ []))) ∷ [])
 unfolding decode_pairs
-brings_octets = refl
+bytes_of_a_carrier = refl
 
 either_case : script_of (codes "bytes 3 aBFf") ≡ Ok (once (At 3 (Octets (171 ∷ 255 ∷ []))) ∷ [])
 unfolding decode_pairs
@@ -26,8 +26,8 @@ without_the_last : script_of (codes "# first\nopen 1\n\nbytes 1 00") ≡ Ok (onc
 unfolding decode_pairs
 without_the_last = refl
 
-gives_nothing : script_of [] ≡ Ok []
-gives_nothing = refl
+empty_script : script_of [] ≡ Ok []
+empty_script = refl
 
 comment_alone : script_of (codes "#x") ≡ Ok []
 comment_alone = refl
@@ -111,16 +111,16 @@ another_say : script_of (codes "says stay") ≡ Err 1
 another_say = refl
 
 -- an operator's octets, unchanged
-tells_octets : script_of (codes "text 73746179") ≡ Ok (once (Saying (codes "stay")) ∷ [])
+text_of_octets : script_of (codes "text 73746179") ≡ Ok (once (Saying (codes "stay")) ∷ [])
 unfolding decode_pairs
-tells_octets = refl
+text_of_octets = refl
 
-tells_nothing : script_of (codes "text") ≡ Err 1
-tells_nothing = refl
+text_without_word : script_of (codes "text") ≡ Err 1
+text_without_word = refl
 
-tells_no_octets : script_of (codes "text ") ≡ Err 1
+text_with_empty_word : script_of (codes "text ") ≡ Err 1
 unfolding decode_pairs
-tells_no_octets = refl
+text_with_empty_word = refl
 
-tells_two_words : script_of (codes "text 0A 0A") ≡ Err 1
-tells_two_words = refl
+text_of_two_words : script_of (codes "text 0A 0A") ≡ Err 1
+text_of_two_words = refl

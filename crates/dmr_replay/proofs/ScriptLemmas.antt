@@ -4,24 +4,24 @@ use Rattle.std.specs.Prelude.{find}
 use Rattle.std.specs.List.{enumerate_from, filter_map}
 use Rattle.std.proofs.lemmas.List.FromFn.{length-enumerate_from, get_or-enumerate_from}
 use Rattle.std.proofs.lemmas.List.{append-nil, drop_more, drop_all}
-use Rattle.dmr_replay.specs.Script.{Given, given_at, given_by_line, is_faulty_line, is_skipped, unless_fault}
+use Rattle.dmr_replay.specs.Script.{RepeatedInput, numbered_input, input_of_line, is_faulty_line, is_skipped, unless_fault}
 
 -- the result of a script of which these lines, from number n on, are not read yet, and the earlier ones have these inputs
-abbrev pub answer : List Given → ℕ → List (List ℕ) → Result (List Given) ℕ
+abbrev pub answer : List RepeatedInput → ℕ → List (List ℕ) → Result (List RepeatedInput) ℕ
 answer given n lines =
-    unless_fault (find (λ line. is_faulty_line line.1) (enumerate_from n lines)) (given ++ filter_map given_at (enumerate_from n lines))
+    unless_fault (find (λ line. is_faulty_line line.1) (enumerate_from n lines)) (given ++ filter_map numbered_input (enumerate_from n lines))
 
-skipped-cons : (given : List Given) (n : ℕ) (line : List ℕ) (lines : List (List ℕ)) → is_skipped line ≡ true → answer given n (line ∷ lines) ≡ answer given (n + 1) lines
+skipped-cons : (given : List RepeatedInput) (n : ℕ) (line : List ℕ) (lines : List (List ℕ)) → is_skipped line ≡ true → answer given n (line ∷ lines) ≡ answer given (n + 1) lines
 skipped-cons given n line lines skipped = rw skipped refl
 
-gives-cons : (given : List Given) (n : ℕ) (line : List ℕ) (lines : List (List ℕ)) (input : Given) → is_skipped line ≡ false → given_by_line line ≡ Some input
+inputs-cons : (given : List RepeatedInput) (n : ℕ) (line : List ℕ) (lines : List (List ℕ)) (input : RepeatedInput) → is_skipped line ≡ false → input_of_line line ≡ Some input
     → answer given n (line ∷ lines) ≡ answer (given ++ input ∷ []) (n + 1) lines
-gives-cons given n line lines input skipped gives = rw (skipped, gives, append_assoc) refl
+inputs-cons given n line lines input skipped gives = rw (skipped, gives, append_assoc) refl
 
-fault-cons : (given : List Given) (n : ℕ) (line : List ℕ) (lines : List (List ℕ)) → is_skipped line ≡ false → given_by_line line ≡ None → answer given n (line ∷ lines) ≡ Err n
+fault-cons : (given : List RepeatedInput) (n : ℕ) (line : List ℕ) (lines : List (List ℕ)) → is_skipped line ≡ false → input_of_line line ≡ None → answer given n (line ∷ lines) ≡ Err n
 fault-cons given n line lines skipped gives = rw (skipped, gives) refl
 
-module _ (given : List Given) (k : ℕ) (line : List ℕ) (lines : List (List ℕ)) (here : (k < length lines) × (line ≡ slice_index_or lines k line)) (whole : Result (List Given) ℕ) (before : answer given (k + 1) (drop k lines) ≡ whole) where
+module _ (given : List RepeatedInput) (k : ℕ) (line : List ℕ) (lines : List (List ℕ)) (here : (k < length lines) × (line ≡ slice_index_or lines k line)) (whole : Result (List RepeatedInput) ℕ) (before : answer given (k + 1) (drop k lines) ≡ whole) where
   next : drop k lines ≡ line ∷ drop (k + 1) lines
   next = drop_more lines k line here.0 ∙ ap (λ (l : List ℕ). l ∷ drop (k + 1) lines) (sym here.1)
 
@@ -34,20 +34,20 @@ module _ (given : List Given) (k : ℕ) (line : List ℕ) (lines : List (List �
       ap (λ (m : ℕ). answer given (m + 1) (drop m lines)) is ∙ sym (skipped-cons given (k + 1) line (drop (k + 1) lines) skipped) ∙ same
 
   -- a line with an input
-  pub gives : (more : ℕ) → more ≡ k + 1 → (input : Given) (given_more : List Given) → given_more ≡ given ++ input ∷ []
-      → is_skipped line ≡ false → given_by_line line ≡ Some input → answer given_more (more + 1) (drop more lines) ≡ whole
+  pub gives : (more : ℕ) → more ≡ k + 1 → (input : RepeatedInput) (given_more : List RepeatedInput) → given_more ≡ given ++ input ∷ []
+      → is_skipped line ≡ false → input_of_line line ≡ Some input → answer given_more (more + 1) (drop more lines) ≡ whole
   gives more is input given_more given_is skipped some =
       ap (λ (m : ℕ). answer given_more (m + 1) (drop m lines)) is
-      ∙ ap (λ (g : List Given). answer g (k + 1 + 1) (drop (k + 1) lines)) given_is
-      ∙ sym (gives-cons given (k + 1) line (drop (k + 1) lines) input skipped some) ∙ same
+      ∙ ap (λ (g : List RepeatedInput). answer g (k + 1 + 1) (drop (k + 1) lines)) given_is
+      ∙ sym (inputs-cons given (k + 1) line (drop (k + 1) lines) input skipped some) ∙ same
 
   -- a line at fault
-  pub faults : is_skipped line ≡ false → given_by_line line ≡ None → whole ≡ Err (k + 1)
+  pub faults : is_skipped line ≡ false → input_of_line line ≡ None → whole ≡ Err (k + 1)
   faults skipped none = sym same ∙ fault-cons given (k + 1) line (drop (k + 1) lines) skipped none
 
 -- no line is left
-pub ends : (given : List Given) (k : ℕ) (lines : List (List ℕ)) (whole : Result (List Given) ℕ) → length lines ≤ k → answer given (k + 1) (drop k lines) ≡ whole → whole ≡ Ok given
-ends given k lines whole all before = sym before ∙ ap (answer given (k + 1)) (drop_all k lines all) ∙ ap (λ (l : List Given). Ok l) (append-nil given)
+pub ends : (given : List RepeatedInput) (k : ℕ) (lines : List (List ℕ)) (whole : Result (List RepeatedInput) ℕ) → length lines ≤ k → answer given (k + 1) (drop k lines) ≡ whole → whole ≡ Ok given
+ends given k lines whole all before = sym before ∙ ap (answer given (k + 1)) (drop_all k lines all) ∙ ap (λ (l : List RepeatedInput). Ok l) (append-nil given)
 
 -- a numbered line of a list of lines
 pub line_at : (lines : List (List ℕ)) (k index : ℕ) (line : List ℕ) → (k < length (enumerate_from 0 lines)) × ((index, line) ≡ slice_index_or (enumerate_from 0 lines) k (index, line))

@@ -19,8 +19,8 @@ abbrev pub journal : Settings → List Input → List Entry
 journal plan inputs = journal_of plan no_facts (reverse (events_in (meaning_of_inputs plan inputs)))
 
 -- the octets written for a carrier: its session text
-unfoldable pub put_out : Settings → List Input → ℕ → List ℕ
-put_out plan inputs carrier = session_text None carrier (meaning_of_inputs plan inputs) (reverse (journal plan inputs))
+unfoldable pub octets_written : Settings → List Input → ℕ → List ℕ
+octets_written plan inputs carrier = session_text None carrier (meaning_of_inputs plan inputs) (reverse (journal plan inputs))
 
 -- the octets written for operators: the console text
 unfoldable pub operators_text : Settings → List Input → List ℕ

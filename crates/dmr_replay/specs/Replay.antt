@@ -13,8 +13,8 @@ use Rattle.dmr_plan.specs.Carriers.{has_number_in}
 use Rattle.dmr_plan.specs.Plan.{plan_of_text}
 use Rattle.dmr_replay.specs.declared.replaying.ReplayFault.{ReplayFault}
 use Rattle.dmr_replay.specs.declared.replaying.ReplayFault.TheVariants as fault
-use Rattle.dmr_replay.specs.Inputs.{put_out, operators_text}
-use Rattle.dmr_replay.specs.Script.{Given, inputs_of_script, script_of}
+use Rattle.dmr_replay.specs.Inputs.{octets_written, operators_text}
+use Rattle.dmr_replay.specs.Script.{RepeatedInput, inputs_of_script, script_of}
 
 -- ---- the text
 
@@ -29,15 +29,15 @@ carrier_line number octets = codes "carrier " ++ decimal number ++ codes " " ++ 
 
 -- the line of a carrier of the plan; empty if the plan does not have the number
 abbrev pub line_of_number : Settings → (ℕ → List ℕ) → ℕ → List ℕ
-line_of_number plan put_out number = if has_number_in plan.carriers number then carrier_line number (put_out number) else []
+line_of_number plan octets_written number = if has_number_in plan.carriers number then carrier_line number (octets_written number) else []
 
 -- a line for each carrier of the plan, by number
 abbrev pub lines_to : Settings → (ℕ → List ℕ) → ℕ → List ℕ
-lines_to plan put_out numbers = flat_map (line_of_number plan put_out) (range_with_len 0 numbers)
+lines_to plan octets_written numbers = flat_map (line_of_number plan octets_written) (range_with_len 0 numbers)
 
 -- the whole text: the carriers' lines, and then the operators' text unchanged
 abbrev pub printed_text : Settings → (ℕ → List ℕ) → List ℕ → List ℕ
-printed_text plan put_out console = lines_to plan put_out carriers_of_site ++ console
+printed_text plan octets_written console = lines_to plan octets_written carriers_of_site ++ console
 
 -- ---- the outcome for two files
 
@@ -54,9 +54,9 @@ abbrev pub plan_in : List ℕ → Result Settings PlanFault
 plan_in site = if is_utf8 site then plan_of_text site else Err NotToml
 
 -- the outcome for the lines of a script: the output for their inputs, or the number of the first line at fault
-abbrev pub of_lines : Settings → Result (List Given) ℕ → Outcome
+abbrev pub of_lines : Settings → Result (List RepeatedInput) ℕ → Outcome
 of_lines plan (Err number) = NoLine number
-of_lines plan (Ok given) = Prints (printed_text plan (put_out plan (inputs_of_script given)) (operators_text plan (inputs_of_script given)))
+of_lines plan (Ok given) = Prints (printed_text plan (octets_written plan (inputs_of_script given)) (operators_text plan (inputs_of_script given)))
 
 -- the outcome for a script: a fault if it could not be read
 abbrev pub of_script : Settings → Option (List ℕ) → Outcome
@@ -87,13 +87,13 @@ IsPrinted other old new = ⊥
 
 -- the reported fault is the first one, with the name of a file that could not be read; running out of memory may always be reported
 -- instead
-abbrev pub TellsFault : List ℕ → List ℕ → Outcome → ReplayFault → Type 0
-TellsFault site script SiteNotRead (fault.CannotRead name) = name.now ≡ site
-TellsFault site script ScriptNotRead (fault.CannotRead name) = name.now ≡ script
-TellsFault site script (NoPlan plan_fault) (fault.SiteFile told) = told ≡ plan_fault
-TellsFault site script (NoLine line) (fault.ScriptLine told) = told ≡ line
-TellsFault site script outcome fault.OutOfMemory = ⊤
-TellsFault site script outcome fault = ⊥
+abbrev pub ReportsFault : List ℕ → List ℕ → Outcome → ReplayFault → Type 0
+ReportsFault site script SiteNotRead (fault.CannotRead name) = name.now ≡ site
+ReportsFault site script ScriptNotRead (fault.CannotRead name) = name.now ≡ script
+ReportsFault site script (NoPlan plan_fault) (fault.SiteFile told) = told ≡ plan_fault
+ReportsFault site script (NoLine line) (fault.ScriptLine told) = told ≡ line
+ReportsFault site script outcome fault.OutOfMemory = ⊤
+ReportsFault site script outcome fault = ⊥
 
 -- the exit status of a fault: 4 if memory ran out, else 1
 abbrev pub status_of : ReplayFault → ℕ

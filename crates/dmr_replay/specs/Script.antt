@@ -48,51 +48,51 @@ abbrev pub octets_of_word : List ℕ → Option (List ℕ)
 octets_of_word word = at_least_one (result_ok (decode_of word))
 
 -- an input, and how often it is repeated
-pub record Given : Type 0 where
+pub record RepeatedInput : Type 0 where
   pub input : Input
   pub times : ℕ
 
 -- an input that comes once
-abbrev pub once : Input → Given
+abbrev pub once : Input → RepeatedInput
 once input = record { input = input; times = 1 }
 
 -- the input of `open C`, by the words after the first
-abbrev pub input_of_open : List (List ℕ) → Option Given
+abbrev pub input_of_open : List (List ℕ) → Option RepeatedInput
 input_of_open (carrier ∷ []) = option_map (λ c. once (At c Opening)) (carrier_of_word carrier)
 input_of_open words = None
 
 -- the input of `cut C`, by the words after the first
-abbrev pub input_of_cut : List (List ℕ) → Option Given
+abbrev pub input_of_cut : List (List ℕ) → Option RepeatedInput
 input_of_cut (carrier ∷ []) = option_map (λ c. once (At c Cutting)) (carrier_of_word carrier)
 input_of_cut words = None
 
 -- octets from a carrier, if both words were read
-abbrev pub octets_from : Option ℕ → Option (List ℕ) → Option Given
+abbrev pub octets_from : Option ℕ → Option (List ℕ) → Option RepeatedInput
 octets_from (Some carrier) (Some octets) = Some (once (At carrier (Octets octets)))
 octets_from carrier octets = None
 
 -- the input of `bytes C HEX`, by the words after the first
-abbrev pub arrival : List (List ℕ) → Option Given
-arrival (carrier ∷ digits ∷ []) = octets_from (carrier_of_word carrier) (octets_of_word digits)
-arrival words = None
+abbrev pub input_of_bytes : List (List ℕ) → Option RepeatedInput
+input_of_bytes (carrier ∷ digits ∷ []) = octets_from (carrier_of_word carrier) (octets_of_word digits)
+input_of_bytes words = None
 
 -- the input of `tick` or `tick N`, by the words after the first
-abbrev pub input_of_tick : List (List ℕ) → Option Given
+abbrev pub input_of_tick : List (List ℕ) → Option RepeatedInput
 input_of_tick [] = Some (once Ticking)
 input_of_tick (times ∷ []) = option_map (λ n. record { input = Ticking; times = n }) (count_of_ticks times)
 input_of_tick words = None
 
 -- the input of `text HEX`, by the words after the first
-abbrev pub input_of_text : List (List ℕ) → Option Given
+abbrev pub input_of_text : List (List ℕ) → Option RepeatedInput
 input_of_text (digits ∷ []) = option_map (λ octets. once (Saying octets)) (octets_of_word digits)
 input_of_text words = None
 
 -- the input of a line's words, by the first of them; none if they are not those of a line of a script
-abbrev pub given_by : List (List ℕ) → Option Given
-given_by [] = None
-given_by (name ∷ words) =
+abbrev pub input_of_words : List (List ℕ) → Option RepeatedInput
+input_of_words [] = None
+input_of_words (name ∷ words) =
     if bytes_eq name (codes "open") then input_of_open words else
-    if bytes_eq name (codes "bytes") then arrival words else
+    if bytes_eq name (codes "bytes") then input_of_bytes words else
     if bytes_eq name (codes "cut") then input_of_cut words else
     if bytes_eq name (codes "tick") then input_of_tick words else
     if bytes_eq name (codes "text") then input_of_text words else None
@@ -102,51 +102,51 @@ abbrev pub text_of_say : List ℕ → Option (List ℕ)
 text_of_say line = if bytes_eq (take 4 line) (codes "say ") then Some (drop 4 line) else None
 
 -- the input of a `say` line: an operator's text and an LF; of another line, the input of its words
-abbrev pub said_or : Option (List ℕ) → List (List ℕ) → Option Given
-said_or (Some text) words = Some (once (Saying (text ++ 10 ∷ [])))
-said_or None words = given_by words
+abbrev pub say_or_words : Option (List ℕ) → List (List ℕ) → Option RepeatedInput
+say_or_words (Some text) words = Some (once (Saying (text ++ 10 ∷ [])))
+say_or_words None words = input_of_words words
 
 -- the input of a line that is not skipped; none if it is not a line of a script
-abbrev pub given_by_line : List ℕ → Option Given
-given_by_line line = said_or (text_of_say line) (words_of_script_line line)
+abbrev pub input_of_line : List ℕ → Option RepeatedInput
+input_of_line line = say_or_words (text_of_say line) (words_of_script_line line)
 
 -- ---- the inputs of a script
 
 -- the input of a line; none if the line is skipped or at fault
-abbrev pub given_in : List ℕ → Option Given
-given_in line = if is_skipped line then None else given_by_line line
+abbrev pub line_input : List ℕ → Option RepeatedInput
+line_input line = if is_skipped line then None else input_of_line line
 
 -- whether a line is at fault: it is neither skipped nor a line of a script
 abbrev pub is_faulty_line : List ℕ → Bool
-is_faulty_line line = not (is_skipped line) && is_none (given_by_line line)
+is_faulty_line line = not (is_skipped line) && is_none (input_of_line line)
 
 -- all lines, with their numbers from 1
 abbrev pub numbered_lines : List ℕ → List (ℕ × List ℕ)
 numbered_lines script = enumerate_from 1 (lines_of script)
 
 -- the input of a numbered line; none if the line is skipped or at fault
-abbrev pub given_at : ℕ × List ℕ → Option Given
-given_at line = given_in line.1
+abbrev pub numbered_input : ℕ × List ℕ → Option RepeatedInput
+numbered_input line = line_input line.1
 
 -- the inputs of the lines, unless a line is at fault
-abbrev pub unless_fault : Option (ℕ × List ℕ) → List Given → Result (List Given) ℕ
+abbrev pub unless_fault : Option (ℕ × List ℕ) → List RepeatedInput → Result (List RepeatedInput) ℕ
 unless_fault None given = Ok given
 unless_fault (Some line) given = Err line.0
 
 -- the inputs of a script's lines, in their order, or the number of the first line at fault
-abbrev pub script_of : List ℕ → Result (List Given) ℕ
-script_of script = unless_fault (find (λ line. is_faulty_line line.1) (numbered_lines script)) (filter_map given_at (numbered_lines script))
+abbrev pub script_of : List ℕ → Result (List RepeatedInput) ℕ
+script_of script = unless_fault (find (λ line. is_faulty_line line.1) (numbered_lines script)) (filter_map numbered_input (numbered_lines script))
 
 -- the inputs of a script, each repeated as often as its line says
-abbrev pub inputs_of_script : List Given → List Input
-inputs_of_script given = flat_map (λ (g : Given). replicate g.times g.input) given
+abbrev pub inputs_of_script : List RepeatedInput → List Input
+inputs_of_script given = flat_map (λ (g : RepeatedInput). replicate g.times g.input) given
 
 -- ---- the meaning of the program's values
 
 -- the input of a line, as definitions see it
-abbrev pub given_as : ScriptInput → Given
-given_as (input.Open carrier) = once (At carrier Opening)
-given_as (input.Bytes carrier octets) = once (At carrier (Octets octets.items))
-given_as (input.Cut carrier) = once (At carrier Cutting)
-given_as (input.Tick times) = record { input = Ticking; times = times }
-given_as (input.Text octets) = once (Saying octets.items)
+abbrev pub repeated_input : ScriptInput → RepeatedInput
+repeated_input (input.Open carrier) = once (At carrier Opening)
+repeated_input (input.Bytes carrier octets) = once (At carrier (Octets octets.items))
+repeated_input (input.Cut carrier) = once (At carrier Cutting)
+repeated_input (input.Tick times) = record { input = Ticking; times = times }
+repeated_input (input.Text octets) = once (Saying octets.items)

@@ -3,9 +3,9 @@
 ghost use Rattle.std.specs.Prelude.{◌≡◌, ◌⊎◌, ℕ, [], IfErr, IfOk, IsErrAnd, MatchResult, Ok, OnOk, false, map, option_map, slice_index_or, string_bytes};
 ghost use Rattle.std.specs.Io.KnownBytes.{Appends};
 ghost use Rattle.dmr_link.specs.Input.{input_of};
-ghost use Rattle.dmr_replay.specs.Inputs.{put_out, operators_text};
-ghost use Rattle.dmr_replay.specs.Script.{given_as, inputs_of_script, script_of};
-ghost use Rattle.dmr_replay.specs.Replay.{IsPrinted, Prints, TellsFault, carrier_line, digits_or_dash, is_printed, outcome, plan_in, printed_text, status_of};
+ghost use Rattle.dmr_replay.specs.Inputs.{octets_written, operators_text};
+ghost use Rattle.dmr_replay.specs.Script.{repeated_input, inputs_of_script, script_of};
+ghost use Rattle.dmr_replay.specs.Replay.{IsPrinted, Prints, ReportsFault, carrier_line, digits_or_dash, is_printed, outcome, plan_in, printed_text, status_of};
 
 use crate::script::{ScriptFault, ScriptInput, read_script};
 use crate::status::{FAULT, MEMORY, OK};
@@ -75,7 +75,7 @@ pub fn replay<'a, W: Write, E: Write>(
     ensures status { (result ≡ OK) ⊎ (result ≡ FAULT) ⊎ (result ≡ MEMORY) }
 {
     let printed = match text_of_replay(alloc, site_name, site, script_name, script) {
-        Ok(text) => print(&text, out),
+        Ok(text) => print_text(&text, out),
         Err(fault) => Err(fault),
     };
     match printed {
@@ -88,7 +88,7 @@ pub fn replay<'a, W: Write, E: Write>(
 }
 
 /// Writes the whole text, and flushes the writer.
-fn print<'a, W: Write>(text: &[u8], out: &mut W) -> Result<(), ReplayFault<'a>>
+fn print_text<'a, W: Write>(text: &[u8], out: &mut W) -> Result<(), ReplayFault<'a>>
     ensures whole { OnOk result (Appends (W.contents out.old) (W.contents out.new) text.now) }
     ensures fault { IfErr result (λ fault. fault ≡ ReplayFault.CannotWrite) }
 {
@@ -109,10 +109,10 @@ fn text_of_replay<'a>(
 ) -> Result<Vec<u8>, ReplayFault<'a>>
     ensures { MatchResult result
         (λ text. outcome (option_map (λ o. o.now) site.entry) (option_map (λ o. o.now) script.entry) ≡ Prints text.items)
-        (TellsFault site_name.now script_name.now (outcome (option_map (λ o. o.now) site.entry) (option_map (λ o. o.now) script.entry))) }
+        (ReportsFault site_name.now script_name.now (outcome (option_map (λ o. o.now) site.entry) (option_map (λ o. o.now) script.entry))) }
 {
     let plan = plan_of(alloc, site.ok_or(ReplayFault::CannotRead(site_name))?)?;
-    let given = given_by(alloc, script.ok_or(ReplayFault::CannotRead(script_name))?)?;
+    let given = lines_by(alloc, script.ok_or(ReplayFault::CannotRead(script_name))?)?;
     match text_of_inputs(alloc, &plan, given.as_slice()) {
         Ok(text) => Ok(text),
         Err(OutOfMemory) => Err(ReplayFault::OutOfMemory),
@@ -137,9 +137,9 @@ pub fn plan_of<'a>(alloc: Global, site: &[u8]) -> Result<Plan, ReplayFault<'a>>
 }
 
 /// Returns the inputs of a script's lines. The error is the number of the first line at fault, or `OutOfMemory`.
-fn given_by<'a>(alloc: Global, script: &[u8]) -> Result<Vec<ScriptInput>, ReplayFault<'a>>
+fn lines_by<'a>(alloc: Global, script: &[u8]) -> Result<Vec<ScriptInput>, ReplayFault<'a>>
     ensures { MatchResult result
-        (λ given. script_of script.now ≡ Ok (map given_as given.items))
+        (λ given. script_of script.now ≡ Ok (map repeated_input given.items))
         (λ fault. (fault ≡ ReplayFault.OutOfMemory) ⊎ IsErrAnd (script_of script.now) (λ line. fault ≡ ReplayFault.ScriptLine line)) }
 {
     match read_script(alloc, script) {
@@ -161,7 +161,7 @@ fn inputs_in(given: &[ScriptInput]) -> Option<usize> {
 /// Returns the inputs of these lines. Their memory is allocated at once, so a script with more ticks than fit is
 /// refused before the first input is stored.
 fn inputs_of<'a>(alloc: Global, given: &'a [ScriptInput]) -> Result<Vec<Input<'a>>, OutOfMemory>
-    ensures { IfOk result (λ inputs. map input_of inputs.items ≡ inputs_of_script (map given_as given.entry.now)) }
+    ensures { IfOk result (λ inputs. map input_of inputs.items ≡ inputs_of_script (map repeated_input given.entry.now)) }
 {
     let count = inputs_in(given).ok_or(OutOfMemory)?;
     let mut inputs = Vec::with_capacity(alloc, count)?;
@@ -176,9 +176,9 @@ fn inputs_of<'a>(alloc: Global, given: &'a [ScriptInput]) -> Result<Vec<Input<'a
 }
 
 /// Returns the output for these inputs, from a new site without connections.
-#[tactic(auto, using(crate::proofs::EngineLemmas::run_text, crate::proofs::EngineLemmas::run_told))]
+#[tactic(auto, using(crate::proofs::EngineLemmas::run_text, crate::proofs::EngineLemmas::run_reported))]
 fn outputs_of(alloc: Global, plan: &Plan, inputs: &[Input<'_>]) -> Result<Outputs, OutOfMemory>
-    ensures carriers { IfOk result (λ outputs. (c : ℕ) → slice_index_or outputs.carriers c [] ≡ put_out plan.now (map input_of inputs.now) c) }
+    ensures carriers { IfOk result (λ outputs. (c : ℕ) → slice_index_or outputs.carriers c [] ≡ octets_written plan.now (map input_of inputs.now) c) }
     ensures console { IfOk result (λ outputs. outputs.console ≡ operators_text plan.now (map input_of inputs.now)) }
 {
     one_legal_journal();
@@ -193,7 +193,7 @@ fn outputs_of(alloc: Global, plan: &Plan, inputs: &[Input<'_>]) -> Result<Output
 
 /// Returns the text that is printed for these lines.
 fn text_of_inputs(alloc: Global, plan: &Plan, given: &[ScriptInput]) -> Result<Vec<u8>, OutOfMemory>
-    ensures { IfOk result (λ text. text.items ≡ printed_text plan.now (put_out plan.now (inputs_of_script (map given_as given.now))) (operators_text plan.now (inputs_of_script (map given_as given.now)))) }
+    ensures { IfOk result (λ text. text.items ≡ printed_text plan.now (octets_written plan.now (inputs_of_script (map repeated_input given.now))) (operators_text plan.now (inputs_of_script (map repeated_input given.now)))) }
 {
     let inputs = inputs_of(alloc, given)?;
     let outputs = outputs_of(alloc, plan, inputs.as_slice())?;

@@ -6,7 +6,7 @@
 
 ghost use Rattle.std.specs.Prelude.{◌≡◌, ◌≤◌, ◌++◌, ◌∷◌, [], ℕ, Ok, Err, IfOk, IfSome, map, option_map};
 ghost use Rattle.dmr_link.specs.Input.{input_of};
-ghost use Rattle.dmr_replay.specs.Script.{arrival, carrier_of_word, input_of_cut, given_as, given_by, given_by_line, is_skipped, number_of_word, octets_of_word, input_of_open, script_of, input_of_text, input_of_tick, count_of_ticks as times_of_word, words_of_script_line};
+ghost use Rattle.dmr_replay.specs.Script.{input_of_bytes, carrier_of_word, input_of_cut, repeated_input, input_of_words, input_of_line, is_skipped, number_of_word, octets_of_word, input_of_open, script_of, input_of_text, input_of_tick, count_of_ticks as times_of_word, words_of_script_line};
 
 use dmr_console::number_in;
 use dmr_link::Input;
@@ -43,7 +43,7 @@ pub enum ScriptFault {
 impl ScriptInput {
     /// Returns the engine's input for the line.
     pub fn as_input(&self) -> Input<'_>
-        ensures { input_of result ≡ (given_as self.entry.now).input }
+        ensures { input_of result ≡ (repeated_input self.entry.now).input }
     {
         match self {
             ScriptInput::Open(carrier) => Input::Open(*carrier),
@@ -56,7 +56,7 @@ impl ScriptInput {
 
     /// Returns how often the input is repeated: the number of ticks, or 1.
     pub fn times(&self) -> u32
-        ensures { result ≡ (given_as self.now).times }
+        ensures { result ≡ (repeated_input self.now).times }
     {
         match self {
             ScriptInput::Tick(times) => *times,
@@ -68,14 +68,14 @@ impl ScriptInput {
 /// Reads the lines of a script, in their order. The error is the number of the first line at fault, or `OutOfMemory`.
 pub fn read_script(alloc: Global, script: &[u8]) -> Result<Vec<ScriptInput>, ScriptFault>
     // The result is the inputs of all lines, and no line is at fault.
-    ensures lines { IfOk result (λ given. script_of script.now ≡ Ok (map given_as given.items)) }
+    ensures lines { IfOk result (λ given. script_of script.now ≡ Ok (map repeated_input given.items)) }
     // If a line number is returned, it is that of the first line at fault.
     ensures fault { (number : ℕ) → result ≡ Err (ScriptFault.Line number) → script_of script.now ≡ Err number }
 {
     let mut given = Vec::new(alloc);
     for (index, line) in script.split(|octet| *octet == b'\n').enumerate() {
         if !is_skipped(line) {
-            match given_in(alloc, line) {
+            match parse_line(alloc, line) {
                 Ok(Some(input)) => {
                     if given.push(input).is_err() {
                         return Err(ScriptFault::OutOfMemory);
@@ -100,20 +100,20 @@ fn is_skipped(line: &[u8]) -> bool
 }
 
 /// Reads a line that is not skipped. `None` if it is not a line of a script.
-fn given_in(alloc: Global, line: &[u8]) -> Result<Option<ScriptInput>, OutOfMemory>
-    ensures { IfOk result (λ input. option_map given_as input ≡ given_by_line line.now) }
+fn parse_line(alloc: Global, line: &[u8]) -> Result<Option<ScriptInput>, OutOfMemory>
+    ensures { IfOk result (λ input. option_map repeated_input input ≡ input_of_line line.now) }
 {
     match line.strip_prefix(b"say ") {
-        Some(text) => Ok(Some(ScriptInput::Text(ended(alloc, text)?))),
+        Some(text) => Ok(Some(ScriptInput::Text(with_line_feed(alloc, text)?))),
         None => {
             let words = words_of(alloc, line)?;
-            given_by(alloc, words.as_slice())
+            parse_words(alloc, words.as_slice())
         }
     }
 }
 
 /// Returns a text and an LF.
-fn ended(alloc: Global, text: &[u8]) -> Result<Vec<u8>, OutOfMemory>
+fn with_line_feed(alloc: Global, text: &[u8]) -> Result<Vec<u8>, OutOfMemory>
     ensures { IfOk result (λ line. line.items ≡ text.now ++ 10 ∷ []) }
 {
     let mut line = Vec::new(alloc);
@@ -130,30 +130,30 @@ fn words_of(alloc: Global, line: &[u8]) -> Result<Vec<&[u8]>, OutOfMemory>
 }
 
 /// Reads the words of a line. `None` if they are not those of a line of a script.
-fn given_by(alloc: Global, words: &[&[u8]]) -> Result<Option<ScriptInput>, OutOfMemory>
-    ensures { IfOk result (λ input. option_map given_as input ≡ given_by (map (λ word. word.now) words.now)) }
+fn parse_words(alloc: Global, words: &[&[u8]]) -> Result<Option<ScriptInput>, OutOfMemory>
+    ensures { IfOk result (λ input. option_map repeated_input input ≡ input_of_words (map (λ word. word.now) words.now)) }
 {
     let [name, arguments @ ..] = words else {
         return Ok(None);
     };
     if *name == b"open".as_slice() {
-        Ok(opening(arguments))
+        Ok(parse_open(arguments))
     } else if *name == b"bytes".as_slice() {
-        arrival(alloc, arguments)
+        parse_bytes(alloc, arguments)
     } else if *name == b"cut".as_slice() {
-        Ok(cutting(arguments))
+        Ok(parse_cut(arguments))
     } else if *name == b"tick".as_slice() {
-        Ok(ticking(arguments))
+        Ok(parse_tick(arguments))
     } else if *name == b"text".as_slice() {
-        telling(alloc, arguments)
+        parse_text(alloc, arguments)
     } else {
         Ok(None)
     }
 }
 
 /// Reads the words after `open`: one word, C.
-fn opening(words: &[&[u8]]) -> Option<ScriptInput>
-    ensures { option_map given_as result ≡ input_of_open (map (λ word. word.now) words.now) }
+fn parse_open(words: &[&[u8]]) -> Option<ScriptInput>
+    ensures { option_map repeated_input result ≡ input_of_open (map (λ word. word.now) words.now) }
 {
     match words {
         [carrier] => carrier_of(carrier).map(|carrier| ScriptInput::Open(carrier)),
@@ -162,8 +162,8 @@ fn opening(words: &[&[u8]]) -> Option<ScriptInput>
 }
 
 /// Reads the words after `cut`: one word, C.
-fn cutting(words: &[&[u8]]) -> Option<ScriptInput>
-    ensures { option_map given_as result ≡ input_of_cut (map (λ word. word.now) words.now) }
+fn parse_cut(words: &[&[u8]]) -> Option<ScriptInput>
+    ensures { option_map repeated_input result ≡ input_of_cut (map (λ word. word.now) words.now) }
 {
     match words {
         [carrier] => carrier_of(carrier).map(|carrier| ScriptInput::Cut(carrier)),
@@ -172,8 +172,8 @@ fn cutting(words: &[&[u8]]) -> Option<ScriptInput>
 }
 
 /// Reads the words after `tick`: none, or one, N.
-fn ticking(words: &[&[u8]]) -> Option<ScriptInput>
-    ensures { option_map given_as result ≡ input_of_tick (map (λ word. word.now) words.now) }
+fn parse_tick(words: &[&[u8]]) -> Option<ScriptInput>
+    ensures { option_map repeated_input result ≡ input_of_tick (map (λ word. word.now) words.now) }
 {
     match words {
         [] => Some(ScriptInput::Tick(1)),
@@ -183,8 +183,8 @@ fn ticking(words: &[&[u8]]) -> Option<ScriptInput>
 }
 
 /// Reads the words after `bytes`: two words, C and HEX.
-fn arrival(alloc: Global, words: &[&[u8]]) -> Result<Option<ScriptInput>, OutOfMemory>
-    ensures { IfOk result (λ input. option_map given_as input ≡ arrival (map (λ word. word.now) words.now)) }
+fn parse_bytes(alloc: Global, words: &[&[u8]]) -> Result<Option<ScriptInput>, OutOfMemory>
+    ensures { IfOk result (λ input. option_map repeated_input input ≡ input_of_bytes (map (λ word. word.now) words.now)) }
 {
     let [carrier, digits] = words else {
         return Ok(None);
@@ -197,8 +197,8 @@ fn arrival(alloc: Global, words: &[&[u8]]) -> Result<Option<ScriptInput>, OutOfM
 }
 
 /// Reads the words after `text`: one word, HEX.
-fn telling(alloc: Global, words: &[&[u8]]) -> Result<Option<ScriptInput>, OutOfMemory>
-    ensures { IfOk result (λ input. option_map given_as input ≡ input_of_text (map (λ word. word.now) words.now)) }
+fn parse_text(alloc: Global, words: &[&[u8]]) -> Result<Option<ScriptInput>, OutOfMemory>
+    ensures { IfOk result (λ input. option_map repeated_input input ≡ input_of_text (map (λ word. word.now) words.now)) }
 {
     let [digits] = words else {
         return Ok(None);

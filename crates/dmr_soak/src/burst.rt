@@ -1,7 +1,7 @@
 //! The ten octets of a PDU and their burst, by the tables of the formats.
 
 /// The octets of a PDU.
-pub type Pdu = [u8; 10];
+pub type PduOctets = [u8; 10];
 
 /// The octets of a burst: 196 places, and four bits that are 0.
 pub type Burst = [u8; 25];
@@ -23,7 +23,7 @@ static COLUMN_SUMS: [(usize, &[usize]); 4] = [
 ];
 
 /// Returns the octets of a PDU: its first octet, feature set 0, 16 bits, and two numbers of 24 bits.
-pub fn pdu_of(first: u8, half: u16, upper: u32, lower: u32) -> Pdu {
+pub fn pdu_of(first: u8, half: u16, upper: u32, lower: u32) -> PduOctets {
     let [high, low] = half.to_be_bytes();
     let [_, a, b, c] = upper.to_be_bytes();
     let [_, d, e, f] = lower.to_be_bytes();
@@ -31,7 +31,7 @@ pub fn pdu_of(first: u8, half: u16, upper: u32, lower: u32) -> Pdu {
 }
 
 /// Returns the check of ten octets: the remainder of their polynomial, bit by bit, complemented and masked.
-pub fn check_of(pdu: &Pdu) -> u16 {
+pub fn check_of(pdu: &PduOctets) -> u16 {
     let mut remainder = 0u16;
     for octet in pdu {
         remainder ^= u16::from(*octet) << 8;
@@ -95,7 +95,7 @@ pub fn flip(burst: &mut Burst, place: usize) {
 
 /// Returns the burst of a PDU: the cells of its rows, row by row from index 1 on, each 181 places after the previous
 /// one.
-pub fn burst_of(pdu: &Pdu) -> Burst {
+pub fn burst_of(pdu: &PduOctets) -> Burst {
     let [a, b, c, d, e, f, g, h, i, j] = *pdu;
     let [high, low] = check_of(pdu).to_be_bytes();
     let mut burst = [0; 25];

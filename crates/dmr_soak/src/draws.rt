@@ -2,7 +2,7 @@
 
 ghost use Rattle.std.specs.Prelude.{◌<◌};
 
-use crate::model::{Model, Request, Stage};
+use crate::model::{Model, ModelRequest, RequestStage};
 use rand_core::utils::NextWord;
 use rand_pcg::Pcg32;
 
@@ -56,7 +56,7 @@ impl Draws {
     }
 
     /// Draws a request at a stage, if there is one.
-    pub fn request(&mut self, model: &Model, stage: Stage) -> Option<Request> {
+    pub fn request(&mut self, model: &Model, stage: RequestStage) -> Option<ModelRequest> {
         model.nth(stage, self.place(model.number(stage)))
     }
 }

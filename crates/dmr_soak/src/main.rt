@@ -53,9 +53,9 @@ mod scene;
 mod traffic;
 mod vectors;
 
-use crate::model::{Link, Model};
+use crate::model::{ConnectionState, Model};
 use crate::scene::{SIXTEEN_CARRIERS, SIXTEEN_NUMBERED, Scene, TWO_CARRIERS, TWO_NUMBERED};
-use crate::traffic::{Meaning, OPERATORS, Step, Traffic};
+use crate::traffic::{Meaning, NextInput, OPERATORS, Traffic};
 use crate::vectors::{codes_as_the_formats, registers_as_shown, registers_once};
 use dmr_link::{Engine, Input, Outputs};
 use dmr_pdu::{CarrierNo, OutOfMemory};
@@ -66,16 +66,16 @@ use std::{env, io};
 
 /// Counts of events with names.
 #[derive(Clone, Copy)]
-pub struct Counts {
+pub struct SoakCounts {
     names: &'static str,
     counts: [u64; 30],
 }
 
-impl Counts {
+impl SoakCounts {
     /// Returns zero counts for these names, which commas separate.
-    pub fn new(names: &'static str) -> Counts {
+    pub fn new(names: &'static str) -> SoakCounts {
         let counts = [0; 30];
-        Counts { names, counts }
+        SoakCounts { names, counts }
     }
 
     /// Counts an event.
@@ -98,17 +98,17 @@ impl Counts {
 
 /// An engine, the model, and the traffic for both.
 #[derive(Drop)]
-struct Run {
+struct SoakRun {
     alloc: Global,
     engine: Engine,
     model: Model,
     traffic: Traffic,
 }
 
-impl Run {
+impl SoakRun {
     /// Returns the engine and the model of a new site, with the traffic that a seed draws. Returns `None` if the site
     /// file is refused.
-    fn new(alloc: Global, site: &Scene, seed: u64) -> Result<Option<Run>, OutOfMemory> {
+    fn new(alloc: Global, site: &Scene, seed: u64) -> Result<Option<SoakRun>, OutOfMemory> {
         let text = format!(in alloc; "{}{}", site.key, site.text)?;
         let Ok(plan) = Plan::read(alloc, text.as_str()) else {
             return Ok(None);
@@ -122,7 +122,7 @@ impl Run {
             }
         };
         match Engine::new(alloc, plan) {
-            Ok(engine) => Ok(Some(Run {
+            Ok(engine) => Ok(Some(SoakRun {
                 alloc,
                 engine,
                 model,
@@ -138,25 +138,25 @@ impl Run {
 
     /// Hands the next input to the engine and the model. Returns the octets that the party that wrote octets should
     /// receive.
-    fn step(&mut self, step: &Step, outputs: &mut Outputs) -> Result<Vec<u8>, OutOfMemory> {
+    fn step(&mut self, step: &NextInput, outputs: &mut Outputs) -> Result<Vec<u8>, OutOfMemory> {
         let mut text = Vec::new(self.alloc);
         match step {
-            Step::Turn(carrier, link) => {
+            NextInput::Turn(carrier, link) => {
                 if let Some(number) = CarrierNo::try_new(u32::from(*carrier)) {
                     let input = match link {
-                        Link::Open => Input::Open(number),
+                        ConnectionState::Open => Input::Open(number),
                         _ => Input::Cut(number),
                     };
                     self.engine.step(input, outputs)?;
                 }
-                self.model.turn(*carrier, *link);
+                self.model.set_connection(*carrier, *link);
             }
-            Step::Tick => {
+            NextInput::Tick => {
                 self.engine.step(Input::Tick, outputs)?;
                 self.model.tick()?;
             }
-            Step::Piece(party, count) => {
-                let (octets, meanings) = self.traffic.come(*party, *count)?;
+            NextInput::Piece(party, count) => {
+                let (octets, meanings) = self.traffic.take_piece(*party, *count)?;
                 let input = match CarrierNo::try_new(u32::from(*party)) {
                     Some(carrier) => Input::Bytes(carrier, octets.as_slice()),
                     None => Input::Text(octets.as_slice()),
@@ -187,8 +187,8 @@ impl Run {
 
 /// Returns whether a party receives other octets than it should: `text` for the party that wrote octets, otherwise
 /// nothing.
-fn is_other(outputs: &Outputs, party: u8, step: &Step, text: &[u8]) -> bool {
-    let is_writer = matches!(step, Step::Piece(writer, _) if *writer == party);
+fn is_other(outputs: &Outputs, party: u8, step: &NextInput, text: &[u8]) -> bool {
+    let is_writer = matches!(step, NextInput::Piece(writer, _) if *writer == party);
     let wanted = if is_writer { text } else { &[] };
     match CarrierNo::try_new(u32::from(party)) {
         Some(carrier) => outputs.carrier(carrier) != wanted,
@@ -225,7 +225,7 @@ fn show<R: Print + AllocGlobal>(rt: &R, site: &Scene, wish: (u32, u64, bool)) ->
         "{} carriers, link_version {}: ",
         site.carriers, site.version
     )?;
-    let Some(mut run) = Run::new(rt.alloc(), site, wish.1)? else {
+    let Some(mut run) = SoakRun::new(rt.alloc(), site, wish.1)? else {
         println!(rt; "the site file is refused")?;
         return Ok(false);
     };
@@ -235,7 +235,7 @@ fn show<R: Print + AllocGlobal>(rt: &R, site: &Scene, wish: (u32, u64, bool)) ->
 }
 
 /// Runs the requested number of inputs and prints the result. Returns whether all octets were as they should be.
-fn show_run<R: Print>(rt: &R, run: &mut Run, wish: (u32, u64, bool)) -> io::Result<bool> {
+fn show_run<R: Print>(rt: &R, run: &mut SoakRun, wish: (u32, u64, bool)) -> io::Result<bool> {
     let (inputs, _, counts) = wish;
     for input in 1..=inputs {
         if let Some(party) = run.test()? {

@@ -1,9 +1,9 @@
 //! The reference model: the state of a site and the octets that it writes, by the rules in the documents, without the
 //! product.
 
-use crate::Counts;
-use crate::burst::{Pdu, burst_of, pdu_of};
-use crate::scene::{Scene, Slot};
+use crate::SoakCounts;
+use crate::burst::{PduOctets, burst_of, pdu_of};
+use crate::scene::{ModelSlot, Scene};
 use crate::traffic::Meaning;
 use dmr_pdu::OutOfMemory;
 use std::alloc::Global;
@@ -27,7 +27,7 @@ static REASONS: [u16; 15] = [
 
 /// The state of a carrier's connection.
 #[derive(Clone, Copy, PartialEq, Eq)]
-pub enum Link {
+pub enum ConnectionState {
     /// No connection is open, or it has ended: octets have no effect.
     Closed,
     /// It is open, and HELLO has to follow.
@@ -37,14 +37,14 @@ pub enum Link {
 
 /// The numbers on a carrier's connection: of its last RX and of the next TX to it, if they have numbers.
 #[derive(Clone, Copy)]
-struct Numbers {
+struct LinkNumbers {
     heard: Option<u8>,
     next: Option<u8>,
 }
 
 /// The stage of a request.
 #[derive(Clone, Copy, PartialEq, Eq)]
-pub enum Stage {
+pub enum RequestStage {
     /// The called radio was asked, and its answer is awaited.
     Ask,
     Line,
@@ -53,8 +53,8 @@ pub enum Stage {
 
 /// An active request.
 #[derive(Clone, Copy)]
-pub struct Request {
-    pub stage: Stage,
+pub struct ModelRequest {
+    pub stage: RequestStage,
     pub source: u32,
     /// A radio or a talkgroup.
     pub target: u32,
@@ -66,21 +66,21 @@ pub struct Request {
     pub age: u32,
     /// The ticks since a call began or was last active, and its slot.
     pub quiet: u32,
-    pub slot: Slot,
+    pub slot: ModelSlot,
 }
 
 /// The state of a site.
 #[derive(Drop)]
 pub struct Model {
     pub scene: Scene,
-    pub counts: Counts,
-    links: [Link; 16],
-    numbers: [Numbers; 16],
+    pub counts: SoakCounts,
+    links: [ConnectionState; 16],
+    numbers: [LinkNumbers; 16],
     pub registered: Vec<u32>,
     /// The requests. The one that has been at its stage for longest is first.
-    pub requests: Vec<Request>,
+    pub requests: Vec<ModelRequest>,
     /// The PDUs that wait for each slot.
-    outboxes: Vec<VecDeque<Pdu>>,
+    outboxes: Vec<VecDeque<PduOctets>>,
     /// For each noise on the control slot, the number of polls of the control carrier before it.
     noises: VecDeque<u64>,
     /// The number of polls of the control carrier since it came up.
@@ -89,23 +89,23 @@ pub struct Model {
     pub moving: Option<u32>,
     /// The number of Fills since the control carrier came up, and the slot of the last late entry since then.
     fills: u64,
-    last_entry: Option<Slot>,
+    last_entry: Option<ModelSlot>,
 }
 
 /// Returns the grant of a call.
-fn grant_of(call: &Request, is_late: bool) -> Pdu {
+fn grant_of(call: &ModelRequest, is_late: bool) -> PduOctets {
     let half = named(call.slot) | u16::from(is_late) << 2;
     pdu_of(0xB0 + u8::from(call.group), half, call.target, call.source)
 }
 
 /// Returns the numbers after a HELLO of a version.
-fn first_numbers(version: u8) -> Numbers {
+fn first_numbers(version: u8) -> LinkNumbers {
     let next = if version == 2 { Some(0) } else { None };
-    Numbers { heard: None, next }
+    LinkNumbers { heard: None, next }
 }
 
 /// Returns a slot as grants name it: the carrier's channel in 12 bits, and then the side.
-fn named(slot: Slot) -> u16 {
+fn named(slot: ModelSlot) -> u16 {
     (u16::from(slot.carrier) + 1) << 4 | u16::from(slot.side) << 3
 }
 
@@ -118,8 +118,8 @@ impl Model {
         }
         Ok(Model {
             scene: *scene,
-            counts: Counts::new(NAMES),
-            links: [Link::Closed; 16],
+            counts: SoakCounts::new(NAMES),
+            links: [ConnectionState::Closed; 16],
             numbers: [first_numbers(1); 16],
             registered: Vec::new(alloc),
             requests: Vec::new(alloc),
@@ -134,11 +134,11 @@ impl Model {
 
     /// Returns whether a carrier is up.
     pub fn is_up(&self, carrier: u8) -> bool {
-        self.links.get(usize::from(carrier)) == Some(&Link::Up)
+        self.links.get(usize::from(carrier)) == Some(&ConnectionState::Up)
     }
 
     /// Returns the number of PDUs that wait for a slot.
-    pub fn waiting(&self, slot: Slot) -> usize {
+    pub fn waiting(&self, slot: ModelSlot) -> usize {
         let outbox = self.outboxes.get(slot.place());
         outbox.map_or(0, |outbox| outbox.len())
     }
@@ -154,34 +154,34 @@ impl Model {
     }
 
     /// Returns the request that engages a radio: one with this source, or with this called radio.
-    pub fn engaging(&self, radio: u32) -> Option<Request> {
-        let is_of = |other: &&Request| radio == other.source
+    pub fn engaging(&self, radio: u32) -> Option<ModelRequest> {
+        let is_of = |other: &&ModelRequest| radio == other.source
             || !other.group && radio == other.target;
         self.requests.iter().find(is_of).copied()
     }
 
     /// Returns the request at a stage that has `before` requests before it.
-    pub fn nth(&self, stage: Stage, before: usize) -> Option<Request> {
+    pub fn nth(&self, stage: RequestStage, before: usize) -> Option<ModelRequest> {
         let requests = self.requests.iter();
         let mut requests = requests.filter(|request| request.stage == stage);
         requests.nth(before).copied()
     }
 
     /// Returns the number of requests at a stage.
-    pub fn number(&self, stage: Stage) -> usize {
+    pub fn number(&self, stage: RequestStage) -> usize {
         let requests = self.requests.iter();
         requests.filter(|request| request.stage == stage).count()
     }
 
     /// Returns the call on a slot.
-    pub fn call_on(&self, slot: Slot) -> Option<Request> {
-        let is_on = |call: &&Request| call.stage == Stage::Call && call.slot == slot;
+    pub fn call_on(&self, slot: ModelSlot) -> Option<ModelRequest> {
+        let is_on = |call: &&ModelRequest| call.stage == RequestStage::Call && call.slot == slot;
         self.requests.iter().find(is_on).copied()
     }
 
     /// Returns whether a call can take a slot. The slot's carrier is up, and it is not the control slot. It has no
     /// call, nothing waits for it, and no waiting grant names it.
-    pub fn is_free(&self, slot: Slot) -> bool {
+    pub fn is_free(&self, slot: ModelSlot) -> bool {
         let control = self.scene.control_slot();
         let mut queued = self.outboxes.get(control.place()).into_iter().flatten();
         let is_granted = queued.any(|pdu| {
@@ -193,10 +193,10 @@ impl Model {
     }
 
     /// Returns the lowest free slot.
-    pub fn free_slot(&self) -> Option<Slot> {
+    pub fn free_slot(&self) -> Option<ModelSlot> {
         for carrier in 0..self.scene.carriers {
             for side in 0..2 {
-                let slot = Slot { carrier, side };
+                let slot = ModelSlot { carrier, side };
                 if self.is_free(slot) {
                     return Some(slot);
                 }
@@ -205,7 +205,7 @@ impl Model {
         None
     }
 
-    fn queue(&mut self, slot: Slot, times: u32, pdu: Pdu) -> Result<(), OutOfMemory> {
+    fn queue(&mut self, slot: ModelSlot, times: u32, pdu: PduOctets) -> Result<(), OutOfMemory> {
         if let Some(outbox) = self.outboxes.get_mut(slot.place()) {
             for _ in 0..times {
                 outbox.push_back(pdu)?;
@@ -215,7 +215,7 @@ impl Model {
     }
 
     /// Queues the acknowledgement of a request, with the reason of this name.
-    pub fn acknowledge(&mut self, request: &Request, name: &str) -> Result<(), OutOfMemory> {
+    pub fn acknowledge(&mut self, request: &ModelRequest, name: &str) -> Result<(), OutOfMemory> {
         self.counts.add(name);
         let place = NAMES.split(", ").position(|other| other == name);
         let reason = REASONS.get(place.unwrap_or(0)).copied().unwrap_or(0);
@@ -225,7 +225,7 @@ impl Model {
     }
 
     /// Queues the grant of a call.
-    pub fn grant(&mut self, call: &Request, is_late: bool) -> Result<(), OutOfMemory> {
+    pub fn grant(&mut self, call: &ModelRequest, is_late: bool) -> Result<(), OutOfMemory> {
         self.counts
             .add(if is_late { "late grants" } else { "grants" });
         let control = self.scene.control_slot();
@@ -233,7 +233,7 @@ impl Model {
     }
 
     /// Asks the called radio.
-    pub fn ask(&mut self, ask: &Request) -> Result<(), OutOfMemory> {
+    pub fn ask(&mut self, ask: &ModelRequest) -> Result<(), OutOfMemory> {
         self.counts.add("C_AHOY");
         self.requests.push(*ask)?;
         let pdu = pdu_of(0x9C, ask.options << 9, ask.target, ask.source);
@@ -242,22 +242,22 @@ impl Model {
     }
 
     /// Begins a call on a slot.
-    pub fn begin(&mut self, slot: Slot, request: &Request) -> Result<(), OutOfMemory> {
+    pub fn begin(&mut self, slot: ModelSlot, request: &ModelRequest) -> Result<(), OutOfMemory> {
         let mut call = *request;
-        (call.stage, call.slot) = (Stage::Call, slot);
+        (call.stage, call.slot) = (RequestStage::Call, slot);
         (call.age, call.quiet) = (0, 0);
         self.requests.push(call)?;
         self.grant(&call, false)
     }
 
     /// Removes a request.
-    pub fn remove(&mut self, request: &Request) {
+    pub fn remove(&mut self, request: &ModelRequest) {
         let source = request.source;
         self.requests.retain(|other| other.source != source);
     }
 
     /// Ends a call and queues its P_CLEAR.
-    pub fn clear(&mut self, call: &Request) -> Result<(), OutOfMemory> {
+    pub fn clear(&mut self, call: &ModelRequest) -> Result<(), OutOfMemory> {
         self.counts.add("P_CLEAR");
         self.remove(call);
         let half = named(self.scene.control_slot()) | u16::from(call.group);
@@ -268,7 +268,7 @@ impl Model {
     fn empty(&mut self, carrier: u8) {
         self.counts.add("carriers lost");
         for side in 0..2 {
-            let slot = Slot { carrier, side };
+            let slot = ModelSlot { carrier, side };
             if let Some(outbox) = self.outboxes.get_mut(slot.place()) {
                 outbox.clear();
             }
@@ -277,7 +277,8 @@ impl Model {
             }
         }
         if carrier == self.scene.control {
-            self.requests.retain(|request| request.stage == Stage::Call);
+            self.requests
+                .retain(|request| request.stage == RequestStage::Call);
             self.noises.clear();
             self.polls = 0;
             (self.fills, self.last_entry) = (0, None);
@@ -285,7 +286,7 @@ impl Model {
     }
 
     /// Sets the state of a connection. A carrier that was up is lost.
-    pub fn turn(&mut self, carrier: u8, link: Link) {
+    pub fn set_connection(&mut self, carrier: u8, link: ConnectionState) {
         if self.is_up(carrier) {
             self.empty(carrier);
         }
@@ -310,8 +311,8 @@ impl Model {
     fn receive(
         &mut self,
         number: Option<u8>,
-        slot: Slot,
-        pdu: &Option<Pdu>,
+        slot: ModelSlot,
+        pdu: &Option<PduOctets>,
     ) -> Result<(), OutOfMemory> {
         if self.repeats(slot.carrier, number) {
             self.counts.add("repeats");
@@ -319,7 +320,7 @@ impl Model {
         }
         match pdu {
             _ if slot != self.scene.control_slot() => {}
-            Some(pdu) => self.heard(pdu)?,
+            Some(pdu) => self.answer_pdu(pdu)?,
             None => self.noises.push_back(self.polls)?,
         }
         Ok(())
@@ -327,7 +328,7 @@ impl Model {
 
     /// Marks a carrier as up after a HELLO of a version, and adds the WELCOME to the end of `text`.
     fn welcome(&mut self, carrier: u8, version: u8, text: &mut Vec<u8>) -> Result<(), OutOfMemory> {
-        self.turn(carrier, Link::Up);
+        self.set_connection(carrier, ConnectionState::Up);
         if let Some(numbers) = self.numbers.get_mut(usize::from(carrier)) {
             *numbers = first_numbers(version);
         }
@@ -342,34 +343,38 @@ impl Model {
         text: &mut Vec<u8>,
     ) -> Result<(), OutOfMemory> {
         let link = self.links.get(usize::from(carrier)).copied();
-        match (link.unwrap_or(Link::Closed), meaning) {
-            (Link::Closed, _) => {}
-            (Link::Open, Meaning::Hello(version)) => self.welcome(carrier, *version, text)?,
-            (Link::Open, Meaning::WrongHello(refusal)) => {
-                self.turn(carrier, Link::Closed);
+        match (link.unwrap_or(ConnectionState::Closed), meaning) {
+            (ConnectionState::Closed, _) => {}
+            (ConnectionState::Open, Meaning::Hello(version)) => self.welcome(
+                carrier, *version, text,
+            )?,
+            (ConnectionState::Open, Meaning::WrongHello(refusal)) => {
+                self.set_connection(carrier, ConnectionState::Closed);
                 text.extend_from_slice(&[0x84, 0x01, *refusal])?;
             }
-            (Link::Up, Meaning::Burst(number, slot, pdu)) => self.receive(*number, *slot, pdu)?,
-            (Link::Up, Meaning::Active(slot)) => {
+            (ConnectionState::Up, Meaning::Burst(number, slot, pdu)) => self.receive(
+                *number, *slot, pdu,
+            )?,
+            (ConnectionState::Up, Meaning::Active(slot)) => {
                 for request in self.requests.iter_mut() {
                     if request.slot == *slot {
                         request.quiet = 0;
                     }
                 }
             }
-            (Link::Up, Meaning::Poll) => self.poll(carrier, text)?,
-            _ => self.turn(carrier, Link::Closed),
+            (ConnectionState::Up, Meaning::Poll) => self.poll(carrier, text)?,
+            _ => self.set_connection(carrier, ConnectionState::Closed),
         }
         Ok(())
     }
 
     /// Returns the talkgroup call for the next late entry: the first one after the slot of the last late entry, going
     /// round.
-    fn next_entry(&self) -> Option<Request> {
+    fn next_entry(&self) -> Option<ModelRequest> {
         let behind = self
             .last_entry
             .map_or(0, |slot| slot.place().saturating_add(1));
-        let is_named = |call: &&Request| call.stage == Stage::Call && call.group;
+        let is_named = |call: &&ModelRequest| call.stage == RequestStage::Call && call.group;
         let calls = self.requests.iter().filter(is_named);
         let calls = calls.copied();
         calls.min_by_key(|call| call.slot.place().saturating_add(32).saturating_sub(behind) % 32)
@@ -378,7 +383,7 @@ impl Model {
     /// Returns the Fill of the control slot. Each fourth Fill is the grant of the next talkgroup call, if there is one
     /// and the control channel is not moved. The backoff rises by one for each noise within the last 32 polls, up to
     /// its largest value.
-    fn fill(&mut self) -> Pdu {
+    fn fill(&mut self) -> PduOctets {
         self.fills = self.fills.saturating_add(1);
         if self.fills % 4 == 0 && self.moving.is_none() {
             if let Some(call) = self.next_entry() {
@@ -414,7 +419,7 @@ impl Model {
 
     fn poll(&mut self, carrier: u8, text: &mut Vec<u8>) -> Result<(), OutOfMemory> {
         for side in 0..2 {
-            let slot = Slot { carrier, side };
+            let slot = ModelSlot { carrier, side };
             let outbox = self.outboxes.get_mut(slot.place());
             let mut pdu = outbox.and_then(|outbox| outbox.pop_front());
             if pdu.is_none() && slot == self.scene.control_slot() {

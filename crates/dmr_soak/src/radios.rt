@@ -1,10 +1,10 @@
 //! The PDUs of radios and the lines of operators, drawn so that radios meet one another.
 
-use crate::burst::{Pdu, pdu_of};
+use crate::burst::{PduOctets, pdu_of};
 use crate::draws::{Draws, Mode, Sort};
-use crate::model::{Model, Stage};
+use crate::model::{Model, RequestStage};
 use crate::requests::Said;
-use crate::scene::Slot;
+use crate::scene::ModelSlot;
 use crate::traffic::Traffic;
 use dmr_pdu::OutOfMemory;
 use std::alloc::Global;
@@ -42,8 +42,8 @@ impl Traffic {
     }
 
     fn engaged(&mut self, model: &Model) -> (u32, u32, bool) {
-        let stages = [Stage::Ask, Stage::Line, Stage::Call];
-        let stage = self.draws.pick(&stages).unwrap_or(Stage::Ask);
+        let stages = [RequestStage::Ask, RequestStage::Line, RequestStage::Call];
+        let stage = self.draws.pick(&stages).unwrap_or(RequestStage::Ask);
         match self.draws.request(model, stage) {
             Some(request) => (request.source, request.target, request.group),
             None => (self.radio(), self.radio(), false),
@@ -52,19 +52,19 @@ impl Traffic {
 
     /// Returns a request with random options. Its kind is 0 (calls a radio), 1 (calls a talkgroup), 14 (registers) or
     /// 15 (cancels).
-    fn request(&mut self, kind: u32, source: u32, target: u32) -> Pdu {
+    fn request(&mut self, kind: u32, source: u32, target: u32) -> PduOctets {
         let half = self.draws.below(128) << 9 | kind & 0x0F;
         pdu_of(0x9F, (half & 0xFFFF) as u16, target, source)
     }
 
-    fn registration(&mut self, radio: u32, stays: bool) -> Pdu {
+    fn registration(&mut self, radio: u32, stays: bool) -> PduOctets {
         let mut pdu = self.request(14, radio, REGI);
         let bit = 2u8.wrapping_shl(self.scene.leave_bit);
         pdu[2] = if stays { pdu[2] | bit } else { pdu[2] & !bit };
         pdu
     }
 
-    fn call(&mut self, model: &Model, mut group: bool) -> Pdu {
+    fn call(&mut self, model: &Model, mut group: bool) -> PduOctets {
         let mut source = self.other_radio(model, true);
         let mut target = self.other_radio(model, true);
         if group {
@@ -82,20 +82,20 @@ impl Traffic {
         self.request(u32::from(group), source, target)
     }
 
-    fn answer(&mut self, model: &Model) -> Pdu {
+    fn answer(&mut self, model: &Model) -> PduOctets {
         let mut reason = 0x44;
         if self.draws.chance(4) {
             reason = self.draws.below(256);
         }
         let half = self.draws.below(128) << 9 | reason << 1 | self.draws.below(2);
-        let (source, target) = match self.draws.request(model, Stage::Ask) {
+        let (source, target) = match self.draws.request(model, RequestStage::Ask) {
             Some(ask) => (ask.source, ask.target),
             None => (self.radio(), self.radio()),
         };
         pdu_of(0xA1, (half & 0xFFFF) as u16, source, target)
     }
 
-    fn odd(&mut self) -> Pdu {
+    fn odd(&mut self) -> PduOctets {
         let (source, target) = (self.radio(), self.radio());
         let kind = self.draws.below(16);
         let mut pdu = self.request(kind, source, target);
@@ -109,7 +109,7 @@ impl Traffic {
     }
 
     /// Returns a PDU of a radio.
-    pub fn pdu(&mut self, sort: Sort, model: &Model) -> Pdu {
+    pub fn pdu(&mut self, sort: Sort, model: &Model) -> PduOctets {
         let (source, target, group) = self.engaged(model);
         match sort {
             Sort::Leave if group || self.draws.chance(2) => self.registration(source, false),
@@ -131,7 +131,7 @@ impl Traffic {
 pub fn command(draws: &mut Draws, model: &Model) -> Said {
     let carrier = draws.small(16);
     let side = draws.small(2);
-    let call = draws.request(model, Stage::Call);
+    let call = draws.request(model, RequestStage::Call);
     match draws.below(17) {
         0 | 1 => Said::Status,
         2 | 3 | 4 => Said::Radios(900 + draws.below(300)),
@@ -141,10 +141,10 @@ pub fn command(draws: &mut Draws, model: &Model) -> Said {
         9 | 10 => Said::Slots,
         11 => Said::Drop(call.map_or(999, |call| call.source)),
         12 => Said::Drop(draws.pick(model.registered.as_slice()).unwrap_or(1)),
-        13 => Said::End(call.map_or(Slot { carrier, side }, |call| call.slot)),
+        13 => Said::End(call.map_or(ModelSlot { carrier, side }, |call| call.slot)),
         14 => Said::Move(Some(1 + draws.below(4094))),
         15 => Said::Move(None),
-        _ => Said::End(Slot { carrier, side }),
+        _ => Said::End(ModelSlot { carrier, side }),
     }
 }
 
@@ -156,7 +156,7 @@ fn words(alloc: Global, draws: &mut Draws, said: &Said) -> Result<String, OutOfM
         Said::Lines(from) => format!(in alloc; "lines {from:02}"),
         Said::Slots => String::from_str(alloc, "  slots"),
         Said::Drop(radio) => format!(in alloc; "drop {radio:08}"),
-        Said::End(Slot { carrier, side }) => format!(in alloc; "end {carrier}  {side}"),
+        Said::End(ModelSlot { carrier, side }) => format!(in alloc; "end {carrier}  {side}"),
         Said::Move(Some(channel)) => format!(in alloc; "move {channel}"),
         Said::Move(None) => String::from_str(alloc, "stay"),
         Said::Unknown => {

@@ -1,8 +1,8 @@
 //! The rules for requests on the control slot, for ticks, and for operators' commands.
 
-use crate::burst::Pdu;
-use crate::model::{Model, Request, Stage};
-use crate::scene::Slot;
+use crate::burst::PduOctets;
+use crate::model::{Model, ModelRequest, RequestStage};
+use crate::scene::ModelSlot;
 use dmr_pdu::OutOfMemory;
 use std::alloc::Global;
 
@@ -15,7 +15,7 @@ pub enum Said {
     Lines(u32),
     Slots,
     Drop(u32),
-    End(Slot),
+    End(ModelSlot),
     /// Moves the control channel to this channel, or back if there is none.
     Move(Option<u32>),
     /// A line that is not a command.
@@ -24,7 +24,7 @@ pub enum Said {
     TooLong,
 }
 
-fn write_parties(text: &mut String, request: &Request) -> Result<(), OutOfMemory> {
+fn write_parties(text: &mut String, request: &ModelRequest) -> Result<(), OutOfMemory> {
     let kind = if request.group { "group" } else { "radio" };
     let (source, target) = (request.source, request.target);
     writeln!(text, "{kind} {target} from {source}")
@@ -32,15 +32,15 @@ fn write_parties(text: &mut String, request: &Request) -> Result<(), OutOfMemory
 
 impl Model {
     /// Processes a PDU on the control slot. Without room it has no effect.
-    pub fn heard(&mut self, pdu: &Pdu) -> Result<(), OutOfMemory> {
+    pub fn answer_pdu(&mut self, pdu: &PduOctets) -> Result<(), OutOfMemory> {
         if !self.has_room() {
             self.counts.add("requests without room");
             return Ok(());
         }
         let [first, feature, high, low, a, b, c, d, e, f] = *pdu;
         let half = u16::from_be_bytes([high, low]);
-        let request = Request {
-            stage: Stage::Ask,
+        let request = ModelRequest {
+            stage: RequestStage::Ask,
             source: u32::from_be_bytes([0, d, e, f]),
             target: u32::from_be_bytes([0, a, b, c]),
             group: half & 0x0F == 1,
@@ -58,7 +58,7 @@ impl Model {
     }
 
     /// Processes a radio's request: seven bits of options, five flags, and the kind in four bits.
-    fn request(&mut self, request: &Request, half: u16) -> Result<(), OutOfMemory> {
+    fn request(&mut self, request: &ModelRequest, half: u16) -> Result<(), OutOfMemory> {
         let radio = request.source;
         let reason = match half & 0x0F {
             _ if half & 0x01F0 != 0 => "Not_Supported",
@@ -66,7 +66,7 @@ impl Model {
             0 | 1 | 15 if !self.is_registered(radio) => "MS_Not_Registered",
             0 | 1 => return self.call(request),
             15 => match self.engaging(radio) {
-                Some(own) if own.source == radio && own.stage != Stage::Call => {
+                Some(own) if own.source == radio && own.stage != RequestStage::Call => {
                     self.remove(&own);
                     "Message_Accepted"
                 }
@@ -82,7 +82,7 @@ impl Model {
         first <= radio && radio <= last
     }
 
-    fn registration(&mut self, request: &Request) -> Result<&'static str, OutOfMemory> {
+    fn registration(&mut self, request: &ModelRequest) -> Result<&'static str, OutOfMemory> {
         let radio = request.source;
         if request.options.wrapping_shr(self.scene.leave_bit) & 1 == 0 {
             self.leave(radio)?;
@@ -106,7 +106,7 @@ impl Model {
         let Some(request) = self.engaging(radio) else {
             return Ok(());
         };
-        if request.stage == Stage::Call {
+        if request.stage == RequestStage::Call {
             return self.clear(&request);
         }
         self.remove(&request);
@@ -116,7 +116,7 @@ impl Model {
         Ok(())
     }
 
-    fn call(&mut self, request: &Request) -> Result<(), OutOfMemory> {
+    fn call(&mut self, request: &ModelRequest) -> Result<(), OutOfMemory> {
         let (source, target) = (request.source, request.target);
         let (first, last) = self.scene.groups;
         let reason = if request.group && (target < first || target > last) {
@@ -125,20 +125,20 @@ impl Model {
             "Perm_User_Refused"
         } else if let Some(own) = self.engaging(source) {
             if own.source == source && own.target == target && own.group == request.group {
-                return self.again(request, &own);
+                return self.answer_repeat(request, &own);
             }
             "Transient_Sys_Refused"
         } else if request.group {
-            let is_same = |other: &&Request| other.group && other.target == target;
+            let is_same = |other: &&ModelRequest| other.group && other.target == target;
             return match self.requests.iter().find(is_same).copied() {
-                Some(other) => self.again(request, &other),
+                Some(other) => self.answer_repeat(request, &other),
                 None => self.begin_or_line(request),
             };
         } else if !self.is_registered(target) {
             "NoReg_MS_Away"
         } else if self.engaging(target).is_some() {
             "Called_Party_Busy"
-        } else if self.number(Stage::Ask) >= 32 {
+        } else if self.number(RequestStage::Ask) >= 32 {
             "SysBusy_Refused"
         } else {
             self.acknowledge(request, "Wait")?;
@@ -147,22 +147,26 @@ impl Model {
         self.acknowledge(request, reason)
     }
 
-    fn again(&mut self, request: &Request, other: &Request) -> Result<(), OutOfMemory> {
+    fn answer_repeat(
+        &mut self,
+        request: &ModelRequest,
+        other: &ModelRequest,
+    ) -> Result<(), OutOfMemory> {
         match other.stage {
-            Stage::Ask => self.acknowledge(request, "Wait"),
-            Stage::Line => self.acknowledge(request, "Queued_For_Resource"),
-            Stage::Call => self.grant(other, other.source != request.source),
+            RequestStage::Ask => self.acknowledge(request, "Wait"),
+            RequestStage::Line => self.acknowledge(request, "Queued_For_Resource"),
+            RequestStage::Call => self.grant(other, other.source != request.source),
         }
     }
 
-    fn begin_or_line(&mut self, request: &Request) -> Result<(), OutOfMemory> {
-        let lines = self.number(Stage::Line);
+    fn begin_or_line(&mut self, request: &ModelRequest) -> Result<(), OutOfMemory> {
+        let lines = self.number(RequestStage::Line);
         match self.free_slot() {
             Some(slot) if lines == 0 => self.begin(slot, request),
             _ if lines >= 32 => self.acknowledge(request, "SysBusy_Refused"),
             _ => {
                 let mut line = *request;
-                line.stage = Stage::Line;
+                line.stage = RequestStage::Line;
                 self.requests.push(line)?;
                 self.acknowledge(request, "Queued_For_Resource")
             }
@@ -171,7 +175,7 @@ impl Model {
 
     fn answer(&mut self, radio: u32, reason: u16) -> Result<(), OutOfMemory> {
         match self.engaging(radio) {
-            Some(ask) if ask.stage == Stage::Ask && ask.target == radio => {
+            Some(ask) if ask.stage == RequestStage::Ask && ask.target == radio => {
                 self.remove(&ask);
                 if reason == 0x44 {
                     return self.begin_or_line(&ask);
@@ -189,7 +193,7 @@ impl Model {
             request.quiet = request.quiet.saturating_add(1);
         }
         let has_room = self.has_room();
-        let line = self.nth(Stage::Line, 0);
+        let line = self.nth(RequestStage::Line, 0);
         let free = line.and_then(|_| self.free_slot());
         self.end_first()?;
         if !has_room {
@@ -205,8 +209,8 @@ impl Model {
 
     fn end_first(&mut self) -> Result<(), OutOfMemory> {
         let (hang, maximum) = (self.scene.hang, self.scene.maximum);
-        let is_over = |call: &Request| call.quiet >= hang || call.age >= maximum;
-        let is_due = |call: &&Request| call.stage == Stage::Call && is_over(call);
+        let is_over = |call: &ModelRequest| call.quiet >= hang || call.age >= maximum;
+        let is_due = |call: &&ModelRequest| call.stage == RequestStage::Call && is_over(call);
         match self.requests.iter().find(is_due).copied() {
             Some(call) => self.clear(&call),
             None => Ok(()),
@@ -214,7 +218,7 @@ impl Model {
     }
 
     fn ask_again(&mut self) -> Result<(), OutOfMemory> {
-        match self.nth(Stage::Ask, 0) {
+        match self.nth(RequestStage::Ask, 0) {
             Some(mut ask) if ask.age >= 8 => {
                 self.remove(&ask);
                 if ask.attempt >= 3 {
@@ -253,8 +257,11 @@ impl Model {
         let carriers = (0..self.scene.carriers).filter(|number| self.is_up(*number));
         let (carriers, radios) = (carriers.count(), self.registered.len());
         write!(text, "status carriers {carriers} radios {radios}")?;
-        let (asks, lines) = (self.number(Stage::Ask), self.number(Stage::Line));
-        let calls = self.number(Stage::Call);
+        let (asks, lines) = (
+            self.number(RequestStage::Ask),
+            self.number(RequestStage::Line),
+        );
+        let calls = self.number(RequestStage::Call);
         write!(text, " asks {asks} lines {lines} calls {calls} fill ")?;
         match self.moving {
             Some(channel) => writeln!(text, "move {channel}"),
@@ -275,7 +282,7 @@ impl Model {
             return text.push_str("error no carrier\n");
         }
         for side in 0..2 {
-            if let Some(call) = self.call_on(Slot { carrier, side }) {
+            if let Some(call) = self.call_on(ModelSlot { carrier, side }) {
                 write!(text, "call {carrier} {side} ")?;
                 write_parties(text, &call)?;
             }
@@ -286,7 +293,7 @@ impl Model {
     /// Writes the lines from a place on. The places count from 1.
     fn write_lines(&self, text: &mut String, from: u32) -> Result<(), OutOfMemory> {
         for place in from..from.saturating_add(16) {
-            if let Some(line) = self.nth(Stage::Line, place.saturating_sub(1) as usize) {
+            if let Some(line) = self.nth(RequestStage::Line, place.saturating_sub(1) as usize) {
                 write!(text, "line {place} ")?;
                 write_parties(text, &line)?;
             }
@@ -297,7 +304,7 @@ impl Model {
     fn write_slots(&self, text: &mut String) -> Result<(), OutOfMemory> {
         for carrier in 0..self.scene.carriers {
             for side in 0..2 {
-                let slot = Slot { carrier, side };
+                let slot = ModelSlot { carrier, side };
                 let state = match self.call_on(slot) {
                     _ if slot == self.scene.control_slot() => "control",
                     _ if !self.is_up(carrier) => "down",
@@ -320,7 +327,7 @@ impl Model {
         Ok("ok\n")
     }
 
-    fn end_call(&mut self, slot: Slot) -> Result<&'static str, OutOfMemory> {
+    fn end_call(&mut self, slot: ModelSlot) -> Result<&'static str, OutOfMemory> {
         match self.call_on(slot) {
             _ if slot.carrier >= self.scene.carriers => return Ok("error no carrier\n"),
             None => return Ok("error no call\n"),

@@ -1,10 +1,10 @@
 //! The sites of the runs: their site files, and the values of these as numbers.
 
-use crate::burst::Pdu;
+use crate::burst::PduOctets;
 
 /// A slot of a carrier: side 0 or 1.
 #[derive(Clone, Copy, PartialEq, Eq)]
-pub struct Slot {
+pub struct ModelSlot {
     pub carrier: u8,
     pub side: u8,
 }
@@ -20,7 +20,7 @@ pub struct Scene {
     pub carriers: u8,
     pub control: u8,
     /// C_ALOHA with a backoff of 0.
-    pub aloha: Pdu,
+    pub aloha: PduOctets,
     pub leave_bit: u32,
     pub hang: u32,
     pub maximum: u32,
@@ -85,7 +85,7 @@ pub const SIXTEEN_NUMBERED: Scene = Scene {
     ..SIXTEEN_CARRIERS
 };
 
-impl Slot {
+impl ModelSlot {
     /// Returns its place among the slots of all carriers.
     pub fn place(self) -> usize {
         2 * usize::from(self.carrier) + usize::from(self.side)
@@ -94,8 +94,8 @@ impl Slot {
 
 impl Scene {
     /// Returns the control slot.
-    pub fn control_slot(&self) -> Slot {
+    pub fn control_slot(&self) -> ModelSlot {
         let carrier = self.control;
-        Slot { carrier, side: 0 }
+        ModelSlot { carrier, side: 0 }
     }
 }

@@ -1,12 +1,12 @@
 //! The octets of a site's carriers and operators: each action as they write it, in pieces that are cut at random.
 
-use crate::Counts;
-use crate::burst::{Burst, Pdu, burst_of, flip};
+use crate::SoakCounts;
+use crate::burst::{Burst, PduOctets, burst_of, flip};
 use crate::draws::{Draws, Mode, Sort};
-use crate::model::{Link, Model, Request, Stage};
+use crate::model::{ConnectionState, Model, ModelRequest, RequestStage};
 use crate::radios::{command, line};
 use crate::requests::Said;
-use crate::scene::{Scene, Slot};
+use crate::scene::{ModelSlot, Scene};
 use dmr_bits::Word196;
 use dmr_burst::read;
 use dmr_pdu::OutOfMemory;
@@ -38,8 +38,8 @@ pub enum Meaning {
     /// Another HELLO, with the reason of its REFUSE.
     WrongHello(u8),
     /// A burst with its number, if it has one, and its PDU, if any.
-    Burst(Option<u8>, Slot, Option<Pdu>),
-    Active(Slot),
+    Burst(Option<u8>, ModelSlot, Option<PduOctets>),
+    Active(ModelSlot),
     Poll,
     /// BYE, or octets that begin no frame.
     End,
@@ -48,9 +48,9 @@ pub enum Meaning {
 
 /// The next input of the engine.
 #[derive(Clone, Copy)]
-pub enum Step {
+pub enum NextInput {
     /// A carrier's connection begins, or is cut.
-    Turn(u8, Link),
+    Turn(u8, ConnectionState),
     /// This number of octets of a carrier or of the operators.
     Piece(u8, usize),
     Tick,
@@ -69,10 +69,10 @@ pub struct Traffic {
     numbers: [u8; 16],
     pub mode: Mode,
     left: u32,
-    pub counts: Counts,
+    pub counts: SoakCounts,
 }
 
-fn read_in(burst: &Burst) -> Option<Pdu> {
+fn read_in(burst: &Burst) -> Option<PduOctets> {
     let word = Word196::from_octets(burst).ok()?;
     Some(read(&word)?.to_octets())
 }
@@ -93,12 +93,12 @@ impl Traffic {
             numbers: [0; 16],
             mode: Mode::Everyday,
             left: 300,
-            counts: Counts::new(NAMES),
+            counts: SoakCounts::new(NAMES),
         })
     }
 
     /// Takes octets that a party has written. Returns them and their meanings.
-    pub fn come(
+    pub fn take_piece(
         &mut self,
         party: u8,
         count: usize,
@@ -136,21 +136,21 @@ impl Traffic {
         stream.map_or(0, |stream| stream.len())
     }
 
-    fn piece(&mut self, party: u8) -> Step {
+    fn piece(&mut self, party: u8) -> NextInput {
         let mut count = self.left_of(party);
         if self.draws.chance(2) {
             count = self.draws.place(count);
         }
-        Step::Piece(party, count)
+        NextInput::Piece(party, count)
     }
 
     /// Writes octets of a party. Only the last of them has a meaning.
-    fn put(
+    fn write_octets(
         &mut self,
         party: u8,
         octets: &[u8],
         last: Option<Meaning>,
-    ) -> Result<Step, OutOfMemory> {
+    ) -> Result<NextInput, OutOfMemory> {
         let last_place = octets.len().saturating_sub(1);
         if let Some(stream) = self.streams.get_mut(usize::from(party)) {
             for (place, octet) in octets.iter().enumerate() {
@@ -161,14 +161,14 @@ impl Traffic {
         Ok(self.piece(party))
     }
 
-    fn forget(&mut self, carrier: u8, link: Link) -> Step {
+    fn drop_octets(&mut self, carrier: u8, link: ConnectionState) -> NextInput {
         if let Some(stream) = self.streams.get_mut(usize::from(carrier)) {
             stream.clear();
         }
         if let Some(spoken) = self.versions.get_mut(usize::from(carrier)) {
             *spoken = 1;
         }
-        Step::Turn(carrier, link)
+        NextInput::Turn(carrier, link)
     }
 
     /// Returns a HELLO of a carrier with a version that the site serves. The frames after it have that version.
@@ -184,17 +184,17 @@ impl Traffic {
     }
 
     /// Writes a HELLO. The first RX after it mostly has the number of the last RX before it.
-    fn hello(&mut self, carrier: u8) -> Result<Step, OutOfMemory> {
+    fn hello(&mut self, carrier: u8) -> Result<NextInput, OutOfMemory> {
         let octets = self.any_hello(carrier);
         if let Some(number) = self.numbers.get_mut(usize::from(carrier)) {
             *number = number.wrapping_sub(1);
         }
-        self.put(carrier, &octets, Some(Meaning::Hello(octets[2])))
+        self.write_octets(carrier, &octets, Some(Meaning::Hello(octets[2])))
     }
 
     /// Writes a HELLO that is refused: with 1 for its version, or, if that is served, with 2 for its carrier or its
     /// channel.
-    fn wrong_hello(&mut self, carrier: u8) -> Result<Step, OutOfMemory> {
+    fn wrong_hello(&mut self, carrier: u8) -> Result<NextInput, OutOfMemory> {
         let mut octets = self.any_hello(carrier);
         let refusal = 1 + self.draws.small(2);
         if refusal == 1 {
@@ -210,7 +210,7 @@ impl Traffic {
                 *octet ^= self.draws.octet().max(1);
             }
         }
-        self.put(carrier, &octets, Some(Meaning::WrongHello(refusal)))
+        self.write_octets(carrier, &octets, Some(Meaning::WrongHello(refusal)))
     }
 
     fn is_numbered(&self, carrier: u8) -> bool {
@@ -237,44 +237,44 @@ impl Traffic {
     /// Writes the octets of an RX before its word.
     fn head(
         &mut self,
-        slot: Slot,
+        slot: ModelSlot,
         number: Option<u8>,
         last: Option<Meaning>,
-    ) -> Result<Step, OutOfMemory> {
-        let Slot { carrier, side } = slot;
+    ) -> Result<NextInput, OutOfMemory> {
+        let ModelSlot { carrier, side } = slot;
         match number {
-            Some(number) => self.put(carrier, &[0x02, 0x1B, number, side], last),
-            None => self.put(carrier, &[0x02, 0x1A, side], last),
+            Some(number) => self.write_octets(carrier, &[0x02, 0x1B, number, side], last),
+            None => self.write_octets(carrier, &[0x02, 0x1A, side], last),
         }
     }
 
     /// Writes a burst on a slot, in an RX with this number, if there is one.
     pub fn receive(
         &mut self,
-        slot: Slot,
+        slot: ModelSlot,
         number: Option<u8>,
         burst: &Burst,
-        pdu: Option<Pdu>,
-    ) -> Result<Step, OutOfMemory> {
+        pdu: Option<PduOctets>,
+    ) -> Result<NextInput, OutOfMemory> {
         self.head(slot, number, None)?;
         let meaning = Meaning::Burst(number, slot, pdu);
-        self.put(slot.carrier, burst, Some(meaning))
+        self.write_octets(slot.carrier, burst, Some(meaning))
     }
 
     /// Writes an RX with a wrong pad, a wrong slot or of the other version, or another fault.
-    fn fault(&mut self, carrier: u8) -> Result<Step, OutOfMemory> {
+    fn fault(&mut self, carrier: u8) -> Result<NextInput, OutOfMemory> {
         let mut burst = self.any_burst();
         match self.draws.below(6) {
             0 => {
                 burst[24] |= 1 + self.draws.small(15);
                 let number = self.number(carrier);
-                self.head(Slot { carrier, side: 0 }, number, None)?;
-                self.put(carrier, &burst, Some(Meaning::End))?;
+                self.head(ModelSlot { carrier, side: 0 }, number, None)?;
+                self.write_octets(carrier, &burst, Some(Meaning::End))?;
             }
             1 => {
                 let side = 2 + self.draws.small(254);
                 let number = self.number(carrier);
-                self.head(Slot { carrier, side }, number, Some(Meaning::End))?;
+                self.head(ModelSlot { carrier, side }, number, Some(Meaning::End))?;
             }
             2 => {
                 let length = if self.is_numbered(carrier) {
@@ -282,31 +282,31 @@ impl Traffic {
                 } else {
                     0x1B
                 };
-                self.put(carrier, &[0x02, length], Some(Meaning::End))?;
+                self.write_octets(carrier, &[0x02, length], Some(Meaning::End))?;
             }
             _ => {
                 if let Some(octets) = self.draws.pick(&FAULTS) {
-                    self.put(carrier, octets, Some(Meaning::End))?;
+                    self.write_octets(carrier, octets, Some(Meaning::End))?;
                 }
             }
         }
         let length = self.draws.place(12);
-        self.put(carrier, burst.get(..length).unwrap_or(&[]), None)
+        self.write_octets(carrier, burst.get(..length).unwrap_or(&[]), None)
     }
 
-    fn lose(&mut self, carrier: u8) -> Result<Step, OutOfMemory> {
+    fn lose(&mut self, carrier: u8) -> Result<NextInput, OutOfMemory> {
         if self.draws.chance(8) {
-            return Ok(self.forget(carrier, Link::Closed));
+            return Ok(self.drop_octets(carrier, ConnectionState::Closed));
         }
         let mut begun = None;
         if self.draws.chance(3) {
-            begun = Some(self.forget(carrier, Link::Open));
+            begun = Some(self.drop_octets(carrier, ConnectionState::Open));
         }
         let step = match self.draws.below(7) {
             0 | 1 => self.wrong_hello(carrier)?,
             2 => self.hello(carrier)?,
             3 => self.poll_of(carrier)?,
-            4 => self.put(carrier, &[0x05, 0x00], Some(Meaning::End))?,
+            4 => self.write_octets(carrier, &[0x05, 0x00], Some(Meaning::End))?,
             _ => self.fault(carrier)?,
         };
         Ok(begun.unwrap_or(step))
@@ -323,7 +323,12 @@ impl Traffic {
 
     /// Writes a burst on a slot. In version 2 it sometimes writes the burst before that too, with the same number on
     /// either slot, and sometimes a POLL or an ACTIVE between the two.
-    fn hear(&mut self, slot: Slot, burst: Burst, pdu: Option<Pdu>) -> Result<Step, OutOfMemory> {
+    fn write_burst(
+        &mut self,
+        slot: ModelSlot,
+        burst: Burst,
+        pdu: Option<PduOctets>,
+    ) -> Result<NextInput, OutOfMemory> {
         let number = self.number(slot.carrier);
         if number.is_some() && self.draws.chance(12) {
             let mut earlier = slot;
@@ -342,7 +347,7 @@ impl Traffic {
         self.receive(slot, number, &burst, pdu)
     }
 
-    fn send(&mut self, slot: Slot, pdu: &Pdu) -> Result<Step, OutOfMemory> {
+    fn send(&mut self, slot: ModelSlot, pdu: &PduOctets) -> Result<NextInput, OutOfMemory> {
         let mut flips = self.draws.place(4);
         if self.draws.chance(60) {
             flips = 4 + self.draws.place(9);
@@ -361,26 +366,26 @@ impl Traffic {
             self.counts
                 .add(meant.map_or("broken and lost", |_| "broken but read"));
         }
-        self.hear(slot, burst, meant)
+        self.write_burst(slot, burst, meant)
     }
 
-    fn slot(&mut self) -> Slot {
+    fn slot(&mut self) -> ModelSlot {
         let carrier = match self.draws.below(8) {
             0 => self.draws.small(16),
             1 | 2 => return self.scene.control_slot(),
             _ => self.draws.small(self.scene.carriers),
         };
         let side = self.draws.small(2);
-        Slot { carrier, side }
+        ModelSlot { carrier, side }
     }
 
-    fn active_on(&mut self, slot: Slot) -> Result<Step, OutOfMemory> {
+    fn active_on(&mut self, slot: ModelSlot) -> Result<NextInput, OutOfMemory> {
         let octets = [0x04, 0x01, slot.side];
-        self.put(slot.carrier, &octets, Some(Meaning::Active(slot)))
+        self.write_octets(slot.carrier, &octets, Some(Meaning::Active(slot)))
     }
 
-    fn activity(&mut self, model: &Model) -> Result<Step, OutOfMemory> {
-        let slot = match self.draws.request(model, Stage::Call) {
+    fn activity(&mut self, model: &Model) -> Result<NextInput, OutOfMemory> {
+        let slot = match self.draws.request(model, RequestStage::Call) {
             Some(call) if !self.draws.chance(6) => call.slot,
             _ => self.slot(),
         };
@@ -388,11 +393,11 @@ impl Traffic {
     }
 
     /// Writes a POLL.
-    pub fn poll_of(&mut self, carrier: u8) -> Result<Step, OutOfMemory> {
-        self.put(carrier, &[0x03, 0x00], Some(Meaning::Poll))
+    pub fn poll_of(&mut self, carrier: u8) -> Result<NextInput, OutOfMemory> {
+        self.write_octets(carrier, &[0x03, 0x00], Some(Meaning::Poll))
     }
 
-    fn poll(&mut self, model: &Model) -> Result<Step, OutOfMemory> {
+    fn poll(&mut self, model: &Model) -> Result<NextInput, OutOfMemory> {
         let mut slot = self.slot();
         for _ in 0..8 {
             if model.waiting(slot) == 0 {
@@ -405,9 +410,9 @@ impl Traffic {
         self.poll_of(slot.carrier)
     }
 
-    fn say(&mut self, said: Said) -> Result<Step, OutOfMemory> {
+    fn say(&mut self, said: Said) -> Result<NextInput, OutOfMemory> {
         let line = line(self.alloc, &mut self.draws, &said)?;
-        self.put(OPERATORS, line.as_bytes(), Some(Meaning::Said(said)))
+        self.write_octets(OPERATORS, line.as_bytes(), Some(Meaning::Said(said)))
     }
 
     fn turn(&mut self) {
@@ -425,7 +430,7 @@ impl Traffic {
 
     /// Returns the next input of the engine, by the state of the site: more octets of a party, a carrier that comes up,
     /// or a new action.
-    pub fn next(&mut self, model: &Model) -> Result<Step, OutOfMemory> {
+    pub fn next(&mut self, model: &Model) -> Result<NextInput, OutOfMemory> {
         let first = self.draws.small(17);
         for more in 0..17u8 {
             let party = (first % 17 + more) % 17;
@@ -435,7 +440,7 @@ impl Traffic {
         }
         for carrier in 0..self.scene.carriers {
             if !model.is_up(carrier) && self.draws.chance(8) {
-                let step = self.forget(carrier, Link::Open);
+                let step = self.drop_octets(carrier, ConnectionState::Open);
                 self.hello(carrier)?;
                 return Ok(step);
             }
@@ -445,23 +450,23 @@ impl Traffic {
         }
         self.left = self.left.saturating_sub(1);
         let quiet = self.scene.hang / 2;
-        let is_quiet = |call: &Request| call.stage == Stage::Call && call.quiet > quiet;
+        let is_quiet = |call: &ModelRequest| call.stage == RequestStage::Call && call.quiet > quiet;
         if self.mode == Mode::Lasting && model.requests.iter().any(is_quiet) {
             return self.activity(model);
         }
-        self.deed(model)
+        self.next_action(model)
     }
 
-    fn deed(&mut self, model: &Model) -> Result<Step, OutOfMemory> {
+    fn next_action(&mut self, model: &Model) -> Result<NextInput, OutOfMemory> {
         let slot = self.slot();
         match self.mode.sort(&mut self.draws) {
             Sort::Active => self.activity(model),
             Sort::Noise => {
                 let burst = self.any_burst();
-                self.hear(slot, burst, read_in(&burst))
+                self.write_burst(slot, burst, read_in(&burst))
             }
             Sort::Lose => self.lose(slot.carrier),
-            Sort::Tick => Ok(Step::Tick),
+            Sort::Tick => Ok(NextInput::Tick),
             Sort::Command => {
                 let said = command(&mut self.draws, model);
                 self.say(said)
@@ -471,8 +476,8 @@ impl Traffic {
                 1 => {
                     let mut octets = self.any_burst().map(|octet| octet.max(b'\r'));
                     octets[24] = b'\n';
-                    self.put(OPERATORS, b"?", None)?;
-                    self.put(OPERATORS, &octets, Some(Meaning::Said(Said::Unknown)))
+                    self.write_octets(OPERATORS, b"?", None)?;
+                    self.write_octets(OPERATORS, &octets, Some(Meaning::Said(Said::Unknown)))
                 }
                 _ => self.say(Said::Unknown),
             },

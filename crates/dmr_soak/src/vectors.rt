@@ -1,17 +1,17 @@
 //! Checks of the model and the traffic against values from other sources. The program runs them before it draws
 //! anything.
 
-use crate::burst::{Pdu, burst_of, check_of};
-use crate::model::{Link, Model};
+use crate::burst::{PduOctets, burst_of, check_of};
+use crate::model::{ConnectionState, Model};
 use crate::scene::TWO_CARRIERS;
 use crate::traffic::{Meaning, Traffic};
 use dmr_pdu::OutOfMemory;
 use std::alloc::Global;
 
 /// Radio 1001 registers, and the acknowledgement accepts it.
-const REQUEST: Pdu = [0x9F, 0x00, 0x02, 0x0E, 0xFF, 0xFE, 0xC6, 0x00, 0x03, 0xE9];
+const REQUEST: PduOctets = [0x9F, 0x00, 0x02, 0x0E, 0xFF, 0xFE, 0xC6, 0x00, 0x03, 0xE9];
 
-const ACCEPTED: Pdu = [0xA0, 0x00, 0x00, 0xC4, 0x00, 0x03, 0xE9, 0xFF, 0xFE, 0xC6];
+const ACCEPTED: PduOctets = [0xA0, 0x00, 0x00, 0xC4, 0x00, 0x03, 0xE9, 0xFF, 0xFE, 0xC6];
 
 static REQUEST_BURST: [u8; 25] = [
     0x0E, 0xB4, 0x9C, 0xDF, 0x34, 0xF2, 0x74, 0x9C, 0xEC, 0xBA, 0x5C, 0xB3, 0xB7, 0xC4, 0x0E, 0x88,
@@ -24,7 +24,7 @@ static ACCEPTED_BURST: [u8; 25] = [
 ];
 
 /// The PDU that is sent when nothing waits.
-const ALOHA: Pdu = [0x99, 0x00, 0x00, 0x00, 0x11, 0x12, 0x34, 0x00, 0x00, 0x00];
+const ALOHA: PduOctets = [0x99, 0x00, 0x00, 0x00, 0x11, 0x12, 0x34, 0x00, 0x00, 0x00];
 
 static ALOHA_BURST: [u8; 25] = [
     0x00, 0x3C, 0x16, 0x27, 0x11, 0x60, 0x0B, 0x78, 0x15, 0x58, 0x08, 0x90, 0x05, 0x03, 0x05, 0x86,
@@ -32,7 +32,7 @@ static ALOHA_BURST: [u8; 25] = [
 ];
 
 /// PDUs, each with its check according to the formats.
-static CHECKS: [(Pdu, u16); 5] = [
+static CHECKS: [(PduOctets, u16); 5] = [
     ([0; 10], 0x5A5A),
     (REQUEST, 0xC84F),
     (ACCEPTED, 0xEFD8),
@@ -68,10 +68,10 @@ fn registration(
     for _ in 0..times {
         traffic.poll_of(control.carrier)?;
     }
-    let (octets, meanings) = traffic.come(control.carrier, 100)?;
+    let (octets, meanings) = traffic.take_piece(control.carrier, 100)?;
     let mut model = Model::new(alloc, &TWO_CARRIERS)?;
     let mut text = Vec::new(alloc);
-    model.turn(control.carrier, Link::Open);
+    model.set_connection(control.carrier, ConnectionState::Open);
     model.take(control.carrier, &Meaning::Hello(version), &mut text)?;
     for meaning in meanings.as_slice() {
         model.take(control.carrier, meaning, &mut text)?;

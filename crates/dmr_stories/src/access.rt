@@ -41,8 +41,8 @@ impl Fills {
 }
 
 impl Listener for Fills {
-    fn hear(&mut self, told: &str, said: &mut String) -> Result<(), OutOfMemory> {
-        let (word, rest) = cut(told);
+    fn answer_input(&mut self, input: &str, said: &mut String) -> Result<(), OutOfMemory> {
+        let (word, rest) = cut(input);
         match word {
             "copy" => replace_with(&mut self.copy, self.access.try_clone(self.alloc)?),
             "same" => write_truth(said, self.access == self.copy)?,
@@ -50,7 +50,7 @@ impl Listener for Fills {
             "late_due" => write_truth(said, self.access.late_due())?,
             "number" => write_number(said, &self.access, rest)?,
             "fill" | "next_fill" => fill(&mut self.access, word, rest, said)?,
-            _ => self.tell_event(word, said)?,
+            _ => self.apply_event(word, said)?,
         }
         Ok(())
     }
@@ -58,11 +58,11 @@ impl Listener for Fills {
 
 impl Fills {
     /// Applies an event.
-    fn tell_event(&mut self, word: &str, said: &mut String) -> Result<(), OutOfMemory> {
+    fn apply_event(&mut self, word: &str, said: &mut String) -> Result<(), OutOfMemory> {
         match word {
             "noise" => self.access.noise(),
             "polled" => self.access.polled(),
-            "filled" => self.access.filled(),
+            "filled" => self.access.count_fill(),
             "reset" => self.access.reset(),
             "stop" => self.access.stop(),
             _ => said.push_str("?")?,

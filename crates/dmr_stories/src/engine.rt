@@ -15,7 +15,7 @@ pub type Pieces = &'static [&'static [u8]];
 
 /// An input of an engine, with constant octets.
 #[derive(Clone, Copy)]
-pub enum Step {
+pub enum EngineStep {
     /// A carrier's connection begins.
     Open(u32),
     /// Octets arrive on a carrier's connection, all at once.
@@ -29,11 +29,11 @@ pub enum Step {
 }
 
 /// A step, and the octets that the engine writes for it: to the carrier of the connection, or to the operator.
-pub type Told = (Step, Pieces);
+pub type Exchange = (EngineStep, Pieces);
 
 /// An input of an engine, with octets on the heap.
 #[derive(Drop)]
-enum Came {
+enum HeapInput {
     Open(CarrierNo),
     Bytes(CarrierNo, Vec<u8>),
     Cut(CarrierNo),
@@ -41,15 +41,15 @@ enum Came {
     Tick,
 }
 
-impl Came {
+impl HeapInput {
     /// Returns the input for the engine.
     fn as_input(&self) -> Input<'_> {
         match self {
-            Came::Open(carrier) => Input::Open(*carrier),
-            Came::Bytes(carrier, octets) => Input::Bytes(*carrier, octets.as_slice()),
-            Came::Cut(carrier) => Input::Cut(*carrier),
-            Came::Text(octets) => Input::Text(octets.as_slice()),
-            Came::Tick => Input::Tick,
+            HeapInput::Open(carrier) => Input::Open(*carrier),
+            HeapInput::Bytes(carrier, octets) => Input::Bytes(*carrier, octets.as_slice()),
+            HeapInput::Cut(carrier) => Input::Cut(*carrier),
+            HeapInput::Text(octets) => Input::Text(octets.as_slice()),
+            HeapInput::Tick => Input::Tick,
         }
     }
 }
@@ -57,13 +57,17 @@ impl Came {
 /// Checks that a new engine writes exactly these octets. First it runs the inputs step by step, for each number of
 /// steps. Then it runs all of them at once, and again with each piece of octets cut in two, at each place, with a tick
 /// between the halves.
-pub fn puts_out(rt: &(impl Abort + AllocGlobal), name: &str, told: &[Told]) -> Result<(), Fail> {
-    for count in 0..=told.len() {
-        takes_steps(rt, name, &told[..count])?;
+pub fn check_outputs(
+    rt: &(impl Abort + AllocGlobal),
+    name: &str,
+    input: &[Exchange],
+) -> Result<(), Fail> {
+    for count in 0..=input.len() {
+        check_steps(rt, name, &input[..count])?;
     }
-    takes_in_one_run(rt, name, told, None)?;
+    check_one_run(rt, name, input, None)?;
     for place in 0..=82 {
-        takes_in_one_run(rt, name, told, Some(place))?;
+        check_one_run(rt, name, input, Some(place))?;
     }
     Ok(())
 }
@@ -74,20 +78,24 @@ fn engine(alloc: Global) -> Result<Engine, Fail> {
 }
 
 /// Checks the octets that an engine writes if it takes the inputs in steps.
-fn takes_steps(rt: &(impl Abort + AllocGlobal), name: &str, told: &[Told]) -> Result<(), Fail> {
-    let came = all_that_came(rt.alloc(), told, None)?;
+fn check_steps(
+    rt: &(impl Abort + AllocGlobal),
+    name: &str,
+    input: &[Exchange],
+) -> Result<(), Fail> {
+    let came = all_inputs(rt.alloc(), input, None)?;
     let mut engine = engine(rt.alloc())?;
-    let outputs = put_out_by_steps(rt.alloc(), &mut engine, came.as_slice());
+    let outputs = outputs_by_steps(rt.alloc(), &mut engine, came.as_slice());
     drop(engine);
-    are_put_out(rt, name, told, &outputs?)?;
+    check_written(rt, name, input, &outputs?)?;
     Ok(())
 }
 
 /// Returns the octets that an engine writes if it takes the inputs in steps.
-fn put_out_by_steps(
+fn outputs_by_steps(
     alloc: Global,
     engine: &mut Engine,
-    came: &[Came],
+    came: &[HeapInput],
 ) -> Result<Outputs, OutOfMemory> {
     let mut outputs = Outputs::new(alloc);
     for came in came {
@@ -98,69 +106,73 @@ fn put_out_by_steps(
 
 /// Checks the octets that an engine writes if it takes all inputs in one run. If `place` is given, each piece is cut in
 /// two.
-fn takes_in_one_run(
+fn check_one_run(
     rt: &(impl Abort + AllocGlobal),
     name: &str,
-    told: &[Told],
+    input: &[Exchange],
     place: Option<usize>,
 ) -> Result<(), Fail> {
-    let came = all_that_came(rt.alloc(), told, place)?;
+    let came = all_inputs(rt.alloc(), input, place)?;
     let inputs = inputs_of(rt.alloc(), came.as_slice())?;
     let mut engine = engine(rt.alloc())?;
     let outputs = engine.run(rt.alloc(), inputs.as_slice()).ok();
     drop(engine);
-    are_put_out(rt, name, told, &outputs.ok_or("memory")?)?;
+    check_written(rt, name, input, &outputs.ok_or("memory")?)?;
     Ok(())
 }
 
 /// Returns all inputs. If `place` is given, each piece of octets is cut in two.
-fn all_that_came(
+fn all_inputs(
     alloc: Global,
-    told: &[Told],
+    input: &[Exchange],
     place: Option<usize>,
-) -> Result<Vec<Came>, OutOfMemory> {
+) -> Result<Vec<HeapInput>, OutOfMemory> {
     let mut came = Vec::new(alloc);
-    for (step, _) in told {
+    for (step, _) in input {
         let octets = octets_of(alloc, step)?;
         match place {
             Some(place) if has_octets(step) => {
                 let (front, back) = octets.split_at(place.min(octets.len()));
-                came.push(came_of(alloc, step, front)?)?;
-                came.push(Came::Tick)?;
-                came.push(came_of(alloc, step, back)?)?;
+                came.push(input_of_step(alloc, step, front)?)?;
+                came.push(HeapInput::Tick)?;
+                came.push(input_of_step(alloc, step, back)?)?;
             }
-            _ => came.push(came_of(alloc, step, octets.as_slice())?)?,
+            _ => came.push(input_of_step(alloc, step, octets.as_slice())?)?,
         }
     }
     Ok(came)
 }
 
 /// Returns the octets of a step, in one piece.
-fn octets_of(alloc: Global, step: &Step) -> Result<Vec<u8>, OutOfMemory> {
+fn octets_of(alloc: Global, step: &EngineStep) -> Result<Vec<u8>, OutOfMemory> {
     match step {
-        Step::Bytes(_, octets) | Step::Text(octets) => joined(alloc, octets),
+        EngineStep::Bytes(_, octets) | EngineStep::Text(octets) => join_pieces(alloc, octets),
         _ => Ok(Vec::new(alloc)),
     }
 }
 
 /// Returns whether a step has octets.
-fn has_octets(step: &Step) -> bool {
-    matches!(step, Step::Bytes(_, _) | Step::Text(_))
+fn has_octets(step: &EngineStep) -> bool {
+    matches!(step, EngineStep::Bytes(_, _) | EngineStep::Text(_))
 }
 
 /// Returns the input of a step, with `octets` instead of its own.
-fn came_of(alloc: Global, step: &Step, octets: &[u8]) -> Result<Came, OutOfMemory> {
+fn input_of_step(
+    alloc: Global,
+    step: &EngineStep,
+    octets: &[u8],
+) -> Result<HeapInput, OutOfMemory> {
     Ok(match step {
-        Step::Open(number) => Came::Open(carrier(*number)),
-        Step::Bytes(number, _) => Came::Bytes(carrier(*number), octets.to_vec(alloc)?),
-        Step::Cut(number) => Came::Cut(carrier(*number)),
-        Step::Text(_) => Came::Text(octets.to_vec(alloc)?),
-        Step::Tick => Came::Tick,
+        EngineStep::Open(number) => HeapInput::Open(carrier(*number)),
+        EngineStep::Bytes(number, _) => HeapInput::Bytes(carrier(*number), octets.to_vec(alloc)?),
+        EngineStep::Cut(number) => HeapInput::Cut(carrier(*number)),
+        EngineStep::Text(_) => HeapInput::Text(octets.to_vec(alloc)?),
+        EngineStep::Tick => HeapInput::Tick,
     })
 }
 
 /// Joins pieces of octets.
-pub fn joined(alloc: Global, pieces: &[&[u8]]) -> Result<Vec<u8>, OutOfMemory> {
+pub fn join_pieces(alloc: Global, pieces: &[&[u8]]) -> Result<Vec<u8>, OutOfMemory> {
     let mut octets = Vec::new(alloc);
     for piece in pieces {
         octets.extend_from_slice(*piece)?;
@@ -174,7 +186,7 @@ fn carrier(number: u32) -> CarrierNo {
 }
 
 /// Returns the inputs for the engine.
-fn inputs_of<'a>(alloc: Global, came: &'a [Came]) -> Result<Vec<Input<'a>>, OutOfMemory> {
+fn inputs_of<'a>(alloc: Global, came: &'a [HeapInput]) -> Result<Vec<Input<'a>>, OutOfMemory> {
     let mut inputs = Vec::new(alloc);
     for came in came {
         if inputs.push(came.as_input()).is_err() {
@@ -185,26 +197,30 @@ fn inputs_of<'a>(alloc: Global, came: &'a [Came]) -> Result<Vec<Input<'a>>, OutO
 }
 
 /// Checks that exactly these octets were written for each carrier and for operators.
-fn are_put_out(
+fn check_written(
     rt: &(impl Abort + AllocGlobal),
     name: &str,
-    told: &[Told],
+    input: &[Exchange],
     outputs: &Outputs,
 ) -> Result<(), OutOfMemory> {
     for number in 0..16 {
-        let wanted = wanted_for(rt.alloc(), told, Some(number))?;
+        let wanted = expected_for(rt.alloc(), input, Some(number))?;
         let octets = outputs.carrier(carrier(number));
         assert_eq!(rt; octets, wanted.as_slice(), "{name}, carrier {number}");
     }
-    let wanted = wanted_for(rt.alloc(), told, None)?;
+    let wanted = expected_for(rt.alloc(), input, None)?;
     assert_eq!(rt; outputs.console(), wanted.as_slice(), "{name}, operators");
     Ok(())
 }
 
 /// Returns the octets that are expected for a carrier, or for operators if `carrier` is `None`.
-fn wanted_for(alloc: Global, told: &[Told], carrier: Option<u32>) -> Result<Vec<u8>, OutOfMemory> {
+fn expected_for(
+    alloc: Global,
+    input: &[Exchange],
+    carrier: Option<u32>,
+) -> Result<Vec<u8>, OutOfMemory> {
     let mut octets = Vec::new(alloc);
-    for (step, pieces) in told {
+    for (step, pieces) in input {
         if place_of(step) == carrier {
             for piece in *pieces {
                 octets.extend_from_slice(*piece)?;
@@ -215,9 +231,11 @@ fn wanted_for(alloc: Global, told: &[Told], carrier: Option<u32>) -> Result<Vec<
 }
 
 /// Returns the carrier to which a step's octets are written, or `None` if they are for operators.
-fn place_of(step: &Step) -> Option<u32> {
+fn place_of(step: &EngineStep) -> Option<u32> {
     match step {
-        Step::Open(number) | Step::Bytes(number, _) | Step::Cut(number) => Some(*number),
-        Step::Text(_) | Step::Tick => None,
+        EngineStep::Open(number) | EngineStep::Bytes(number, _) | EngineStep::Cut(number) => Some(
+            *number,
+        ),
+        EngineStep::Text(_) | EngineStep::Tick => None,
     }
 }

@@ -26,24 +26,24 @@ use std::process::Abort;
 /// The thing under test: takes the inputs of a story, one at a time, and writes its answers.
 pub trait Listener {
     /// Applies the input `told` and writes the answer to `said`; writes `?` if the input is unknown.
-    fn hear(&mut self, told: &str, said: &mut String) -> Result<(), OutOfMemory>;
+    fn answer_input(&mut self, input: &str, said: &mut String) -> Result<(), OutOfMemory>;
 }
 
 /// Runs the parts of a story in order and checks the answer to each line. Drops the listener at the end.
-pub fn tell<L: Listener + Drop>(
+pub fn run_parts<L: Listener + Drop>(
     rt: &(impl Abort + AllocGlobal),
     mut listener: L,
     name: &str,
     parts: &[&str],
 ) -> Result<(), OutOfMemory> {
     for part in parts {
-        tell_part(rt, &mut listener, name, part)?;
+        run_part(rt, &mut listener, name, part)?;
     }
     Ok(())
 }
 
 /// Runs one part of a story.
-pub fn tell_part<L: Listener>(
+pub fn run_part<L: Listener>(
     rt: &(impl Abort + AllocGlobal),
     listener: &mut L,
     name: &str,
@@ -52,7 +52,7 @@ pub fn tell_part<L: Listener>(
     for part in story.split("\n\n") {
         let (first, last, lines) = rounds_of(part).unwrap_or((0, 0, part));
         for round in first..=last {
-            tell_in_round(rt, listener, name, round, lines)?;
+            run_round(rt, listener, name, round, lines)?;
         }
     }
     Ok(())
@@ -66,7 +66,7 @@ fn rounds_of(part: &str) -> Option<(u32, u32, &str)> {
 }
 
 /// Runs lines as those of round `round`.
-pub fn tell_in_round<L: Listener>(
+pub fn run_round<L: Listener>(
     rt: &(impl Abort + AllocGlobal),
     listener: &mut L,
     name: &str,
@@ -75,42 +75,42 @@ pub fn tell_in_round<L: Listener>(
 ) -> Result<(), OutOfMemory> {
     for line in lines.lines() {
         if !line.is_empty() && !line.starts_with('#') {
-            let line = raised(rt.alloc(), round, line)?;
-            tell_line(rt, listener, name, line.as_str())?;
+            let line = raise_numbers(rt.alloc(), round, line)?;
+            run_line(rt, listener, name, line.as_str())?;
         }
     }
     Ok(())
 }
 
 /// Runs a line and checks the answer to each of its repetitions.
-fn tell_line<L: Listener>(
+fn run_line<L: Listener>(
     rt: &(impl Abort + AllocGlobal),
     listener: &mut L,
     name: &str,
     line: &str,
 ) -> Result<(), OutOfMemory> {
-    let (told, wanted) = line.split_once(" =>").unwrap_or((line, "no answer"));
+    let (input, wanted) = line.split_once(" =>").unwrap_or((line, "no answer"));
     let wanted = wanted.strip_prefix(' ').unwrap_or(wanted);
-    let (times, told) = times_of(told);
+    let (times, input) = times_of(input);
     for _ in 0..times {
         let mut said = String::new(rt.alloc());
-        listener.hear(told, &mut said)?;
+        listener.answer_input(input, &mut said)?;
         assert_eq!(rt; said.as_str(), wanted, "{name}: {line}");
     }
     Ok(())
 }
 
 /// Splits an input into the count of its repetitions, 1 if the input has no count, and the rest.
-pub fn times_of(told: &str) -> (u32, &str) {
-    let (first, rest) = words::cut(told);
+pub fn times_of(input: &str) -> (u32, &str) {
+    let (first, rest) = words::cut(input);
     match first.parse::<u32>() {
         Ok(times) => (times, rest),
-        Err(_) => (1, told),
+        Err(_) => (1, input),
     }
 }
 
 /// Returns a line as it is in a round: each PDU as twenty digits, and each number with a `+` raised.
-fn raised(alloc: Global, round: u32, line: &str) -> Result<String, OutOfMemory> {
+fn raise_numbers(alloc: Global, round: u32, line: &str) -> Result<String, OutOfMemory> {
     let mut text = String::new(alloc);
     for word in line.split(' ') {
         if !text.is_empty() {
@@ -120,15 +120,15 @@ fn raised(alloc: Global, round: u32, line: &str) -> Result<String, OutOfMemory> 
             Some(word) => (word, ";"),
             None => (word, ""),
         };
-        write_raised(&mut text, round, word)?;
+        write_raised_word(&mut text, round, word)?;
         text.push_str(end)?;
     }
     Ok(text)
 }
 
 /// Writes a word as it is in a round.
-fn write_raised(text: &mut String, round: u32, word: &str) -> Result<(), OutOfMemory> {
-    if let Some((head, first, second)) = addressed(round, word) {
+fn write_raised_word(text: &mut String, round: u32, word: &str) -> Result<(), OutOfMemory> {
+    if let Some((head, first, second)) = parse_addressed(round, word) {
         write!(text, "{head:08X}{first:06X}{second:06X}")?;
     } else if let Some(digits) = word.strip_suffix('+') {
         let (mark, digits) = match digits.strip_prefix('g') {
@@ -144,7 +144,7 @@ fn write_raised(text: &mut String, round: u32, word: &str) -> Result<(), OutOfMe
 }
 
 /// Returns the first four octets and the two addresses of a PDU, or `None` if the word is not a PDU of that form.
-fn addressed(round: u32, word: &str) -> Option<(u32, u32, u32)> {
+fn parse_addressed(round: u32, word: &str) -> Option<(u32, u32, u32)> {
     let (head, addresses) = word.split_once('.')?;
     let (first, second) = addresses.split_once('.')?;
     Some((

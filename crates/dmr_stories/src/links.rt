@@ -12,34 +12,34 @@ mod stage;
 mod steps;
 mod terms;
 
-use self::peer::Peer;
-use self::stage::tell_all;
+use self::peer::TestedLink;
+use self::stage::run_stories;
 use std::test::Fail;
 
 /// The name of a story, and its text.
-pub type Story = (&'static str, &'static str);
+pub type LinkStory = (&'static str, &'static str);
 
 #[test]
 fn links_of_carriers(rt: HostRuntime) -> Result<(), Fail> {
     dmr_link::laws::limits_are_stated();
-    let peer = Peer::carrier();
-    tell_all(&rt, &peer, &carriers::READS, "")?;
-    tell_all(&rt, &peer, &carriers::WRITES, "")?;
-    tell_all(&rt, &peer, &frames::NO_FRAMES, "")?;
-    tell_all(&rt, &peer, &frames::FRAMES, "")?;
-    tell_all(&rt, &peer, &terms::PAUSES, "")?;
-    tell_all(&rt, &peer, &terms::STOPS, "")?;
-    tell_all(&rt, &peer, &terms::CUTS, "")?;
-    tell_all(&rt, &peer, &terms::ENDINGS, terms::AGAIN)?;
-    tell_all(&rt, &Peer::numbered(), &numbered::NUMBERS, "")
+    let peer = TestedLink::carrier();
+    run_stories(&rt, &peer, &carriers::READS, "")?;
+    run_stories(&rt, &peer, &carriers::WRITES, "")?;
+    run_stories(&rt, &peer, &frames::NO_FRAMES, "")?;
+    run_stories(&rt, &peer, &frames::FRAMES, "")?;
+    run_stories(&rt, &peer, &terms::PAUSES, "")?;
+    run_stories(&rt, &peer, &terms::STOPS, "")?;
+    run_stories(&rt, &peer, &terms::CUTS, "")?;
+    run_stories(&rt, &peer, &terms::ENDINGS, terms::AGAIN)?;
+    run_stories(&rt, &TestedLink::numbered(), &numbered::NUMBERS, "")
 }
 
 #[test]
 fn links_of_operators(rt: HostRuntime) -> Result<(), Fail> {
-    let peer = Peer::operator();
-    tell_all(&rt, &peer, &operators::READS, "")?;
-    tell_all(&rt, &peer, &operators::WRITES, "")?;
-    tell_all(&rt, &peer, &operators::LINES, "")?;
-    tell_all(&rt, &peer, &operators::STOPS, "")?;
-    tell_all(&rt, &peer, &operators::ENDINGS, operators::AGAIN)
+    let peer = TestedLink::operator();
+    run_stories(&rt, &peer, &operators::READS, "")?;
+    run_stories(&rt, &peer, &operators::WRITES, "")?;
+    run_stories(&rt, &peer, &operators::LINES, "")?;
+    run_stories(&rt, &peer, &operators::STOPS, "")?;
+    run_stories(&rt, &peer, &operators::ENDINGS, operators::AGAIN)
 }

@@ -46,12 +46,12 @@ impl Lists {
 }
 
 impl Listener for Lists {
-    fn hear(&mut self, told: &str, said: &mut String) -> Result<(), OutOfMemory> {
-        match told {
+    fn answer_input(&mut self, input: &str, said: &mut String) -> Result<(), OutOfMemory> {
+        match input {
             "copy" => replace_with(&mut self.copy, self.calls.try_clone(self.alloc)?),
             "same" => write_truth(said, self.calls == self.copy)?,
             "empty" => write_truth(said, self.calls == Calls::new(self.alloc)?)?,
-            _ => self.answer(told, said)?,
+            _ => self.answer(input, said)?,
         }
         Ok(())
     }
@@ -59,8 +59,8 @@ impl Listener for Lists {
 
 impl Lists {
     /// Calls the method that an input names, and writes its answer.
-    fn answer(&mut self, told: &str, said: &mut String) -> Result<(), OutOfMemory> {
-        let (word, rest) = cut(told);
+    fn answer(&mut self, input: &str, said: &mut String) -> Result<(), OutOfMemory> {
+        let (word, rest) = cut(input);
         let calls = &mut self.calls;
         if let Some(answer) = change_calls(calls, word, rest) {
             return write_answer(said, &answer);

@@ -1,6 +1,6 @@
 //! Tests of site files and their faults. Each case is the common site file with changes.
 
-use crate::language::{Listener, tell};
+use crate::language::{Listener, run_parts};
 use crate::site_file::{SMALL, plan_of, reading_of};
 use dmr_pdu::{Address, CarrierNo, Lpcn, OutOfMemory};
 use dmr_plan::{CarrierRow, Plan, PlanFault, RadioRange};
@@ -123,8 +123,8 @@ struct Reader {
 }
 
 impl Listener for Reader {
-    fn hear(&mut self, told: &str, said: &mut String) -> Result<(), OutOfMemory> {
-        match reading_of(self.alloc, told) {
+    fn answer_input(&mut self, input: &str, said: &mut String) -> Result<(), OutOfMemory> {
+        match reading_of(self.alloc, input) {
             Ok(_) => said.push_str("accepted"),
             Err(fault) => write_text(said, &fault),
         }
@@ -137,22 +137,22 @@ fn write_text<D: Display>(said: &mut String, value: &D) -> Result<(), OutOfMemor
 }
 
 #[test]
-fn tells_faults(rt: HostRuntime) -> Result<(), Fail> {
+fn reports_faults(rt: HostRuntime) -> Result<(), Fail> {
     dmr_plan::limits_are_stated();
     dmr_registry::limits_are_stated();
     dmr_pool::limits_are_stated();
     for story in &STORIES {
-        tell(&rt, Reader { alloc: rt.alloc() }, "site file", &[*story])?;
+        run_parts(&rt, Reader { alloc: rt.alloc() }, "site file", &[*story])?;
     }
     Ok(())
 }
 
 /// An allocation failure has a text of its own.
 #[test]
-fn tells_want_of_memory(rt: HostRuntime) -> Result<(), Fail> {
-    let mut told = String::new(rt.alloc());
-    write_text(&mut told, &PlanFault::OutOfMemory)?;
-    assert_eq!(rt; told.as_str(), "out of memory");
+fn reports_out_of_memory(rt: HostRuntime) -> Result<(), Fail> {
+    let mut input = String::new(rt.alloc());
+    write_text(&mut input, &PlanFault::OutOfMemory)?;
+    assert_eq!(rt; input.as_str(), "out of memory");
     Ok(())
 }
 

@@ -2,7 +2,7 @@
 //!
 //! All carriers are up when a story begins. An input is the name of a method of [`Pool`], followed by a carrier, a
 //! slot, or a slot and a PDU: `lost 1`, `hold 0.1` or `push 0.0 B1000020.91.1001`. `copy` replaces the copy by a copy
-//! of the slots. `same` asks whether the slots equal their copy, and `is_as` whether they equal it apart from the slots
+//! of the slots. `same` asks whether the slots equal their copy, and `has_same_carriers_and_pdus` whether they equal it apart from the slots
 //! that calls hold.
 //!
 //! An answer is a slot, a PDU, a number, `yes`, `no`, `ok` or `full`, or nothing if there is no such slot or PDU. An
@@ -46,16 +46,16 @@ impl Slots {
 }
 
 impl Listener for Slots {
-    fn hear(&mut self, told: &str, said: &mut String) -> Result<(), OutOfMemory> {
-        match told {
+    fn answer_input(&mut self, input: &str, said: &mut String) -> Result<(), OutOfMemory> {
+        match input {
             "copy" => replace_with(&mut self.copy, self.pool.try_clone(self.alloc)?),
             "same" => write_truth(said, self.pool == self.copy)?,
-            "is_as" => write_truth(said, self.pool.is_as(&self.copy))?,
-            "keeps" => self.pool.keeps(),
+            "is_as" => write_truth(said, self.pool.has_same_carriers_and_pdus(&self.copy))?,
+            "keeps" => self.pool.use_invariant(),
             "carriers_up" => write!(said, "{}", self.pool.carriers_up())?,
             "control_slot" => write_slot(said, "", &self.pool.control_slot())?,
             "free_slot" => write_found_slot(said, self.pool.free_slot())?,
-            _ => tell_place(&mut self.pool, told, said)?,
+            _ => apply_to_place(&mut self.pool, input, said)?,
         }
         Ok(())
     }
@@ -78,15 +78,15 @@ fn write_found_pdu(said: &mut String, found: Option<Pdu>) -> Result<(), OutOfMem
 }
 
 /// Applies an input that names a carrier or a slot.
-fn tell_place(pool: &mut Pool, told: &str, said: &mut String) -> Result<(), OutOfMemory> {
-    let (word, rest) = cut(told);
+fn apply_to_place(pool: &mut Pool, input: &str, said: &mut String) -> Result<(), OutOfMemory> {
+    let (word, rest) = cut(input);
     let (place, digits) = cut(rest);
     if let Some(carrier) = carrier_of(place) {
-        tell_carrier(pool, word, carrier, said)
+        apply_to_carrier(pool, word, carrier, said)
     } else if let Some(slot) = slot_of(place) {
         match pdu_of(digits) {
-            Some(pdu) => tell_pdu(pool, word, &slot, &pdu, said),
-            None => tell_slot(pool, word, &slot, said),
+            Some(pdu) => apply_pdu(pool, word, &slot, &pdu, said),
+            None => apply_to_slot(pool, word, &slot, said),
         }
     } else {
         said.push_str("?")
@@ -94,7 +94,7 @@ fn tell_place(pool: &mut Pool, told: &str, said: &mut String) -> Result<(), OutO
 }
 
 /// Applies an input that names a carrier.
-fn tell_carrier(
+fn apply_to_carrier(
     pool: &mut Pool,
     word: &str,
     carrier: CarrierNo,
@@ -107,7 +107,7 @@ fn tell_carrier(
             Ok(())
         }
         "empty" => {
-            pool.empty(carrier);
+            pool.empty_carrier(carrier);
             Ok(())
         }
         _ => said.push_str("?"),
@@ -115,7 +115,7 @@ fn tell_carrier(
 }
 
 /// Applies an input that names a slot.
-fn tell_slot(
+fn apply_to_slot(
     pool: &mut Pool,
     word: &str,
     slot: &Slot,
@@ -154,7 +154,7 @@ fn hold(pool: &mut Pool, slot: &Slot, said: &mut String) -> Result<(), OutOfMemo
 }
 
 /// Applies an input that names a slot and a PDU.
-fn tell_pdu(
+fn apply_pdu(
     pool: &mut Pool,
     word: &str,
     slot: &Slot,
@@ -184,6 +184,6 @@ fn put(pool: &mut Pool, slot: &Slot, pdu: &Pdu, said: &mut String) -> Result<(),
     if pool.waiting(*slot) >= MOST_PDUS_OF_A_SLOT {
         return said.push_str("?");
     }
-    pool.put(slot, pdu);
+    pool.add_pdu(slot, pdu);
     Ok(())
 }

@@ -35,14 +35,14 @@ impl Radios {
 }
 
 impl Listener for Radios {
-    fn hear(&mut self, told: &str, said: &mut String) -> Result<(), OutOfMemory> {
-        match told {
+    fn answer_input(&mut self, input: &str, said: &mut String) -> Result<(), OutOfMemory> {
+        match input {
             "copy" => replace_with(&mut self.copy, self.registry.try_clone(self.alloc)?),
             "same" => write_truth(said, self.registry == self.copy)?,
             "len" => write!(said, "{}", self.registry.len())?,
             "is_empty" => write_truth(said, self.registry.is_empty())?,
             "as_slice" => write_radios(said, self.registry.as_slice())?,
-            _ => tell_radio(&mut self.registry, told, said)?,
+            _ => apply_to_radio(&mut self.registry, input, said)?,
         }
         Ok(())
     }
@@ -59,8 +59,12 @@ fn write_radios(said: &mut String, radios: &[Address]) -> Result<(), OutOfMemory
 }
 
 /// Applies an input that names one radio.
-fn tell_radio(registry: &mut Registry, told: &str, said: &mut String) -> Result<(), OutOfMemory> {
-    let (word, digits) = cut(told);
+fn apply_to_radio(
+    registry: &mut Registry,
+    input: &str,
+    said: &mut String,
+) -> Result<(), OutOfMemory> {
+    let (word, digits) = cut(input);
     let Some(radio) = address_of(digits) else {
         return said.push_str("?");
     };
@@ -79,8 +83,8 @@ fn tell_radio(registry: &mut Registry, told: &str, said: &mut String) -> Result<
 }
 
 /// Writes the result of `join`.
-fn write_joined(said: &mut String, joined: Result<bool, Full>) -> Result<(), OutOfMemory> {
-    said.push_str(match joined {
+fn write_joined(said: &mut String, join_pieces: Result<bool, Full>) -> Result<(), OutOfMemory> {
+    said.push_str(match join_pieces {
         Ok(true) => "ok",
         Ok(false) => "known",
         Err(Full) => "full",

@@ -16,21 +16,21 @@ lowered_before : (n : ℕ) (p : Place) → p.index < n → (place_after_removal 
 lowered_before n p before = grind (arith, nat_tests)
 
 -- a place after it moves one to the front
-lowered_behind : (n : ℕ) (p : Place) → n < p.index → (place_after_removal n p).index + 1 ≡ p.index
-lowered_behind n p behind = grind (arith, nat_tests)
+lowered_after : (n : ℕ) (p : Place) → n < p.index → (place_after_removal n p).index + 1 ≡ p.index
+lowered_after n p behind = grind (arith, nat_tests)
 
 -- two places keep their order
 lowered_order : (n : ℕ) (p q : Place) → p.index ≢ n → q.index ≢ n → p.index < 65536 → q.index < 65536 → rank_of p < rank_of q → rank_of (place_after_removal n p) < rank_of (place_after_removal n q)
 lowered_order n p q p_other q_other p_small q_small up = elim (cases_lt p.index n) [
   | inl p_before ↦ elim (cases_lt q.index n) [
     | inl q_before ↦ omega (arith, lowered_before n p p_before, lowered_before n q q_before, up)
-    | inr q_from ↦ omega (arith, lowered_before n p p_before, lowered_behind n q (omega (arith, q_from, q_other)), up, p_small, q_small)
+    | inr q_from ↦ omega (arith, lowered_before n p p_before, lowered_after n q (omega (arith, q_from, q_other)), up, p_small, q_small)
   ]
   | inr p_from ↦
-      let p_moved = lowered_behind n p (omega (arith, p_from, p_other)) in
+      let p_moved = lowered_after n p (omega (arith, p_from, p_other)) in
       elim (cases_lt q.index n) [
         | inl q_before ↦ omega (arith, p_moved, lowered_before n q q_before, up, p_from, p_small, q_small)
-        | inr q_from ↦ omega (arith, p_moved, lowered_behind n q (omega (arith, q_from, q_other)), up)
+        | inr q_from ↦ omega (arith, p_moved, lowered_after n q (omega (arith, q_from, q_other)), up)
       ]
 ]
 
@@ -88,7 +88,7 @@ module _ {X : Type 0} (f : X → ℕ) (xs : List X) (ps : List Place) (few : len
             let same = lowered_before n p before in
             record { within = omega (arith, same, before, there, long); same = λ d. ap (λ m. f (get_or (remove xs n) m d)) same ∙ ap f (get_or-remove_below xs n d p.index before there) ∙ other.1.same d }
         | inr from ↦
-            let moved = lowered_behind n p (omega (arith, from, other.0)) in
+            let moved = lowered_after n p (omega (arith, from, other.0)) in
             record { within = omega (arith, moved, other.1.within, long); same = λ d. ap f (get_or-remove_above xs n d (place_after_removal n p).index (omega (arith, moved, from, other.0)) there) ∙ ap (λ m. f (get_or xs m d)) moved ∙ other.1.same d }
       ]
 
@@ -141,7 +141,7 @@ module _ {X : Type 0} (f : X → ℕ) (xs : List X) (ps : List Place) (few : len
             left.0,
             omega (arith, left.1, length_mapped (place_after_removal n) (remove ps i)),
             λ d.
-                let moved = lowered_behind n (get_or (remove ps i) left.0 d) (omega (arith, left.2 d, from)) in
+                let moved = lowered_after n (get_or (remove ps i) left.0 d) (omega (arith, left.2 d, from)) in
                 let index : (place_after_removal n (get_or (remove ps i) left.0 d)).index ≡ m = omega (arith, moved, left.2 d) in
                 ap (λ (p : Place). p.index) (read_mapped (place_after_removal n) (remove ps i) left.0 d d left.1) ∙ index,
           )

@@ -22,7 +22,7 @@ impl Place {
     }
 
     /// The place after the entry at `removed` was removed.
-    fn lowered(&self, removed: u16) -> Place
+    fn after_removal(&self, removed: u16) -> Place
         ensures { result ≡ lowered_of removed self.now }
     {
         if self.index > removed {
@@ -59,10 +59,10 @@ pub fn first_from(places: &[Place], key: u32) -> Option<usize>
 }
 
 /// Lowers the index of each place after the removed one by 1.
-pub fn lower(places: &mut [Place], removed: u16)
+pub fn lower_places(places: &mut [Place], removed: u16)
     ensures { places.new ≡ map (lowered_of removed) places.old }
 {
     for place in places.iter_mut() {
-        *place = place.lowered(removed);
+        *place = place.after_removal(removed);
     }
 }

@@ -6,7 +6,7 @@ ghost use Rattle.dmr_table.specs.Limits.{most_entries};
 ghost use Rattle.dmr_table.specs.Entries.{without_first, IsLeastFrom};
 
 use crate::keyed::Keyed;
-use crate::places::{Place, count_before, first_from, lower};
+use crate::places::{Place, count_before, first_from, lower_places};
 use dmr_pdu::OutOfMemory;
 use std::alloc::Global;
 use std::marker::Model;
@@ -135,7 +135,7 @@ impl<V: Keyed, const MOST: usize> KeyedTable<V, MOST> {
             return None;
         }
         self.places.remove(first);
-        lower(&mut self.places, place.index);
+        lower_places(&mut self.places, place.index);
         Some(self.entries.remove(usize::from(place.index)))
     }
 

@@ -19,7 +19,7 @@ fn two_events() -> [Event; 2] {
 }
 
 /// Returns the fault of a desk that is not opened, and the site that it returns.
-fn refused<L: DeskLedger>(
+fn refusal_at<L: DeskLedger>(
     alloc: Global,
     blank: Blank,
     site: Site,
@@ -34,9 +34,9 @@ fn refused<L: DeskLedger>(
     SharedDesk::<L>::open(alloc, blank, site, limit, actors).err()
 }
 
-/// Calls `refused` with a ledger of its own.
+/// Calls `refusal_at` with a ledger of its own.
 fn refusal_of(alloc: Global, site: Site, limit: usize, actors: u8) -> Option<(OpenFault, Site)> {
-    refused::<Brand>(alloc, Blank::new(PARTS), site, limit, actors)
+    refusal_at::<Brand>(alloc, Blank::new(PARTS), site, limit, actors)
 }
 
 /// Returns whether two sites answer an event in the same way.

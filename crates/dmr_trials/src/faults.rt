@@ -15,8 +15,8 @@ mod peers;
 mod stage;
 mod steps;
 
-use self::peers::Peer;
-use self::stage::{Outcome, Stage};
+use self::peers::SitePeer;
+use self::stage::{FaultOutcome, FaultStage};
 use self::steps::add_steps;
 use dmr_desk::Ending;
 use dmr_frames::{Cause, Version};
@@ -29,8 +29,8 @@ use std::thread::Threads;
 
 /// The expected result of a term.
 #[derive(Clone, Copy)]
-struct Want<'a> {
-    peer: Peer,
+struct ExpectedTerm<'a> {
+    peer: SitePeer,
     events: &'a str,
     octets: &'a str,
     ended: Ended,
@@ -38,8 +38,8 @@ struct Want<'a> {
 
 #[test]
 fn of_carriers(rt: HostRuntime) -> Result<(), Fail> {
-    try_all(&rt, Peer::Carrier(Version::V1), &carriers::ROWS)?;
-    try_all(&rt, Peer::Carrier(Version::V2), &numbered::ROWS)
+    try_all(&rt, SitePeer::Carrier(Version::V1), &carriers::ROWS)?;
+    try_all(&rt, SitePeer::Carrier(Version::V2), &numbered::ROWS)
 }
 
 /// Each type of frame with each wrong length, before a HELLO and after one. Each length has two connections, and each
@@ -56,13 +56,13 @@ fn lengths_of_frames(rt: HostRuntime) -> Result<(), Fail> {
 
 #[test]
 fn of_operators(rt: HostRuntime) -> Result<(), Fail> {
-    try_all(&rt, Peer::Operator, &operators::ROWS)
+    try_all(&rt, SitePeer::Operator, &operators::ROWS)
 }
 
 /// Runs the terms of each row.
 fn try_all<R: Abort + AllocGlobal + Wait + Threads + Sync>(
     rt: &R,
-    peer: Peer,
+    peer: SitePeer,
     tables: &[(&str, &str)],
 ) -> Result<(), Fail> {
     for (name, rows) in tables {
@@ -107,8 +107,8 @@ fn try_lengths<R: Abort + AllocGlobal + Wait + Threads + Sync>(
             octets.push_str(" 3")?;
         }
     }
-    let want = Want {
-        peer: Peer::Carrier(version),
+    let want = ExpectedTerm {
+        peer: SitePeer::Carrier(version),
         events: events.as_str(),
         octets: octets.as_str(),
         ended: Ended::BadFrame(Cause::BadLength),
@@ -122,7 +122,7 @@ fn try_lengths<R: Abort + AllocGlobal + Wait + Threads + Sync>(
 /// Runs the term of a row in one round.
 fn try_row<R: Abort + AllocGlobal + Wait + Threads + Sync>(
     rt: &R,
-    peer: Peer,
+    peer: SitePeer,
     name: &str,
     row: &str,
     round: usize,
@@ -130,14 +130,14 @@ fn try_row<R: Abort + AllocGlobal + Wait + Threads + Sync>(
     let (steps, rest) = row.split_once(" => ").ok_or("the steps of a row")?;
     let (events, rest) = rest.split_once("; ").ok_or("the events of a row")?;
     let (octets, ended) = rest.split_once("; ").ok_or("the octets of a row")?;
-    let want = Want {
+    let want = ExpectedTerm {
         peer,
         events: if events == "-" { "" } else { events },
         octets,
         ended: ended_of(ended).ok_or("the ending of a row")?,
     };
     let mut answers = Vec::new(rt.alloc());
-    if !add_steps(rt.alloc(), &mut answers, peer.told(), steps, round)? {
+    if !add_steps(rt.alloc(), &mut answers, peer.input(), steps, round)? {
         return Err("a step".into());
     }
     try_term(rt, name, answers, &want, round)?;
@@ -149,10 +149,10 @@ fn try_term<R: Abort + AllocGlobal + Wait + Threads + Sync>(
     rt: &R,
     name: &str,
     steps: Vec<Step>,
-    want: &Want<'_>,
+    want: &ExpectedTerm<'_>,
     round: usize,
 ) -> Result<Option<usize>, Fail> {
-    let mut outcome = Stage::new(rt.alloc(), want.peer, steps)?.run(rt, rt.alloc())?;
+    let mut outcome = FaultStage::new(rt.alloc(), want.peer, steps)?.run(rt, rt.alloc())?;
     let compared = compare(rt, name, &outcome, want, round);
     for _ in 0..2 {
         serves_no_more(rt, name, &mut outcome, want.ended, round);
@@ -180,8 +180,8 @@ fn ended_of(name: &str) -> Option<Ended> {
 fn compare(
     rt: &(impl Abort + AllocGlobal),
     name: &str,
-    outcome: &Outcome,
-    want: &Want<'_>,
+    outcome: &FaultOutcome,
+    want: &ExpectedTerm<'_>,
     round: usize,
 ) -> Result<(), Fail> {
     for ending in outcome.ends.as_slice() {
@@ -199,7 +199,13 @@ fn compare(
 }
 
 /// Serves the link, which has no connection, again. Checks that this ends as before and touches neither port nor desk.
-fn serves_no_more(rt: &impl Abort, name: &str, outcome: &mut Outcome, wanted: Ended, round: usize) {
+fn serves_no_more(
+    rt: &impl Abort,
+    name: &str,
+    outcome: &mut FaultOutcome,
+    wanted: Ended,
+    round: usize,
+) {
     let calls = outcome.calls();
     assert!(rt; calls.is_some(), "{name}, {round}");
     let (ended, turns) = outcome.serve_again();

@@ -18,7 +18,7 @@ use std::thread::Threads;
 
 /// The outcome of a desk.
 #[derive(Clone, Copy, Debug, PartialEq, Eq)]
-enum Outcome {
+enum DeskOutcome {
     /// It was not opened.
     NotOpened(OpenFault),
     /// It returned no report.
@@ -36,7 +36,7 @@ fn open_and_close<L: DeskLedger, R: Wait>(
     limit: usize,
     actors: u8,
     kept: usize,
-) -> Outcome
+) -> DeskOutcome
     requires name { blank.name ≡ L.name }
     requires parts { blank.parts ≡ L.parts }
     requires eighteen { blank.parts ≡ 18 }
@@ -46,7 +46,7 @@ fn open_and_close<L: DeskLedger, R: Wait>(
         Ok(opened) => opened,
         Err((fault, site)) => {
             drop(site);
-            return Outcome::NotOpened(fault);
+            return DeskOutcome::NotOpened(fault);
         }
     };
     seats.truncate(kept);
@@ -54,9 +54,9 @@ fn open_and_close<L: DeskLedger, R: Wait>(
         Ok(report) => {
             let (entries, views) = (report.journal.as_slice().len(), report.views.len());
             drop(report);
-            Outcome::Closed(entries, views)
+            DeskOutcome::Closed(entries, views)
         }
-        Err(fault) => Outcome::NotClosed(fault),
+        Err(fault) => DeskOutcome::NotClosed(fault),
     }
 }
 
@@ -68,7 +68,7 @@ fn outcome_of<R: Wait>(
     limit: usize,
     actors: u8,
     kept: usize,
-) -> Outcome {
+) -> DeskOutcome {
     open_and_close::<Brand, R>(rt, alloc, Blank::new(PARTS), site, limit, actors, kept)
 }
 
@@ -76,14 +76,14 @@ fn outcome_of<R: Wait>(
 #[test]
 fn opens_and_closes(rt: HostRuntime) -> Result<(), Fail> {
     for (limit, actors, kept, want) in [
-        (0, 4, 4, Outcome::NotOpened(OpenFault::BadLimit)),
-        (100_001, 0, 4, Outcome::NotOpened(OpenFault::BadLimit)),
-        (10, 0, 0, Outcome::NotOpened(OpenFault::BadActors)),
-        (10, 19, 19, Outcome::NotOpened(OpenFault::BadActors)),
-        (10, 4, 3, Outcome::NotClosed(CloseFault::SeatMissing(3))),
-        (10, 4, 4, Outcome::Closed(0, 4)),
-        (10, 18, 18, Outcome::Closed(0, 18)),
-        (100_000, 1, 1, Outcome::Closed(0, 1)),
+        (0, 4, 4, DeskOutcome::NotOpened(OpenFault::BadLimit)),
+        (100_001, 0, 4, DeskOutcome::NotOpened(OpenFault::BadLimit)),
+        (10, 0, 0, DeskOutcome::NotOpened(OpenFault::BadActors)),
+        (10, 19, 19, DeskOutcome::NotOpened(OpenFault::BadActors)),
+        (10, 4, 3, DeskOutcome::NotClosed(CloseFault::SeatMissing(3))),
+        (10, 4, 4, DeskOutcome::Closed(0, 4)),
+        (10, 18, 18, DeskOutcome::Closed(0, 18)),
+        (100_000, 1, 1, DeskOutcome::Closed(0, 1)),
     ] {
         assert_eq!(rt;
             outcome_of(
@@ -211,11 +211,10 @@ fn wait_until_over<L: DeskLedger, R: Wait>(rt: &R, desk: &SharedDesk<L>, seat: S
 
 /// Abandons a desk of ten entries after its first, while another thread waits for the end. Checks its answers and its
 /// report.
-fn abandon_behind_one<L: DeskLedger + Send + Sync, R: Abort + AllocGlobal + Wait + Threads + Sync>(
-    rt: &R,
-    blank: Blank,
-    site: Site,
-)
+fn abandon_with_one_waiting<
+    L: DeskLedger + Send + Sync,
+    R: Abort + AllocGlobal + Wait + Threads + Sync,
+>(rt: &R, blank: Blank, site: Site)
     requires name { blank.name ≡ L.name }
     requires parts { blank.parts ≡ L.parts }
     requires eighteen { blank.parts ≡ 18 }
@@ -245,7 +244,7 @@ fn abandon_behind_one<L: DeskLedger + Send + Sync, R: Abort + AllocGlobal + Wait
 
 /// Calls `abandon_behind_one` with a ledger of its own.
 fn abandon_one<R: Abort + AllocGlobal + Wait + Threads + Sync>(rt: &R, site: Site) {
-    abandon_behind_one::<Brand, R>(rt, Blank::new(PARTS), site)
+    abandon_with_one_waiting::<Brand, R>(rt, Blank::new(PARTS), site)
 }
 
 /// An abandoned desk takes no event and reports that the term is over. Its report has the events that it took before.

@@ -8,9 +8,9 @@ pub mod spelling;
 mod stage;
 mod stories;
 
-use self::spelling::{octets_of, spelled, write_letters};
-use self::stage::{Outcome, Stage, new_steps};
-use self::stories::{HUNDRED_POLLS, STORIES, Want};
+use self::spelling::{octets_of, text_of_letters, write_letters};
+use self::stage::{TermOutcome, TermStage, new_steps};
+use self::stories::{ExpectedEnd, HUNDRED_POLLS, STORIES};
 use dmr_desk::{OpenFault, TermFault};
 use std::process::Abort;
 use std::test::Fail;
@@ -20,10 +20,10 @@ use std::test::Fail;
 fn terms(rt: HostRuntime) -> Result<(), Fail> {
     for story in STORIES.iter() {
         let steps = new_steps();
-        let mut stage = Stage::new(&rt, &steps, &story.opening)?;
+        let mut stage = TermStage::new(&rt, &steps, &story.opening)?;
         for want in story.terms {
             let outcome = stage.run(&rt, rt.alloc(), want.limit)?;
-            stage = compared(&rt, story.name, outcome, want)?;
+            stage = compare_terms(&rt, story.name, outcome, want)?;
         }
         drop(stage);
     }
@@ -31,12 +31,12 @@ fn terms(rt: HostRuntime) -> Result<(), Fail> {
 }
 
 /// Compares a term with the expected result, and returns the stage of the next term.
-fn compared<'a>(
+fn compare_terms<'a>(
     rt: &(impl Abort + AllocGlobal),
     name: &str,
-    outcome: Outcome<'a>,
-    want: &Want,
-) -> Result<Stage<'a>, Fail> {
+    outcome: TermOutcome<'a>,
+    want: &ExpectedEnd,
+) -> Result<TermStage<'a>, Fail> {
     match compare(rt, name, &outcome, want) {
         Ok(()) => Ok(outcome.stage),
         Err(fault) => {
@@ -47,8 +47,11 @@ fn compared<'a>(
 }
 
 /// Writes the events of the first carrier in a term, and returns the stage of the next term.
-fn told_of_first<'a>(told: &mut String, outcome: Outcome<'a>) -> Result<Stage<'a>, Fail> {
-    match write_letters(told, 0, &outcome.views) {
+fn letters_of_first<'a>(
+    letters: &mut String,
+    outcome: TermOutcome<'a>,
+) -> Result<TermStage<'a>, Fail> {
+    match write_letters(letters, 0, &outcome.views) {
         Ok(()) => Ok(outcome.stage),
         Err(refused) => {
             drop(outcome);
@@ -61,8 +64,8 @@ fn told_of_first<'a>(told: &mut String, outcome: Outcome<'a>) -> Result<Stage<'a
 fn compare(
     rt: &(impl Abort + AllocGlobal),
     name: &str,
-    outcome: &Outcome<'_>,
-    want: &Want,
+    outcome: &TermOutcome<'_>,
+    want: &ExpectedEnd,
 ) -> Result<(), Fail> {
     assert_eq!(rt; outcome.entries, want.entries, "{name}: entries");
     assert_eq!(rt; outcome.views.len(), want.actors.len(), "{name}: actors");
@@ -71,10 +74,10 @@ fn compare(
             let ended = outcome.ends.as_slice().get(actor).copied();
             assert_eq!(rt; ended, *ending, "{name}: actor {actor}");
         }
-        let mut told = String::new(rt.alloc());
-        write_letters(&mut told, actor, &outcome.views)?;
-        let events = spelled(rt.alloc(), *events)?;
-        assert_eq!(rt; told.as_str(), events.as_str(), "{name}: actor {actor}");
+        let mut letters = String::new(rt.alloc());
+        write_letters(&mut letters, actor, &outcome.views)?;
+        let events = text_of_letters(rt.alloc(), *events)?;
+        assert_eq!(rt; letters.as_str(), events.as_str(), "{name}: actor {actor}");
         let octets = octets_of(rt.alloc(), *octets)?;
         assert_eq!(rt;
             outcome.stage.taken(actor),
@@ -89,23 +92,23 @@ fn compare(
 /// octets are the same with every limit.
 #[test]
 fn every_limit(rt: HostRuntime) -> Result<(), Fail> {
-    let events = spelled(rt.alloc(), &[(1, "U"), (100, "P"), (1, "L")])?;
+    let events = text_of_letters(rt.alloc(), &[(1, "U"), (100, "P"), (1, "L")])?;
     let octets = octets_of(rt.alloc(), &[(1, "W"), (100, "FD")])?;
     for limit in 1..=102 {
         let steps = new_steps();
-        let mut stage = Stage::new(&rt, &steps, &HUNDRED_POLLS)?;
-        let mut told = String::new(rt.alloc());
+        let mut stage = TermStage::new(&rt, &steps, &HUNDRED_POLLS)?;
+        let mut letters = String::new(rt.alloc());
         let mut terms = 0;
         for number in 1..=103 {
             let outcome = stage.run(&rt, rt.alloc(), limit)?;
             terms = number;
-            stage = told_of_first(&mut told, outcome)?;
+            stage = letters_of_first(&mut letters, outcome)?;
             if !stage.is_live(0) {
                 break;
             }
         }
         assert_eq!(rt; terms, 101 / limit + 1, "limit {limit}");
-        assert_eq!(rt; told.as_str(), events.as_str(), "limit {limit}");
+        assert_eq!(rt; letters.as_str(), events.as_str(), "limit {limit}");
         assert_eq!(rt; stage.taken(0), octets.as_slice(), "limit {limit}");
         drop(stage);
     }
@@ -126,13 +129,13 @@ fn refusals(rt: HostRuntime) -> Result<(), Fail> {
         ("012", 100),
     ] {
         let steps = new_steps();
-        let stage = Stage::of_numbers(&rt, &steps, numbers)?;
+        let stage = TermStage::of_numbers(&rt, &steps, numbers)?;
         let fault = stage.run(&rt, rt.alloc(), limit).err();
         assert_eq!(rt; fault, Some(TermFault::BadStations), "{numbers}");
     }
     for limit in [0, 100_001] {
         let steps = new_steps();
-        let stage = Stage::of_numbers(&rt, &steps, "01")?;
+        let stage = TermStage::of_numbers(&rt, &steps, "01")?;
         let fault = stage.run(&rt, rt.alloc(), limit).err();
         assert_eq!(rt;
             fault,

@@ -4,7 +4,7 @@
 ghost use Rattle.std.specs.Prelude.{◌≡◌, None};
 
 use crate::site::quiet_site;
-use crate::terms::spelling::{Letters, octets_of, spelled, write_letters};
+use crate::terms::spelling::{Letters, octets_of, text_of_letters, write_letters};
 use dmr_core::Site;
 use dmr_desk::{
     ConsoleStation, DeskLedger, Ending, PARTS, Pace, Pacer, Report, SeatAt, SharedDesk, Station,
@@ -178,7 +178,7 @@ fn workers(rt: HostRuntime) -> Result<(), Fail> {
     for (actor, (events, octets)) in WANTED.iter().enumerate() {
         let mut told = String::new(rt.alloc());
         write_letters(&mut told, actor, &views)?;
-        let events = spelled(rt.alloc(), *events)?;
+        let events = text_of_letters(rt.alloc(), *events)?;
         assert_eq!(rt; told.as_str(), events.as_str(), "actor {actor}");
         let octets = octets_of(rt.alloc(), *octets)?;
         assert_eq!(rt; taken[actor], octets.as_slice(), "actor {actor}");

@@ -1,21 +1,21 @@
 //! How often connections came and ended, for the note of a term.
 
-use dmr_port::{Cause, Note};
+use dmr_port::{EndCause, Note};
 use std::fmt;
 
 /// The causes that are counted one by one. All faults of the link are counted together.
-const PLAIN: [Cause; 11] = [
-    Cause::EndOfInput,
-    Cause::Bye,
-    Cause::Silence,
-    Cause::NoHello,
-    Cause::OpenLine,
-    Cause::Displaced,
-    Cause::Http,
-    Cause::NotRead,
-    Cause::ReadFault,
-    Cause::WriteFault,
-    Cause::Controller,
+const PLAIN: [EndCause; 11] = [
+    EndCause::EndOfInput,
+    EndCause::Bye,
+    EndCause::Silence,
+    EndCause::NoHello,
+    EndCause::OpenLine,
+    EndCause::Displaced,
+    EndCause::Http,
+    EndCause::NotRead,
+    EndCause::ReadFault,
+    EndCause::WriteFault,
+    EndCause::Controller,
 ];
 
 /// The connections of one port or of several: how many were served, how many were refused, and how many ended for which cause.
@@ -46,7 +46,7 @@ impl Ends {
     };
 
     /// Counts the end of a connection.
-    fn add(&mut self, cause: Cause) {
+    fn add(&mut self, cause: EndCause) {
         match PLAIN.iter().position(|plain| *plain == cause) {
             Some(place) => self.plain[place] = self.plain[place].saturating_add(1),
             None => self.link_faults = self.link_faults.saturating_add(1),

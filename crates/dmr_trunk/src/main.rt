@@ -27,7 +27,7 @@ ghost use Rattle.dmr_trunk.specs.Replay.{AreReplayed, HasPlan, IsJobDone, IsRepl
 
 use crate::files::{FileSource, SystemFiles, slice_of};
 use crate::serving::serve_file;
-use dmr_command::{Job, choose, out_of_memory, words_refused};
+use dmr_command::{Job, choose, report_out_of_memory, report_refused_words};
 use dmr_pdu::OutOfMemory;
 use dmr_replay::replay;
 use log::Log;
@@ -148,20 +148,20 @@ fn run_program<
         Ok(words) => words,
         Err(error) => {
             if error.kind() == io::ErrorKind::OutOfMemory {
-                return out_of_memory(err);
+                return report_out_of_memory(err);
             }
-            return words_refused(
+            return report_refused_words(
                 err,
                 "error: invalid UTF-8 was detected in one or more arguments",
             );
         }
     };
     let Ok(words) = words.collect::<Vec<String>>(rt.alloc()) else {
-        return out_of_memory(err);
+        return report_out_of_memory(err);
     };
     match run_words(rt, rt.alloc(), files, words.as_slice(), out, err) {
         Ok(status) => status,
-        Err(OutOfMemory) => out_of_memory(err),
+        Err(OutOfMemory) => report_out_of_memory(err),
     }
 }
 

@@ -1,7 +1,7 @@
 //! The sockets of a port: TCP over the system's poll. Here are the calls of the system, and no rule of a port (`dmr_port` has those).
 
 ghost use Rattle.std.specs.Prelude.{◌≡◌, ◌<◌, ◌≤◌, ℕ, None, vec_len, vec_capacity, IfOk};
-ghost use Rattle.dmr_wire.specs.Told.{GotWithin, PutWithin};
+ghost use Rattle.dmr_wire.specs.Answers.{GotWithin, PutWithin};
 ghost use Rattle.dmr_port.specs.Sockets.{PeekedWithin, waiting_after};
 
 use crate::clock::milliseconds;

@@ -81,7 +81,7 @@ impl<'a, R: Log> Notes<'a, R> {
     }
 
     /// Notes that the program begins to serve the site of a site file with `carriers` carriers.
-    pub fn starts(&mut self, site_file: &str, carriers: usize) {
+    pub fn note_start(&mut self, site_file: &str, carriers: usize) {
         if self.is_ready() {
             let noun = if carriers == 1 { "carrier" } else { "carriers" };
             info!(*self.rt; target: TARGET, "{TARGET} {VERSION}: site file {site_file}, {carriers} {noun}");
@@ -89,7 +89,7 @@ impl<'a, R: Log> Notes<'a, R> {
     }
 
     /// Notes that the program listens at a port.
-    pub fn listens(&mut self, whose: Whose, address: SocketAddr) {
+    pub fn note_listening(&mut self, whose: Whose, address: SocketAddr) {
         if self.is_ready() {
             info!(*self.rt; target: TARGET, "{whose}: listening on {address}");
         }
@@ -148,7 +148,7 @@ impl<'a, R: Log> Notes<'a, R> {
     }
 
     /// Notes that a term was audited.
-    pub fn term_ended(&mut self, term: &TermCounts) {
+    pub fn note_term(&mut self, term: &TermCounts) {
         if self.is_ready() {
             info!(*self.rt; target: TARGET, "term ended: {term}");
         }

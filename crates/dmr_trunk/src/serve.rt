@@ -34,7 +34,7 @@ type ConsoleAt<'a, R> = ConsoleStation<TcpPort<'a, R>>;
 
 /// The state that continues from term to term.
 #[derive(Drop)]
-struct Standing<'a, R: Log + Clock> {
+struct Service<'a, R: Log + Clock> {
     site: Site,
     stations: Vec<CarrierAt<'a, R>>,
     pacer: ClockPacer<'a, R>,
@@ -197,7 +197,7 @@ fn open_all<'a, R: Net + Log + Clock>(
     rt: &'a R,
     alloc: Global,
     plan: &Plan,
-) -> Result<Standing<'a, R>, ServeFault> {
+) -> Result<Service<'a, R>, ServeFault> {
     let Ok(site) = Site::new(alloc, *plan) else {
         return Err(ServeFault::OutOfMemory);
     };
@@ -209,7 +209,7 @@ fn open_all<'a, R: Net + Log + Clock>(
                 console,
                 log,
             } = opened;
-            Ok(Standing {
+            Ok(Service {
                 site,
                 stations,
                 pacer,
@@ -225,7 +225,7 @@ fn open_all<'a, R: Net + Log + Clock>(
 }
 
 /// Notes the addresses at which the ports listen.
-fn note_listening<R: Log + Clock>(standing: &mut Standing<'_, R>) {
+fn note_listening<R: Log + Clock>(standing: &mut Service<'_, R>) {
     for station in standing.stations.iter() {
         standing.log.note_listening(station.port.notes());
     }
@@ -249,9 +249,9 @@ fn serve_term<'a, R: Log + Clock + Wait + Threads + Sync>(
     rt: &R,
     alloc: Global,
     limit: usize,
-    standing: Standing<'a, R>,
-) -> Result<Standing<'a, R>, ServeFault> {
-    let Standing {
+    standing: Service<'a, R>,
+) -> Result<Service<'a, R>, ServeFault> {
+    let Service {
         site,
         stations,
         pacer,
@@ -269,7 +269,7 @@ fn serve_term<'a, R: Log + Clock + Wait + Threads + Sync>(
             } = term;
             let tally = tally_of(report.journal.as_slice());
             log.note_term(tally, &connections_of(stations.as_slice(), &console));
-            Ok(Standing {
+            Ok(Service {
                 site: report.site,
                 stations,
                 pacer,

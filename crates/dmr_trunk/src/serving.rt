@@ -34,7 +34,7 @@ fn note_start<R: Net + Log>(
     plan: &Plan,
 ) -> Result<(), ServeFault> {
     let mut notes = open_notes(rt, alloc)?;
-    notes.starts(site_name, plan.carrier().len());
+    notes.note_start(site_name, plan.carrier().len());
     Ok(())
 }
 

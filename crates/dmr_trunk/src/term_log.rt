@@ -82,7 +82,7 @@ impl<'a, R: Log + Clock> TermLog<'a, R> {
     /// Notes the address at which a port listens, if that is known.
     pub fn note_listening<'b>(&mut self, port: &PortWatch<'b, R>) {
         if let Some(address) = port.address {
-            self.notes.listens(port.whose, address);
+            self.notes.note_listening(port.whose, address);
         }
     }
 
@@ -95,11 +95,11 @@ impl<'a, R: Log + Clock> TermLog<'a, R> {
         self.before = *connections;
         let now = milliseconds(self.rt).unwrap_or(0);
         match self.limit.count(now) {
-            Verdict::Write => self.notes.term_ended(&term),
+            Verdict::Write => self.notes.note_term(&term),
             Verdict::WriteAfter(terms) => {
                 self.notes.more_terms_ended(terms, &self.dropped);
                 self.dropped = TermCounts::NONE;
-                self.notes.term_ended(&term);
+                self.notes.note_term(&term);
             }
             Verdict::Drop => self.dropped.add_all(&term),
         }

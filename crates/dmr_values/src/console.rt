@@ -5,8 +5,8 @@ ghost use Rattle.std.specs.Prelude.{◌<◌};
 use arrayvec::ArrayVec;
 use dmr_calls::{Call, Line};
 use dmr_console::{
-    LineCutter, LineStep, line_too_long, lines_in_any_cutting, lines_stand_before_their_ends,
-    parse, print, unknown_command,
+    LineCutter, LineStep, line_too_long, lines_in_any_cutting, lines_precede_their_ends, parse,
+    print, unknown_command,
 };
 use dmr_core::{Command, LineNo, Reply, SlotState, State};
 use dmr_pdu::{Address, BoundedList, CarrierNo, Lpcn, Slot, SlotNo};
@@ -277,7 +277,7 @@ fn texts_of_lines(rt: HostRuntime) {
 }
 
 /// Returns a slot of a carrier, with its state.
-fn standing(carrier: u32, slot: u32, state: State) -> SlotState
+fn slot_state(carrier: u32, slot: u32, state: State) -> SlotState
     requires carrier { carrier < 16 }
     requires slot { slot < 2 }
 {
@@ -290,11 +290,11 @@ fn standing(carrier: u32, slot: u32, state: State) -> SlotState
 #[test]
 fn texts_of_slots(rt: HostRuntime) {
     let mut slots = BoundedList::new();
-    slots.push(standing(0, 0, State::Control));
-    slots.push(standing(0, 1, State::Free));
-    slots.push(standing(1, 0, State::Call));
-    slots.push(standing(1, 1, State::Waiting));
-    slots.push(standing(15, 1, State::Down));
+    slots.push(slot_state(0, 0, State::Control));
+    slots.push(slot_state(0, 1, State::Free));
+    slots.push(slot_state(1, 0, State::Call));
+    slots.push(slot_state(1, 1, State::Waiting));
+    slots.push(slot_state(15, 1, State::Down));
     expect_text(
         &rt,
         &Reply::Slots(slots),
@@ -315,7 +315,7 @@ fn short_texts(rt: HostRuntime) {
 
 #[test]
 fn laws_do_nothing(rt: HostRuntime) {
-    lines_stand_before_their_ends();
+    lines_precede_their_ends();
     lines_in_any_cutting();
     dmr_frames::laws::limits_are_stated();
     dmr_calls::limits_are_stated();

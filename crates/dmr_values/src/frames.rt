@@ -159,7 +159,7 @@ const MISFITS: [Misfit; 8] = [
 ];
 
 #[test]
-fn faults_behind_a_hello(rt: HostRuntime) {
+fn faults_after_a_hello(rt: HostRuntime) {
     for (greatest, version, octets, cause) in MISFITS {
         let mut cutter = greeted(&rt, greatest, version);
         expect_last(&rt, &mut cutter, octets, Step::Fault(cause));
@@ -492,7 +492,7 @@ fn versions(rt: HostRuntime) {
         (2, Version::V2),
         (3, Version::V1),
     ] {
-        assert_eq!(rt; Version::named_or_first(octet), want);
+        assert_eq!(rt; Version::version_or_first(octet), want);
     }
     assert_eq!(rt; Refusal::BadVersion.octet(), 1);
     assert_eq!(rt; Refusal::WrongCarrier.octet(), 2);

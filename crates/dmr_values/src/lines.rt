@@ -1,7 +1,7 @@
 //! Lines of text, each with an input and the expected answer.
 
 /// Splits a line into the input and the answer, which follows ` => `.
-pub fn told_and_wanted(line: &str) -> (&str, &str) {
+pub fn input_and_answer(line: &str) -> (&str, &str) {
     line.split_once(" => ").unwrap_or((line, "no answer"))
 }
 

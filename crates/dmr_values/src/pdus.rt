@@ -344,7 +344,7 @@ fn sameness(rt: HostRuntime) {
         lpcn: Lpcn::new(7),
     };
     let octets = register.to_octets();
-    assert!(rt; register.is(&Pdu::from_octets(&octets)));
+    assert!(rt; register.equals(&Pdu::from_octets(&octets)));
     // The same octets, but a different PDU.
-    assert!(rt; !register.is(&Pdu::Other(octets)));
+    assert!(rt; !register.equals(&Pdu::Other(octets)));
 }

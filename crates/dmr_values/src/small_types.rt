@@ -1,6 +1,6 @@
 //! Worked values of the small types: channels, slots, reasons, kinds, addresses and lists.
 
-use crate::lines::{cut, told_and_wanted};
+use crate::lines::{cut, input_and_answer};
 use dmr_pdu::{
     Address, Blank, BoundedList, CarrierNo, Kind, Lpcn, Options, OutOfMemory, Reason, Slot, SlotNo,
 };
@@ -56,8 +56,8 @@ fn write_place(said: &mut String, place: usize) -> Result<(), OutOfMemory> {
 #[test]
 fn numbers(rt: HostRuntime) -> Result<(), Fail> {
     for line in NUMBERS.lines() {
-        let (told, wanted) = told_and_wanted(line);
-        let (kind, digits) = cut(told);
+        let (input, wanted) = input_and_answer(line);
+        let (kind, digits) = cut(input);
         let mut said = String::new(rt.alloc());
         write_number(&mut said, kind, digits.parse::<u32>().unwrap_or(0))?;
         assert_eq!(rt; said.as_str(), wanted, "{line}");
@@ -163,7 +163,7 @@ fn write_list(said: &mut String, list: &BoundedList<Address, 3>) -> Result<(), O
 #[test]
 fn lists_of_addresses(rt: HostRuntime) -> Result<(), Fail> {
     for line in LISTS.lines() {
-        let (words, wanted) = told_and_wanted(line);
+        let (words, wanted) = input_and_answer(line);
         let mut said = String::new(rt.alloc());
         write_list(&mut said, &list_of(words))?;
         assert_eq!(rt; said.as_str(), wanted, "{line}");

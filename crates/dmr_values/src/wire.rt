@@ -1,13 +1,13 @@
 //! Tests of a port in memory: its answers, call by call, and its record.
 
-use crate::lines::{cut, told_and_wanted};
+use crate::lines::{cut, input_and_answer};
 use dmr_pdu::OutOfMemory;
 use dmr_wire::{Connect, Got, MemoryPort, Port, Put, Step, Waited, Wire};
 use std::alloc::Global;
 use std::test::Fail;
 
 /// A port in memory, and its answers.
-struct Story {
+struct PortStory {
     /// The name in a failure.
     name: &'static str,
     /// The room of its record, in answers and in octets.
@@ -16,15 +16,15 @@ struct Story {
     steps: &'static str,
     /// The calls and questions, each with its answer, as the code names them. The four octets of a read follow its
     /// answer; all of them are `.` before the read. `echo` serves one connection.
-    told: &'static str,
+    input: &'static str,
 }
 
-static STORIES: [Story; 9] = [
-    Story {
+static STORIES: [PortStory; 9] = [
+    PortStory {
         name: "feeds go to reads one by one",
         room: 16,
         steps: "feed abcdefghij, feed, read 3, feed klmn, feed o",
-        told: "\
+        input: "\
 read => Octets(4) abcd
 read => Octets(4) efgh
 read => Octets(2) ij..
@@ -34,12 +34,12 @@ read => End ....
 read => End ....
 ",
     },
-    Story {
+    PortStory {
         name: "each kind of call has its own steps",
         room: 16,
         steps: "wait again, write interrupted, read interrupted, connect not yet, read block, feed x, \
 write block, read fault, connect ready, write fault, read end, feed yz",
-        told: "\
+        input: "\
 read => Interrupted ....
 read => Block ....
 read => Octets(1) x...
@@ -58,11 +58,11 @@ wait => Silent
 taken => a
 ",
     },
-    Story {
+    PortStory {
         name: "writes take as much as they are told",
         room: 16,
         steps: "write 2, write 0, write 9, write fault, write 1",
-        told: "\
+        input: "\
 write abc => Octets(2)
 write cde => Octets(0)
 write cde => Octets(3)
@@ -72,11 +72,11 @@ write gh => Octets(2)
 taken => abcdefgh
 ",
     },
-    Story {
+    PortStory {
         name: "every answer is kept in order",
         room: 16,
         steps: "connect ready, feed abcde, wait again",
-        told: "\
+        input: "\
 echo => true
 echo => false
 read => Octets(1) e...
@@ -84,21 +84,21 @@ entries => Some([Connect(Ready), Read(Octets(4)), Write(Octets(4)), Wait(Again),
 taken => abcd
 ",
     },
-    Story {
+    PortStory {
         name: "nothing is told without room for answers",
         room: 0,
         steps: "",
-        told: "\
+        input: "\
 entries => Some([])
 connect => Finished
 entries => None
 ",
     },
-    Story {
+    PortStory {
         name: "nothing is told beyond the room for one answer",
         room: 1,
         steps: "",
-        told: "\
+        input: "\
 entries => Some([])
 wait => Silent
 entries => Some([Wait(Silent)])
@@ -106,11 +106,11 @@ connect => Finished
 entries => None
 ",
     },
-    Story {
+    PortStory {
         name: "nothing is told beyond the room for two answers",
         room: 2,
         steps: "",
-        told: "\
+        input: "\
 entries => Some([])
 wait => Silent
 entries => Some([Wait(Silent)])
@@ -120,11 +120,11 @@ connect => Finished
 entries => None
 ",
     },
-    Story {
+    PortStory {
         name: "nothing is told beyond the room for four answers",
         room: 4,
         steps: "",
-        told: "\
+        input: "\
 entries => Some([])
 wait => Silent
 entries => Some([Wait(Silent)])
@@ -140,11 +140,11 @@ entries => None
     },
     // At the second write the record has room for another answer, but not for its octet. It records no later answer
     // either, even one without octets.
-    Story {
+    PortStory {
         name: "nothing is told beyond the room for octets",
         room: 5,
         steps: "feed abc",
-        told: "\
+        input: "\
 read => Octets(3) abc.
 write de => Octets(2)
 entries => Some([Read(Octets(3)), Write(Octets(2))])
@@ -217,8 +217,8 @@ fn port_of(alloc: Global, words: &str, room: usize) -> Result<MemoryPort, Fail> 
 }
 
 /// Writes the answer to a call of a port, or to a question to it.
-fn write_answer(said: &mut String, port: &mut MemoryPort, told: &str) -> Result<(), OutOfMemory> {
-    let (word, text) = cut(told);
+fn write_answer(said: &mut String, port: &mut MemoryPort, input: &str) -> Result<(), OutOfMemory> {
+    let (word, text) = cut(input);
     match word {
         "connect" => write!(said, "{:?}", port.connect()),
         "wait" => write!(said, "{:?}", port.wait()),
@@ -274,10 +274,10 @@ fn echoes_once<P: Port>(port: &mut P) -> bool {
 fn ports(rt: HostRuntime) -> Result<(), Fail> {
     for story in &STORIES {
         let mut port = port_of(rt.alloc(), story.steps, story.room)?;
-        for line in story.told.lines() {
-            let (told, wanted) = told_and_wanted(line);
+        for line in story.input.lines() {
+            let (input, wanted) = input_and_answer(line);
             let mut said = String::new(rt.alloc());
-            write_answer(&mut said, &mut port, told)?;
+            write_answer(&mut said, &mut port, input)?;
             assert_eq!(rt; said.as_str(), wanted, "{}: {line}", story.name);
         }
     }
@@ -285,7 +285,7 @@ fn ports(rt: HostRuntime) -> Result<(), Fail> {
 }
 
 #[test]
-fn want_of_memory_hands_the_steps_back(rt: HostRuntime) -> Result<(), Fail> {
+fn out_of_memory_returns_the_steps(rt: HostRuntime) -> Result<(), Fail> {
     let alloc = rt.alloc();
     let steps = steps_of(alloc, "wait again, feed ab")?;
     let want = steps_of(alloc, "wait again, feed ab")?;

@@ -6,9 +6,9 @@ use Rattle.dmr_wire.specs.declared.port.Connect.TheVariants as connect
 use Rattle.dmr_wire.specs.declared.port.Waited.TheVariants as waited
 use Rattle.dmr_wire.specs.declared.script.Reading.TheVariants.{Feed, Says}
 use Rattle.dmr_wire.specs.declared.step.Step.TheVariants as step
-use Rattle.dmr_wire.specs.declared.recording.Entry.TheVariants as entry
-use Rattle.dmr_wire.specs.Told.{Opened, Came, InputEnded, ReadInterrupted, Took, WriteBlocked, Again, Silent, of_read, of_write}
-use Rattle.dmr_wire.specs.Recording.{taken_in, empty_recording, recording_with, told_by}
+use Rattle.dmr_wire.specs.declared.recording.RecordEntry.TheVariants as entry
+use Rattle.dmr_wire.specs.Answers.{Opened, Came, InputEnded, ReadInterrupted, Took, WriteBlocked, Again, Silent, of_read, of_write}
+use Rattle.dmr_wire.specs.Recording.{taken_in, empty_recording, recording_with, reported_by}
 use Rattle.dmr_wire.specs.Entries.{entry_of_answer, answers_of_entries}
 use Rattle.dmr_wire.specs.Memory.{next_got, next_octets, reads_left, next_put}
 use Rattle.dmr_wire.specs.Script.{feed_of, memory_of}
@@ -78,20 +78,20 @@ empty_feed = refl
 
 -- ---- the record and its room
 
-nothing_yet : told_by (empty_recording 2) ≡ Some []
+nothing_yet : reported_by (empty_recording 2) ≡ Some []
 nothing_yet = refl
 
-two_answers : told_by (recording_with (recording_with (empty_recording 2) Opened) (Came (5 ∷ 6 ∷ []))) ≡ Some (Opened ∷ Came (5 ∷ 6 ∷ []) ∷ [])
+two_answers : reported_by (recording_with (recording_with (empty_recording 2) Opened) (Came (5 ∷ 6 ∷ []))) ≡ Some (Opened ∷ Came (5 ∷ 6 ∷ []) ∷ [])
 two_answers = refl
 
-three_answers : told_by (recording_with (recording_with (recording_with (empty_recording 2) Opened) InputEnded) Again) ≡ None
+three_answers : reported_by (recording_with (recording_with (recording_with (empty_recording 2) Opened) InputEnded) Again) ≡ None
 three_answers = refl
 
-three_octets : told_by (recording_with (recording_with (empty_recording 2) (Came (5 ∷ 6 ∷ []))) (Took (7 ∷ []))) ≡ None
+three_octets : reported_by (recording_with (recording_with (empty_recording 2) (Came (5 ∷ 6 ∷ []))) (Took (7 ∷ []))) ≡ None
 three_octets = refl
 
 -- after an answer that had no room, the record is not reported even if the next answer would fit
-never_again : told_by (recording_with (recording_with (empty_recording 2) (Took (5 ∷ 6 ∷ 7 ∷ []))) WriteBlocked) ≡ None
+never_again : reported_by (recording_with (recording_with (empty_recording 2) (Took (5 ∷ 6 ∷ 7 ∷ []))) WriteBlocked) ≡ None
 never_again = refl
 
 -- the octets taken before that remain

@@ -1,7 +1,7 @@
 -- A record that is kept as long as there is room for its answers and for their octets.
 use Rattle.std.specs.Prelude.{ℕ, ◌+◌, List, [], ◌∷◌, ◌++◌, Bool, false, true, not, ◌&&◌, if◌then◌else◌, nat_lt, nat_le, Option, Some, None, length, sum_by}
 use Rattle.std.specs.List.{flat_map}
-use Rattle.dmr_wire.specs.Told.{Answer, Came, Took}
+use Rattle.dmr_wire.specs.Answers.{Answer, Came, Took}
 
 -- the octets that came or were taken with an answer
 abbrev pub octets_of_answer : Answer → List ℕ
@@ -33,8 +33,8 @@ abbrev pub empty_recording : ℕ → Recording
 empty_recording room = record { room = room; answers = []; is_over = false }
 
 -- the record that is reported: none after the first answer that had no room
-abbrev pub told_by : Recording → Option (List Answer)
-told_by recording = if recording.is_over then None else Some recording.answers
+abbrev pub reported_by : Recording → Option (List Answer)
+reported_by recording = if recording.is_over then None else Some recording.answers
 
 -- whether there is room for one more answer, with this many octets
 abbrev pub has_room_for : Recording → ℕ → Bool

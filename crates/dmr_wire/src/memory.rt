@@ -1,15 +1,15 @@
 //! A port in memory.
 
 ghost use Rattle.std.specs.Prelude.{◌≡◌, ◌+◌, ◌<◌, ◌≤◌, ◌++◌, ◌∷◌, [], length, drop, map, option_map, slice_index_or, IfOk, IfErr};
-ghost use Rattle.dmr_wire.specs.Told.{Tells, GotWithin, PutWithin, of_read, of_write, of_connect, of_wait};
-ghost use Rattle.dmr_wire.specs.Recording.{empty_recording, recording_with, told_by, taken_in};
+ghost use Rattle.dmr_wire.specs.Answers.{Reports, GotWithin, PutWithin, of_read, of_write, of_connect, of_wait};
+ghost use Rattle.dmr_wire.specs.Recording.{empty_recording, recording_with, reported_by, taken_in};
 ghost use Rattle.dmr_wire.specs.Entries.{entry_of_answer};
 ghost use Rattle.dmr_wire.specs.Memory.{next_got, next_octets, reads_left, next_put};
 ghost use Rattle.dmr_wire.specs.Script.{memory_of};
 ghost use Rattle.dmr_wire.specs.Sorting.{HasRoom, IsEmpty};
 
 use crate::port::{Connect, Port, Waited};
-use crate::recording::{Entry, Recording};
+use crate::recording::{RecordEntry, Recording};
 use crate::script::{Script, read_next};
 use crate::step::Step;
 use crate::wire::{Got, Put, Wire};
@@ -75,27 +75,27 @@ impl MemoryPort {
 
     /// The entries of the record, oldest first: each call and its answer, without its octets. `None` if the port no longer reports a
     /// record.
-    pub fn entries(&self) -> Option<&[Entry]>
-        ensures { option_map (λ entries. entries.now) result ≡ option_map (map entry_of_answer) (told_by self.now.recording) }
+    pub fn entries(&self) -> Option<&[RecordEntry]>
+        ensures { option_map (λ entries. entries.now) result ≡ option_map (map entry_of_answer) (reported_by self.now.recording) }
     {
         self.recording.entries()
     }
 }
 
 impl Wire for MemoryPort {
-    ghost told = { λ port. told_by port.recording };
+    ghost reported = { λ port. reported_by port.recording };
 
     /// Answers by the next step for reads. The octets of the slice after those that came are unchanged.
     fn read(&mut self, octets: &mut [u8]) -> Got
         requires { 0 < length octets.old }
         ensures within { GotWithin result (length octets.new) }
-        ensures told { Tells (told_by self.old.recording) (of_read result octets.new ∷ []) (told_by self.new.recording) }
+        ensures reported { Reports (reported_by self.old.recording) (of_read result octets.new ∷ []) (reported_by self.new.recording) }
         ensures got { result ≡ next_got self.old.reads (length octets.old) }
         ensures octets { let given = next_octets self.old.reads (length octets.old) in octets.new ≡ given ++ drop (length given) octets.old }
         ensures port { self.new ≡ record self.old { reads = reads_left self.old.reads (length octets.old); recording = recording_with self.old.recording (of_read result octets.new) } }
     {
         let got = read_next(&mut self.script.reads, octets);
-        self.recording.note(Entry::Read(got), octets);
+        self.recording.add_answer(RecordEntry::Read(got), octets);
         got
     }
 
@@ -103,7 +103,7 @@ impl Wire for MemoryPort {
     fn write(&mut self, octets: &[u8]) -> Put
         requires { 0 < length octets.now }
         ensures within { PutWithin result (length octets.now) }
-        ensures told { Tells (told_by self.old.recording) (of_write result octets.now ∷ []) (told_by self.new.recording) }
+        ensures reported { Reports (reported_by self.old.recording) (of_write result octets.now ∷ []) (reported_by self.new.recording) }
         ensures put { result ≡ next_put self.old.writes (length octets.now) }
         ensures port { self.new ≡ record self.old { writes = drop 1 self.old.writes; recording = recording_with self.old.recording (of_write result octets.now) } }
     {
@@ -112,7 +112,7 @@ impl Wire for MemoryPort {
             Some(Put::Octets(count)) => Put::Octets(count.min(octets.len())),
             Some(answer) => answer,
         };
-        self.recording.note(Entry::Write(put), octets);
+        self.recording.add_answer(RecordEntry::Write(put), octets);
         put
     }
 }
@@ -120,25 +120,26 @@ impl Wire for MemoryPort {
 impl Port for MemoryPort {
     /// Answers by the next step for connects.
     fn connect(&mut self) -> Connect
-        ensures told { Tells (told_by self.old.recording) (of_connect result ∷ []) (told_by self.new.recording) }
+        ensures reported { Reports (reported_by self.old.recording) (of_connect result ∷ []) (reported_by self.new.recording) }
         ensures connect { result ≡ slice_index_or self.old.connects 0 Connect.Finished }
         ensures port { self.new ≡ record self.old { connects = drop 1 self.old.connects; recording = recording_with self.old.recording (of_connect result) } }
     {
         let connects = &mut self.script.connects;
         let connect = connects.pop_front().unwrap_or(Connect::Finished);
-        self.recording.note(Entry::Connect(connect), &[]);
+        self.recording
+            .add_answer(RecordEntry::Connect(connect), &[]);
         connect
     }
 
     /// Answers by the next step for waits.
     fn wait(&mut self) -> Waited
-        ensures told { Tells (told_by self.old.recording) (of_wait result ∷ []) (told_by self.new.recording) }
+        ensures reported { Reports (reported_by self.old.recording) (of_wait result ∷ []) (reported_by self.new.recording) }
         ensures waited { result ≡ slice_index_or self.old.waits 0 Waited.Silent }
         ensures port { self.new ≡ record self.old { waits = drop 1 self.old.waits; recording = recording_with self.old.recording (of_wait result) } }
     {
         let waits = &mut self.script.waits;
         let waited = waits.pop_front().unwrap_or(Waited::Silent);
-        self.recording.note(Entry::Wait(waited), &[]);
+        self.recording.add_answer(RecordEntry::Wait(waited), &[]);
         waited
     }
 }

@@ -1,7 +1,7 @@
 //! Ports: wires on which one connection follows another.
 
 ghost use Rattle.std.specs.Prelude.{◌≡◌, [], ◌∷◌};
-ghost use Rattle.dmr_wire.specs.Told.{Tells, of_connect, of_wait};
+ghost use Rattle.dmr_wire.specs.Answers.{Reports, of_connect, of_wait};
 
 use crate::closing::Closing;
 use crate::wire::Wire;
@@ -30,15 +30,15 @@ pub enum Waited {
 pub trait Port: Wire {
     /// Asks for the next connection. The port drops a connection that it still has.
     fn connect(&mut self) -> Connect
-        ensures { Tells (Self.told self.old) (of_connect result ∷ []) (Self.told self.new) };
+        ensures { Reports (Self.reported self.old) (of_connect result ∷ []) (Self.reported self.new) };
 
     /// Waits until there is something to read, or the other side has been silent for too long.
     fn wait(&mut self) -> Waited
-        ensures { Tells (Self.told self.old) (of_wait result ∷ []) (Self.told self.new) };
+        ensures { Reports (Self.reported self.old) (of_wait result ∷ []) (Self.reported self.new) };
 
     /// Receives how the connection was closed, before the next one is asked for. It reads and writes nothing. By default it does nothing.
     fn closed(&mut self, closing: Closing)
-        ensures { Self.told self.new ≡ Self.told self.old }
+        ensures { Self.reported self.new ≡ Self.reported self.old }
     {
         let _ = closing;
     }

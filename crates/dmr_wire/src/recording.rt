@@ -1,7 +1,7 @@
 //! The record of a port in memory, in room that is allocated when the record is made.
 
 ghost use Rattle.std.specs.Prelude.{◌≡◌, ◌+◌, ◌≤◌, length, map, option_map, IfOk};
-ghost use Rattle.dmr_wire.specs.Recording.{empty_recording, has_room_for, recording_with, told_by, taken_in};
+ghost use Rattle.dmr_wire.specs.Recording.{empty_recording, has_room_for, recording_with, reported_by, taken_in};
 ghost use Rattle.dmr_wire.specs.Entries.{answer_of, entry_of_answer, came_with, taken_with};
 
 use crate::port::{Connect, Waited};
@@ -12,7 +12,7 @@ use std::marker::Model;
 
 /// An entry of a port's record: a call and its answer. It has the number of octets that came or were taken, but not the octets.
 #[derive(Clone, Copy, Debug, PartialEq, Eq)]
-pub enum Entry {
+pub enum RecordEntry {
     /// A connect and its answer.
     Connect(Connect),
     /// A read and its answer.
@@ -23,13 +23,13 @@ pub enum Entry {
     Wait(Waited),
 }
 
-impl Entry {
+impl RecordEntry {
     /// The number of octets that came with the entry.
     fn count_came(self) -> usize
         ensures { result ≡ came_with self }
     {
         match self {
-            Entry::Read(Got::Octets(count)) => count,
+            RecordEntry::Read(Got::Octets(count)) => count,
             _ => 0,
         }
     }
@@ -39,7 +39,7 @@ impl Entry {
         ensures { result ≡ taken_with self }
     {
         match self {
-            Entry::Write(Put::Octets(count)) => count,
+            RecordEntry::Write(Put::Octets(count)) => count,
             _ => 0,
         }
     }
@@ -51,7 +51,7 @@ impl Entry {
 #[derive(Debug, Drop)]
 pub struct Recording {
     room: usize,
-    entries: Vec<Entry>,
+    entries: Vec<RecordEntry>,
     came: Vec<u8>,
     taken: Vec<u8>,
     is_over: bool,
@@ -86,7 +86,7 @@ impl Recording {
     }
 
     /// Notes the answer of a call. Its octets, if it has any, are the first of the slice.
-    pub fn note(&mut self, entry: Entry, octets: &[u8])
+    pub fn add_answer(&mut self, entry: RecordEntry, octets: &[u8])
         requires { came_with entry + taken_with entry ≤ length octets.now }
         ensures { self.new ≡ recording_with self.old (answer_of entry octets.now octets.now) }
     {
@@ -116,8 +116,8 @@ impl Recording {
     }
 
     /// The entries of the answers, oldest first; `None` if the record is over.
-    pub fn entries(&self) -> Option<&[Entry]>
-        ensures { option_map (λ entries. entries.now) result ≡ option_map (map entry_of_answer) (told_by self.now) }
+    pub fn entries(&self) -> Option<&[RecordEntry]>
+        ensures { option_map (λ entries. entries.now) result ≡ option_map (map entry_of_answer) (reported_by self.now) }
     {
         if self.is_over {
             return None;

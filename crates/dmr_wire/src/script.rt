@@ -43,7 +43,7 @@ impl Piece {
     }
 
     /// Moves the first octets to the front of the slice, as many as the slice holds, and returns their number.
-    pub fn give(&mut self, into: &mut [u8]) -> usize
+    pub fn read_into(&mut self, into: &mut [u8]) -> usize
         ensures count { result ≡ min (length self.old) (length into.old) }
         ensures given { into.new ≡ take result self.old ++ drop result into.old }
         ensures left { self.new ≡ drop result self.old }
@@ -132,7 +132,7 @@ pub fn read_next(reads: &mut VecDeque<Reading>, into: &mut [u8]) -> Got
         None => Got::End,
         Some(Reading::Says(answer)) => answer,
         Some(Reading::Feed(mut piece)) => {
-            let count = piece.give(into);
+            let count = piece.read_into(into);
             if !piece.is_empty() {
                 reads.push_front_reserved(Reading::Feed(piece));
             }

@@ -2,13 +2,13 @@
 
 ghost use Rattle.std.specs.Prelude.{◌≡◌, ◌<◌, [], ◌∷◌, ◌++◌, length, is_err};
 ghost use Rattle.dmr_calls.specs.declared.calls.TheConstants.{MOST_ASKS};
-ghost use Rattle.dmr_calls.specs.Asks.{new_asking, others_than, has_no_place, with_ask, ask_of, ask_to, has_own_ask, without_ask_to};
+ghost use Rattle.dmr_calls.specs.Asks.{new_active_ask, others_than, has_no_place, with_ask, ask_of, ask_to, has_own_ask, without_ask_to};
 ghost use Rattle.dmr_calls.specs.Engaged.{ask_with};
 ghost use Rattle.dmr_calls.specs.Due.{due_ask};
 
 use super::{Calls, MOST_ASKS};
 use crate::answer::Full;
-use crate::ask::{Ask, Asking};
+use crate::ask::{ActiveAsk, Ask};
 use crate::party::is_party;
 use dmr_pdu::Address;
 
@@ -32,10 +32,10 @@ impl Calls {
     /// There must be a place for it: fewer than `MOST_ASKS` asks of other sources are active.
     pub fn add_ask(&mut self, ask: &Ask)
         requires { length (others_than ask.now.source self.old.asks) < MOST_ASKS }
-        ensures { self.new ≡ record self.old { asks = others_than ask.now.source self.old.asks ++ new_asking ask.now ∷ [] } }
+        ensures { self.new ≡ record self.old { asks = others_than ask.now.source self.old.asks ++ new_active_ask ask.now ∷ [] } }
     {
         self.ask_over(ask.source);
-        self.asks.push(Asking {
+        self.asks.push(ActiveAsk {
             ask: *ask,
             waited: 0,
         });

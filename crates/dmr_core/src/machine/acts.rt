@@ -56,7 +56,7 @@ impl Machine {
         ensures acts { acts.new ≡ acts.old ++ grant self.now.plan call.now late }
         ensures few { length acts.new ≤ length acts.old + 4 }
     {
-        self.plan.keeps();
+        self.plan.use_invariant();
         let act = &Act::Queue(self.control_slot(), self.grant_pdu(call, late));
         add_copies(acts, self.plan.grant_copies(), act);
     }
@@ -91,7 +91,7 @@ impl Machine {
         ensures acts { acts.new ≡ acts.old ++ clear self.now.plan call.now }
         ensures few { length acts.new ≤ length acts.old + 5 }
     {
-        self.plan.keeps();
+        self.plan.use_invariant();
         acts.push(Act::Ended(call.slot));
         let act = &Act::Queue(
             call.slot,

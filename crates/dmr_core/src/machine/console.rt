@@ -39,11 +39,11 @@ impl Machine {
     #[tactic(auto, unfolding(crate::specs::Rules::answer_to_command))]
     // Out of line: an event of another kind then does not clear this function's locals.
     #[inline(never)]
-    pub(super) fn commanded(&self, command: &Command) -> Acts
+    pub(super) fn answer_command(&self, command: &Command) -> Acts
         ensures { result ≡ answer_to_command self.now.plan self.now.facts command.now }
     {
         match command {
-            Command::Status => reply_alone(self.status()),
+            Command::Status => reply_alone(self.status_reply()),
             Command::Radios(from) => {
                 let radios = self.registry.from_number(*from);
                 reply_alone(Reply::Radios(BoundedList::from_slice(radios.as_slice())))
@@ -56,16 +56,16 @@ impl Machine {
                     rows: BoundedList::from_slice(lines.as_slice()),
                 })
             }
-            Command::Slots => reply_alone(Reply::Slots(self.slots())),
-            Command::Drop(radio) => self.drop_radio(*radio),
-            Command::End(carrier, slot) => self.end_call(&Slot::new(*carrier, *slot)),
+            Command::Slots => reply_alone(Reply::Slots(self.slot_states())),
+            Command::Drop(radio) => self.answer_drop(*radio),
+            Command::End(carrier, slot) => self.answer_end(&Slot::new(*carrier, *slot)),
             Command::Move(_) | Command::Stay => acts_and_done(BoundedList::new()),
         }
     }
 
     /// The answer to `drop`. If the radio is registered and there is room, the call, ask or line that engages it ends, and it is no
     /// longer registered.
-    fn drop_radio(&self, radio: Address) -> Acts
+    fn answer_drop(&self, radio: Address) -> Acts
         ensures { result ≡ drop_radio self.now.plan self.now.facts radio }
     {
         if !self.registry.has(radio) {
@@ -81,7 +81,7 @@ impl Machine {
     }
 
     /// The answer to `end`: it ends the call on a slot, if the plan has the carrier and a call is active there.
-    fn end_call(&self, slot: &Slot) -> Acts
+    fn answer_end(&self, slot: &Slot) -> Acts
         ensures { result ≡ end_call self.now.plan self.now.facts slot.now }
     {
         if self.plan.carrier_with(slot.carrier).is_none() {
@@ -100,14 +100,14 @@ impl Machine {
         ensures { result ≡ (if has_carrier self.now.plan carrier then Calls (calls_on_carrier self.now.facts.calls carrier) else NoCarrier) }
     {
         if self.plan.carrier_with(carrier).is_some() {
-            Reply::Calls(self.calls_of(carrier))
+            Reply::Calls(self.calls_on_carrier(carrier))
         } else {
             Reply::NoCarrier
         }
     }
 
     /// The answer to `status`.
-    fn status(&self) -> Reply
+    fn status_reply(&self) -> Reply
         ensures { result ≡ Status (length (filter (λ up. up) self.now.facts.up)) (length self.now.facts.registered) (length self.now.facts.asks) (length self.now.facts.lines) (length self.now.facts.calls) self.now.facts.moving }
     {
         let counts = self.calls.counts();
@@ -122,7 +122,7 @@ impl Machine {
     }
 
     /// The calls on a carrier, by slot.
-    fn calls_of(&self, carrier: CarrierNo) -> BoundedList<Call, 2>
+    fn calls_on_carrier(&self, carrier: CarrierNo) -> BoundedList<Call, 2>
         ensures { result ≡ calls_on_carrier self.now.facts.calls carrier }
     {
         let mut calls = BoundedList::new();
@@ -150,7 +150,7 @@ impl Machine {
             State::Control
         } else if !self.is_up(slot.carrier) {
             State::Down
-        } else if self.stands_on(slot) {
+        } else if self.has_call_on(slot) {
             State::Call
         } else if self.is_free(slot) {
             State::Free
@@ -160,7 +160,7 @@ impl Machine {
     }
 
     /// Each slot of the plan with its state, by carrier number, then slot.
-    fn slots(&self) -> BoundedList<SlotState, 32>
+    fn slot_states(&self) -> BoundedList<SlotState, 32>
         ensures { result ≡ all_slot_states self.now.plan self.now.facts }
     {
         let mut slots = BoundedList::new();

@@ -54,11 +54,11 @@ impl Machine {
     }
 
     /// Applies a Fill of the control slot: counts it and, if it is a late entry, remembers the slot that it names.
-    pub(super) fn fill(&mut self, slot: &Slot, pdu: &Pdu)
+    pub(super) fn apply_fill(&mut self, slot: &Slot, pdu: &Pdu)
         ensures { self.new ≡ record { plan = self.old.plan; facts = facts_after_act self.old.facts (Fill slot.now pdu.now) } }
     {
         let _ = slot;
-        self.access.filled();
+        self.access.count_fill();
         if let Pdu::TvGrant { lpcn, slot, .. } = *pdu {
             self.late = Some(NamedSlot {
                 channel: lpcn,

@@ -15,14 +15,14 @@ impl Machine {
         ensures { acts.new ≡ acts.old ++ acts_of self.now.plan self.now.facts (Poll carrier) }
     {
         if self.is_up(carrier) {
-            self.add_poll(acts, &Slot::new(carrier, SlotNo::new(0)));
-            self.add_poll(acts, &Slot::new(carrier, SlotNo::new(1)));
+            self.add_send_or_fill(acts, &Slot::new(carrier, SlotNo::new(0)));
+            self.add_send_or_fill(acts, &Slot::new(carrier, SlotNo::new(1)));
         }
     }
 
     /// Adds the first PDU that waits for a slot; if none waits and the slot is the control slot, its Fill.
     #[tactic(auto, unfolding(crate::specs::Rules::acts_for_slot))]
-    fn add_poll(&self, acts: &mut ActList, slot: &Slot)
+    fn add_send_or_fill(&self, acts: &mut ActList, slot: &Slot)
         requires { length acts.old < 16 }
         ensures acts { acts.new ≡ acts.old ++ acts_for_slot self.now.plan self.now.facts slot.now }
         ensures few { length acts.new ≤ length acts.old + 1 }

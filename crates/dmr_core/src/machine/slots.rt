@@ -2,9 +2,9 @@
 
 ghost use Rattle.std.specs.Prelude.{◌≡◌};
 ghost use Rattle.dmr_pool.specs.Free.{control_slot, is_control};
-ghost use Rattle.dmr_core.specs.Words.{has_room, is_free, is_up, lowest_free, lpcn_of, slot_for_new, stands_on};
+ghost use Rattle.dmr_core.specs.Words.{has_room, is_free, is_up, lowest_free, lpcn_of, slot_for_new_call, has_call_on};
 
-use super::{Machine, numbers_of};
+use super::{Machine, slot_is_in_range};
 use dmr_pdu::{CarrierNo, Lpcn, Slot};
 
 /// The most PDUs in the control slot's outbox with which there is room for another answer: 56, by this project's profile.
@@ -51,8 +51,8 @@ impl Machine {
 
     /// Reports whether a call is active on a slot.
     #[tactic(auto, using(crate::proofs::ConsoleLemmas::called))]
-    pub(super) fn stands_on(&self, slot: &Slot) -> bool
-        ensures { result ≡ stands_on self.now.facts.calls slot.now }
+    pub(super) fn has_call_on(&self, slot: &Slot) -> bool
+        ensures { result ≡ has_call_on self.now.facts.calls slot.now }
     {
         self.calls.call_on(*slot).is_some()
     }
@@ -62,7 +62,7 @@ impl Machine {
     pub(super) fn is_free(&self, slot: &Slot) -> bool
         ensures { result ≡ is_free self.now.plan self.now.facts slot.now }
     {
-        numbers_of(slot);
+        slot_is_in_range(slot);
         self.pool.is_free(*slot)
     }
 
@@ -75,8 +75,8 @@ impl Machine {
     }
 
     /// A slot for a new call: the lowest free one, but none while a line waits.
-    pub(super) fn slot_for_new(&self) -> Option<Slot>
-        ensures { result ≡ slot_for_new self.now.plan self.now.facts }
+    pub(super) fn slot_for_new_call(&self) -> Option<Slot>
+        ensures { result ≡ slot_for_new_call self.now.plan self.now.facts }
     {
         if self.calls.has_lines() {
             None

@@ -2,7 +2,7 @@
 
 ghost use Rattle.std.specs.Prelude.{◌≡◌, ◌≤◌, ◌+◌, ◌++◌, length};
 ghost use Rattle.dmr_calls.specs.Due.{due_of};
-ghost use Rattle.dmr_core.specs.Words.{standings};
+ghost use Rattle.dmr_core.specs.Words.{active_lists};
 ghost use Rattle.dmr_core.specs.Rules.{acts_for_due_call, acts_for_due_ask, acts_for_first_line, acts_for_tick};
 
 use super::Machine;
@@ -19,16 +19,16 @@ impl Machine {
         requires { length acts.old + 13 ≤ 16 }
         ensures { acts.new ≡ acts.old ++ acts_for_tick self.now.plan self.now.facts }
     {
-        self.add_ended(acts);
+        self.add_call_end(acts);
         if self.has_room() {
-            self.add_repeat(acts);
-            self.add_serve(acts);
+            self.add_ask_repeat(acts);
+            self.add_line_service(acts);
         }
     }
 
     /// The call, ask and line that are due by the plan's times.
     fn due(&self) -> Due
-        ensures { result ≡ due_of (standings self.now.facts) self.now.plan.hang self.now.plan.maximum self.now.plan.ahoy_wait }
+        ensures { result ≡ due_of (active_lists self.now.facts) self.now.plan.hang self.now.plan.maximum self.now.plan.ahoy_wait }
     {
         let plan = &self.plan;
         self.calls
@@ -37,7 +37,7 @@ impl Machine {
 
     /// Adds the end of the first call that is over.
     #[tactic(auto, unfolding(crate::specs::Rules::acts_for_due_call))]
-    fn add_ended(&self, acts: &mut ActList)
+    fn add_call_end(&self, acts: &mut ActList)
         requires { length acts.old + 5 ≤ 16 }
         ensures acts { acts.new ≡ acts.old ++ acts_for_due_call self.now.plan self.now.facts.calls }
         ensures few { length acts.new ≤ length acts.old + 5 }
@@ -51,7 +51,7 @@ impl Machine {
 
     /// Repeats the ask whose last C_AHOY is oldest, if it is due; after the plan's last try, removes it.
     #[tactic(auto, unfolding(crate::specs::Rules::acts_for_due_ask))]
-    fn add_repeat(&self, acts: &mut ActList)
+    fn add_ask_repeat(&self, acts: &mut ActList)
         requires { length acts.old + 2 ≤ 16 }
         ensures acts { acts.new ≡ acts.old ++ acts_for_due_ask self.now.plan self.now.facts }
         ensures few { length acts.new ≤ length acts.old + 2 }
@@ -72,7 +72,7 @@ impl Machine {
 
     /// Begins the call of the first line, if a slot is free.
     #[tactic(auto, unfolding(crate::specs::Rules::acts_for_first_line))]
-    fn add_serve(&self, acts: &mut ActList)
+    fn add_line_service(&self, acts: &mut ActList)
         requires { length acts.old + 6 ≤ 16 }
         ensures acts { acts.new ≡ acts.old ++ acts_for_first_line self.now.plan self.now.facts }
         ensures few { length acts.new ≤ length acts.old + 6 }
@@ -80,7 +80,7 @@ impl Machine {
         if let Some(line) = self.calls.first_line() {
             if let Some(slot) = self.lowest_free() {
                 acts.push(Act::Unlined(line.source));
-                self.add_begin(acts, &line.on(slot));
+                self.add_begin(acts, &line.to_call(slot));
             }
         }
     }

@@ -1,7 +1,7 @@
 //! Stories of access.
 
 use super::Fills;
-use crate::language::tell;
+use crate::language::run_parts;
 use std::test::Fail;
 
 /// The stories, each with its name.
@@ -98,7 +98,7 @@ same => yes
 #[test]
 fn access(rt: HostRuntime) -> Result<(), Fail> {
     for (name, story) in &STORIES {
-        tell(&rt, Fills::new(rt.alloc())?, name, &[*story])?;
+        run_parts(&rt, Fills::new(rt.alloc())?, name, &[*story])?;
     }
     Ok(())
 }

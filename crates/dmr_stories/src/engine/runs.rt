@@ -4,16 +4,16 @@ use super::frames::{
     ACCEPTED, BYE, DONE, FILL, HELLO_0, HELLO_1, OTHER_CARRIER, OTHER_VERSION, POLL, REGISTERS,
     REGISTERS_BADLY, SLOT_2, WELCOME,
 };
-use super::{Pieces, Step, Told, puts_out};
-use Step::{Bytes, Cut, Open, Text, Tick};
+use super::{EngineStep, Exchange, Pieces, check_outputs};
+use EngineStep::{Bytes, Cut, Open, Text, Tick};
 use std::test::Fail;
 
 /// Inputs of an engine, and its answers.
-struct Run {
+struct EngineRun {
     /// The name in a failure.
     name: &'static str,
     /// The inputs, each with the octets that the engine writes for it.
-    told: &'static [Told],
+    input: &'static [Exchange],
 }
 
 /// The reply to `status` on a site with no carrier up, no radio, ask, line or call.
@@ -26,10 +26,10 @@ const UNKNOWN: &[u8] = b"error unknown command\n";
 const SPACES: &[u8] = &[b' '; 80];
 
 /// Inputs from carriers.
-static OF_CARRIERS: [Run; 4] = [
-    Run {
+static OF_CARRIERS: [EngineRun; 4] = [
+    EngineRun {
         name: "hello, registration and poll",
-        told: &[
+        input: &[
             (Open(0), &[]),
             (Bytes(0, &[HELLO_0]), &[WELCOME]),
             (Bytes(0, &[REGISTERS]), &[]),
@@ -38,9 +38,9 @@ static OF_CARRIERS: [Run; 4] = [
         ],
     },
     // A piece without octets, and later octets after a cut.
-    Run {
+    EngineRun {
         name: "steps with ample memory",
-        told: &[
+        input: &[
             (Open(0), &[]),
             (Bytes(0, &[HELLO_0]), &[WELCOME]),
             (Tick, &[]),
@@ -50,15 +50,15 @@ static OF_CARRIERS: [Run; 4] = [
             (Bytes(0, &[POLL]), &[]),
         ],
     },
-    Run {
+    EngineRun {
         name: "no inputs",
-        told: &[],
+        input: &[],
     },
     // Octets and cuts have no effect without an open connection, and on a carrier that the site doesn't have. Each of
     // two carriers has its own connection.
-    Run {
+    EngineRun {
         name: "carriers apart",
-        told: &[
+        input: &[
             (Bytes(0, &[HELLO_0]), &[]),
             (Cut(0), &[]),
             (Open(9), &[]),
@@ -74,15 +74,15 @@ static OF_CARRIERS: [Run; 4] = [
 ];
 
 /// Inputs from operators, and from carriers between them.
-static OF_OPERATORS: [Run; 7] = [
-    Run {
+static OF_OPERATORS: [EngineRun; 7] = [
+    EngineRun {
         name: "status",
-        told: &[(Text(&[b"status\n"]), &[QUIET])],
+        input: &[(Text(&[b"status\n"]), &[QUIET])],
     },
     // An operator's replies are separate from a carrier's answers.
-    Run {
+    EngineRun {
         name: "radios after a registration",
-        told: &[
+        input: &[
             (Open(0), &[]),
             (Bytes(0, &[HELLO_0]), &[WELCOME]),
             (Text(&[b"radios 1\n"]), &[b"end\n"]),
@@ -93,28 +93,28 @@ static OF_OPERATORS: [Run; 7] = [
             ),
         ],
     },
-    Run {
+    EngineRun {
         name: "lines that are no command",
-        told: &[(
+        input: &[(
             Text(&[b"hello\n", b"status\n", b"\n"]),
             &[UNKNOWN, QUIET, UNKNOWN],
         )],
     },
-    Run {
+    EngineRun {
         name: "line that is too long",
-        told: &[
+        input: &[
             (Text(&[SPACES, b" \n"]), &[b"error line too long\n"]),
             (Text(&[b"stay\n"]), &[b"ok\n"]),
         ],
     },
-    Run {
+    EngineRun {
         name: "longest line",
-        told: &[(Text(&[SPACES, b"\n"]), &[UNKNOWN])],
+        input: &[(Text(&[SPACES, b"\n"]), &[UNKNOWN])],
     },
     // An incomplete line survives the carriers' connections, and clock ticks.
-    Run {
+    EngineRun {
         name: "open line outlives links",
-        told: &[
+        input: &[
             (Text(&[b"sta"]), &[]),
             (Open(0), &[]),
             (Bytes(0, &[HELLO_0]), &[WELCOME]),
@@ -124,9 +124,9 @@ static OF_OPERATORS: [Run; 7] = [
             (Text(&[b"us\n", b"st"]), &[QUIET]),
         ],
     },
-    Run {
+    EngineRun {
         name: "steps of an operator",
-        told: &[
+        input: &[
             (Text(&[b"move 7"]), &[]),
             (
                 Text(&[b"\n", b"calls 9\n"]),
@@ -138,7 +138,7 @@ static OF_OPERATORS: [Run; 7] = [
 ];
 
 /// Octets on a new connection of carrier 0 that close it, and the octets that the engine writes for them.
-struct Ending {
+struct ConnectionEnd {
     /// The name in a failure.
     name: &'static str,
     /// The octets that arrive.
@@ -147,64 +147,64 @@ struct Ending {
     sent: Pieces,
 }
 
-static ENDINGS: [Ending; 12] = [
-    Ending {
+static ENDINGS: [ConnectionEnd; 12] = [
+    ConnectionEnd {
         name: "no frame is of type 6",
         octets: &[&[0x06]],
         sent: &[],
     },
-    Ending {
+    ConnectionEnd {
         name: "a HELLO has four octets",
         octets: &[&[0x01, 0x01]],
         sent: &[],
     },
-    Ending {
+    ConnectionEnd {
         name: "a POLL is no HELLO",
         octets: &[POLL],
         sent: &[],
     },
-    Ending {
+    ConnectionEnd {
         name: "a BYE is no HELLO",
         octets: &[BYE],
         sent: &[],
     },
-    Ending {
+    ConnectionEnd {
         name: "another version",
         octets: &[&[0x01, 0x04, 0x02, 0x00, 0x00, 0x01]],
         sent: &[OTHER_VERSION],
     },
-    Ending {
+    ConnectionEnd {
         name: "another version, before another carrier",
         octets: &[&[0x01, 0x04, 0x02, 0x01, 0x00, 0x01]],
         sent: &[OTHER_VERSION],
     },
-    Ending {
+    ConnectionEnd {
         name: "another carrier",
         octets: &[&[0x01, 0x04, 0x01, 0x01, 0x00, 0x01]],
         sent: &[OTHER_CARRIER],
     },
-    Ending {
+    ConnectionEnd {
         name: "another channel",
         octets: &[&[0x01, 0x04, 0x01, 0x00, 0x01, 0x01]],
         sent: &[OTHER_CARRIER],
     },
     // The fault follows good frames in the same piece: the engine processes the frames before it.
-    Ending {
+    ConnectionEnd {
         name: "a slot 2 behind good frames",
         octets: &[HELLO_0, POLL, SLOT_2, POLL],
         sent: &[WELCOME, FILL, DONE],
     },
-    Ending {
+    ConnectionEnd {
         name: "a second HELLO",
         octets: &[HELLO_0, HELLO_0],
         sent: &[WELCOME],
     },
-    Ending {
+    ConnectionEnd {
         name: "a BYE behind a HELLO",
         octets: &[HELLO_0, BYE, POLL],
         sent: &[WELCOME],
     },
-    Ending {
+    ConnectionEnd {
         name: "a pad that isn't 0",
         octets: &[HELLO_0, REGISTERS_BADLY],
         sent: &[WELCOME],
@@ -212,12 +212,12 @@ static ENDINGS: [Ending; 12] = [
 ];
 
 /// Steps that end an open connection of carrier 0: a cut, a BYE, a fault, and a new connection that replaces it.
-static LOSSES: [Step; 4] = [Cut(0), Bytes(0, &[BYE]), Bytes(0, &[SLOT_2]), Open(0)];
+static LOSSES: [EngineStep; 4] = [Cut(0), Bytes(0, &[BYE]), Bytes(0, &[SLOT_2]), Open(0)];
 
 #[test]
 fn carriers_are_answered(rt: HostRuntime) -> Result<(), Fail> {
     for run in &OF_CARRIERS {
-        puts_out(&rt, run.name, run.told)?;
+        check_outputs(&rt, run.name, run.input)?;
     }
     Ok(())
 }
@@ -225,7 +225,7 @@ fn carriers_are_answered(rt: HostRuntime) -> Result<(), Fail> {
 #[test]
 fn operators_are_answered(rt: HostRuntime) -> Result<(), Fail> {
     for run in &OF_OPERATORS {
-        puts_out(&rt, run.name, run.told)?;
+        check_outputs(&rt, run.name, run.input)?;
     }
     Ok(())
 }
@@ -234,13 +234,13 @@ fn operators_are_answered(rt: HostRuntime) -> Result<(), Fail> {
 #[test]
 fn connections_end(rt: HostRuntime) -> Result<(), Fail> {
     for ending in &ENDINGS {
-        let told: [Told; 4] = [
+        let input: [Exchange; 4] = [
             (Open(0), &[]),
             (Bytes(0, ending.octets), ending.sent),
             (Bytes(0, &[POLL]), &[]),
             (Bytes(0, &[HELLO_0]), &[]),
         ];
-        puts_out(&rt, ending.name, &told)?;
+        check_outputs(&rt, ending.name, &input)?;
     }
     Ok(())
 }
@@ -249,7 +249,7 @@ fn connections_end(rt: HostRuntime) -> Result<(), Fail> {
 #[test]
 fn lost_carriers(rt: HostRuntime) -> Result<(), Fail> {
     for loss in &LOSSES {
-        let told: [Told; 7] = [
+        let input: [Exchange; 7] = [
             (Open(0), &[]),
             (Bytes(0, &[HELLO_0]), &[WELCOME]),
             (Bytes(0, &[REGISTERS]), &[]),
@@ -258,7 +258,7 @@ fn lost_carriers(rt: HostRuntime) -> Result<(), Fail> {
             (Bytes(0, &[HELLO_0]), &[WELCOME]),
             (Bytes(0, &[POLL]), &[FILL, DONE]),
         ];
-        puts_out(&rt, "lost carrier", &told)?;
+        check_outputs(&rt, "lost carrier", &input)?;
     }
     Ok(())
 }

@@ -1,10 +1,10 @@
 //! Stories of a carrier's link whose port fails. The input is HELLO, the registration of radio 1001 and POLL, 36 octets
 //! in all. The whole answer is WELCOME, the TX of the acknowledgement and DONE, 33 octets in all.
 
-use super::Story;
+use super::LinkStory;
 
 /// The input ends or fails.
-pub static READS: [Story; 6] = [
+pub static READS: [LinkStory; 6] = [
     (
         "the input ends after so many octets",
         "\
@@ -127,7 +127,7 @@ serve => closed; up heard heard heard poll poll poll lost; welcome accepted done
 ];
 
 /// The port takes only a part of the answer, or fails.
-pub static WRITES: [Story; 7] = [
+pub static WRITES: [LinkStory; 7] = [
     (
         "a port takes so many octets and then fails",
         "\

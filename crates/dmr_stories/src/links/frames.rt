@@ -1,10 +1,10 @@
 //! Stories of a carrier's link that receives frames without effect, or octets that are not frames.
 
-use super::Story;
+use super::LinkStory;
 
 /// Octets with which no frame begins. The link reports the fault at the first octet that shows it, and ignores later
 /// octets.
-pub static NO_FRAMES: [Story; 5] = [
+pub static NO_FRAMES: [LinkStory; 5] = [
     (
         "unknown type",
         "\
@@ -105,7 +105,7 @@ serve => bad pad; up lost; 3
 ];
 
 /// First frames, later frames, and frames followed by a fault in the same piece.
-pub static FRAMES: [Story; 5] = [
+pub static FRAMES: [LinkStory; 5] = [
     (
         "a first frame that is no hello",
         "\

@@ -2,10 +2,10 @@
 //! twice, and two POLLs, 68 octets in all. The whole answer is WELCOME, the TX of the acknowledgement with number 0,
 //! DONE, the TX of a Fill with number 1 and DONE, 65 octets in all.
 
-use super::Story;
+use super::LinkStory;
 
 /// A repeat is not deposited, and the numbers of TX go on over events that the link kept.
-pub static NUMBERS: [Story; 3] = [
+pub static NUMBERS: [LinkStory; 3] = [
     (
         "a burst that comes again",
         "\

@@ -1,10 +1,10 @@
 //! Stories of the operators' link. The input is the lines `status` and `stay`, 12 octets in all. The whole answer has
 //! 64 octets, and the reply to `status` has 61 of them.
 
-use super::Story;
+use super::LinkStory;
 
 /// The input ends, fails or stops.
-pub static READS: [Story; 5] = [
+pub static READS: [LinkStory; 5] = [
     (
         "the input ends after so many octets",
         "\
@@ -83,7 +83,7 @@ serve => closed; stay; ok|ok|ok|ok|ok|ok|ok|ok|ok|ok|ok|ok|ok|
 ];
 
 /// The port takes only a part of the answer, or fails.
-pub static WRITES: [Story; 5] = [
+pub static WRITES: [LinkStory; 5] = [
     (
         "a port takes so many octets and then fails",
         "\
@@ -148,7 +148,7 @@ serve => write fault; -; error
 ];
 
 /// Lines, and the replies to them.
-pub static LINES: [Story; 4] = [
+pub static LINES: [LinkStory; 4] = [
     (
         "lines that are no command",
         "\
@@ -218,7 +218,7 @@ serve => closed; status stay; 64
 ];
 
 /// Terms that end, and cuts.
-pub static STOPS: [Story; 3] = [
+pub static STOPS: [LinkStory; 3] = [
     (
         "terms of one command",
         "\
@@ -280,7 +280,7 @@ open => no
 ];
 
 /// How connections end, and how the links answer afterwards.
-pub static ENDINGS: [Story; 4] = [
+pub static ENDINGS: [LinkStory; 4] = [
     (
         "used again after the end of the input",
         "begin first 9 =>\nserve => closed; status; 61\n",

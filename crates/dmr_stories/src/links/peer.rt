@@ -5,7 +5,7 @@ use crate::engine::frames::{
     ACCEPTED, ACCEPTED_NUMBERED, DONE, FILL_NUMBERED, HELLO_0, HELLO_0_NUMBERED, POLL, REGISTERS,
     REGISTERS_NUMBERED, WELCOME, WELCOME_NUMBERED,
 };
-use crate::engine::joined;
+use crate::engine::join_pieces;
 use dmr_frames::Version;
 use dmr_link::{ConsoleLink, Desk, Ended, Link, OpenGate, TermOver};
 use dmr_pdu::{CarrierNo, Lpcn, OutOfMemory};
@@ -14,7 +14,7 @@ use std::alloc::Global;
 
 /// A link of one of the kinds.
 #[derive(Drop)]
-pub enum Peer {
+pub enum TestedLink {
     /// The link of carrier 0, which serves version 1.
     Carrier(Link),
     /// The link of carrier 0, which serves version 2 too.
@@ -26,37 +26,37 @@ pub enum Peer {
 /// The replies to `status` on a site with no carrier up, no radio, ask, line or call, and to a command that is done.
 const REPLIES: &[u8] = b"status carriers 0 radios 0 asks 0 lines 0 calls 0 fill aloha\nok\n";
 
-impl Peer {
+impl TestedLink {
     /// Returns the link of carrier 0, whose channel is 1, without a connection.
-    pub fn carrier() -> Peer {
-        Peer::Carrier(Link::new(CarrierNo::new(0), Lpcn::new(1), Version::V1))
+    pub fn carrier() -> TestedLink {
+        TestedLink::Carrier(Link::new(CarrierNo::new(0), Lpcn::new(1), Version::V1))
     }
 
     /// Returns the same link, but serving version 2 too.
-    pub fn numbered() -> Peer {
-        Peer::Numbered(Link::new(CarrierNo::new(0), Lpcn::new(1), Version::V2))
+    pub fn numbered() -> TestedLink {
+        TestedLink::Numbered(Link::new(CarrierNo::new(0), Lpcn::new(1), Version::V2))
     }
 
     /// Returns the operators' link, without a connection.
-    pub fn operator() -> Peer {
-        Peer::Operator(ConsoleLink::new())
+    pub fn operator() -> TestedLink {
+        TestedLink::Operator(ConsoleLink::new())
     }
 
     /// Returns another link of this kind, without a connection.
-    pub fn another(&self) -> Peer {
+    pub fn another(&self) -> TestedLink {
         match self {
-            Peer::Carrier(_) => Peer::carrier(),
-            Peer::Numbered(_) => Peer::numbered(),
-            Peer::Operator(_) => Peer::operator(),
+            TestedLink::Carrier(_) => TestedLink::carrier(),
+            TestedLink::Numbered(_) => TestedLink::numbered(),
+            TestedLink::Operator(_) => TestedLink::operator(),
         }
     }
 
     /// Returns the input of the stories: HELLO, the registration of radio 1001 and POLL (in version 2 the registration
     /// twice and POLL twice), or two lines.
-    pub fn told(&self, alloc: Global) -> Result<Vec<u8>, OutOfMemory> {
+    pub fn input(&self, alloc: Global) -> Result<Vec<u8>, OutOfMemory> {
         match self {
-            Peer::Carrier(_) => joined(alloc, &[HELLO_0, REGISTERS, POLL]),
-            Peer::Numbered(_) => joined(
+            TestedLink::Carrier(_) => join_pieces(alloc, &[HELLO_0, REGISTERS, POLL]),
+            TestedLink::Numbered(_) => join_pieces(
                 alloc,
                 &[
                     HELLO_0_NUMBERED,
@@ -66,15 +66,15 @@ impl Peer {
                     POLL,
                 ],
             ),
-            Peer::Operator(_) => joined(alloc, &[b"status\nstay\n"]),
+            TestedLink::Operator(_) => join_pieces(alloc, &[b"status\nstay\n"]),
         }
     }
 
     /// Returns the whole answer to that input.
     pub fn answer(&self, alloc: Global) -> Result<Vec<u8>, OutOfMemory> {
         match self {
-            Peer::Carrier(_) => joined(alloc, &[WELCOME, ACCEPTED, DONE]),
-            Peer::Numbered(_) => joined(
+            TestedLink::Carrier(_) => join_pieces(alloc, &[WELCOME, ACCEPTED, DONE]),
+            TestedLink::Numbered(_) => join_pieces(
                 alloc,
                 &[
                     WELCOME_NUMBERED,
@@ -84,23 +84,23 @@ impl Peer {
                     DONE,
                 ],
             ),
-            Peer::Operator(_) => joined(alloc, &[REPLIES]),
+            TestedLink::Operator(_) => join_pieces(alloc, &[REPLIES]),
         }
     }
 
     /// Returns whether the link is live.
     pub fn live(&self) -> bool {
         match self {
-            Peer::Carrier(link) | Peer::Numbered(link) => link.live(),
-            Peer::Operator(link) => link.live(),
+            TestedLink::Carrier(link) | TestedLink::Numbered(link) => link.live(),
+            TestedLink::Operator(link) => link.live(),
         }
     }
 
     /// Opens the link.
     pub fn open(&mut self) -> bool {
         match self {
-            Peer::Carrier(link) | Peer::Numbered(link) => link.open(),
-            Peer::Operator(link) => link.open(),
+            TestedLink::Carrier(link) | TestedLink::Numbered(link) => link.open(),
+            TestedLink::Operator(link) => link.open(),
         }
     }
 
@@ -112,19 +112,19 @@ impl Peer {
         gate: Option<&mut CountingGate>,
     ) -> Ended {
         match self {
-            Peer::Carrier(link) | Peer::Numbered(link) => match gate {
+            TestedLink::Carrier(link) | TestedLink::Numbered(link) => match gate {
                 Some(gate) => link.serve(port, desk, gate),
                 None => link.serve(port, desk, &mut OpenGate),
             },
-            Peer::Operator(link) => link.serve(port, desk),
+            TestedLink::Operator(link) => link.serve(port, desk),
         }
     }
 
     /// Cuts the link.
     pub fn cut<D: Desk>(&mut self, desk: &mut D) -> Result<(), TermOver> {
         match self {
-            Peer::Carrier(link) | Peer::Numbered(link) => link.cut(desk),
-            Peer::Operator(link) => link.cut(desk),
+            TestedLink::Carrier(link) | TestedLink::Numbered(link) => link.cut(desk),
+            TestedLink::Operator(link) => link.cut(desk),
         }
     }
 }

@@ -14,20 +14,20 @@
 //! The answer to `serve` and `cut` is how the call ended, the events that the desk took meanwhile, and the octets that
 //! the port has taken so far. With a gate, the numbers of its entries and exits follow.
 
-use super::Story;
+use super::LinkStory;
 use super::answers::{word_of_ended, write_events, write_taken};
 use super::desk::ListDesk;
 use super::gate::CountingGate;
-use super::peer::Peer;
+use super::peer::TestedLink;
 use super::steps::steps_of;
 use crate::language::words::{cut, replace_with, write_truth};
-use crate::language::{Listener, tell_part};
+use crate::language::{Listener, run_part};
 use crate::site_file::{SMALL, plan_of};
 use dmr_core::Site;
 use dmr_link::Ended;
 use dmr_pdu::OutOfMemory;
 use dmr_plan::Plan;
-use dmr_wire::{Entry, MemoryPort, Step};
+use dmr_wire::{MemoryPort, RecordEntry, Step};
 use std::alloc::Global;
 use std::process::Abort;
 use std::test::Fail;
@@ -40,10 +40,10 @@ const AMPLE: usize = 100;
 
 /// A link with its port and its desk.
 #[derive(Drop)]
-struct Stage {
+struct LinkStage {
     alloc: Global,
     plan: Plan,
-    peer: Peer,
+    peer: TestedLink,
     port: MemoryPort,
     desk: ListDesk,
     /// The number of this term's events that have been written as answers.
@@ -53,36 +53,36 @@ struct Stage {
 }
 
 /// Runs each story with a link of this kind, and then the lines `behind`.
-pub fn tell_all(
+pub fn run_stories(
     rt: &(impl Abort + AllocGlobal),
-    peer: &Peer,
-    stories: &[Story],
+    peer: &TestedLink,
+    stories: &[LinkStory],
     behind: &str,
 ) -> Result<(), Fail> {
     for (name, story) in stories {
         let stage = stage_of(rt.alloc(), peer.another())?;
-        tell_story(rt, stage, *name, *story, behind)?;
+        run_story(rt, stage, *name, *story, behind)?;
     }
     Ok(())
 }
 
 /// Runs a story, and then the lines `behind`.
-fn tell_story<L: Listener + Drop>(
+fn run_story<L: Listener + Drop>(
     rt: &(impl Abort + AllocGlobal),
     mut stage: L,
     name: &str,
     story: &str,
     behind: &str,
 ) -> Result<(), OutOfMemory> {
-    tell_part(rt, &mut stage, name, story)?;
-    tell_part(rt, &mut stage, name, behind)
+    run_part(rt, &mut stage, name, story)?;
+    run_part(rt, &mut stage, name, behind)
 }
 
 /// Returns a link with a port without steps and the desk of a new site.
-fn stage_of(alloc: Global, peer: Peer) -> Result<Stage, Fail> {
+fn stage_of(alloc: Global, peer: TestedLink) -> Result<LinkStage, Fail> {
     let plan = plan_of(alloc, SMALL)?;
     let port = port_of(alloc, Vec::new(alloc))?;
-    Ok(Stage {
+    Ok(LinkStage {
         alloc,
         plan,
         peer,
@@ -106,9 +106,9 @@ fn desk_of(alloc: Global, plan: Plan) -> Result<ListDesk, OutOfMemory> {
     ListDesk::new(alloc, 0, Site::new(alloc, plan)?, AMPLE)
 }
 
-impl Listener for Stage {
-    fn hear(&mut self, told: &str, said: &mut String) -> Result<(), OutOfMemory> {
-        let (word, rest) = cut(told);
+impl Listener for LinkStage {
+    fn answer_input(&mut self, input: &str, said: &mut String) -> Result<(), OutOfMemory> {
+        let (word, rest) = cut(input);
         match word {
             "begin" => self.begin(rest, said),
             "port" => self.take_port(rest, said),
@@ -125,7 +125,7 @@ impl Listener for Stage {
     }
 }
 
-impl Stage {
+impl LinkStage {
     /// Replaces the link, the desk and the port, and opens the link.
     fn begin(&mut self, steps: &str, said: &mut String) -> Result<(), OutOfMemory> {
         self.peer = self.peer.another();
@@ -139,8 +139,8 @@ impl Stage {
 
     /// Replaces the port by one of these steps.
     fn take_port(&mut self, steps: &str, said: &mut String) -> Result<(), OutOfMemory> {
-        let told = self.peer.told(self.alloc)?;
-        match steps_of(self.alloc, told.as_slice(), steps)? {
+        let input = self.peer.input(self.alloc)?;
+        match steps_of(self.alloc, input.as_slice(), steps)? {
             Some(steps) => self.port = port_of(self.alloc, steps)?,
             None => said.push_str("?")?,
         }
@@ -210,7 +210,7 @@ impl Stage {
         let entries = self.port.entries().unwrap_or(&[]);
         entries
             .iter()
-            .filter(|entry| matches!(entry, Entry::Read(_)))
+            .filter(|entry| matches!(entry, RecordEntry::Read(_)))
             .count()
     }
 
@@ -219,7 +219,7 @@ impl Stage {
         let entries = self.port.entries().unwrap_or(&[]);
         entries
             .iter()
-            .filter(|entry| matches!(entry, Entry::Write(_)))
+            .filter(|entry| matches!(entry, RecordEntry::Write(_)))
             .count()
     }
 }

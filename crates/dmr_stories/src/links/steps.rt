@@ -34,12 +34,12 @@ pub static NAMED: [(&str, &[u8]); 12] = [
 ];
 
 /// Returns the steps that these words mean, with `told` as the story's input. Returns `None` if a word is unknown.
-pub fn steps_of(alloc: Global, told: &[u8], words: &str) -> Result<Option<Vec<Step>>, AllocError> {
+pub fn steps_of(alloc: Global, input: &[u8], words: &str) -> Result<Option<Vec<Step>>, AllocError> {
     let mut steps = Vec::new(alloc);
     for words in words.split("; ") {
         let (times, words) = times_of(words);
         for _ in 0..times {
-            if !add_steps(alloc, &mut steps, told, words)? {
+            if !add_steps(alloc, &mut steps, input, words)? {
                 return Ok(None);
             }
         }
@@ -51,14 +51,14 @@ pub fn steps_of(alloc: Global, told: &[u8], words: &str) -> Result<Option<Vec<St
 fn add_steps(
     alloc: Global,
     steps: &mut Vec<Step>,
-    told: &[u8],
+    input: &[u8],
     words: &str,
 ) -> Result<bool, AllocError> {
     if let Some(step) = answer_of(words) {
         steps.push(step)?;
         return Ok(true);
     }
-    let Some(octets) = octets_of(alloc, told, words)? else {
+    let Some(octets) = octets_of(alloc, input, words)? else {
         return Ok(false);
     };
     if words.starts_with("single ") {
@@ -89,12 +89,12 @@ fn answer_of(words: &str) -> Option<Step> {
 }
 
 /// Returns the octets that these words mean.
-fn octets_of(alloc: Global, told: &[u8], words: &str) -> Result<Option<Vec<u8>>, AllocError> {
+fn octets_of(alloc: Global, input: &[u8], words: &str) -> Result<Option<Vec<u8>>, AllocError> {
     let (word, rest) = cut(words);
     let mut octets = Vec::new(alloc);
     let known = match word {
-        "octets" | "single" => put_all(&mut octets, rest)?,
-        "first" | "behind" => put_told(&mut octets, told, words)?,
+        "octets" | "single" => append_all(&mut octets, rest)?,
+        "first" | "behind" => append_input(&mut octets, input, words)?,
         "text" | "line" => {
             octets.extend_from_slice(rest.as_bytes())?;
             true
@@ -108,18 +108,18 @@ fn octets_of(alloc: Global, told: &[u8], words: &str) -> Result<Option<Vec<u8>>,
 }
 
 /// Adds the first octets of the story's input, or the octets after them.
-fn put_told(octets: &mut Vec<u8>, told: &[u8], words: &str) -> Result<bool, AllocError> {
+fn append_input(octets: &mut Vec<u8>, input: &[u8], words: &str) -> Result<bool, AllocError> {
     let (word, digits) = cut(words);
     let Ok(count) = digits.parse::<usize>() else {
         return Ok(false);
     };
-    let (first, behind) = told.split_at(count.min(told.len()));
+    let (first, behind) = input.split_at(count.min(input.len()));
     octets.extend_from_slice(if word == "first" { first } else { behind })?;
     Ok(true)
 }
 
 /// Adds the octets that these words mean, in order.
-fn put_all(octets: &mut Vec<u8>, words: &str) -> Result<bool, AllocError> {
+fn append_all(octets: &mut Vec<u8>, words: &str) -> Result<bool, AllocError> {
     for word in words.split(' ') {
         if let Ok(octet) = word.parse::<u8>() {
             octets.push(octet)?;

@@ -1,10 +1,10 @@
 //! Stories of a carrier's link that stops and goes on later: after many reads, at the end of a term, at a shut gate, or
 //! at a cut. Also stories of a link that is used again.
 
-use super::Story;
+use super::LinkStory;
 
 /// A call of `serve` makes at most 64 reads, interrupted reads included.
-pub static PAUSES: [Story; 5] = [
+pub static PAUSES: [LinkStory; 5] = [
     (
         "the 65th read is made by the next call",
         "\
@@ -72,7 +72,7 @@ fill done fill done fill done
 
 /// If the desk's term is over or the gate is shut, the next call deposits the remaining events, before anything else
 /// and once.
-pub static STOPS: [Story; 5] = [
+pub static STOPS: [LinkStory; 5] = [
     (
         "terms of one event",
         "\
@@ -185,7 +185,7 @@ writes => 3
 ];
 
 /// A cut neither reads nor writes. The events that it leaves are deposited later.
-pub static CUTS: [Story; 5] = [
+pub static CUTS: [LinkStory; 5] = [
     (
         "links that are cut",
         "\
@@ -319,7 +319,7 @@ open => no
 ];
 
 /// How connections end, and how the links answer afterwards.
-pub static ENDINGS: [Story; 8] = [
+pub static ENDINGS: [LinkStory; 8] = [
     (
         "used again after the end of the input",
         "begin first 9 =>\nserve => closed; up lost; 3\n",

@@ -25,11 +25,11 @@ pub fn change_calls(calls: &mut Calls, word: &str, rest: &str) -> Option<Answer>
             Some(Answer::Done)
         }
         "end_of_carrier" => {
-            calls.end_of_carrier(carrier_of(rest)?);
+            calls.end_calls_of_carrier(carrier_of(rest)?);
             Some(Answer::Done)
         }
         "count" => {
-            calls.count();
+            calls.count_tick();
             Some(Answer::Done)
         }
         "tick" => {

@@ -1,7 +1,7 @@
 //! Stories of the lists.
 
 use super::Lists;
-use crate::language::tell;
+use crate::language::run_parts;
 use std::test::Fail;
 
 /// The stories, each with its name.
@@ -156,7 +156,7 @@ group_line 2003 => no
 #[test]
 fn lists(rt: HostRuntime) -> Result<(), Fail> {
     for (name, story) in &STORIES {
-        tell(&rt, Lists::new(rt.alloc())?, name, &[*story])?;
+        run_parts(&rt, Lists::new(rt.alloc())?, name, &[*story])?;
     }
     Ok(())
 }

@@ -1,6 +1,6 @@
 //! Carriers that come up or are lost while there are calls, lines and asks.
 
-use super::stage::{Story, tell_all};
+use super::stage::{SiteStory, run_stories};
 use super::starts::{LINE_BEHIND_CALLS, ONE_ASK, THREE_CALLS};
 use crate::site_file::SMALL;
 use std::test::Fail;
@@ -14,14 +14,14 @@ tick => ended 1.1; queue 1.1 AE00001100005DFFFECA
 poll 1 => send 1.1 AE00001100005DFFFECA
 ";
 
-static STORIES: [Story; 6] = [
+static STORIES: [SiteStory; 6] = [
     // If a carrier is lost, its calls are gone and nothing more is sent on it. Once it is up again, its slots are free
     // at once.
-    Story {
+    SiteStory {
         name: "lost carrier takes its calls",
         site: SMALL,
         radios: Some(1004),
-        told: &[
+        input: &[
             THREE_CALLS,
             "\
 lost 1 =>
@@ -40,11 +40,11 @@ tick => ended 0.1; queue 0.1 AE00001100005BFFFECA
     },
     // While a carrier is down, its slots are not free: a request waits, and the first tick after the carrier is up
     // serves it.
-    Story {
+    SiteStory {
         name: "request waits for the carrier",
         site: SMALL,
         radios: Some(1004),
-        told: &[
+        input: &[
             THREE_CALLS,
             "\
 lost 1 =>
@@ -59,11 +59,11 @@ tick => ended 0.1; queue 0.1 AE00001100005BFFFECA
         ],
     },
     // If a carrier comes up twice, its calls and the PDUs that wait for it are gone, as if it had been lost in between.
-    Story {
+    SiteStory {
         name: "carrier comes up twice",
         site: SMALL,
         radios: Some(1004),
-        told: &[
+        input: &[
             THREE_CALLS,
             "\
 99 tick =>
@@ -84,11 +84,11 @@ heard 0.0 9F000001.92.1002 => queue 0.0 B100002000005C0003EA
     },
     // If the control carrier is lost, its calls, all lines and all asks are gone. The calls of the other carrier go on
     // and end after their hang time. Registrations remain.
-    Story {
+    SiteStory {
         name: "lost control carrier takes what waits",
         site: SMALL,
         radios: Some(1006),
-        told: &[
+        input: &[
             THREE_CALLS,
             LINE_BEHIND_CALLS,
             "\
@@ -113,11 +113,11 @@ heard 0.0 9F000001.91.1001 => began 0.1 1001 g91; queue 0.0 B100001800005B0003E9
     },
     // The control carrier comes back during calls of the other carrier. Those calls go on, and radios can join them
     // late.
-    Story {
+    SiteStory {
         name: "control carrier comes back",
         site: SMALL,
         radios: Some(1005),
-        told: &[
+        input: &[
             THREE_CALLS,
             LINE_BEHIND_CALLS,
             "\
@@ -137,11 +137,11 @@ heard 0.0 9F000001.94.1004 => lined 1004 g94; queue 0.0 A00001400003EC00005E
         ],
     },
     // After a loss of the control carrier, an ask is neither repeated nor answered.
-    Story {
+    SiteStory {
         name: "ask is gone with the control carrier",
         site: SMALL,
         radios: Some(1002),
-        told: &[
+        input: &[
             ONE_ASK,
             "\
 lost 1 =>
@@ -160,5 +160,5 @@ heard 0.0 9F000000.1001.1002 => asked 1002 1001 0 1; queue 0.0 A00001C00003EA000
 
 #[test]
 fn carriers(rt: HostRuntime) -> Result<(), Fail> {
-    tell_all(&rt, &STORIES)
+    run_stories(&rt, &STORIES)
 }

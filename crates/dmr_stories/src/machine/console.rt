@@ -1,17 +1,17 @@
 //! An operator's commands.
 
-use super::stage::{Story, tell_all};
+use super::stage::{SiteStory, run_stories};
 use super::starts::{LINE_BEHIND_CALLS, ONE_ASK, THREE_CALLS};
 use crate::site_file::SMALL;
 use std::test::Fail;
 
-static STORIES: [Story; 10] = [
+static STORIES: [SiteStory; 10] = [
     // A radio that the operator drops is no longer registered, and its call ends.
-    Story {
+    SiteStory {
         name: "dropped caller",
         site: SMALL,
         radios: Some(1004),
-        told: &[
+        input: &[
             THREE_CALLS,
             "\
 say drop 1001 => reply ok; ended 0.1; queue 0.1 AE00001100005BFFFECA; left 1001
@@ -24,11 +24,11 @@ say calls 0 => reply calls
     },
     // If the called radio is dropped, its caller receives NoReg_MS_Away. If the calling radio is dropped, its ask is
     // over and nothing is sent.
-    Story {
+    SiteStory {
         name: "dropped in an ask, called",
         site: SMALL,
         radios: Some(1002),
-        told: &[
+        input: &[
             ONE_ASK,
             "\
 say drop 1002 => reply ok; over 1001; queue 0.0 A00000480003E90003EA; left 1002
@@ -37,11 +37,11 @@ say status => reply status 2 1 0 0 0 aloha
 ",
         ],
     },
-    Story {
+    SiteStory {
         name: "dropped in an ask, calling",
         site: SMALL,
         radios: Some(1002),
-        told: &[
+        input: &[
             ONE_ASK,
             "\
 say drop 1001 => reply ok; over 1001; left 1001
@@ -50,11 +50,11 @@ say status => reply status 2 1 0 0 0 aloha
         ],
     },
     // If a radio is dropped, its waiting request is removed.
-    Story {
+    SiteStory {
         name: "dropped in line",
         site: SMALL,
         radios: Some(1004),
-        told: &[
+        input: &[
             THREE_CALLS,
             LINE_BEHIND_CALLS,
             "\
@@ -66,11 +66,11 @@ say lines 1 => reply lines 1
         ],
     },
     // Without room no radio is dropped: 57 PDUs wait for the control slot.
-    Story {
+    SiteStory {
         name: "no room to drop",
         site: SMALL,
         radios: Some(1001),
-        told: &[
+        input: &[
             "\
 57 heard 0.0 9F00020E.16776902.1001 => queue 0.0 A00000C4.1001.16776902
 heard 0.0 9F00020E.16776902.1001 =>
@@ -83,11 +83,11 @@ say drop 1001 => reply ok; left 1001
     },
     // A call that the operator ends is cleared. Its slot is not free until its P_CLEAR has been sent; then the next
     // tick serves the waiting request.
-    Story {
+    SiteStory {
         name: "ended call",
         site: SMALL,
         radios: Some(1004),
-        told: &[
+        input: &[
             THREE_CALLS,
             LINE_BEHIND_CALLS,
             "\
@@ -105,11 +105,11 @@ say calls 2 => reply no carrier
         ],
     },
     // The replies while a carrier is lost, and after it is back.
-    Story {
+    SiteStory {
         name: "shown while a carrier is lost",
         site: SMALL,
         radios: Some(1004),
-        told: &[
+        input: &[
             THREE_CALLS,
             "\
 say calls 1 => reply calls 1.0 1002 g92, 1.1 1003 g93
@@ -126,11 +126,11 @@ say status => reply status 1 4 0 0 0 aloha
         ],
     },
     // If the control carrier is lost, the waiting requests are gone. Calls on the other carrier go on.
-    Story {
+    SiteStory {
         name: "shown while the control carrier is lost",
         site: SMALL,
         radios: Some(1004),
-        told: &[
+        input: &[
             THREE_CALLS,
             LINE_BEHIND_CALLS,
             "\
@@ -143,11 +143,11 @@ poll 1 => send 1.0 AE00001100005CFFFECA
     },
     // After the command `move`, C_MOVE fills the control slot, with the same backoff. A loss of the control carrier
     // does not change that.
-    Story {
+    SiteStory {
         name: "moved control channel",
         site: SMALL,
         radios: Some(1001),
-        told: &[
+        input: &[
             "\
 say move 7 => reply ok
 poll 0 => fill 0.0 B9000000110007000000
@@ -164,11 +164,11 @@ say status => reply status 2 1 0 0 0 aloha
         ],
     },
     // At most sixteen radios are shown, from the given number on.
-    Story {
+    SiteStory {
         name: "shown radios",
         site: SMALL,
         radios: Some(1017),
-        told: &[
+        input: &[
             "\
 say radios 1000 => reply radios 1001, 1002, 1003, 1004, 1005, 1006, 1007, 1008, 1009, 1010, \
     1011, 1012, 1013, 1014, 1015, 1016
@@ -182,5 +182,5 @@ say radios 16777215 => reply radios
 
 #[test]
 fn console(rt: HostRuntime) -> Result<(), Fail> {
-    tell_all(&rt, &STORIES)
+    run_stories(&rt, &STORIES)
 }

@@ -1,6 +1,6 @@
 //! Copies of a site, and sites that are equal.
 
-use super::stage::{Story, tell_all};
+use super::stage::{SiteStory, run_stories};
 use super::starts::ONE_ASK;
 use crate::site_file::SMALL;
 use std::test::Fail;
@@ -69,14 +69,14 @@ heard 0.0 9F00020E.16776902.1004 => joined 1004; queue 0.0 A00000C40003ECFFFEC6
 tick => ended 0.1; queue 0.1 AE00001100005BFFFECA
 ";
 
-static STORIES: [Story; 4] = [
+static STORIES: [SiteStory; 4] = [
     // A copy is made after two requests. It answers all later events as the site does, and equals the site before and
     // after them.
-    Story {
+    SiteStory {
         name: "copy answers alike",
         site: SMALL,
         radios: Some(1004),
-        told: &[
+        input: &[
             TWO_REQUESTS,
             COPIED,
             TWO_CALLS_AND_A_LINE,
@@ -86,11 +86,11 @@ static STORIES: [Story; 4] = [
         ],
     },
     // The same during an ask, while a grant waits, after noise on the control slot and after ticks.
-    Story {
+    SiteStory {
         name: "copy has what was counted",
         site: SMALL,
         radios: Some(1003),
-        told: &[
+        input: &[
             ONE_ASK,
             COUNTED,
             COPIED_ASIDE,
@@ -101,11 +101,11 @@ static STORIES: [Story; 4] = [
         ],
     },
     // A site and its copy differ once only one of them has processed an event that changes the state.
-    Story {
+    SiteStory {
         name: "copy stands alone",
         site: SMALL,
         radios: Some(1004),
-        told: &[
+        input: &[
             ONE_ASK,
             "\
 heard 0.0 9F000001.91.1003 => began 0.1 1003 g91; queue 0.0 B100001800005B0003EB
@@ -125,11 +125,11 @@ alone heard 0.0 A1000088.1001.1002 => yes
         ],
     },
     // Sites of different plans differ even before any event.
-    Story {
+    SiteStory {
         name: "sites of two plans differ",
         site: SMALL,
         radios: None,
-        told: &[
+        input: &[
             "\
 control => 0
 same => yes
@@ -144,5 +144,5 @@ same => yes
 
 #[test]
 fn copies(rt: HostRuntime) -> Result<(), Fail> {
-    tell_all(&rt, &STORIES)
+    run_stories(&rt, &STORIES)
 }

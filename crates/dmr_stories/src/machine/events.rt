@@ -8,8 +8,8 @@ use dmr_core::{Command, Event, LineNo};
 use dmr_pdu::Lpcn;
 
 /// Returns the event that these words mean.
-pub fn event_of(told: &str) -> Option<Event> {
-    let (word, rest) = cut(told);
+pub fn event_of(input: &str) -> Option<Event> {
+    let (word, rest) = cut(input);
     match word {
         "up" => Some(Event::Up(carrier_of(rest)?)),
         "lost" => Some(Event::Lost(carrier_of(rest)?)),

@@ -1,6 +1,6 @@
 //! Individual requests and calls.
 
-use super::stage::{Story, tell_all};
+use super::stage::{SiteStory, run_stories};
 use super::starts::{LINE_BEHIND_CALLS, ONE_ASK, THREE_CALLS};
 use crate::site_file::SMALL;
 use std::test::Fail;
@@ -20,13 +20,13 @@ heard 0.0 A1000088.1004.1005 => over 1004; lined 1004 1005; queue 0.0 A000014000
 poll 0 => send 0.0 A00001400003EC0003ED
 ";
 
-static STORIES: [Story; 24] = [
+static STORIES: [SiteStory; 24] = [
     // An accepted call ends with the 100th quiet tick. The P_CLEAR on its slot is that of an individual call.
-    Story {
+    SiteStory {
         name: "taken call hangs",
         site: SMALL,
         radios: Some(1002),
-        told: &[
+        input: &[
             ONE_ASK,
             ONE_CALL,
             "\
@@ -39,11 +39,11 @@ heard 0.0 9F000000.1001.1002 => asked 1002 1001 0 1; queue 0.0 A00001C00003EA000
         ],
     },
     // The site asks the called radio three times, 8 ticks apart, and then ends the ask.
-    Story {
+    SiteStory {
         name: "silent radio is given up",
         site: SMALL,
         radios: Some(1002),
-        told: &[
+        input: &[
             ONE_ASK,
             "\
 7 tick =>
@@ -62,11 +62,11 @@ heard 0.0 A1000088.1001.1002 =>
     },
     // If the called radio leaves, the ask is over. The source receives NoReg_MS_Away, and then the site accepts the
     // leaving.
-    Story {
+    SiteStory {
         name: "asked radio leaves",
         site: SMALL,
         radios: Some(1002),
-        told: &[
+        input: &[
             ONE_ASK,
             "\
 heard 0.0 9F00000EFFFEC60003EA => over 1001; queue 0.0 A00000480003E90003EA; left 1002; queue 0.0 A00000C00003EAFFFEC6
@@ -78,11 +78,11 @@ heard 0.0 A1000088.1001.1002 =>
         ],
     },
     // If the called radio refuses, with any reason but MS_Accepted, the source receives Called_Party_Busy.
-    Story {
+    SiteStory {
         name: "asked radio refuses",
         site: SMALL,
         radios: Some(1002),
-        told: &[
+        input: &[
             ONE_ASK,
             "\
 heard 0.0 A100005C0003E90003EA => over 1001; queue 0.0 A000005C0003E90003EA
@@ -94,11 +94,11 @@ heard 0.0 A10000C00003E90003EA => over 1001; queue 0.0 A000005C0003E90003EA
         ],
     },
     // Only an answer of the asked radio on the control slot has an effect. The target in the answer is ignored.
-    Story {
+    SiteStory {
         name: "answer of a radio that was not asked",
         site: SMALL,
         radios: Some(1003),
-        told: &[
+        input: &[
             ONE_ASK,
             "\
 heard 0.0 A10000880003E90003EB =>
@@ -110,11 +110,11 @@ heard 0.0 A10056890000070003EA => over 1001; began 0.1 1001 1002; queue 0.0 B000
         ],
     },
     // Each C_AHOY has the service options of the request.
-    Story {
+    SiteStory {
         name: "options are mirrored",
         site: SMALL,
         radios: Some(1002),
-        told: &[
+        input: &[
             "\
 heard 0.0 9F00AC000003EA0003E9 => asked 1001 1002 86 1; queue 0.0 A00001C00003E90003EA; queue 0.0 9C00AC000003EA0003E9
 poll 0 => send 0.0 A00001C00003E90003EA
@@ -125,11 +125,11 @@ tick => asked 1001 1002 86 2; queue 0.0 9C00AC000003EA0003E9
         ],
     },
     // A radio cannot call itself, a radio that is not listed, or one that is not registered.
-    Story {
+    SiteStory {
         name: "radios that cannot be called",
         site: SMALL,
         radios: Some(1002),
-        told: &[
+        input: &[
             "\
 heard 0.0 9F0000000003E90003E9 => queue 0.0 A00000420003E90003E9
 heard 0.0 9F0000000007D00003E9 => queue 0.0 A00000420003E90007D0
@@ -142,11 +142,11 @@ heard 0.0 9F000000.1002.1001 => queue 0.0 A00000480003E90003EA
     },
     // A radio is busy if it is the source of a talkgroup call, asks, is asked, or is a party of an individual call. A
     // radio that joined a talkgroup call late is not busy.
-    Story {
+    SiteStory {
         name: "engaged radios are busy",
         site: SMALL,
         radios: Some(1005),
-        told: &[
+        input: &[
             ONE_ASK,
             "\
 heard 0.0 9F000001.91.1003 => began 0.1 1003 g91; queue 0.0 B100001800005B0003EB
@@ -163,11 +163,11 @@ heard 0.0 9F000000.1005.1004 => asked 1004 1005 0 1; queue 0.0 A00001C00003EC000
     },
     // The answer to a repeated request depends on the state of the first one: Wait, Queued_For_Resource, or the grant
     // again.
-    Story {
+    SiteStory {
         name: "caller asks again, ask",
         site: SMALL,
         radios: Some(1002),
-        told: &[
+        input: &[
             ONE_ASK,
             "\
 heard 0.0 9F000000.1002.1001 => queue 0.0 A00001C00003E90003EA
@@ -177,11 +177,11 @@ heard 0.0 9F000000.1002.1001 => queue 0.0 B00000180003EA0003E9
 ",
         ],
     },
-    Story {
+    SiteStory {
         name: "caller asks again, line",
         site: SMALL,
         radios: Some(1006),
-        told: &[
+        input: &[
             THREE_CALLS,
             ONE_LINE,
             "\
@@ -190,11 +190,11 @@ heard 0.0 9F000000.1005.1004 => queue 0.0 A00001400003EC0003ED
         ],
     },
     // A party of an ask, a call or a line that calls another radio is refused for now.
-    Story {
+    SiteStory {
         name: "parties call someone else, ask",
         site: SMALL,
         radios: Some(1003),
-        told: &[
+        input: &[
             ONE_ASK,
             "\
 heard 0.0 9F000000.1003.1001 => queue 0.0 A00000460003E90003EB
@@ -203,11 +203,11 @@ heard 0.0 9F000000.1001.1002 => queue 0.0 A00000460003EA0003E9
 ",
         ],
     },
-    Story {
+    SiteStory {
         name: "parties call someone else, call",
         site: SMALL,
         radios: Some(1003),
-        told: &[
+        input: &[
             ONE_ASK,
             ONE_CALL,
             "\
@@ -217,11 +217,11 @@ heard 0.0 9F000001.91.1002 => queue 0.0 A00000460003EA00005B
 ",
         ],
     },
-    Story {
+    SiteStory {
         name: "parties call someone else, line",
         site: SMALL,
         radios: Some(1006),
-        told: &[
+        input: &[
             THREE_CALLS,
             ONE_LINE,
             "\
@@ -233,11 +233,11 @@ heard 0.0 9F000000.1005.1006 => queue 0.0 A000005C0003EE0003ED
         ],
     },
     // A call that is accepted while no slot is free waits for a slot, and is granted when one is free.
-    Story {
+    SiteStory {
         name: "taken call waits for a slot",
         site: SMALL,
         radios: Some(1006),
-        told: &[
+        input: &[
             THREE_CALLS,
             ONE_LINE,
             "\
@@ -250,11 +250,11 @@ poll 0 => send 0.0 B00000180003ED0003EC
         ],
     },
     // An accepted call waits after an existing line, even if a slot is free.
-    Story {
+    SiteStory {
         name: "taken call waits behind a line",
         site: SMALL,
         radios: Some(1006),
-        told: &[
+        input: &[
             THREE_CALLS,
             LINE_BEHIND_CALLS,
             "\
@@ -267,11 +267,11 @@ heard 0.0 A1000088.1005.1006 => over 1005; lined 1005 1006; queue 0.0 A000014000
         ],
     },
     // Only the source can cancel an ask, and only once. A call cannot be cancelled.
-    Story {
+    SiteStory {
         name: "ask is called off once, ask",
         site: SMALL,
         radios: Some(1002),
-        told: &[
+        input: &[
             ONE_ASK,
             "\
 heard 0.0 9F00000F0003E90003EA => queue 0.0 A00000520003EA0003E9
@@ -282,11 +282,11 @@ heard 0.0 A1000088.1001.1002 =>
 ",
         ],
     },
-    Story {
+    SiteStory {
         name: "ask is called off once, call",
         site: SMALL,
         radios: Some(1002),
-        told: &[
+        input: &[
             ONE_ASK,
             ONE_CALL,
             "\
@@ -295,11 +295,11 @@ heard 0.0 9F00000F.1001.1002 => queue 0.0 A00000520003EA0003E9
 ",
         ],
     },
-    Story {
+    SiteStory {
         name: "ask is called off once, line",
         site: SMALL,
         radios: Some(1006),
-        told: &[
+        input: &[
             THREE_CALLS,
             ONE_LINE,
             "\
@@ -310,11 +310,11 @@ heard 0.0 9F00000F.1005.1004 => unlined 1004; queue 0.0 A00000C00003EC0003ED
     },
     // If a party leaves, its ask, call or line is over. If the target of an ask or a line leaves, the source is
     // informed.
-    Story {
+    SiteStory {
         name: "parties leave, ask",
         site: SMALL,
         radios: Some(1002),
-        told: &[
+        input: &[
             ONE_ASK,
             "\
 heard 0.0 9F00000E.16776902.1001 => over 1001; left 1001; queue 0.0 A00000C00003E9FFFEC6
@@ -322,11 +322,11 @@ heard 0.0 A1000088.1001.1002 =>
 ",
         ],
     },
-    Story {
+    SiteStory {
         name: "parties leave, source",
         site: SMALL,
         radios: Some(1002),
-        told: &[
+        input: &[
             ONE_ASK,
             ONE_CALL,
             "\
@@ -335,11 +335,11 @@ heard 0.0 9F00000E.16776902.1001 => ended 0.1; queue 0.1 AE0000100003EAFFFECA; l
 ",
         ],
     },
-    Story {
+    SiteStory {
         name: "parties leave, target",
         site: SMALL,
         radios: Some(1002),
-        told: &[
+        input: &[
             ONE_ASK,
             ONE_CALL,
             "\
@@ -348,11 +348,11 @@ heard 0.0 9F00000E.16776902.1002 => ended 0.1; queue 0.1 AE0000100003EAFFFECA; l
 ",
         ],
     },
-    Story {
+    SiteStory {
         name: "parties leave, line",
         site: SMALL,
         radios: Some(1006),
-        told: &[
+        input: &[
             THREE_CALLS,
             ONE_LINE,
             "\
@@ -360,11 +360,11 @@ heard 0.0 9F00000E.16776902.1004 => unlined 1004; left 1004; queue 0.0 A00000C00
 ",
         ],
     },
-    Story {
+    SiteStory {
         name: "parties leave, line target",
         site: SMALL,
         radios: Some(1006),
-        told: &[
+        input: &[
             THREE_CALLS,
             ONE_LINE,
             "\
@@ -374,11 +374,11 @@ heard 0.0 9F00000E.16776902.1005 => unlined 1004; queue 0.0 A00000480003EC0003ED
         ],
     },
     // A tick repeats or ends at most one ask, the one with the oldest C_AHOY.
-    Story {
+    SiteStory {
         name: "asks are repeated in turn",
         site: SMALL,
         radios: Some(1004),
-        told: &[
+        input: &[
             ONE_ASK,
             "\
 heard 0.0 9F000000.1004.1003 => asked 1003 1004 0 1; queue 0.0 A00001C00003EB0003EC; queue 0.0 9C0000000003EC0003EB
@@ -399,5 +399,5 @@ tick => over 1003; queue 0.0 A00000480003EB0003EC
 
 #[test]
 fn individual(rt: HostRuntime) -> Result<(), Fail> {
-    tell_all(&rt, &STORIES)
+    run_stories(&rt, &STORIES)
 }

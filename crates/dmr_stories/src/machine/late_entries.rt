@@ -1,6 +1,6 @@
 //! Late entries: grants of the active talkgroup calls, in each fourth Fill.
 
-use super::stage::{Story, tell_all};
+use super::stage::{SiteStory, run_stories};
 use super::starts::{ONE_ASK, THREE_CALLS};
 use crate::site_file::SMALL;
 use std::test::Fail;
@@ -27,34 +27,34 @@ const FOUR_TO_92: &str =
 const FOUR_TO_93: &str =
     "3 poll 0 => fill 0.0 99000000111234000000\npoll 0 => fill 0.0 B100002C00005D0003EB\n";
 
-static STORIES: [Story; 9] = [
+static STORIES: [SiteStory; 9] = [
     // Each fourth Fill names the only call.
-    Story {
+    SiteStory {
         name: "one call",
         site: SMALL,
         radios: Some(1001),
-        told: &[ONE_CALL, FOUR_TO_91, FOUR_TO_91],
+        input: &[ONE_CALL, FOUR_TO_91, FOUR_TO_91],
     },
     // Two calls, and three, are named in turn.
-    Story {
+    SiteStory {
         name: "two calls in turn",
         site: SMALL,
         radios: Some(1002),
-        told: &[ONE_CALL, SECOND_CALL, FOUR_TO_91, FOUR_TO_92, FOUR_TO_91],
+        input: &[ONE_CALL, SECOND_CALL, FOUR_TO_91, FOUR_TO_92, FOUR_TO_91],
     },
-    Story {
+    SiteStory {
         name: "three calls in turn",
         site: SMALL,
         radios: Some(1003),
-        told: &[THREE_CALLS, FOUR_TO_91, FOUR_TO_92, FOUR_TO_93, FOUR_TO_91],
+        input: &[THREE_CALLS, FOUR_TO_91, FOUR_TO_92, FOUR_TO_93, FOUR_TO_91],
     },
     // An ended call is not named, and the turn goes on after its slot. Without a call there is no late entry, but the
     // count of Fills goes on.
-    Story {
+    SiteStory {
         name: "ended calls",
         site: SMALL,
         radios: Some(1003),
-        told: &[
+        input: &[
             THREE_CALLS,
             FOUR_TO_91,
             FOUR_TO_92,
@@ -73,11 +73,11 @@ poll 0 => fill 0.0 B100001C00005C0003EA
         ],
     },
     // An individual call is not named.
-    Story {
+    SiteStory {
         name: "individual call",
         site: SMALL,
         radios: Some(1002),
-        told: &[
+        input: &[
             ONE_ASK,
             "\
 heard 0.0 A10000880003E90003EA => over 1001; began 0.1 1001 1002; queue 0.0 B00000180003EA0003E9
@@ -87,11 +87,11 @@ poll 0 => send 0.0 B00000180003EA0003E9
         ],
     },
     // After the command `move`, a C_MOVE replaces the late entry, and counts as a Fill.
-    Story {
+    SiteStory {
         name: "moved control channel",
         site: SMALL,
         radios: Some(1001),
-        told: &[
+        input: &[
             ONE_CALL,
             "\
 say move 7 => reply ok
@@ -103,11 +103,11 @@ poll 0 => fill 0.0 B100001C00005B0003E9
         ],
     },
     // A PDU that waited does not count as a Fill, nor does a poll of another carrier.
-    Story {
+    SiteStory {
         name: "sent in between",
         site: SMALL,
         radios: Some(1002),
-        told: &[
+        input: &[
             ONE_CALL,
             "\
 2 poll 0 => fill 0.0 99000000111234000000
@@ -121,11 +121,11 @@ poll 0 => fill 0.0 B100001C00005B0003E9
     },
     // When the control carrier comes up, the count begins again and the last late entry is forgotten. The same holds
     // after its loss.
-    Story {
+    SiteStory {
         name: "forgotten with the control carrier",
         site: SMALL,
         radios: Some(1003),
-        told: &[
+        input: &[
             THREE_CALLS,
             FOUR_TO_91,
             FOUR_TO_92,
@@ -138,11 +138,11 @@ poll 0 => fill 0.0 B100001C00005B0003E9
     },
     // After three more Fills a site differs from its copy. After the fourth they are equal again, since none was a late
     // entry.
-    Story {
+    SiteStory {
         name: "counted Fills",
         site: SMALL,
         radios: Some(1001),
-        told: &[
+        input: &[
             "\
 copy =>
 3 poll 0 => fill 0.0 99000000111234000000
@@ -156,5 +156,5 @@ same => yes
 
 #[test]
 fn late_entries(rt: HostRuntime) -> Result<(), Fail> {
-    tell_all(&rt, &STORIES)
+    run_stories(&rt, &STORIES)
 }

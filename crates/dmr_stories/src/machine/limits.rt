@@ -1,17 +1,17 @@
 //! Full tables, full slots and a full outbox.
 
-use super::stage::{Story, tell_all};
+use super::stage::{SiteStory, run_stories};
 use super::starts::{FULL_LINES, LINE_BEHIND_CALLS, THREE_CALLS};
 use crate::site_file::{LARGE, LOUD, SMALL, WIDE};
 use std::test::Fail;
 
-static STORIES: [Story; 8] = [
+static STORIES: [SiteStory; 8] = [
     // While 32 requests wait, another talkgroup request is refused. Once there is a place, it waits.
-    Story {
+    SiteStory {
         name: "at most 32 requests wait",
         site: WIDE,
         radios: Some(1036),
-        told: &[
+        input: &[
             THREE_CALLS,
             FULL_LINES,
             "\
@@ -27,11 +27,11 @@ heard 0.0 9F000001.100.1010 => queue 0.0 A000004E0003F2000064
         ],
     },
     // While 32 requests wait, an accepted call is refused.
-    Story {
+    SiteStory {
         name: "taken call finds no place to wait",
         site: WIDE,
         radios: Some(1037),
-        told: &[
+        input: &[
             THREE_CALLS,
             FULL_LINES,
             "\
@@ -42,11 +42,11 @@ heard 0.0 A1000088.1036.1037 =>
         ],
     },
     // At most 32 radios are asked at a time. A call to another is refused until an ask is over.
-    Story {
+    SiteStory {
         name: "at most 32 radios are asked",
         site: SMALL,
         radios: Some(1066),
-        told: &[
+        input: &[
             "\
 rounds 1001 to 1032
 heard 0.0 9F000000.33+.0+ => asked 0+ 33+ 0 1; queue 0.0 A00001C0.0+.33+; queue 0.0 9C000000.33+.0+
@@ -62,11 +62,11 @@ heard 0.0 9F000000.1034.1001 => queue 0.0 A000004E0003E900040A
         ],
     },
     // Sixteen carriers have 31 slots for calls, assigned by carrier and then by slot. The 32nd request waits.
-    Story {
+    SiteStory {
         name: "sixteen carriers have 31 calls",
         site: LARGE,
         radios: Some(1032),
-        told: &[
+        input: &[
             "\
 heard 0.0 9F000001.91.1001 => began 0.1 1001 g91; queue 0.0 B1000018.91.1001
 poll 0 => send 0.0 B1000018.91.1001
@@ -137,11 +137,11 @@ poll 0 => send 0.0 A000014000040800007A
     },
     // One tick ends a call, repeats an ask and serves a line, with four copies of each grant and P_CLEAR: 13 acts, of
     // which 9 queue a PDU. The fourth Fill before this tick is a late entry.
-    Story {
+    SiteStory {
         name: "busiest tick",
         site: LOUD,
         radios: Some(1006),
-        told: &[
+        input: &[
             "\
 heard 0.0 9F000001.91.1001 => began 0.1 1001 g91; queue 0.0 B1000018.91.1001; queue 0.0 B1000018.91.1001; \
     queue 0.0 B1000018.91.1001; queue 0.0 B1000018.91.1001
@@ -172,11 +172,11 @@ tick => ended 1.0; queue 1.0 AE00001100005CFFFECA; queue 1.0 AE00001100005CFFFEC
     },
     // 57 PDUs wait for the control slot: requests, answers and leavings have no effect, and no ask is repeated, until
     // one of the 57 has been sent.
-    Story {
+    SiteStory {
         name: "no room no effect",
         site: SMALL,
         radios: Some(1005),
-        told: &[
+        input: &[
             "\
 heard 0.0 9F000000.1002.1001 => asked 1001 1002 0 1; queue 0.0 A00001C00003E90003EA; queue 0.0 9C0000000003EA0003E9
 55 heard 0.0 9F00020E.16776902.1003 => queue 0.0 A00000C40003EBFFFEC6
@@ -199,11 +199,11 @@ heard 0.0 A1000088.1001.1002 => over 1001; began 1.0 1001 1002; queue 0.0 B00000
         ],
     },
     // A call also ends without room, but no line is served until there is room.
-    Story {
+    SiteStory {
         name: "no room no service",
         site: SMALL,
         radios: Some(1004),
-        told: &[
+        input: &[
             THREE_CALLS,
             LINE_BEHIND_CALLS,
             "\
@@ -219,11 +219,11 @@ tick => ended 1.1; queue 1.1 AE00001100005DFFFECA; unlined 1004; began 0.1 1004 
         ],
     },
     // Waiting PDUs are sent in order, and are gone if the carrier is lost.
-    Story {
+    SiteStory {
         name: "what waits is gone with the carrier",
         site: SMALL,
         radios: Some(1003),
-        told: &[
+        input: &[
             "\
 57 heard 0.0 9F00020E.16776902.1003 => queue 0.0 A00000C40003EBFFFEC6
 heard 0.0 9F00020E.16776902.1003 =>
@@ -243,5 +243,5 @@ poll 0 => fill 0.0 99000000111234000000
 
 #[test]
 fn limits(rt: HostRuntime) -> Result<(), Fail> {
-    tell_all(&rt, &STORIES)
+    run_stories(&rt, &STORIES)
 }

@@ -1,17 +1,17 @@
 //! Registration, leaving, and the control slot while nothing waits.
 
-use super::stage::{Story, tell_all};
+use super::stage::{SiteStory, run_stories};
 use crate::site_file::{MANY, SMALL};
 use std::test::Fail;
 
-static STORIES: [Story; 5] = [
+static STORIES: [SiteStory; 5] = [
     // A listed radio is registered once, and each further request is accepted again. A radio that is not listed is
     // denied.
-    Story {
+    SiteStory {
         name: "registers once",
         site: SMALL,
         radios: None,
-        told: &[
+        input: &[
             "\
 up 0 =>
 heard 0.0 9F00020EFFFEC60003E9 => joined 1001; queue 0.0 A00000C40003E9FFFEC6
@@ -26,11 +26,11 @@ heard 0.0 9F00020EFFFEC60007D0 => queue 0.0 A00000560007D0FFFEC6
     },
     // A radio that leaves is no longer registered. Leaving is also accepted from a radio that is not registered or not
     // listed.
-    Story {
+    SiteStory {
         name: "leaves at any time",
         site: SMALL,
         radios: Some(1002),
-        told: &[
+        input: &[
             "\
 heard 0.0 9F00000EFFFEC60003EA => left 1002; queue 0.0 A00000C00003EAFFFEC6
 poll 0 => send 0.0 A00000C00003EAFFFEC6
@@ -44,11 +44,11 @@ heard 0.0 9F00020EFFFEC60003EA => joined 1002; queue 0.0 A00000C40003EAFFFEC6
     },
     // While 4,096 radios are registered, their requests are accepted again and another radio is refused. It has a place
     // once one radio has left.
-    Story {
+    SiteStory {
         name: "at most 4096 are registered",
         site: MANY,
         radios: None,
-        told: &[
+        input: &[
             "\
 up 0 =>
 
@@ -66,11 +66,11 @@ heard 0.0 9F00020EFFFEC6000007 => queue 0.0 A0000054000007FFFEC6
     },
     // Nothing waits: C_ALOHA fills the control slot, and nothing is sent on other slots. A carrier that is down sends
     // nothing.
-    Story {
+    SiteStory {
         name: "idle slots",
         site: SMALL,
         radios: None,
-        told: &[
+        input: &[
             "\
 poll 0 =>
 up 0 =>
@@ -86,11 +86,11 @@ poll 9 =>
     },
     // Noise on the control slot raises the backoff, up to 8, and counts for the next 32 polls. A new connection resets
     // it. Noise on another slot does not count.
-    Story {
+    SiteStory {
         name: "disturbed slots raise the backoff",
         site: SMALL,
         radios: None,
-        told: &[
+        input: &[
             "\
 up 0 =>
 noise 0.1 =>
@@ -115,5 +115,5 @@ poll 0 => fill 0.0 99000000111234000000
 
 #[test]
 fn registrations(rt: HostRuntime) -> Result<(), Fail> {
-    tell_all(&rt, &STORIES)
+    run_stories(&rt, &STORIES)
 }

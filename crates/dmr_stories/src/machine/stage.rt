@@ -13,7 +13,7 @@
 use super::acts::write_acts;
 use super::events::event_of;
 use crate::language::words::{cut, replace_with, write_truth};
-use crate::language::{Listener, tell, tell_in_round};
+use crate::language::{Listener, run_parts, run_round};
 use crate::site_file::{plan_of, reading_of};
 use dmr_core::{Event, Site};
 use dmr_pdu::OutOfMemory;
@@ -24,7 +24,7 @@ use std::process::Abort;
 use std::test::Fail;
 
 /// A story, and the site for it.
-pub struct Story {
+pub struct SiteStory {
     /// The name in a failure.
     pub name: &'static str,
     /// The changes of the common site file.
@@ -33,12 +33,12 @@ pub struct Story {
     /// and their acknowledgements have been sent. If it is `None`, no carrier is up.
     pub radios: Option<u32>,
     /// The parts of the story, in order.
-    pub told: &'static [&'static str],
+    pub input: &'static [&'static str],
 }
 
 /// A site and a copy of it.
 #[derive(Drop)]
-struct Stage {
+struct SiteStage {
     site: Site,
     copy: Site,
     alloc: Global,
@@ -64,10 +64,10 @@ fn are_apart(first: &Site, second: &Site) -> bool {
 }
 
 /// Returns a site of this plan with no carrier up, and a copy of it.
-fn stage_of(alloc: Global, plan: &Plan) -> Result<Stage, OutOfMemory> {
+fn stage_of(alloc: Global, plan: &Plan) -> Result<SiteStage, OutOfMemory> {
     let site = Site::new(alloc, *plan)?;
     match Site::new(alloc, *plan) {
-        Ok(copy) => Ok(Stage { site, copy, alloc }),
+        Ok(copy) => Ok(SiteStage { site, copy, alloc }),
         Err(refused) => {
             drop(site);
             Err(refused)
@@ -76,25 +76,25 @@ fn stage_of(alloc: Global, plan: &Plan) -> Result<Stage, OutOfMemory> {
 }
 
 /// Runs each story and checks the answers of its site.
-pub fn tell_all(rt: &(impl Abort + AllocGlobal), stories: &[Story]) -> Result<(), Fail> {
+pub fn run_stories(rt: &(impl Abort + AllocGlobal), stories: &[SiteStory]) -> Result<(), Fail> {
     for story in stories {
         let plan = plan_of(rt.alloc(), story.site)?;
-        tell_story(rt, stage_of(rt.alloc(), &plan)?, &plan, story)?;
+        run_story(rt, stage_of(rt.alloc(), &plan)?, &plan, story)?;
     }
     Ok(())
 }
 
 /// Runs a story with a site of this plan.
-fn tell_story<L: Listener + Drop>(
+fn run_story<L: Listener + Drop>(
     rt: &(impl Abort + AllocGlobal),
     mut stage: L,
     plan: &Plan,
-    story: &Story,
+    story: &SiteStory,
 ) -> Result<(), OutOfMemory> {
     if let Some(last) = story.radios {
         begin(rt, &mut stage, plan, story.name, last)?;
     }
-    tell(rt, stage, story.name, story.told)
+    run_parts(rt, stage, story.name, story.input)
 }
 
 /// The carriers come up, and the radios from 1001 to `last` are registered.
@@ -106,17 +106,17 @@ fn begin<L: Listener>(
     last: u32,
 ) -> Result<(), OutOfMemory> {
     for row in plan.carrier() {
-        tell_in_round(rt, stage, name, row.number.get(), COMES_UP)?;
+        run_round(rt, stage, name, row.number.get(), COMES_UP)?;
     }
     for radio in 1001..=last {
-        tell_in_round(rt, stage, name, radio, REGISTERS)?;
+        run_round(rt, stage, name, radio, REGISTERS)?;
     }
     Ok(())
 }
 
-impl Listener for Stage {
-    fn hear(&mut self, told: &str, said: &mut String) -> Result<(), OutOfMemory> {
-        let (word, rest) = cut(told);
+impl Listener for SiteStage {
+    fn answer_input(&mut self, input: &str, said: &mut String) -> Result<(), OutOfMemory> {
+        let (word, rest) = cut(input);
         match word {
             "copy" => replace_with(&mut self.copy, self.site.try_clone(self.alloc)?),
             "swap" => mem::swap(&mut self.site, &mut self.copy),
@@ -124,7 +124,7 @@ impl Listener for Stage {
             "alone" => self.stands_alone(rest, said)?,
             "other" => self.take_other(rest, said)?,
             "control" => write!(said, "{}", self.site.plan().control())?,
-            _ => match event_of(told) {
+            _ => match event_of(input) {
                 Some(event) => write_acts(said, &self.site.apply(event))?,
                 None => said.push_str("?")?,
             },
@@ -133,7 +133,7 @@ impl Listener for Stage {
     }
 }
 
-impl Stage {
+impl SiteStage {
     /// Replaces the copy by a new site of the site file with changes.
     fn take_other(&mut self, changes: &str, said: &mut String) -> Result<(), OutOfMemory> {
         match reading_of(self.alloc, changes) {
@@ -145,8 +145,8 @@ impl Stage {
 
     /// Writes whether a further copy of the site equals it, and differs from it once the copy alone has processed this
     /// event.
-    fn stands_alone(&self, told: &str, said: &mut String) -> Result<(), OutOfMemory> {
-        let event: Option<Event> = event_of(told);
+    fn stands_alone(&self, input: &str, said: &mut String) -> Result<(), OutOfMemory> {
+        let event: Option<Event> = event_of(input);
         let Some(event) = event else {
             return said.push_str("?");
         };

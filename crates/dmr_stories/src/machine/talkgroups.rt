@@ -1,18 +1,18 @@
 //! Talkgroup requests and calls.
 
-use super::stage::{Story, tell_all};
+use super::stage::{SiteStory, run_stories};
 use super::starts::ONE_ASK;
 use crate::site_file::SMALL;
 use std::test::Fail;
 
-static STORIES: [Story; 12] = [
+static STORIES: [SiteStory; 12] = [
     // The first request for a talkgroup begins a call and is granted. A request of a second radio receives the same
     // grant, marked as late and with the first radio as its source.
-    Story {
+    SiteStory {
         name: "second request is late",
         site: SMALL,
         radios: Some(1002),
-        told: &[
+        input: &[
             "\
 heard 0.0 9F00000100005B0003E9 => began 0.1 1001 g91; queue 0.0 B100001800005B0003E9
 poll 0 => send 0.0 B100001800005B0003E9
@@ -23,11 +23,11 @@ poll 0 => send 0.0 B100001C00005B0003E9
     },
     // A radio that is not registered receives MS_Not_Registered. A registered radio that requests a talkgroup that is
     // not listed receives Group_Not_Allowed.
-    Story {
+    SiteStory {
         name: "unregistered caller and unlisted group",
         site: SMALL,
         radios: Some(1002),
-        told: &[
+        input: &[
             "\
 heard 0.0 9F00000100005B0003EB => queue 0.0 A000005A0003EB00005B
 poll 0 => send 0.0 A000005A0003EB00005B
@@ -41,11 +41,11 @@ heard 0.0 9F0000010003EA0003E9 => queue 0.0 A000005E0003E90003EA
         ],
     },
     // A request with any of the five flags is not supported, whatever its kind. Its service options do not matter.
-    Story {
+    SiteStory {
         name: "flags are not supported",
         site: SMALL,
         radios: Some(1002),
-        told: &[
+        input: &[
             "\
 heard 0.0 9F00010100005B0003E9 => queue 0.0 A00000400003E900005B
 heard 0.0 9F00008100005B0003E9 => queue 0.0 A00000400003E900005B
@@ -60,11 +60,11 @@ heard 0.0 9F00FE0100005B0003E9 => began 0.1 1001 g91; queue 0.0 B100001800005B00
         ],
     },
     // Service kinds other than the four are not supported, from registered and other radios alike.
-    Story {
+    SiteStory {
         name: "other kinds are not supported",
         site: SMALL,
         radios: Some(1001),
-        told: &[
+        input: &[
             "\
 rounds 2 to 13
 heard 0.0 9F000000+.91.1001 => queue 0.0 A0000040.1001.91
@@ -75,11 +75,11 @@ poll 0 => send 0.0 A0000040.1003.91
         ],
     },
     // Only requests and answers have an effect, and only on the control slot.
-    Story {
+    SiteStory {
         name: "other pdus are not answered",
         site: SMALL,
         radios: Some(1002),
-        told: &[
+        input: &[
             "\
 heard 0.1 9F00000100005B0003E9 =>
 heard 1.0 9F00000100005B0003E9 =>
@@ -93,11 +93,11 @@ heard 0.0 9F00000100005B0003E9 => began 0.1 1001 g91; queue 0.0 B100001800005B00
     },
     // A call ends with the 100th tick in a row without activity on its slot, counted from its beginning or the last
     // activity, whichever is later. Activity on another slot does not count.
-    Story {
+    SiteStory {
         name: "activity restarts the hang time",
         site: SMALL,
         radios: Some(1001),
-        told: &[
+        input: &[
             "\
 heard 0.0 9F000001.91.1001 => began 0.1 1001 g91; queue 0.0 B100001800005B0003E9
 poll 0 => send 0.0 B100001800005B0003E9
@@ -112,11 +112,11 @@ tick => ended 0.1; queue 0.1 AE00001100005BFFFECA
         ],
     },
     // A call with continued activity ends with the 3,000th tick after its beginning.
-    Story {
+    SiteStory {
         name: "no call lasts longer than the maximum",
         site: SMALL,
         radios: Some(1001),
-        told: &[
+        input: &[
             "\
 heard 0.0 9F000001.91.1001 => began 0.1 1001 g91; queue 0.0 B100001800005B0003E9
 poll 0 => send 0.0 B100001800005B0003E9
@@ -134,11 +134,11 @@ tick =>
     },
     // If the source of a call repeats its request, it receives its grant again, not marked as late. Its other requests
     // are refused for now.
-    Story {
+    SiteStory {
         name: "source asks again",
         site: SMALL,
         radios: Some(1003),
-        told: &[
+        input: &[
             "\
 heard 0.0 9F000001.91.1001 => began 0.1 1001 g91; queue 0.0 B100001800005B0003E9
 heard 0.0 9F000001.91.1001 => queue 0.0 B100001800005B0003E9
@@ -152,11 +152,11 @@ heard 0.0 9F000001.92.1001 => queue 0.0 A00000460003E900005C
         ],
     },
     // A call does not engage a radio that joined it late: that radio may call another talkgroup.
-    Story {
+    SiteStory {
         name: "late radio may call",
         site: SMALL,
         radios: Some(1002),
-        told: &[
+        input: &[
             "\
 heard 0.0 9F000001.91.1001 => began 0.1 1001 g91; queue 0.0 B100001800005B0003E9
 heard 0.0 9F000001.91.1002 => queue 0.0 B100001C00005B0003E9
@@ -166,11 +166,11 @@ heard 0.0 9F000001.91.1002 => queue 0.0 A00000460003EA00005B
         ],
     },
     // A radio that asks another, or is asked, is engaged: its request for a talkgroup is refused for now.
-    Story {
+    SiteStory {
         name: "asking and asked radios are engaged",
         site: SMALL,
         radios: Some(1003),
-        told: &[
+        input: &[
             ONE_ASK,
             "\
 heard 0.0 9F000001.91.1001 => queue 0.0 A00000460003E900005B
@@ -182,11 +182,11 @@ heard 0.0 9F000001.91.1002 => queue 0.0 A00000460003EA00005B
     },
     // If the source of a call leaves, the call ends and a P_CLEAR is queued for its slot, before the site accepts the
     // leaving. If a radio that only joined late leaves, the call goes on.
-    Story {
+    SiteStory {
         name: "leaving source ends its call",
         site: SMALL,
         radios: Some(1002),
-        told: &[
+        input: &[
             "\
 heard 0.0 9F000001.91.1001 => began 0.1 1001 g91; queue 0.0 B100001800005B0003E9
 poll 0 => send 0.0 B100001800005B0003E9
@@ -201,11 +201,11 @@ poll 0 => send 0.0 A00000C00003E9FFFEC6; send 0.1 AE00001100005BFFFECA
         ],
     },
     // A slot is not free while a grant of it still waits, even if its call has ended and was cleared.
-    Story {
+    SiteStory {
         name: "granted slot is not free",
         site: SMALL,
         radios: Some(1003),
-        told: &[
+        input: &[
             "\
 heard 0.0 9F00020E.16776902.1001 => queue 0.0 A00000C40003E9FFFEC6
 heard 0.0 9F000001.91.1001 => began 0.1 1001 g91; queue 0.0 B100001800005B0003E9
@@ -222,5 +222,5 @@ heard 0.0 9F000001.93.1003 => began 0.1 1003 g93; queue 0.0 B100001800005D0003EB
 
 #[test]
 fn talkgroups(rt: HostRuntime) -> Result<(), Fail> {
-    tell_all(&rt, &STORIES)
+    run_stories(&rt, &STORIES)
 }

@@ -1,6 +1,6 @@
 //! Requests that wait for a slot.
 
-use super::stage::{Story, tell_all};
+use super::stage::{SiteStory, run_stories};
 use super::starts::{LINE_BEHIND_CALLS, THREE_CALLS};
 use crate::site_file::SMALL;
 use std::test::Fail;
@@ -26,14 +26,14 @@ poll 0 => fill 0.0 99000000111234000000; send 0.1 AE00001100005EFFFECA
 200 tick =>
 ";
 
-static STORIES: [Story; 10] = [
+static STORIES: [SiteStory; 10] = [
     // A request waits while no slot is free. The first tick that finds a free slot grants it; the tick that ends the
     // call on that slot does not.
-    Story {
+    SiteStory {
         name: "line is served on the cleared slot",
         site: SMALL,
         radios: Some(1004),
-        told: &[
+        input: &[
             THREE_CALLS,
             LINE_BEHIND_CALLS,
             LINE_IS_SERVED,
@@ -42,11 +42,11 @@ static STORIES: [Story; 10] = [
     },
     // A slot is not free until the P_CLEAR of its ended call has been sent. Ticks before that grant nothing; the first
     // one after it grants the request.
-    Story {
+    SiteStory {
         name: "line waits for the clearing",
         site: SMALL,
         radios: Some(1004),
-        told: &[
+        input: &[
             THREE_CALLS,
             LINE_BEHIND_CALLS,
             "\
@@ -64,11 +64,11 @@ tick =>
     },
     // If the source of a line repeats its request, it is acknowledged again but waits only once: after its call nothing
     // is served.
-    Story {
+    SiteStory {
         name: "repeated request waits once",
         site: SMALL,
         radios: Some(1004),
-        told: &[
+        input: &[
             THREE_CALLS,
             LINE_BEHIND_CALLS,
             "\
@@ -81,11 +81,11 @@ poll 0 => send 0.0 A00001400003EC00005E
     },
     // A second radio that asks for the talkgroup of a line receives Queued_For_Resource but has no line of its own. It
     // may join the line's call late, or make another call.
-    Story {
+    SiteStory {
         name: "second radio waits with the first",
         site: SMALL,
         radios: Some(1005),
-        told: &[
+        input: &[
             THREE_CALLS,
             LINE_BEHIND_CALLS,
             "\
@@ -103,11 +103,11 @@ poll 0 => send 0.0 B100001C00005E0003EC
         ],
     },
     // The source of a line is engaged: its other requests are refused for now, and calls to it find it busy.
-    Story {
+    SiteStory {
         name: "source of a line is engaged",
         site: SMALL,
         radios: Some(1005),
-        told: &[
+        input: &[
             THREE_CALLS,
             LINE_BEHIND_CALLS,
             "\
@@ -118,11 +118,11 @@ heard 0.0 9F000000.1004.1005 => queue 0.0 A000005C0003ED0003EC
         ],
     },
     // While there is a line, a free slot is kept for it: a new request waits after it, and is served after it.
-    Story {
+    SiteStory {
         name: "free slot goes to the first line",
         site: SMALL,
         radios: Some(1005),
-        told: &[
+        input: &[
             THREE_CALLS,
             LINE_BEHIND_CALLS,
             "\
@@ -140,11 +140,11 @@ tick =>
         ],
     },
     // A line that is cancelled is over. A second cancel is refused, and so is that of a radio that only has a call.
-    Story {
+    SiteStory {
         name: "line is called off once",
         site: SMALL,
         radios: Some(1004),
-        told: &[
+        input: &[
             THREE_CALLS,
             LINE_BEHIND_CALLS,
             "\
@@ -162,11 +162,11 @@ tick => ended 1.0; queue 1.0 AE00001100005CFFFECA
         ],
     },
     // The target in a cancel request is ignored: the request ends the line of its source.
-    Story {
+    SiteStory {
         name: "calling off goes by the source",
         site: SMALL,
         radios: Some(1005),
-        told: &[
+        input: &[
             THREE_CALLS,
             LINE_BEHIND_CALLS,
             "\
@@ -176,11 +176,11 @@ heard 0.0 9F00000F.7.1004 => unlined 1004; queue 0.0 A00000C00003EC000007
         ],
     },
     // If the source of a line leaves, the line is over and nothing is served.
-    Story {
+    SiteStory {
         name: "leaving source ends its line",
         site: SMALL,
         radios: Some(1004),
-        told: &[
+        input: &[
             THREE_CALLS,
             LINE_BEHIND_CALLS,
             "\
@@ -194,11 +194,11 @@ tick => ended 1.0; queue 1.0 AE00001100005CFFFECA
         ],
     },
     // A tick ends at most one call, the one that began first, even if several are due.
-    Story {
+    SiteStory {
         name: "one call ends with a tick",
         site: SMALL,
         radios: Some(1003),
-        told: &[
+        input: &[
             THREE_CALLS,
             "\
 99 tick =>
@@ -213,5 +213,5 @@ tick =>
 
 #[test]
 fn waiting(rt: HostRuntime) -> Result<(), Fail> {
-    tell_all(&rt, &STORIES)
+    run_stories(&rt, &STORIES)
 }

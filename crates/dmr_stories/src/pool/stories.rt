@@ -1,7 +1,7 @@
 //! Stories of the slots.
 
 use super::Slots;
-use crate::language::tell;
+use crate::language::run_parts;
 use std::test::Fail;
 
 /// The stories, each with its name.
@@ -138,7 +138,7 @@ waiting 0.0 => 0
 #[test]
 fn pool(rt: HostRuntime) -> Result<(), Fail> {
     for (name, story) in &STORIES {
-        tell(&rt, Slots::new(rt.alloc())?, name, &[*story])?;
+        run_parts(&rt, Slots::new(rt.alloc())?, name, &[*story])?;
     }
     Ok(())
 }

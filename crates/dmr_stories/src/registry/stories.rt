@@ -1,7 +1,7 @@
 //! Stories of the registry.
 
 use super::Radios;
-use crate::language::tell;
+use crate::language::run_parts;
 use std::test::Fail;
 
 /// The stories, each with its name.
@@ -86,7 +86,7 @@ is_empty => no
 #[test]
 fn registry(rt: HostRuntime) -> Result<(), Fail> {
     for (name, story) in &STORIES {
-        tell(&rt, Radios::new(rt.alloc())?, name, &[*story])?;
+        run_parts(&rt, Radios::new(rt.alloc())?, name, &[*story])?;
     }
     Ok(())
 }

@@ -5,7 +5,7 @@ use std::alloc::{AllocError, Global};
 
 /// A peer of the site.
 #[derive(Clone, Copy, Debug, PartialEq, Eq)]
-pub enum Peer {
+pub enum SitePeer {
     /// Carrier 0. It speaks this version of the link, which is also the greatest that the site serves to it.
     Carrier(Version),
     /// An operator.
@@ -46,22 +46,22 @@ const SAID: &[u8] = b"status\nstay\n";
 /// The replies to them on a site with no carrier up, no radio, ask, line or call.
 const REPLIES: &[u8] = b"status carriers 0 radios 0 asks 0 lines 0 calls 0 fill aloha\nok\n";
 
-impl Peer {
+impl SitePeer {
     /// Returns the peer's input: 36 octets, 37 in version 2 of the link, or 12 of an operator.
-    pub fn told(self) -> &'static [u8] {
+    pub fn input(self) -> &'static [u8] {
         match self {
-            Peer::Carrier(Version::V1) => TOLD,
-            Peer::Carrier(Version::V2) => TOLD_NUMBERED,
-            Peer::Operator => SAID,
+            SitePeer::Carrier(Version::V1) => TOLD,
+            SitePeer::Carrier(Version::V2) => TOLD_NUMBERED,
+            SitePeer::Operator => SAID,
         }
     }
 
     /// Returns the whole answer to that input: 33 octets, 34 in version 2 of the link, or 64 for an operator.
     pub fn answer(self) -> &'static [u8] {
         match self {
-            Peer::Carrier(Version::V1) => ANSWERED,
-            Peer::Carrier(Version::V2) => ANSWERED_NUMBERED,
-            Peer::Operator => REPLIES,
+            SitePeer::Carrier(Version::V1) => ANSWERED,
+            SitePeer::Carrier(Version::V2) => ANSWERED_NUMBERED,
+            SitePeer::Operator => REPLIES,
         }
     }
 

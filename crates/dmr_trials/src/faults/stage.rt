@@ -3,7 +3,7 @@
 ghost use Rattle.std.specs.Prelude.{None};
 
 use super::closed::ClosedDesk;
-use super::peers::Peer;
+use super::peers::SitePeer;
 use crate::site::quiet_site;
 use arrayvec::ArrayVec;
 use dmr_core::{Command, Event, Site};
@@ -45,7 +45,7 @@ type CarrierStation = Station<MemoryPort, OpenGate>;
 
 /// The site, the stations and the console before a term, and the peer's actor.
 #[derive(Drop)]
-pub struct Stage {
+pub struct FaultStage {
     site: Site,
     stations: Vec<CarrierStation>,
     console: ConsoleStation<MemoryPort>,
@@ -54,7 +54,7 @@ pub struct Stage {
 
 /// The result of a term that has ended.
 #[derive(Drop)]
-pub struct Outcome {
+pub struct FaultOutcome {
     /// The number of entries in the journal.
     pub entries: usize,
     /// Why each actor's worker ended.
@@ -90,12 +90,12 @@ fn station_of(
     })
 }
 
-impl Stage {
+impl FaultStage {
     /// Returns a quiet site with one peer, whose port answers by these steps.
-    pub fn new(alloc: Global, peer: Peer, steps: Vec<Step>) -> Result<Stage, Fail> {
+    pub fn new(alloc: Global, peer: SitePeer, steps: Vec<Step>) -> Result<FaultStage, Fail> {
         let (of_carrier, greatest, of_operator, actor) = match peer {
-            Peer::Carrier(version) => (steps, version, Vec::new(alloc), 0),
-            Peer::Operator => (Vec::new(alloc), Version::V1, steps, CONSOLE),
+            SitePeer::Carrier(version) => (steps, version, Vec::new(alloc), 0),
+            SitePeer::Operator => (Vec::new(alloc), Version::V1, steps, CONSOLE),
         };
         let mut stations = Vec::new(alloc);
         stations.push(station_of(alloc, 0, greatest, of_carrier)?)?;
@@ -104,7 +104,7 @@ impl Stage {
             link: ConsoleLink::new(),
             port: port_of(alloc, of_operator)?,
         };
-        Ok(Stage {
+        Ok(FaultStage {
             site: quiet_site(alloc)?,
             stations,
             console,
@@ -113,7 +113,11 @@ impl Stage {
     }
 
     /// Runs the term.
-    pub fn run<R: Wait + Threads + Sync>(self, rt: &R, alloc: Global) -> Result<Outcome, Fail> {
+    pub fn run<R: Wait + Threads + Sync>(
+        self,
+        rt: &R,
+        alloc: Global,
+    ) -> Result<FaultOutcome, Fail> {
         let actor = self.actor;
         let Term {
             report,
@@ -130,7 +134,7 @@ impl Stage {
         drop(site);
         stations.truncate(1);
         let station = stations.pop().ok_or("a station")?;
-        Ok(Outcome {
+        Ok(FaultOutcome {
             entries: journal.as_slice().len(),
             ends,
             views,
@@ -145,7 +149,7 @@ impl Stage {
 fn run<R: Wait + Threads + Sync>(
     rt: &R,
     alloc: Global,
-    stage: Stage,
+    stage: FaultStage,
 ) -> Result<Term<CarrierStation, NoTicks, ConsoleStation<MemoryPort>>, TermFault> {
     run_term(
         rt,
@@ -158,7 +162,7 @@ fn run<R: Wait + Threads + Sync>(
     )
 }
 
-impl Outcome {
+impl FaultOutcome {
     /// Returns the events of the peer's actor, a letter for each.
     ///
     /// U is Up, H Heard, N Noise, P Poll and L Lost of carrier 0. S is the command `status`, Y is `stay`, and ? is any

@@ -16,7 +16,7 @@ use std::alloc::{AllocError, Global};
 pub fn add_steps(
     alloc: Global,
     steps: &mut Vec<Step>,
-    told: &[u8],
+    input: &[u8],
     words: &str,
     round: usize,
 ) -> Result<bool, AllocError> {
@@ -26,7 +26,7 @@ pub fn add_steps(
             return Ok(false);
         };
         for _ in 0..times {
-            match step_of(alloc, told, words, round)? {
+            match step_of(alloc, input, words, round)? {
                 Some(step) => steps.push(step)?,
                 None => return Ok(false),
             }
@@ -38,7 +38,7 @@ pub fn add_steps(
 /// Returns the step that these words mean.
 fn step_of(
     alloc: Global,
-    told: &[u8],
+    input: &[u8],
     words: &str,
     round: usize,
 ) -> Result<Option<Step>, AllocError> {
@@ -50,8 +50,8 @@ fn step_of(
         return hex_step(alloc, rest, round);
     }
     let octets = match (word, number(rest, round)) {
-        ("first", Some(count)) => told.get(..count),
-        ("behind", Some(count)) => told.get(count..),
+        ("first", Some(count)) => input.get(..count),
+        ("behind", Some(count)) => input.get(count..),
         _ => None,
     };
     match octets {

@@ -107,7 +107,7 @@ pub struct MeetingPort<'a> {
 }
 
 impl<'a> Wire for MeetingPort<'a> {
-    ghost told = { λ p. None };
+    ghost reported = { λ p. None };
 
     fn read(&mut self, octets: &mut [u8]) -> Got {
         self.port.read(octets)

@@ -23,7 +23,7 @@ const DONE: &[u8] = &[0x83, 0x00];
 const STATUS: &[u8] = b"status carriers 0 radios 0 asks 0 lines 0 calls 0 fill aloha\n";
 
 /// Returns the letters, in order.
-pub fn spelled(alloc: Global, letters: Letters) -> Result<String, AllocError> {
+pub fn text_of_letters(alloc: Global, letters: Letters) -> Result<String, AllocError> {
     let mut text = String::new(alloc);
     for (times, group) in letters {
         for _ in 0..*times {
@@ -36,7 +36,7 @@ pub fn spelled(alloc: Global, letters: Letters) -> Result<String, AllocError> {
 /// Returns the octets of frames: W is WELCOME, F the TX of the Fill, D is DONE; S is the text of a quiet site's status.
 pub fn octets_of(alloc: Global, letters: Letters) -> Result<Vec<u8>, AllocError> {
     let mut octets = Vec::new(alloc);
-    for letter in spelled(alloc, letters)?.bytes() {
+    for letter in text_of_letters(alloc, letters)?.bytes() {
         octets.extend_from_slice(match letter {
             b'W' => WELCOME,
             b'F' => FILL,

@@ -51,7 +51,7 @@ type CarrierStation<'a> = Station<MeetingPort<'a>, Meeting<'a>>;
 
 /// The state that one term hands to the next.
 #[derive(Drop)]
-pub struct Stage<'a> {
+pub struct TermStage<'a> {
     site: Site,
     stations: Vec<CarrierStation<'a>>,
     pacer: MeetingPacer<'a>,
@@ -60,7 +60,7 @@ pub struct Stage<'a> {
 
 /// The result of a term.
 #[derive(Drop)]
-pub struct Outcome<'a> {
+pub struct TermOutcome<'a> {
     /// The number of entries in its journal.
     pub entries: usize,
     /// Why each actor's worker ended.
@@ -68,7 +68,7 @@ pub struct Outcome<'a> {
     /// The events of each actor.
     pub views: Views,
     /// The stage of the next term.
-    pub stage: Stage<'a>,
+    pub stage: TermStage<'a>,
 }
 
 /// Returns the counts of the steps that the three actors (two carriers and the ticker) have made: none yet.
@@ -147,7 +147,7 @@ fn port_of(alloc: Global, steps: Vec<Step>) -> Result<MemoryPort, Fail> {
     }
 }
 
-impl<'a> Stage<'a> {
+impl<'a> TermStage<'a> {
     /// Returns the stage of the first term, with a site on which nothing is up.
     pub fn new(
         rt: &'a HostRuntime,
@@ -163,7 +163,7 @@ impl<'a> Stage<'a> {
             link: ConsoleLink::new(),
             port: port_of(alloc, console_steps(alloc, opening.operator)?)?,
         };
-        Ok(Stage {
+        Ok(TermStage {
             site: quiet_site(alloc)?,
             stations,
             pacer: MeetingPacer {
@@ -180,7 +180,7 @@ impl<'a> Stage<'a> {
         steps: &'a [AtomicU64],
         numbers: &str,
     ) -> Result<Self, Fail> {
-        let mut stage = Stage::new(rt, steps, &NOTHING_COMES)?;
+        let mut stage = TermStage::new(rt, steps, &NOTHING_COMES)?;
         match stations_of(rt, steps, numbers) {
             Ok(stations) => {
                 stage.stations = stations;
@@ -199,7 +199,7 @@ impl<'a> Stage<'a> {
         rt: &R,
         alloc: Global,
         limit: usize,
-    ) -> Result<Outcome<'a>, TermFault> {
+    ) -> Result<TermOutcome<'a>, TermFault> {
         let Term {
             report,
             ends,
@@ -215,11 +215,11 @@ impl<'a> Stage<'a> {
             self.pacer,
             self.console,
         )?;
-        Ok(Outcome {
+        Ok(TermOutcome {
             entries: report.journal.as_slice().len(),
             ends,
             views: report.views,
-            stage: Stage {
+            stage: TermStage {
                 site: report.site,
                 stations,
                 pacer,

@@ -11,7 +11,7 @@ use dmr_wire::Got;
 pub type Part = (Option<Ending>, Letters, Letters);
 
 /// The expected result of a term.
-pub struct Want {
+pub struct ExpectedEnd {
     /// The limit of its entries.
     pub limit: usize,
     /// The number of its entries.
@@ -21,13 +21,13 @@ pub struct Want {
 }
 
 /// Terms, one after the other.
-pub struct Story {
+pub struct TermStory {
     /// Its name.
     pub name: &'static str,
     /// The state at the beginning of the first term.
     pub opening: Opening,
     /// The expected results.
-    pub terms: &'static [Want],
+    pub terms: &'static [ExpectedEnd],
 }
 
 const FINISHED: Option<Ending> = Some(Ending::Finished);
@@ -70,10 +70,10 @@ pub const HUNDRED_POLLS: Opening = Opening {
 };
 
 /// The terms of the stories.
-pub static STORIES: [Story; 7] = [
+pub static STORIES: [TermStory; 7] = [
     // Carrier 1's first event waits until carrier 0 is at its gate, and carrier 0's until carrier 1 has received two
     // answers. One thread alone cannot serve them in either order.
-    Story {
+    TermStory {
         name: "two workers at once",
         opening: Opening {
             carriers: &[
@@ -90,7 +90,7 @@ pub static STORIES: [Story; 7] = [
             ],
             ..NOTHING_COMES
         },
-        terms: &[Want {
+        terms: &[ExpectedEnd {
             limit: 100,
             entries: 6,
             actors: &[
@@ -101,11 +101,11 @@ pub static STORIES: [Story; 7] = [
             ],
         }],
     },
-    Story {
+    TermStory {
         name: "a term that is over",
         opening: HUNDRED_POLLS,
         terms: &[
-            Want {
+            ExpectedEnd {
                 limit: 100,
                 entries: 100,
                 actors: &[
@@ -115,7 +115,7 @@ pub static STORIES: [Story; 7] = [
                     NOTHING_AT_THE_END,
                 ],
             },
-            Want {
+            ExpectedEnd {
                 limit: 100,
                 entries: 2,
                 actors: &[
@@ -127,7 +127,7 @@ pub static STORIES: [Story; 7] = [
             },
         ],
     },
-    Story {
+    TermStory {
         name: "a gate that is shut at once",
         opening: Opening {
             carriers: &[
@@ -145,7 +145,7 @@ pub static STORIES: [Story; 7] = [
             ..NOTHING_COMES
         },
         terms: &[
-            Want {
+            ExpectedEnd {
                 limit: 100,
                 entries: 3,
                 actors: &[
@@ -155,7 +155,7 @@ pub static STORIES: [Story; 7] = [
                     NOTHING,
                 ],
             },
-            Want {
+            ExpectedEnd {
                 limit: 100,
                 entries: 3,
                 actors: &[
@@ -169,7 +169,7 @@ pub static STORIES: [Story; 7] = [
     },
     // Carrier 1's first event waits until carrier 0 is up and silent. The silence lasts until carrier 1 has received
     // three answers, and the third belongs to the last entry.
-    Story {
+    TermStory {
         name: "silence while another fills the journal",
         opening: Opening {
             carriers: &[
@@ -187,7 +187,7 @@ pub static STORIES: [Story; 7] = [
             ..NOTHING_COMES
         },
         terms: &[
-            Want {
+            ExpectedEnd {
                 limit: 4,
                 entries: 4,
                 actors: &[
@@ -197,7 +197,7 @@ pub static STORIES: [Story; 7] = [
                     NOTHING_AT_THE_END,
                 ],
             },
-            Want {
+            ExpectedEnd {
                 limit: 100,
                 entries: 4,
                 actors: &[
@@ -209,14 +209,14 @@ pub static STORIES: [Story; 7] = [
             },
         ],
     },
-    Story {
+    TermStory {
         name: "ticks and an operator",
         opening: Opening {
             paces: &[Pace::Tick, Pace::NotYet, Pace::Tick, Pace::Finished],
             operator: b"status\n",
             ..NOTHING_COMES
         },
-        terms: &[Want {
+        terms: &[ExpectedEnd {
             limit: 100,
             entries: 3,
             actors: &[
@@ -227,14 +227,14 @@ pub static STORIES: [Story; 7] = [
             ],
         }],
     },
-    Story {
+    TermStory {
         name: "a tick that is not asked for at the limit",
         opening: Opening {
             paces: &[Pace::Tick, Pace::Tick],
             ..NOTHING_COMES
         },
         terms: &[
-            Want {
+            ExpectedEnd {
                 limit: 1,
                 entries: 1,
                 actors: &[
@@ -244,7 +244,7 @@ pub static STORIES: [Story; 7] = [
                     NOTHING_AT_THE_END,
                 ],
             },
-            Want {
+            ExpectedEnd {
                 limit: 100,
                 entries: 1,
                 actors: &[NOTHING, NOTHING, (FINISHED, &[(1, "T")], &[]), NOTHING],
@@ -253,7 +253,7 @@ pub static STORIES: [Story; 7] = [
     },
     // Carrier 0's first event waits until the pacer is asked. The pacer's tick waits until that event, which is the
     // last entry, has been answered.
-    Story {
+    TermStory {
         name: "a tick that is dropped at the limit",
         opening: Opening {
             carriers: &[
@@ -269,7 +269,7 @@ pub static STORIES: [Story; 7] = [
             ..NOTHING_COMES
         },
         terms: &[
-            Want {
+            ExpectedEnd {
                 limit: 1,
                 entries: 1,
                 actors: &[
@@ -279,7 +279,7 @@ pub static STORIES: [Story; 7] = [
                     NOTHING_AT_THE_END,
                 ],
             },
-            Want {
+            ExpectedEnd {
                 limit: 100,
                 entries: 1,
                 actors: &[

@@ -30,7 +30,7 @@ returns-clause-views c = λ desk seats report seat is has. (is.gathered.each sea
 pub returns-clause-others : goal.returns-clause-others
 returns-clause-others c = λ desk seats report is.
     let P : ℕ → Type 0 = λ n. All (λ (entry : Entry). entry.actor < n) report.journal in
-    subst P is.gathered.as_many is.reported.told.others
+    subst P is.gathered.as_many is.reported.reported.others
 
 pub returns-clause-safe : goal.returns-clause-safe
 returns-clause-safe c = λ desk seats report is. is.reported.safe

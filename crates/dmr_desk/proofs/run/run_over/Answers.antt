@@ -5,23 +5,23 @@ use Rattle.dmr_desk.proofs.run.run_over.Goals as goal
 
 pub returns-in-Some-clause-term : goal.returns-in-Some-clause-term
 returns-in-Some-clause-term g c =
-    let n : vec_len c.args.stations ≡ length (map (λ s. g.S.Serving.stand s) c.args.stations.items) = c.args.stations.ok.0 ∙ sym (length-map c.args.stations.items (λ s. g.S.Serving.stand s)) in
-    if_ok_map c.finish.result _ _
+    let n : vec_len c.args.stations ≡ length (map (λ s. g.S.Serving.state s) c.args.stations.items) = c.args.stations.ok.0 ∙ sym (length-map c.args.stations.items (λ s. g.S.Serving.state s)) in
+    if_ok_map c.close_term.result _ _
     (λ t h. let k = h _ _ _ (rw c.in-Some.is at c.run_threads.ensures.carriers) (rw (n, c.in-Some.is) at c.run_threads.ensures.ticker) (rw (n, c.in-Some.is) at c.run_threads.ensures.console) in rw c.in-Ok.ensures.desk at k)
-    c.finish.ensures.term
+    c.close_term.ensures.term
 
 pub returns-in-Some-clause-shut : goal.returns-in-Some-clause-shut
-returns-in-Some-clause-shut g c = if_ok_map c.finish.result _ _ (λ t h. h (rw c.in-Some.is at c.run_threads.ensures.shut)) c.finish.ensures.shut
+returns-in-Some-clause-shut g c = if_ok_map c.close_term.result _ _ (λ t h. h (rw c.in-Some.is at c.run_threads.ensures.shut)) c.close_term.ensures.shut
 
 pub returns-in-Some-clause-open : goal.returns-in-Some-clause-open
-returns-in-Some-clause-open g c = if_ok_map c.finish.result _ _ (λ t h. rw (rw c.in-Some.is at c.run_threads.ensures.len) at h (rw c.in-Some.is at c.run_threads.ensures.open)) c.finish.ensures.open
+returns-in-Some-clause-open g c = if_ok_map c.close_term.result _ _ (λ t h. rw (rw c.in-Some.is at c.run_threads.ensures.len) at h (rw c.in-Some.is at c.run_threads.ensures.open)) c.close_term.ensures.open
 
 pub returns-in-Some-clause-fault : goal.returns-in-Some-clause-fault
 returns-in-Some-clause-fault g c =
-    let n : vec_len c.args.stations ≡ length (map (λ s. g.S.Serving.stand s) c.args.stations.items) = c.args.stations.ok.0 ∙ sym (length-map c.args.stations.items (λ s. g.S.Serving.stand s)) in
-    if_err_map c.finish.result _ _
+    let n : vec_len c.args.stations ≡ length (map (λ s. g.S.Serving.state s) c.args.stations.items) = c.args.stations.ok.0 ∙ sym (length-map c.args.stations.items (λ s. g.S.Serving.state s)) in
+    if_err_map c.close_term.result _ _
     (λ fault h. late_fault _ fault (rw c.in-Ok.is at c.open.ensures.numbers).0 (let k = h _ _ _ (rw c.in-Some.is at c.run_threads.ensures.carriers) (rw (n, c.in-Some.is) at c.run_threads.ensures.ticker) (rw (n, c.in-Some.is) at c.run_threads.ensures.console) in rw c.in-Ok.ensures.desk at k))
-    c.finish.ensures.late
+    c.close_term.ensures.late
 
 pub returns-in-Some-clause-limit : goal.returns-in-Some-clause-limit
-returns-in-Some-clause-limit g c = on_ok c.finish.result _ (rw c.in-Ok.is at c.open.ensures.numbers).0
+returns-in-Some-clause-limit g c = on_ok c.close_term.result _ (rw c.in-Ok.is at c.open.ensures.numbers).0

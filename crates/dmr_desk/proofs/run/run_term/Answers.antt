@@ -1,26 +1,26 @@
 use Rattle.std.proofs.Common.{◌≡◌, ◌∙◌, refl, sym, true, false, arith}
 use Rattle.dmr_desk.specs.Opening.{IsLimit}
 use Rattle.dmr_desk.specs.Refusing.{carrier_of_peer}
-use Rattle.dmr_desk.specs.Work.{stand}
+use Rattle.dmr_desk.specs.Work.{station_state}
 use Rattle.dmr_desk.proofs.RefusalLemmas.{are_stations_if, are_stations_then, few_stations, fault_result, fits_result}
 use Rattle.dmr_desk.proofs.run.run_term.Goals as goal
 
 pub returns-clause-fault : goal.returns-clause-fault
 returns-clause-fault g c =
-    let are = are_stations_if (λ s. stand s.link (g.P.Wire.told s.port) (g.G.Gate.passed s.gate)) (λ s. carrier_of_peer s.link.who) c.args.stations.items _ c.args.site.plan _ (λ s. refl) c.as_slice.ensures.value c.plan.ensures (c.are_stations.ensures.0 c.if-not-are_stations.false) in
+    let are = are_stations_if (λ s. station_state s.link (g.P.Wire.reported s.port) (g.G.Gate.passed s.gate)) (λ s. carrier_of_peer s.link.who) c.args.stations.items _ c.args.site.plan _ (λ s. refl) c.as_slice.ensures.value c.plan.ensures (c.are_stations.ensures.0 c.if-not-are_stations.false) in
     fault_result _ c.run_over.result are c.run_over.ensures.fault
 
 pub returns-clause-fits : goal.returns-clause-fits
 returns-clause-fits g c =
-    let are = are_stations_if (λ s. stand s.link (g.P.Wire.told s.port) (g.G.Gate.passed s.gate)) (λ s. carrier_of_peer s.link.who) c.args.stations.items _ c.args.site.plan _ (λ s. refl) c.as_slice.ensures.value c.plan.ensures (c.are_stations.ensures.0 c.if-not-are_stations.false) in
+    let are = are_stations_if (λ s. station_state s.link (g.P.Wire.reported s.port) (g.G.Gate.passed s.gate)) (λ s. carrier_of_peer s.link.who) c.args.stations.items _ c.args.site.plan _ (λ s. refl) c.as_slice.ensures.value c.plan.ensures (c.are_stations.ensures.0 c.if-not-are_stations.false) in
     fits_result c.run_over.result _ (IsLimit c.args.limit) are c.run_over.ensures.limit
 
 pub run_over-requires-clause-few : goal.run_over-requires-clause-few
 run_over-requires-clause-few g c =
-    let are = are_stations_if (λ s. stand s.link (g.P.Wire.told s.port) (g.G.Gate.passed s.gate)) (λ s. carrier_of_peer s.link.who) c.args.stations.items _ c.args.site.plan _ (λ s. refl) c.as_slice.ensures.value c.plan.ensures (c.are_stations.ensures.0 c.if-not-are_stations.false) in
-    let few = few_stations (λ s. stand s.link (g.P.Wire.told s.port) (g.G.Gate.passed s.gate)) c.args.stations.items c.args.site.plan are in
+    let are = are_stations_if (λ s. station_state s.link (g.P.Wire.reported s.port) (g.G.Gate.passed s.gate)) (λ s. carrier_of_peer s.link.who) c.args.stations.items _ c.args.site.plan _ (λ s. refl) c.as_slice.ensures.value c.plan.ensures (c.are_stations.ensures.0 c.if-not-are_stations.false) in
+    let few = few_stations (λ s. station_state s.link (g.P.Wire.reported s.port) (g.G.Gate.passed s.gate)) c.args.stations.items c.args.site.plan are in
     let same = c.args.stations.ok.0 in omega arith
 
 pub returns-then-not-are_stations-clause-fault : goal.returns-then-not-are_stations-clause-fault
 returns-then-not-are_stations-clause-fault g c = λ are.
-    let e : true ≡ false = sym (c.are_stations.ensures.1 (are_stations_then (λ s. stand s.link (g.P.Wire.told s.port) (g.G.Gate.passed s.gate)) (λ s. carrier_of_peer s.link.who) c.args.stations.items _ c.args.site.plan _ (λ s. refl) c.as_slice.ensures.value c.plan.ensures are)) ∙ c.if-not-are_stations.true in cc
+    let e : true ≡ false = sym (c.are_stations.ensures.1 (are_stations_then (λ s. station_state s.link (g.P.Wire.reported s.port) (g.G.Gate.passed s.gate)) (λ s. carrier_of_peer s.link.who) c.args.stations.items _ c.args.site.plan _ (λ s. refl) c.as_slice.ensures.value c.plan.ensures are)) ∙ c.if-not-are_stations.true in cc

@@ -2,7 +2,7 @@ use Rattle.std.proofs.lemmas.List.Sums.{fold-append}
 use Rattle.dmr_pdu.proofs.Laws.{items-append}
 use Rattle.dmr_frames.specs.Reading.{step_from, rest_after_octet, frame_of}
 use Rattle.dmr_frames.proofs.StreamLemmas.{readings-same}
-use Rattle.dmr_frames.proofs.ReadingLemmas.{reads_all, reads_on, open-brings, spelling-brings}
+use Rattle.dmr_frames.proofs.ReadingLemmas.{reads_all, reads_on, open-produces, spelling-produces}
 use Rattle.dmr_frames.proofs.laws.one_reading.Goals as goal
 
 pub returns-clause-one : goal.returns-clause-one
@@ -18,7 +18,7 @@ pub returns-clause-more : goal.returns-clause-more
 returns-clause-more c = reads_on
 
 pub returns-clause-frame : goal.returns-clause-frame
-returns-clause-frame c = spelling-brings
+returns-clause-frame c = spelling-produces
 
 pub returns-clause-part : goal.returns-clause-part
-returns-clause-part c = open-brings
+returns-clause-part c = open-produces

@@ -12,7 +12,7 @@ use Rattle.dmr_frames.proofs.OneFrameLemmas.{front_of, last_of, front-last, smal
 use Rattle.dmr_frames.proofs.whole.whole_frame.Goals as goal
 
 pub loop-octet-init : goal.loop-octet-init
-loop-octet-init c = record { rest = c.by-cutter.ensures; begun = open_nothing c.args.version }
+loop-octet-init c = record { rest = c.with_table-cutter.ensures; begun = open_nothing c.args.version }
 
 -- an octet before the last has another result than Need
 pub returns-in_default-feed_byte : goal.returns-in_default-feed_byte

@@ -7,7 +7,7 @@ use Rattle.dmr_core.specs.declared.act.Act.{Act}
 use Rattle.dmr_frames.specs.declared.frame.FrameOut.TheVariants.{Done}
 use Rattle.dmr_link.specs.Numbering.{next_after_frames}
 use Rattle.dmr_link.specs.Session.{transmissions}
-use Rattle.dmr_link.proofs.NumberingLemmas.{next_item, put_item, put_done, next_after_frames-append}
+use Rattle.dmr_link.proofs.NumberingLemmas.{next_item, put_item, write_done, next_after_frames-append}
 use Rattle.dmr_link.proofs.RoomLemmas.{few_more, few_done, one_fits}
 use Rattle.dmr_link.proofs.answers.poll_answer.Goals as goal
 
@@ -23,7 +23,7 @@ loop-act-preserved c = record {
 
 pub returns-clause-items : goal.returns-clause-items
 returns-clause-items c =
-    put_done c.args.numbering.now [] c.loop-act.answer.items _ c.append_frame.new.answer.items _ (flat_map transmissions c.args.acts.now)
+    write_done c.args.numbering.now [] c.loop-act.answer.items _ c.append_frame.new.answer.items _ (flat_map transmissions c.args.acts.now)
     (ap (flat_map transmissions) (take_all c.loop-act.act-index c.args.acts.now c.loop-act-test.false)) c.loop-act.invariant.items refl c.append_frame.ensures.items
 
 pub returns-clause-next : goal.returns-clause-next

@@ -1,7 +1,7 @@
 use Rattle.std.proofs.Common.{refl}
 use Rattle.dmr_link.proofs.OneInputMore.{gives_more}
 use Rattle.dmr_link.proofs.RunsAreAnswered.{Safe, run_is}
-use Rattle.dmr_link.proofs.PastsStandForEngines.{LineLaws}
+use Rattle.dmr_link.proofs.PastsOfEngines.{LineLaws}
 use Rattle.dmr_link.proofs.laws.steps_make_runs.Goals as goal
 
 pub returns-clause-begins : goal.returns-clause-begins

@@ -1,4 +1,4 @@
-use Rattle.dmr_link.proofs.WritesFollow.{tells_none, tells_more}
+use Rattle.dmr_link.proofs.WritesFollow.{reports_none, reports_more}
 use Rattle.dmr_link.proofs.StepsFollow.{happens_none, happens_more}
 use Rattle.dmr_link.proofs.link_laws.happenings_follow.Goals as goal
 
@@ -9,7 +9,7 @@ pub returns-clause-both : goal.returns-clause-both
 returns-clause-both c = happens_more
 
 pub returns-clause-told_none : goal.returns-clause-told_none
-returns-clause-told_none c = tells_none
+returns-clause-told_none c = reports_none
 
 pub returns-clause-told_both : goal.returns-clause-told_both
-returns-clause-told_both c = tells_more
+returns-clause-told_both c = reports_more

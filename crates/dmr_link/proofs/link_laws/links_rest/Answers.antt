@@ -1,5 +1,5 @@
-use Rattle.dmr_link.proofs.LinksAccount.{over_owes}
-use Rattle.dmr_link.proofs.LinksStandForPasts.{dead_over, over_dead}
+use Rattle.dmr_link.proofs.LinksAccount.{over_pending}
+use Rattle.dmr_link.proofs.LinksHavePasts.{dead_over, over_dead}
 use Rattle.dmr_link.proofs.link_laws.links_rest.Goals as goal
 
 pub returns-clause-over : goal.returns-clause-over
@@ -9,4 +9,4 @@ pub returns-clause-dead : goal.returns-clause-dead
 returns-clause-dead c = over_dead
 
 pub returns-clause-nothing : goal.returns-clause-nothing
-returns-clause-nothing c = over_owes
+returns-clause-nothing c = over_pending

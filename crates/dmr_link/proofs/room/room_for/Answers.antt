@@ -17,8 +17,8 @@ loop-from-preserved c =
     let left = c.receive_piece-count.ensures.connection ∙ ap (λ (xs : List ℕ). connection_after_octets who k (take n xs)) rest in
     record {
       within = omega (arith, count, ap length rest, c.loop-from.invariant.within, length-drop {A = ℕ} i octets);
-      room = room_more who c.loop-from.numbered c.is_numbered_after-numbered.result k c.receive_piece-count.new.self octets i n _ c.loop-from.room c.most.result c.saturating_add-room.result _
-          brings left c.is_numbered_after-numbered.ensures c.most.ensures c.saturating_add-room.ensures c.loop-from.invariant.room;
+      room = room_more who c.loop-from.numbered c.is_numbered_after-numbered.result k c.receive_piece-count.new.self octets i n _ c.loop-from.room c.most_for_notice.result c.saturating_add-room.result _
+          brings left c.is_numbered_after-numbered.ensures c.most_for_notice.ensures c.saturating_add-room.ensures c.loop-from.invariant.room;
       fits = omega (arith, c.saturating_add-room.type_inv);
     }
 

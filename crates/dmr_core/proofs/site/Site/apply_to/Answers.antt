@@ -1,5 +1,5 @@
 use Rattle.std.proofs.Common.{[], ◌∷◌, sym, subst}
-use Rattle.dmr_core.specs.Journal.{entry_by_nobody}
+use Rattle.dmr_core.specs.Journal.{unattributed_entry}
 use Rattle.dmr_core.specs.State.{SiteState, IsSite}
 use Rattle.dmr_core.proofs.ActsAreSafe.{sound_after}
 use Rattle.dmr_core.proofs.PlansAreKnown.{plan_known}
@@ -12,7 +12,7 @@ invariant_of-self c =
     subst P (sym c.apply_to.ensures.facts)
     (record {
       plan = c.self.invariant.plan;
-      sound = sound_after c.self.inside.machine.plan c.self.inside.machine.facts (entry_by_nobody c.args.event.now c.apply_to.new.acts ∷ []) (plan_known c.self.inside.machine.plan c.self.invariant.plan) c.self.invariant.sound (c.apply_to.ensures.acts, tt);
+      sound = sound_after c.self.inside.machine.plan c.self.inside.machine.facts (unattributed_entry c.args.event.now c.apply_to.new.acts ∷ []) (plan_known c.self.inside.machine.plan c.self.invariant.plan) c.self.invariant.sound (c.apply_to.ensures.acts, tt);
     })
 
 pub apply_to-requires : goal.apply_to-requires

@@ -3,7 +3,7 @@ use Rattle.dmr_frames.specs.declared.cutter.Step.TheVariants.{Frame}
 use Rattle.dmr_frames.specs.declared.version.Version.{Version}
 use Rattle.dmr_frames.specs.Frames.{IsFrame}
 use Rattle.dmr_frames.specs.Rest.{Rest, Open}
-use Rattle.dmr_frames.specs.Reading.{BringAtLast, rest_after_octets}
+use Rattle.dmr_frames.specs.Reading.{ProduceAtLast, rest_after_octets}
 use Rattle.dmr_frames.specs.Shape.{AreSmall}
 use Rattle.dmr_frames.proofs.ReadingLemmas.{frame-first, open_rest}
 use Rattle.dmr_frames.proofs.cutter.Cutter.feed.Goals as goal
@@ -17,7 +17,7 @@ returns-in-Some-clause-step c =
     let small : AreSmall octets = λ k. omega (arith, c.type_inv.octets k) in
     let here : Open table [] ≡ c.args.self.now = ap (λ (m : ℕ). Open table (take m c.self.inside.octets)) (sym c.if-self-eq0.true) ∙ sym (open_rest c.self.inside.fault table (take c.self.inside.count c.self.inside.octets) c.if-is_none.ensures) ∙ c.self.view_is in
     let P : Version → Type 0 = λ v. IsFrame v f in
-    let Q : Rest → Type 0 = λ r. BringAtLast r (take n octets) (Frame f) in
+    let Q : Rest → Type 0 = λ r. ProduceAtLast r (take n octets) (Frame f) in
     subst Q here (frame-first table octets n f small (subst P c.version.ensures c.in-Some.ensures.1) c.in-Some.ensures.2).0
 
 pub returns-in-Some-clause-rest : goal.returns-in-Some-clause-rest
@@ -30,6 +30,6 @@ returns-in-Some-clause-rest c =
     let here : Open table [] ≡ c.args.self.now = ap (λ (m : ℕ). Open table (take m c.self.inside.octets)) (sym c.if-self-eq0.true) ∙ sym (open_rest c.self.inside.fault table (take c.self.inside.count c.self.inside.octets) c.if-is_none.ensures) ∙ c.self.view_is in
     let P : Version → Type 0 = λ v. IsFrame v f in
     let later = (frame-first table octets n f small (subst P c.version.ensures c.in-Some.ensures.1) c.in-Some.ensures.2).1 in
-    open_rest c.self.inside.fault c.after-self-inside.result (take c.self.inside.count c.self.inside.octets) c.if-is_none.ensures
-    ∙ ap (λ (m : ℕ). Open c.after-self-inside.result (take m c.self.inside.octets)) c.if-self-eq0.true
-    ∙ ap (λ t. Open t []) c.after-self-inside.ensures ∙ sym later ∙ ap (λ (r : Rest). rest_after_octets r (take n octets)) here
+    open_rest c.self.inside.fault c.next_table-self-inside.result (take c.self.inside.count c.self.inside.octets) c.if-is_none.ensures
+    ∙ ap (λ (m : ℕ). Open c.next_table-self-inside.result (take m c.self.inside.octets)) c.if-self-eq0.true
+    ∙ ap (λ t. Open t []) c.next_table-self-inside.ensures ∙ sym later ∙ ap (λ (r : Rest). rest_after_octets r (take n octets)) here

@@ -4,7 +4,7 @@ use Rattle.dmr_link.specs.declared.connection.Connection.{Connection}
 use Rattle.dmr_link.specs.Meaning.{list_of_notice}
 use Rattle.dmr_link.specs.Sound.{IsConnectionSound}
 use Rattle.dmr_link.specs.Steps.{waiting_leaves, running_leaves, notices_of_octets, connection_after_octets}
-use Rattle.dmr_link.proofs.OctetsMeanWhatTheyBring.{closed_brought, closed_taken}
+use Rattle.dmr_link.proofs.OctetsMeanWhatTheyProduce.{closed_produced, closed_taken}
 use Rattle.dmr_link.proofs.WholePieces.{small-taken, waiting-piece, running-piece, octets-sound}
 use Rattle.dmr_link.proofs.connection.Connection.receive_piece.Goals as goal
 
@@ -12,7 +12,7 @@ pub returns-in-Closed-clause-notice : goal.returns-in-Closed-clause-notice
 returns-in-Closed-clause-notice c =
     let who = c.args.who.now in
     let xs = take (length c.args.octets.now) c.args.octets.now in
-    ap (λ (k : Connection). notices_of_octets who k xs) (sym c.replace.ensures.value ∙ c.in-Closed.is) ∙ closed_brought who xs
+    ap (λ (k : Connection). notices_of_octets who k xs) (sym c.replace.ensures.value ∙ c.in-Closed.is) ∙ closed_produced who xs
 
 pub returns-in-Closed-clause-connection : goal.returns-in-Closed-clause-connection
 returns-in-Closed-clause-connection c =
@@ -25,14 +25,14 @@ returns-in-Waiting-clause-notice c =
     let who = c.args.who.now in
     let xs = take c.feed-count.result.0 c.args.octets.now in
     let piece = waiting-piece who c.in-Waiting.cutter xs c.feed-count.result.1 c.feed-count.ensures.step in
-    ap (λ (k : Connection). notices_of_octets who k xs) (sym c.replace.ensures.value ∙ c.in-Waiting.is) ∙ piece.0 ∙ ap list_of_notice (sym c.take_first-outcome.ensures.notice)
+    ap (λ (k : Connection). notices_of_octets who k xs) (sym c.replace.ensures.value ∙ c.in-Waiting.is) ∙ piece.0 ∙ ap list_of_notice (sym c.outcome_of_first-outcome.ensures.notice)
 
 pub returns-in-Waiting-clause-connection : goal.returns-in-Waiting-clause-connection
 returns-in-Waiting-clause-connection c =
     let who = c.args.who.now in
     let xs = take c.feed-count.result.0 c.args.octets.now in
     let piece = waiting-piece who c.in-Waiting.cutter xs c.feed-count.result.1 c.feed-count.ensures.step in
-    c.take_first-outcome.ensures.connection ∙ ap (λ (r : Rest). waiting_leaves who r c.feed-count.result.1) c.feed-count.ensures.rest
+    c.outcome_of_first-outcome.ensures.connection ∙ ap (λ (r : Rest). waiting_leaves who r c.feed-count.result.1) c.feed-count.ensures.rest
     ∙ sym (ap (λ (k : Connection). connection_after_octets who k xs) (sym c.replace.ensures.value ∙ c.in-Waiting.is) ∙ piece.1)
 
 pub returns-in-Running-clause-notice : goal.returns-in-Running-clause-notice
@@ -40,14 +40,14 @@ returns-in-Running-clause-notice c =
     let who = c.args.who.now in
     let xs = take c.feed-count-in-Running.result.0 c.args.octets.now in
     let piece = running-piece who c.in-Running.newest c.in-Running.cutter xs c.feed-count-in-Running.result.1 c.feed-count-in-Running.ensures.step in
-    ap (λ (k : Connection). notices_of_octets who k xs) (sym c.replace.ensures.value ∙ c.in-Running.is) ∙ piece.0 ∙ ap list_of_notice (sym c.take_next-outcome.ensures.notice)
+    ap (λ (k : Connection). notices_of_octets who k xs) (sym c.replace.ensures.value ∙ c.in-Running.is) ∙ piece.0 ∙ ap list_of_notice (sym c.outcome_of_step-outcome.ensures.notice)
 
 pub returns-in-Running-clause-connection : goal.returns-in-Running-clause-connection
 returns-in-Running-clause-connection c =
     let who = c.args.who.now in
     let xs = take c.feed-count-in-Running.result.0 c.args.octets.now in
     let piece = running-piece who c.in-Running.newest c.in-Running.cutter xs c.feed-count-in-Running.result.1 c.feed-count-in-Running.ensures.step in
-    c.take_next-outcome.ensures.connection ∙ ap (λ (r : Rest). running_leaves r c.in-Running.newest c.feed-count-in-Running.result.1) c.feed-count-in-Running.ensures.rest
+    c.outcome_of_step-outcome.ensures.connection ∙ ap (λ (r : Rest). running_leaves r c.in-Running.newest c.feed-count-in-Running.result.1) c.feed-count-in-Running.ensures.rest
     ∙ sym (ap (λ (k : Connection). connection_after_octets who k xs) (sym c.replace.ensures.value ∙ c.in-Running.is) ∙ piece.1)
 
 pub returns-in-Waiting-clause-sound : goal.returns-in-Waiting-clause-sound

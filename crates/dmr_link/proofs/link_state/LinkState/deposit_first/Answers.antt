@@ -3,11 +3,11 @@ use Rattle.dmr_core.specs.declared.event.Event.{Event}
 use Rattle.dmr_link.specs.declared.pending.Pending.{Pending}
 use Rattle.dmr_link.specs.LinkSteps.{Replies, with_next, with_pending}
 use Rattle.dmr_link.specs.Peers.{answer_text, next_after_answer, numbering_of}
-use Rattle.dmr_link.proofs.LinksStandAfterSteps.{deposit}
+use Rattle.dmr_link.proofs.LinksAfterSteps.{deposit}
 use Rattle.dmr_link.specs.Happenings.{Outside, Within, Answering, ShutOut}
 use Rattle.dmr_link.specs.Passages.{Entered, Shut, Left}
 use Rattle.dmr_link.proofs.StepsFollow.{moves_on, moves_passed}
-use Rattle.dmr_link.proofs.LinkSteps.{hands_within, hands_pending, fewer_by, turned_away}
+use Rattle.dmr_link.proofs.LinkSteps.{deposits_within, deposits_pending, fewer_by, turned_away}
 use Rattle.dmr_link.proofs.link_state.LinkState.deposit_first.Goals as goal
 
 pub returns-then-not-enter-clause-moves : goal.returns-then-not-enter-clause-moves
@@ -18,18 +18,18 @@ returns-in-Err-clause-moves g c = turned_away c.args.self.now _ _ _ _ _ _ _ c.fr
 
 pub returns-in-Ok-clause-moves : goal.returns-in-Ok-clause-moves
 returns-in-Ok-clause-moves g c =
-    let told = g.W.Wire.told c.args.port.now in
+    let reported = g.W.Wire.reported c.args.port.now in
     let calls = g.D.Desk.calls c.args.desk.now in
-    let P : Pending → Type 0 = λ p. Replies c.args.self.now.is_cut (with_pending c.args.self.now p) told (answer_text (numbering_of c.args.self.now.connection) c.args.notice.now c.in-Ok.acts) (with_next (with_pending c.args.self.now p) (next_after_answer (numbering_of c.args.self.now.connection) c.args.notice.now c.in-Ok.acts)) c.reply.new.self (g.W.Wire.told c.reply.new.port) in
+    let P : Pending → Type 0 = λ p. Replies c.args.self.now.is_cut (with_pending c.args.self.now p) reported (answer_text (numbering_of c.args.self.now.connection) c.args.notice.now c.in-Ok.acts) (with_next (with_pending c.args.self.now p) (next_after_answer (numbering_of c.args.self.now.connection) c.args.notice.now c.in-Ok.acts)) c.answer_peer.new.self (g.W.Wire.reported c.answer_peer.new.port) in
     moves_on _ _ _ _ _ _ _ _ _ _ _ _ _
-    (moves_passed c.args.self.now told calls _ _ Entered Outside Within c.if-not-enter.ensures.passed refl)
+    (moves_passed c.args.self.now reported calls _ _ Entered Outside Within c.if-not-enter.ensures.passed refl)
     (moves_on _ _ _ _ _ _ _ _ _ _ _ _ _
-    (hands_pending c.args.self.now c.args.notice.now c.in-Ok.acts told _ calls _ _ Within Answering hands_within
-    (c.in-Ok.ensures.ok ∙ ap (λ (e : Event). calls ++ deposit e c.in-Ok.acts ∷ []) c.event.ensures) c.requires _ (subst P c.remove_first.ensures c.reply.ensures))
-    (moves_passed c.reply.new.self _ _ _ _ Left Answering Outside c.leave-in-Ok.ensures refl))
+    (deposits_pending c.args.self.now c.args.notice.now c.in-Ok.acts reported _ calls _ _ Within Answering deposits_within
+    (c.in-Ok.ensures.ok ∙ ap (λ (e : Event). calls ++ deposit e c.in-Ok.acts ∷ []) c.event.ensures) c.requires _ (subst P c.remove_first.ensures c.answer_peer.ensures))
+    (moves_passed c.answer_peer.new.self _ _ _ _ Left Answering Outside c.leave-in-Ok.ensures refl))
 
 pub returns-in-Ok-clause-stops : goal.returns-in-Ok-clause-stops
 returns-in-Ok-clause-stops g c =
-    let told = g.W.Wire.told c.args.port.now in
-    let P : Pending → Type 0 = λ p. Replies c.args.self.now.is_cut (with_pending c.args.self.now p) told (answer_text (numbering_of c.args.self.now.connection) c.args.notice.now c.in-Ok.acts) (with_next (with_pending c.args.self.now p) (next_after_answer (numbering_of c.args.self.now.connection) c.args.notice.now c.in-Ok.acts)) c.reply.new.self (g.W.Wire.told c.reply.new.port) in
-    fewer_by c.args.self.now c.args.notice.now c.in-Ok.acts told _ c.args.self.now.is_cut _ c.requires (subst P c.remove_first.ensures c.reply.ensures)
+    let reported = g.W.Wire.reported c.args.port.now in
+    let P : Pending → Type 0 = λ p. Replies c.args.self.now.is_cut (with_pending c.args.self.now p) reported (answer_text (numbering_of c.args.self.now.connection) c.args.notice.now c.in-Ok.acts) (with_next (with_pending c.args.self.now p) (next_after_answer (numbering_of c.args.self.now.connection) c.args.notice.now c.in-Ok.acts)) c.answer_peer.new.self (g.W.Wire.reported c.answer_peer.new.port) in
+    fewer_by c.args.self.now c.args.notice.now c.in-Ok.acts reported _ c.args.self.now.is_cut _ c.requires (subst P c.remove_first.ensures c.answer_peer.ensures)

@@ -8,8 +8,8 @@ use Rattle.dmr_link.proofs.link_state.LinkState.deposit_pending.Given as goal
 abbrev pub invariant-loop-notice : goal.invariant-loop-notice
 invariant-loop-notice g l = record {
   moves : Moves l.initial.self l.self
-      (sides (g.W.Wire.told l.initial.port) (g.D.Desk.calls l.initial.desk) (g.G.Gate.passed l.initial.gate))
-      (sides (g.W.Wire.told l.port) (g.D.Desk.calls l.desk) (g.G.Gate.passed l.gate)) 0 0 0 Outside Outside;
+      (sides (g.W.Wire.reported l.initial.port) (g.D.Desk.calls l.initial.desk) (g.G.Gate.passed l.initial.gate))
+      (sides (g.W.Wire.reported l.port) (g.D.Desk.calls l.desk) (g.G.Gate.passed l.gate)) 0 0 0 Outside Outside;
   unread : l.self.unread ≡ l.initial.self.unread;
   actor : g.D.Desk.actor l.desk ≡ g.D.Desk.actor l.initial.desk;
 }

@@ -5,22 +5,22 @@ use Rattle.dmr_link.specs.LinkSteps.{with_pending}
 use Rattle.dmr_link.specs.Happenings.{Disordered}
 use Rattle.dmr_link.specs.Moves.{Moves}
 use Rattle.dmr_link.specs.Sessions.{sides}
-use Rattle.dmr_link.proofs.LinksStandAfterSteps.{deposit}
+use Rattle.dmr_link.proofs.LinksAfterSteps.{deposit}
 use Rattle.dmr_link.proofs.StepsFollow.{moves_none, moves_on, moves_untaken}
 use Rattle.dmr_link.proofs.LinkSteps.{flushes}
 use Rattle.dmr_link.proofs.link_state.LinkState.flush_pending.Goals as goal
 
 pub loop-notice-init : goal.loop-notice-init
-loop-notice-init g c = record { moves = λ told passed. moves_none _ _ _ _; cut = c.requires; connection = refl; closing = refl; actor = refl }
+loop-notice-init g c = record { moves = λ reported passed. moves_none _ _ _ _; cut = c.requires; connection = refl; closing = refl; actor = refl }
 
 pub loop-notice-preserved : goal.loop-notice-preserved
 loop-notice-preserved g c = record {
-  moves = λ told passed.
+  moves = λ reported passed.
       let calls = g.D.Desk.calls c.loop-notice.desk in
-      let P : Pending → Type 0 = λ p. Moves c.loop-notice.self (with_pending c.loop-notice.self p) (sides told calls passed) (sides told (g.D.Desk.calls c.deposit.new.self) passed) 0 0 0 Disordered Disordered in
-      moves_on _ _ _ _ _ _ _ _ _ _ _ _ _ (c.loop-notice.invariant.moves told passed)
+      let P : Pending → Type 0 = λ p. Moves c.loop-notice.self (with_pending c.loop-notice.self p) (sides reported calls passed) (sides reported (g.D.Desk.calls c.deposit.new.self) passed) 0 0 0 Disordered Disordered in
+      moves_on _ _ _ _ _ _ _ _ _ _ _ _ _ (c.loop-notice.invariant.moves reported passed)
       (subst P (sym c.remove_first.ensures)
-      (flushes c.loop-notice.self c.in-Some.notice c.in_ok-deposit.field-0 told calls _ passed c.loop-notice.invariant.cut (sym c.first.ensures ∙ c.in-Some.is)
+      (flushes c.loop-notice.self c.in-Some.notice c.in_ok-deposit.field-0 reported calls _ passed c.loop-notice.invariant.cut (sym c.first.ensures ∙ c.in-Some.is)
       (c.in_ok-deposit.ensures.ok ∙ ap (λ (e : Event). calls ++ deposit e c.in_ok-deposit.field-0 ∷ []) c.event.ensures)));
   cut = c.loop-notice.invariant.cut;
   connection = c.loop-notice.invariant.connection;
@@ -29,5 +29,5 @@ loop-notice-preserved g c = record {
 }
 
 pub returns-in_err-deposit-clause-moves : goal.returns-in_err-deposit-clause-moves
-returns-in_err-deposit-clause-moves g c = λ told passed.
-    moves_on _ _ _ _ _ _ _ _ _ _ _ _ _ (c.loop-notice.invariant.moves told passed) (moves_untaken _ told _ _ passed Disordered c.in_err-deposit.ensures.err.0)
+returns-in_err-deposit-clause-moves g c = λ reported passed.
+    moves_on _ _ _ _ _ _ _ _ _ _ _ _ _ (c.loop-notice.invariant.moves reported passed) (moves_untaken _ reported _ _ passed Disordered c.in_err-deposit.ensures.err.0)

@@ -5,6 +5,6 @@ use Rattle.dmr_pool.proofs.pool.PoolPartialEq.eq.Goals as goal
 pub returns-clause-same : goal.returns-clause-same
 returns-clause-same c =
     let decides = are_same-Decides c.args.self.now c.args.other.now in (
-      λ told. decides.0 (sym c.is.ensures ∙ told),
-      λ same. c.is.ensures ∙ decides.1 same,
+      λ told. decides.0 (sym c.equals.ensures ∙ told),
+      λ same. c.equals.ensures ∙ decides.1 same,
     )

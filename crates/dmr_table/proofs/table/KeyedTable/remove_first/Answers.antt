@@ -38,8 +38,8 @@ invariant_of-self g c =
     let first : HasFirst c.self.inside.places.items c.args.key c.in_ok-first.first = rw c.deref.ensures.value at c.in_ok-first.ensures in
     let n = c.index-place.result.now.index in
     let left : ArePlaces g.V.Keyed.key_of (remove c.self.inside.entries.items n) (map (place_after_removal n) (remove c.self.inside.places.items c.in_ok-first.first)) = places_left g.V.Keyed.key_of _ _ few c.self.invariant.places _ first.within c.index-place.result.now c.index-place.ensures c.remove-2.result in
-    let lower : c.lower.new.places ≡ map (place_after_removal n) (remove c.self.inside.places.items c.in_ok-first.first) = rw (c.deref_mut.ensures.value, c.remove.ensures.items) at c.lower.ensures in
-    let written : take c.remove.new.self.len (c.lower.new.places ++ drop (length c.lower.new.places) c.remove.new.self.items) ≡ map (place_after_removal n) (remove c.self.inside.places.items c.in_ok-first.first) = grind (arith, common_steps, lower) in
+    let lower : c.lower_places.new.places ≡ map (place_after_removal n) (remove c.self.inside.places.items c.in_ok-first.first) = rw (c.deref_mut.ensures.value, c.remove.ensures.items) at c.lower_places.ensures in
+    let written : take c.remove.new.self.len (c.lower_places.new.places ++ drop (length c.lower_places.new.places) c.remove.new.self.items) ≡ map (place_after_removal n) (remove c.self.inside.places.items c.in_ok-first.first) = grind (arith, common_steps, lower) in
     let items : c.remove-2.new.self.items ≡ remove c.self.inside.entries.items n = rw c.from.ensures at c.remove-2.ensures.items in
     record {
       small = c.self.invariant.small;

@@ -1,9 +1,0 @@
-use Rattle.std.proofs.Common.{arith}
-use Rattle.std.proofs.lemmas.List.Edits.{map_over_more}
-use Rattle.dmr_calls.specs.Asks.{waited_more}
-use Rattle.dmr_calls.proofs.ticks.count_asks.Goals as goal
-
-pub loop-place-preserved : goal.loop-place-preserved
-loop-place-preserved c =
-    let more = map_over_more waited_more c.args.asks.now c.loop-place.asks c.loop-place.place c.index-as_slice-place.result (omega arith) c.loop-place.invariant (rw c.as_slice.ensures.value at c.index-as_slice-place.is) in
-    rw (c.replace.ensures, c.waited_more.ensures) more

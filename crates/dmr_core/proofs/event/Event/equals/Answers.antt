@@ -1,0 +1,8 @@
+use Rattle.std.proofs.Common.{sym, ◌∙◌}
+use Rattle.dmr_core.proofs.EqualityLemmas.{event_eq-Decides}
+use Rattle.dmr_core.proofs.event.Event.equals.Goals as goal
+
+pub returns : goal.returns
+returns c =
+    let decides = event_eq-Decides c.args.self.now c.args.other.now in
+    (λ told. decides.0 (sym c.eq.ensures ∙ told), λ same. c.eq.ensures ∙ decides.1 same)

@@ -1,9 +1,0 @@
-use Rattle.dmr_pool.specs.Slots.{place}
-use Rattle.dmr_pool.proofs.BitLemmas.{set_put, clear_put}
-use Rattle.dmr_pool.proofs.marks.Marks.put.Goals as goal
-
-pub returns-then-is_in-clause-bits : goal.returns-then-is_in-clause-bits
-returns-then-is_in-clause-bits c = set_put c.args.self.now.bits c.index.result (place c.args.slot.now) c.args.is_in c.index.ensures.value c.index.ensures.range c.if-is_in.true
-
-pub returns-else-is_in-clause-bits : goal.returns-else-is_in-clause-bits
-returns-else-is_in-clause-bits c = clear_put c.args.self.now.bits c.index.result (place c.args.slot.now) c.args.is_in c.index.ensures.value c.index.ensures.range c.if-is_in.false

@@ -1,1 +1,2 @@
 mod SameLemmas
+mod NoiseLemmas

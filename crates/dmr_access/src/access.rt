@@ -2,6 +2,7 @@
 
 ghost use Rattle.std.specs.Prelude.{◌≡◌, ◌+◌, ◌^◌, ◌<◌, ◌≤◌, ◌↔◌, ◌&&◌, [], drop, length, sum, slice_get, nat_eq, IsTrue, IfOk};
 ghost use Rattle.std.specs.Cmp.Lexicographic.{pointwise};
+ghost use Rattle.circular_buffer.specs.Buffer.{buffer};
 ghost use Rattle.dmr_access.specs.Noise.{AreNoiseNumbers, noise_at_up, with_noise, with_poll, backoff_of};
 ghost use Rattle.dmr_access.specs.Fill.{aloha_pdu, fill_of, is_late_due, move_to, next_fill_count};
 
@@ -29,11 +30,13 @@ const MUST_REGISTER: bool = true;
 pub struct Access {
     plan: Plan,
     noise: HeapCircularBuffer<u8>,
+    // The sum of the noise numbers. Each Fill needs it, so it is kept and not added up.
+    noises: u16,
     fills: u8,
 }
 
 impl Model for Access {
-    ghost use Rattle.std.specs.Prelude.{◌≡◌, ◌<◌};
+    ghost use Rattle.std.specs.Prelude.{◌≡◌, ◌<◌, sum};
     ghost use Rattle.dmr_access.specs.Fill.{Window};
     ghost use Rattle.dmr_access.specs.Noise.{AreNoiseNumbers};
 
@@ -41,15 +44,35 @@ impl Model for Access {
 
     ghost view = { λ access. record { plan = access.plan; noise = access.noise.items; fills = access.fills } };
 
-    ghost invariant = { λ access. (access.noise.capacity ≡ 32) × AreNoiseNumbers access.noise.items × (access.fills < 4) };
+    ghost invariant = { λ access. (access.noise.capacity ≡ 32) × AreNoiseNumbers access.noise.items × (access.fills < 4) × (access.noises ≡ sum access.noise.items) };
 }
 
-/// The sum of at most 32 numbers.
-fn total(numbers: &[u8]) -> u16
-    requires { length numbers.now ≤ 32 }
-    ensures { result ≡ sum numbers.now }
+/// Counts a Noise in the first of the noise numbers, which stays at 15. Returns how many more Noises count after that: 0 or 1.
+fn count_noise(noise: &mut HeapCircularBuffer<u8>) -> u16
+    requires { AreNoiseNumbers noise.old.items }
+    ensures numbers { noise.new ≡ buffer (with_noise noise.old.items) noise.old.capacity }
+    ensures more { sum (with_noise noise.old.items) ≡ sum noise.old.items + result }
+    ensures few { result ≤ 1 }
 {
-    numbers.iter().map(|n| u16::from(*n)).sum()
+    let Some(count) = noise.get_mut(0) else {
+        return 0;
+    };
+    let before = *count;
+    *count = before.saturating_add(1).min(15);
+    u16::from(*count - before)
+}
+
+/// Begins a new noise number, and removes the oldest of the 32. Returns the oldest, whose Noises no longer count.
+fn begin_number(noise: &mut HeapCircularBuffer<u8>) -> u16
+    requires all { length noise.old.items ≡ 32 }
+    requires room { noise.old.capacity ≡ 32 }
+    ensures numbers { noise.new ≡ buffer (with_poll noise.old.items) noise.old.capacity }
+    ensures fewer { sum (with_poll noise.old.items) + result ≡ sum noise.old.items }
+{
+    match noise.push_front(0) {
+        Some(oldest) => u16::from(oldest),
+        None => 0,
+    }
 }
 
 /// Reports whether two rings have the same number at a place that both have.
@@ -88,6 +111,7 @@ impl Access {
         Ok(Access {
             plan: *plan,
             noise: HeapCircularBuffer::with_capacity(alloc, POLLS)?,
+            noises: 0,
             fills: 0,
         })
     }
@@ -103,6 +127,7 @@ impl Access {
         Ok(Access {
             plan: self.plan,
             noise,
+            noises: self.noises,
             fills: self.fills,
         })
     }
@@ -121,9 +146,7 @@ impl Access {
     pub fn noise(&mut self)
         ensures { self.new ≡ record self.old { noise = with_noise self.old.noise } }
     {
-        if let Some(count) = self.noise.get_mut(0) {
-            *count = count.saturating_add(1).min(15);
-        }
+        self.noises += count_noise(&mut self.noise);
     }
 
     /// Counts a Poll of the control carrier: the Noises before the 32nd last Poll no longer count. While the control carrier is
@@ -132,7 +155,7 @@ impl Access {
         ensures { self.new ≡ record self.old { noise = with_poll self.old.noise } }
     {
         if !self.noise.is_empty() {
-            let _ = self.noise.push_front(0);
+            self.noises -= begin_number(&mut self.noise);
         }
     }
 
@@ -150,16 +173,8 @@ impl Access {
         ensures { self.new ≡ record { plan = self.old.plan; noise = []; fills = 0 } }
     {
         self.noise.clear();
+        self.noises = 0;
         self.fills = 0;
-    }
-
-    /// The number of Noises that count.
-    fn total(&self) -> u32
-        ensures value { result ≡ sum self.now.noise }
-        ensures few { result < 2 ^ 17 }
-    {
-        let (newer, older) = self.noise.as_slices();
-        u32::from(total(newer)) + u32::from(total(older))
     }
 
     /// The backoff to send, 1 to 15: the plan's lowest plus the number of Noises that count, but at most the plan's highest.
@@ -168,7 +183,7 @@ impl Access {
         ensures range { (1 ≤ result) × (result ≤ 15) }
     {
         self.plan.use_invariant();
-        let raised = u32::from(self.plan.backoff_low()) + self.total();
+        let raised = u32::from(self.plan.backoff_low()) + u32::from(self.noises);
         raised.min(u32::from(self.plan.backoff_high())) as u8
     }
 

@@ -105,7 +105,7 @@ impl Load {
 }
 
 /// RX of a burst on slot 0.
-type Heard = [u8; 28];
+pub type Heard = [u8; 28];
 
 /// Returns the octets of a PDU: its first octet, feature set 0, 16 bits, and two numbers of 24 bits.
 fn octets_of(first: u8, half: u16, upper: u32, lower: u32) -> Octets10 {
@@ -171,14 +171,17 @@ pub fn bursts_of(alloc: Global, load: Load, radios: u32) -> Result<Vec<Heard>, O
 fn plan_of(alloc: Global, carriers: u32) -> Result<Option<Plan>, OutOfMemory> {
     let mut text = String::from_str(alloc, SITE)?;
     for number in 0..carriers.min(16) {
-        let row = format!(in alloc;
-            "[[carrier]]\nnumber = {number}\nlpcn = {}\nport = {}\n",
-            number + 1,
-            number + 7_101
-        )?;
-        text.push_str(row.as_str())?;
+        write_row(&mut text, number, number + 1, number + 7_101)?;
     }
     Ok(Plan::read(alloc, text.as_str()).ok())
+}
+
+/// Adds a carrier to the end of a site file.
+fn write_row(text: &mut String, number: u32, lpcn: u32, port: u32) -> Result<(), OutOfMemory> {
+    write!(
+        text,
+        "[[carrier]]\nnumber = {number}\nlpcn = {lpcn}\nport = {port}\n"
+    )
 }
 
 /// Returns the sum of octets.
@@ -206,39 +209,45 @@ pub struct BenchSite {
 }
 
 impl BenchSite {
-    /// Returns a site with these numbers of carriers, all up, and of registered radios. Returns `None` if no such site
-    /// is possible.
-    pub fn new(
-        alloc: Global,
-        carriers: u32,
-        radios: u32,
-    ) -> Result<Option<BenchSite>, OutOfMemory> {
+    /// Returns a site with this number of carriers, none of them up. Returns `None` if no such site is possible.
+    pub fn new(alloc: Global, carriers: u32) -> Result<Option<BenchSite>, OutOfMemory> {
         let Some(plan) = plan_of(alloc, carriers)? else {
             return Ok(None);
         };
-        let mut scene = BenchSite {
-            alloc,
-            engine: Engine::new(alloc, plan)?,
-            outputs: Outputs::new(alloc),
-            carriers: carriers.min(16),
-            events: 0,
-            octets: 0,
-            sum: 0,
-        };
-        for number in 0..scene.carriers {
-            let [.., carrier] = number.to_be_bytes();
-            scene.open(number)?;
-            scene.take(
-                number,
-                &[0x01, 0x04, 0x01, carrier, 0x00, carrier.wrapping_add(1)],
-            )?;
+        match Engine::new(alloc, plan) {
+            Ok(engine) => Ok(Some(BenchSite {
+                alloc,
+                engine,
+                outputs: Outputs::new(alloc),
+                carriers: carriers.min(16),
+                events: 0,
+                octets: 0,
+                sum: 0,
+            })),
+            Err(refused) => Err(refused),
+        }
+    }
+
+    /// Has all carriers come up and this number of radios register.
+    pub fn fill(&mut self, radios: u32) -> Result<(), OutOfMemory> {
+        for number in 0..self.carriers {
+            self.rise(number)?;
         }
         for radio in 0..radios {
-            scene.take(0, &registration(radio.wrapping_add(1)))?;
-            scene.take(0, POLL)?;
+            self.take(0, &registration(radio.wrapping_add(1)))?;
+            self.take(0, POLL)?;
         }
-        scene.begin()?;
-        Ok(Some(scene))
+        self.begin()
+    }
+
+    /// Has a carrier come up.
+    fn rise(&mut self, number: u32) -> Result<(), OutOfMemory> {
+        let [.., carrier] = number.to_be_bytes();
+        self.open(number)?;
+        self.take(
+            number,
+            &[0x01, 0x04, 0x01, carrier, 0x00, carrier.wrapping_add(1)],
+        )
     }
 
     /// Counts and sums the octets of the outputs, and drops them.

@@ -1,6 +1,6 @@
 //! Measures how long the engine takes for the loads of a site.
 
-use crate::load::{BenchSite, LOADS, Load, bursts_of};
+use crate::load::{BenchSite, Heard, LOADS, Load, bursts_of};
 use std::io;
 use std::rt::Clock;
 use std::time::Instant;
@@ -50,13 +50,27 @@ impl Took {
 /// Runs a load once on a new site. Returns `None` if there is no site of this size.
 fn play<R: AllocGlobal + Clock>(rt: &R, load: Load, size: Size) -> io::Result<Option<Took>> {
     let bursts = bursts_of(rt.alloc(), load, size.radios)?;
-    let made = BenchSite::new(rt.alloc(), size.carriers, size.radios)?;
-    let Some(mut scene) = made else {
-        return Ok(None);
+    let mut made = BenchSite::new(rt.alloc(), size.carriers)?;
+    let took = match made.as_mut() {
+        Some(scene) => play_on(rt, scene, load, size, bursts.as_slice()),
+        None => Ok(None),
     };
+    drop(made);
+    took
+}
+
+/// Runs a load once on a new site, with these bursts.
+fn play_on<R: Clock>(
+    rt: &R,
+    scene: &mut BenchSite,
+    load: Load,
+    size: Size,
+    bursts: &[Heard],
+) -> io::Result<Option<Took>> {
+    scene.fill(size.radios)?;
     let (events, octets, sum) = (scene.events, scene.octets, scene.sum);
     let start = Instant::now(rt)?;
-    scene.play(load, bursts.as_slice(), size.frames)?;
+    scene.play(load, bursts, size.frames)?;
     let nanos = start.elapsed(rt)?.as_nanos();
     Ok(Some(Took {
         events: u128::from(scene.events.wrapping_sub(events)),

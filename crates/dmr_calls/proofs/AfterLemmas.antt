@@ -201,3 +201,11 @@ next_is calls last (Some call) is found =
 
 pub next_group_call : (calls : List ActiveCall) (last : Option Slot) → IfSome last IsSlot → MatchOption (group_after calls last) (HasNoGroupCall calls) (IsNextGroupCall calls last)
 next_group_call calls last is = next_is calls last (group_after calls last) is (found_after calls last)
+
+-- without calls, no place has a talkgroup call
+none_found : (places : List ℕ) → find (is_group_at []) places ≡ None
+none_found [] = refl
+none_found (k ∷ places) = none_found places
+
+pub no_place : (calls : List ActiveCall) (from : ℕ) → calls ≡ [] → group_place calls from ≡ None
+no_place calls from none = let P : List ActiveCall → Type 0 = λ s. group_place s from ≡ None in subst P (sym none) (none_found (range_with_len from (32 - from)))

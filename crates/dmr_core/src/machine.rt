@@ -73,10 +73,21 @@ impl Machine {
     pub fn new(alloc: Global, plan: &Plan) -> Result<Machine, OutOfMemory>
         ensures { IfOk result (λ m. m ≡ record { plan = plan.now; facts = no_facts }) }
     {
-        let registry = Registry::new(alloc)?;
-        let pool = Pool::new(alloc, plan)?;
-        let calls = Calls::new(alloc)?;
-        let access = Access::new(alloc, plan)?;
+        let Ok(registry) = Registry::new(alloc) else {
+            return Err(OutOfMemory);
+        };
+        let Ok(pool) = Pool::new(alloc, plan) else {
+            drop(registry);
+            return Err(OutOfMemory);
+        };
+        let Ok(calls) = Calls::new(alloc) else {
+            drop((registry, pool));
+            return Err(OutOfMemory);
+        };
+        let Ok(access) = Access::new(alloc, plan) else {
+            drop((registry, pool, calls));
+            return Err(OutOfMemory);
+        };
         Ok(Machine {
             plan: *plan,
             registry,
@@ -92,10 +103,21 @@ impl Machine {
     pub fn try_clone(&self, alloc: Global) -> Result<Machine, OutOfMemory>
         ensures { IfOk result (λ copy. copy ≡ self.now) }
     {
-        let registry = self.registry.try_clone(alloc)?;
-        let pool = self.pool.try_clone(alloc)?;
-        let calls = self.calls.try_clone(alloc)?;
-        let access = self.access.try_clone(alloc)?;
+        let Ok(registry) = self.registry.try_clone(alloc) else {
+            return Err(OutOfMemory);
+        };
+        let Ok(pool) = self.pool.try_clone(alloc) else {
+            drop(registry);
+            return Err(OutOfMemory);
+        };
+        let Ok(calls) = self.calls.try_clone(alloc) else {
+            drop((registry, pool));
+            return Err(OutOfMemory);
+        };
+        let Ok(access) = self.access.try_clone(alloc) else {
+            drop((registry, pool, calls));
+            return Err(OutOfMemory);
+        };
         Ok(Machine {
             plan: self.plan,
             registry,

@@ -1,6 +1,6 @@
 //! A PDU in words, as it is printed: its name, and `name=value` for each field. A missing field is 0.
 
-ghost use Rattle.std.specs.Prelude.{◌<◌, IfOk};
+ghost use Rattle.std.specs.Prelude.{◌<◌};
 
 use dmr_pdu::{Address, Kind, Lpcn, Number, Pdu, Reason, SlotNo};
 use thiserror::Error;
@@ -22,10 +22,22 @@ pub enum WordFault<'a> {
     BadValue(&'a str),
 }
 
-/// The fields after a PDU's name.
+/// Returns the value with a name. These are the values that have one.
+fn named<T: Copy>(names: &[(T, &str)], name: &str) -> Option<T> {
+    for (value, known) in names {
+        if *known == name {
+            return Some(*value);
+        }
+    }
+    None
+}
+
+/// The fields after a PDU's name, which are read one after the other. If one has no value, or no valid one, the reading goes on, so
+/// that there is one way out of it: [`Fields::checked`] returns the first fault.
 #[derive(Clone, Copy)]
 struct Fields<'w, 'a> {
     words: &'w [&'a str],
+    fault: Option<WordFault<'a>>,
 }
 
 impl<'w, 'a> Fields<'w, 'a> {
@@ -39,7 +51,22 @@ impl<'w, 'a> Fields<'w, 'a> {
                 return Err(WordFault::NoSuchField(*word));
             }
         }
-        Ok(Fields { words })
+        Ok(Fields { words, fault: None })
+    }
+
+    /// Returns the PDU that was read, or the first fault of its fields.
+    fn checked(&self, pdu: Pdu) -> Result<Pdu, WordFault<'a>> {
+        match self.fault {
+            None => Ok(pdu),
+            Some(fault) => Err(fault),
+        }
+    }
+
+    /// Keeps that the value of a field is bad, unless one before it was.
+    fn refuse(&mut self, name: &'static str) {
+        if self.fault.is_none() {
+            self.fault = Some(WordFault::BadValue(name));
+        }
     }
 
     /// Returns the text of a field, if it is given.
@@ -55,60 +82,62 @@ impl<'w, 'a> Fields<'w, 'a> {
     }
 
     /// Returns the number of a field, which is below a bound, or 0 if it is not given.
-    fn number(&self, name: &'static str, bound: u32) -> Result<u32, WordFault<'a>>
+    fn number(&mut self, name: &'static str, bound: u32) -> u32
         requires { 0 < bound }
-        ensures { IfOk result (λ n. n < bound) }
+        ensures { result < bound }
     {
         let Some(text) = self.text(name) else {
-            return Ok(0);
+            return 0;
         };
         match text.parse::<u32>() {
-            Ok(number) if number < bound => Ok(number),
-            _ => Err(WordFault::BadValue(name)),
+            Ok(number) if number < bound => number,
+            _ => {
+                self.refuse(name);
+                0
+            }
         }
     }
 
     /// Returns a field of one bit.
-    fn flag(&self, name: &'static str) -> Result<bool, WordFault<'a>> {
-        Ok(self.number(name, 2)? == 1)
+    fn flag(&mut self, name: &'static str) -> bool {
+        self.number(name, 2) == 1
     }
 
     /// Returns a field that is an address.
-    fn address(&self, name: &'static str) -> Result<Address, WordFault<'a>> {
-        Ok(Address::new(self.number(name, 1 << 24)?))
+    fn address(&mut self, name: &'static str) -> Address {
+        Address::new(self.number(name, 1 << 24))
     }
 
     /// Returns the channel, which has to be given.
-    fn channel(&self) -> Result<Lpcn, WordFault<'a>> {
-        let number = self.number("lpcn", 4096)?;
-        Lpcn::try_new(number).ok_or(WordFault::BadValue("lpcn"))
+    fn channel(&mut self) -> Lpcn {
+        match Lpcn::try_new(self.number("lpcn", 4096)) {
+            Some(channel) => channel,
+            None => {
+                self.refuse("lpcn");
+                Lpcn::new(1)
+            }
+        }
     }
 
     /// Returns the slot.
-    fn slot(&self) -> Result<SlotNo, WordFault<'a>> {
-        Ok(SlotNo::new(self.number("slot", 2)?))
+    fn slot(&mut self) -> SlotNo {
+        SlotNo::new(self.number("slot", 2))
     }
 
     /// Returns the service kind, by its name or number.
-    fn kind(&self) -> Result<Kind, WordFault<'a>> {
-        let text = self.text("kind").unwrap_or("");
-        for (kind, name) in Kind::NAMES {
-            if name == text {
-                return Ok(kind);
-            }
+    fn kind(&mut self) -> Kind {
+        match named(&Kind::NAMES, self.text("kind").unwrap_or("")) {
+            Some(kind) => kind,
+            None => Kind::new(self.number("kind", 16)),
         }
-        Ok(Kind::new(self.number("kind", 16)?))
     }
 
     /// Returns the reason, by its name or number.
-    fn reason(&self) -> Result<Reason, WordFault<'a>> {
-        let text = self.text("reason").unwrap_or("");
-        for (reason, name) in Reason::NAMES {
-            if name == text {
-                return Ok(reason);
-            }
+    fn reason(&mut self) -> Reason {
+        match named(&Reason::NAMES, self.text("reason").unwrap_or("")) {
+            Some(reason) => reason,
+            None => Reason::new(self.number("reason", 256)),
         }
-        Ok(Reason::new(self.number("reason", 256)?))
     }
 }
 
@@ -146,107 +175,116 @@ fn aloha<'a>(words: &[&'a str]) -> Result<Pdu, WordFault<'a>> {
         "system",
         "address",
     ];
-    let fields = Fields::of(words, &names)?;
-    Ok(Pdu::Aloha {
-        sync: fields.flag("sync")?,
-        version: Number::new(fields.number("version", 8)?),
-        offset: fields.flag("offset")?,
-        active: fields.flag("active")?,
-        mask: Number::new(fields.number("mask", 32)?),
-        function: Number::new(fields.number("function", 4)?),
-        nrand_wait: Number::new(fields.number("nrand_wait", 16)?),
-        register: fields.flag("register")?,
-        backoff: Number::new(fields.number("backoff", 16)?),
-        system: Number::new(fields.number("system", 65536)?),
-        address: fields.address("address")?,
-    })
+    let mut fields = Fields::of(words, &names)?;
+    let pdu = Pdu::Aloha {
+        sync: fields.flag("sync"),
+        version: Number::new(fields.number("version", 8)),
+        offset: fields.flag("offset"),
+        active: fields.flag("active"),
+        mask: Number::new(fields.number("mask", 32)),
+        function: Number::new(fields.number("function", 4)),
+        nrand_wait: Number::new(fields.number("nrand_wait", 16)),
+        register: fields.flag("register"),
+        backoff: Number::new(fields.number("backoff", 16)),
+        system: Number::new(fields.number("system", 65536)),
+        address: fields.address("address"),
+    };
+    fields.checked(pdu)
 }
 
 fn ahoy<'a>(words: &[&'a str]) -> Result<Pdu, WordFault<'a>> {
-    let fields = Fields::of(words, &["options", "group", "kind", "called", "calling"])?;
-    Ok(Pdu::Ahoy {
-        options: Number::new(fields.number("options", 128)?),
-        group: fields.flag("group")?,
-        kind: fields.kind()?,
-        called: fields.address("called")?,
-        calling: fields.address("calling")?,
-    })
+    let mut fields = Fields::of(words, &["options", "group", "kind", "called", "calling"])?;
+    let pdu = Pdu::Ahoy {
+        options: Number::new(fields.number("options", 128)),
+        group: fields.flag("group"),
+        kind: fields.kind(),
+        called: fields.address("called"),
+        calling: fields.address("calling"),
+    };
+    fields.checked(pdu)
 }
 
 fn random<'a>(words: &[&'a str]) -> Result<Pdu, WordFault<'a>> {
-    let fields = Fields::of(words, &["options", "flags", "kind", "target", "source"])?;
-    Ok(Pdu::Random {
-        options: Number::new(fields.number("options", 128)?),
-        flags: Number::new(fields.number("flags", 32)?),
-        kind: fields.kind()?,
-        target: fields.address("target")?,
-        source: fields.address("source")?,
-    })
+    let mut fields = Fields::of(words, &["options", "flags", "kind", "target", "source"])?;
+    let pdu = Pdu::Random {
+        options: Number::new(fields.number("options", 128)),
+        flags: Number::new(fields.number("flags", 32)),
+        kind: fields.kind(),
+        target: fields.address("target"),
+        source: fields.address("source"),
+    };
+    fields.checked(pdu)
 }
 
 /// The names of the fields of an acknowledgement, in either direction.
 const ACKNOWLEDGEMENT: [&str; 5] = ["info", "reason", "spare", "target", "additional"];
 
 fn ackd<'a>(words: &[&'a str]) -> Result<Pdu, WordFault<'a>> {
-    let fields = Fields::of(words, &ACKNOWLEDGEMENT)?;
-    Ok(Pdu::Ackd {
-        info: Number::new(fields.number("info", 128)?),
-        reason: fields.reason()?,
-        spare: fields.flag("spare")?,
-        target: fields.address("target")?,
-        additional: fields.address("additional")?,
-    })
+    let mut fields = Fields::of(words, &ACKNOWLEDGEMENT)?;
+    let pdu = Pdu::Ackd {
+        info: Number::new(fields.number("info", 128)),
+        reason: fields.reason(),
+        spare: fields.flag("spare"),
+        target: fields.address("target"),
+        additional: fields.address("additional"),
+    };
+    fields.checked(pdu)
 }
 
 fn acku<'a>(words: &[&'a str]) -> Result<Pdu, WordFault<'a>> {
-    let fields = Fields::of(words, &ACKNOWLEDGEMENT)?;
-    Ok(Pdu::Acku {
-        info: Number::new(fields.number("info", 128)?),
-        reason: fields.reason()?,
-        spare: fields.flag("spare")?,
-        target: fields.address("target")?,
-        additional: fields.address("additional")?,
-    })
+    let mut fields = Fields::of(words, &ACKNOWLEDGEMENT)?;
+    let pdu = Pdu::Acku {
+        info: Number::new(fields.number("info", 128)),
+        reason: fields.reason(),
+        spare: fields.flag("spare"),
+        target: fields.address("target"),
+        additional: fields.address("additional"),
+    };
+    fields.checked(pdu)
 }
 
 fn clear<'a>(words: &[&'a str]) -> Result<Pdu, WordFault<'a>> {
-    let fields = Fields::of(words, &["lpcn", "group", "target", "source"])?;
-    Ok(Pdu::Clear {
-        lpcn: fields.channel()?,
-        group: fields.flag("group")?,
-        target: fields.address("target")?,
-        source: fields.address("source")?,
-    })
+    let mut fields = Fields::of(words, &["lpcn", "group", "target", "source"])?;
+    let pdu = Pdu::Clear {
+        lpcn: fields.channel(),
+        group: fields.flag("group"),
+        target: fields.address("target"),
+        source: fields.address("source"),
+    };
+    fields.checked(pdu)
 }
 
 fn pv_grant<'a>(words: &[&'a str]) -> Result<Pdu, WordFault<'a>> {
-    let fields = Fields::of(words, &["lpcn", "slot", "target", "source"])?;
-    Ok(Pdu::PvGrant {
-        lpcn: fields.channel()?,
-        slot: fields.slot()?,
-        target: fields.address("target")?,
-        source: fields.address("source")?,
-    })
+    let mut fields = Fields::of(words, &["lpcn", "slot", "target", "source"])?;
+    let pdu = Pdu::PvGrant {
+        lpcn: fields.channel(),
+        slot: fields.slot(),
+        target: fields.address("target"),
+        source: fields.address("source"),
+    };
+    fields.checked(pdu)
 }
 
 fn tv_grant<'a>(words: &[&'a str]) -> Result<Pdu, WordFault<'a>> {
-    let fields = Fields::of(words, &["lpcn", "slot", "late", "target", "source"])?;
-    Ok(Pdu::TvGrant {
-        lpcn: fields.channel()?,
-        slot: fields.slot()?,
-        late: fields.flag("late")?,
-        target: fields.address("target")?,
-        source: fields.address("source")?,
-    })
+    let mut fields = Fields::of(words, &["lpcn", "slot", "late", "target", "source"])?;
+    let pdu = Pdu::TvGrant {
+        lpcn: fields.channel(),
+        slot: fields.slot(),
+        late: fields.flag("late"),
+        target: fields.address("target"),
+        source: fields.address("source"),
+    };
+    fields.checked(pdu)
 }
 
 fn control_move<'a>(words: &[&'a str]) -> Result<Pdu, WordFault<'a>> {
-    let fields = Fields::of(words, &["register", "backoff", "lpcn"])?;
-    Ok(Pdu::Move {
-        register: fields.flag("register")?,
-        backoff: Number::new(fields.number("backoff", 16)?),
-        lpcn: fields.channel()?,
-    })
+    let mut fields = Fields::of(words, &["register", "backoff", "lpcn"])?;
+    let pdu = Pdu::Move {
+        register: fields.flag("register"),
+        backoff: Number::new(fields.number("backoff", 16)),
+        lpcn: fields.channel(),
+    };
+    fields.checked(pdu)
 }
 
 /// Returns the PDU of any ten octets.

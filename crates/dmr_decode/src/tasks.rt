@@ -101,11 +101,16 @@ fn word<'a, W: Write>(alloc: Global, text: &str, out: &mut W) -> Result<(), Task
 
 fn pdu<'a, W: Write>(alloc: Global, text: &str, out: &mut W) -> Result<(), TaskFault<'a>> {
     let octets = octets_of(alloc, text)?;
+    show_ten(octets.as_slice(), out)
+}
+
+/// Shows the PDU of ten octets.
+fn show_ten<'a, W: Write>(octets: &[u8], out: &mut W) -> Result<(), TaskFault<'a>> {
     if octets.len() != 10 {
         return Err(TaskFault::NotTen);
     }
     let mut whole = [0; 10];
-    whole.copy_from_slice(octets.as_slice());
+    whole.copy_from_slice(octets);
     let pdu = Pdu::from_octets(&whole);
     Ok(writeln!(out, "      {pdu}")?)
 }
@@ -116,7 +121,16 @@ fn show_pdu_in_words<'a, W: Write>(
     out: &mut W,
 ) -> Result<(), TaskFault<'a>> {
     let words: Vec<&str> = text.split_whitespace().collect(alloc)?;
-    let pdu = pdu_of(words.as_slice())?;
+    show_pdu_of_words(alloc, words.as_slice(), out)
+}
+
+/// Shows the burst of the PDU that these words mean.
+fn show_pdu_of_words<'a, W: Write>(
+    alloc: Global,
+    words: &[&'a str],
+    out: &mut W,
+) -> Result<(), TaskFault<'a>> {
+    let pdu = pdu_of(words)?;
     Ok(show_burst(alloc, &pdu, out)?)
 }
 
@@ -131,25 +145,65 @@ fn replay<'a, W: Write>(alloc: Global, text: &str, out: &mut W) -> Result<(), Ta
 /// Shows the line of a carrier frame by frame, and any other line as it is.
 fn replay_line<'a, W: Write>(alloc: Global, line: &str, out: &mut W) -> Result<(), TaskFault<'a>> {
     let words: Vec<&str> = line.split_whitespace().collect(alloc)?;
-    match words.as_slice() {
-        ["carrier", number, "-"] => Ok(writeln!(out, "carrier {number}")?),
-        ["carrier", number, digits] => {
-            writeln!(out, "carrier {number}")?;
-            site(alloc, *digits, out)
-        }
+    replay_words(alloc, line, words.as_slice(), out)
+}
+
+/// Shows a line, which has these words.
+fn replay_words<'a, W: Write>(
+    alloc: Global,
+    line: &str,
+    words: &[&str],
+    out: &mut W,
+) -> Result<(), TaskFault<'a>> {
+    match words {
+        ["carrier", number, digits] => replay_carrier(alloc, *number, *digits, out),
         _ => Ok(writeln!(out, "{line}")?),
     }
 }
 
-/// Shows the lines of a script as they are, and after each piece of a carrier's octets the frames that it completes.
-fn script<'a, W: Write>(alloc: Global, text: &str, out: &mut W) -> Result<(), TaskFault<'a>> {
+/// Shows the number of a carrier, and the frames of its octets. Without octets the digits are `-`.
+fn replay_carrier<'a, W: Write>(
+    alloc: Global,
+    number: &str,
+    digits: &str,
+    out: &mut W,
+) -> Result<(), TaskFault<'a>> {
+    writeln!(out, "carrier {number}")?;
+    if digits == "-" {
+        return Ok(());
+    }
+    site(alloc, digits, out)
+}
+
+/// Makes a reader for each carrier.
+fn make_readers(alloc: Global) -> Result<Vec<CarrierReader>, AllocError> {
     let mut readers = Vec::new(alloc);
     for _ in 0..16u32 {
-        readers.push(CarrierReader::new())?;
+        if readers.push(CarrierReader::new()).is_err() {
+            return Err(AllocError);
+        }
     }
+    Ok(readers)
+}
+
+/// Shows the lines of a script as they are, and after each piece of a carrier's octets the frames that it completes.
+fn script<'a, W: Write>(alloc: Global, text: &str, out: &mut W) -> Result<(), TaskFault<'a>> {
+    let mut readers = make_readers(alloc)?;
+    let shown = script_lines(alloc, text, readers.as_mut_slice(), out);
+    drop(readers);
+    shown
+}
+
+/// Shows the lines of a script, with a reader for each carrier.
+fn script_lines<'a, W: Write>(
+    alloc: Global,
+    text: &str,
+    readers: &mut [CarrierReader],
+    out: &mut W,
+) -> Result<(), TaskFault<'a>> {
     for line in text.lines() {
         writeln!(out, "{line}")?;
-        script_line(alloc, line, readers.as_mut_slice(), out)?;
+        script_line(alloc, line, readers, out)?;
     }
     Ok(())
 }
@@ -162,11 +216,19 @@ fn script_line<'a, W: Write>(
     out: &mut W,
 ) -> Result<(), TaskFault<'a>> {
     let words: Vec<&str> = line.split_whitespace().collect(alloc)?;
-    match words.as_slice() {
+    script_words(alloc, words.as_slice(), readers, out)
+}
+
+/// Shows the frames that a line of a script completes, which has these words.
+fn script_words<'a, W: Write>(
+    alloc: Global,
+    words: &[&str],
+    readers: &mut [CarrierReader],
+    out: &mut W,
+) -> Result<(), TaskFault<'a>> {
+    match words {
         ["open", number] => {
-            if let Some(reader) = reader_of(readers, *number) {
-                *reader = CarrierReader::new();
-            }
+            begin_connection(readers, *number);
             Ok(())
         }
         ["bytes", number, digits] => match reader_of(readers, *number) {
@@ -174,6 +236,13 @@ fn script_line<'a, W: Write>(
             None => Ok(()),
         },
         _ => Ok(()),
+    }
+}
+
+/// Begins a connection of the carrier with this number, if there is one.
+fn begin_connection(readers: &mut [CarrierReader], number: &str) {
+    if let Some(reader) = reader_of(readers, number) {
+        *reader = CarrierReader::new();
     }
 }
 

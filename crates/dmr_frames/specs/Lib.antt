@@ -6,3 +6,4 @@ pub mod Stream
 pub mod Reading
 pub mod Shape
 pub mod Limits
+pub mod Between

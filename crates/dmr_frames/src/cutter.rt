@@ -3,6 +3,7 @@
 ghost use Rattle.std.specs.Prelude.{◌≡◌, ℕ, ◌<◌, ◌≤◌, List, [], ◌∷◌, ◌++◌, length, take, IfSome};
 ghost use Rattle.dmr_bits.specs.Bits.{field_of};
 ghost use Rattle.dmr_bits.specs.Words.{word_of};
+ghost use Rattle.dmr_frames.specs.Between.{is_between};
 ghost use Rattle.dmr_frames.specs.Rest.{Open};
 ghost use Rattle.dmr_frames.specs.Versions.{has_numbers};
 ghost use Rattle.dmr_frames.specs.Shape.{IsShape, IsBegun, IsWhole, IsRxBody, IsBurst, IsActiveBody};
@@ -85,6 +86,13 @@ impl Cutter {
             table: self.table,
             fault: self.fault,
         }
+    }
+
+    /// Reports whether no frame has begun, and there was no fault.
+    pub fn is_between(&self) -> bool
+        ensures { result ≡ is_between self.now }
+    {
+        self.count == 0 && self.fault.is_none()
     }
 
     /// Takes the next octet, and returns its result. A frame is returned at its last octet. A fault is returned at the first octet with

@@ -51,9 +51,9 @@ pub fn write_frame(frame: &FrameOut) -> ArrayVec<u8, LONGEST_FRAME>
         }
         FrameOut::Tx { number, slot, word } => {
             let mut octets = burst_head(*number, *slot);
-            for octet in &word.to_octets() {
-                octets.push(*octet);
-            }
+            let Ok(()) = octets.try_extend_from_slice(&word.to_octets()) else {
+                unreachable!()
+            };
             octets
         }
         FrameOut::Done => plain_head(FrameKind::Done),

@@ -19,7 +19,7 @@ use Rattle.dmr_link.proofs.PiecesInTwo.{frames_said-append}
 site-append : (site : Site) (a b : List Notice) → site_after_notices site (a ++ b) ≡ site_after_notices (site_after_notices site a) b
 site-append site a b = (λ i. record { plan = site.plan; facts = fold-append (facts_after_notice site.plan) site.facts a b i })
 
-most-append : (numbered : Bool) (notice : Option Notice) (more : List Notice) →
+pub most-append : (numbered : Bool) (notice : Option Notice) (more : List Notice) →
     most_in numbered (list_of_notice notice ++ more) ≡ most_in numbered (list_of_notice notice) + most_in (numbered_after_all numbered (list_of_notice notice)) more
 most-append numbered None more = omega arith
 most-append numbered (Some notice) more = omega arith

@@ -1,7 +1,7 @@
 //! Encodes the answers to a carrier's events. The engine appends them to its outputs, a link writes them. No other code encodes the
 //! answer to an event of a carrier.
 
-ghost use Rattle.std.specs.Prelude.{◌≡◌, ◌+◌, ◌*◌, ◌≤◌, ◌++◌, [], ◌∷◌, flat_map, is_some, length, MatchOption};
+ghost use Rattle.std.specs.Prelude.{◌≡◌, ◌+◌, ◌*◌, ◌≤◌, ◌++◌, [], ◌∷◌, None, flat_map, is_some, length, MatchOption};
 ghost use Rattle.arrayvec.specs.ArrayVec.{array_vec_len};
 ghost use Rattle.dmr_link.specs.Notices.{event_of_notice, site_notice};
 ghost use Rattle.dmr_link.specs.Answering.{IsFewAt};
@@ -13,7 +13,7 @@ use crate::notices::SiteNotice;
 use crate::numbering::Numbering;
 use arrayvec::ArrayVec;
 use dmr_burst::write;
-use dmr_core::{Act, Event};
+use dmr_core::{Act, Acts, Event};
 use dmr_frames::{FrameOut, LONGEST_FRAME, Version};
 
 /// The room for an answer: a TX for each of 16 acts, and DONE, each counted as a frame of the greatest length.
@@ -21,6 +21,30 @@ const LONGEST_ANSWER: usize = (16 + 1) * LONGEST_FRAME;
 
 /// The octets of an answer.
 pub type AnswerText = ArrayVec<u8, LONGEST_ANSWER>;
+
+/// The answer to an event: the site's answer, and its octets for the carrier.
+/// Both have room for more than most events need. So an engine keeps one answer from event to event, and no event pays for clearing or
+/// copying all of that room.
+#[derive(Drop)]
+pub struct Answer {
+    /// The acts, and the reply to an operator.
+    pub acts: Acts,
+    /// The octets that the carrier receives.
+    pub octets: AnswerText,
+}
+
+impl Answer {
+    /// Returns an answer without acts, reply and octets.
+    pub fn none() -> Answer
+        ensures acts { result.acts ≡ record { list = []; said = None } }
+        ensures octets { result.octets.items ≡ [] }
+    {
+        Answer {
+            acts: Acts::none(),
+            octets: ArrayVec::new(),
+        }
+    }
+}
 
 /// Returns the WELCOME to a carrier whose HELLO is accepted, with the version that the connection uses from then on.
 fn welcome_to(version: Version) -> FrameOut
@@ -71,45 +95,49 @@ fn append_tx(answer: &mut AnswerText, numbering: &mut Numbering, act: &Act)
     }
 }
 
-/// Returns the answer to a POLL: a TX for each act that sends a PDU, and DONE. At most 16 acts are allowed.
-fn poll_answer(numbering: &mut Numbering, acts: &[Act]) -> AnswerText
-    requires { length acts.now ≤ 16 }
-    ensures items { result.items ≡ frames_text numbering.old (flat_map transmissions acts.now ++ FrameOut.Done ∷ []) }
+/// Appends the answer to a POLL: a TX for each act that sends a PDU, and DONE. At most 16 acts are allowed.
+fn append_poll_answer(answer: &mut AnswerText, numbering: &mut Numbering, acts: &[Act])
+    requires empty { answer.old.items ≡ [] }
+    requires most { length acts.now ≤ 16 }
+    ensures items { answer.new.items ≡ frames_text numbering.old (flat_map transmissions acts.now ++ FrameOut.Done ∷ []) }
     ensures next { numbering.new ≡ next_after_frames numbering.old (flat_map transmissions acts.now ++ FrameOut.Done ∷ []) }
-    ensures few { length acts.now ≤ 2 → array_vec_len result ≤ most_to_poll (is_some numbering.old) }
+    ensures few { length acts.now ≤ 2 → array_vec_len answer.new ≤ most_to_poll (is_some numbering.old) }
 {
-    let mut answer = ArrayVec::new();
     for act in acts {
-        append_tx(&mut answer, numbering, act);
+        append_tx(answer, numbering, act);
     }
-    append_frame(&mut answer, numbering, &FrameOut::Done);
-    answer
+    append_frame(answer, numbering, &FrameOut::Done);
 }
 
-/// Returns the answer to a HELLO that is accepted: WELCOME.
-fn hello_answer(numbering: &mut Numbering, version: Version) -> AnswerText
-    ensures items { result.items ≡ frames_text numbering.old (welcome version) }
+/// Appends the answer to a HELLO that is accepted: WELCOME.
+fn append_hello_answer(answer: &mut AnswerText, numbering: &mut Numbering, version: Version)
+    requires { answer.old.items ≡ [] }
+    ensures items { answer.new.items ≡ frames_text numbering.old (welcome version) }
     ensures next { numbering.new ≡ next_after_frames numbering.old (welcome version) }
-    ensures few { array_vec_len result ≤ 3 }
+    ensures few { array_vec_len answer.new ≤ 3 }
 {
-    let mut answer = ArrayVec::new();
-    append_frame(&mut answer, numbering, &welcome_to(version));
-    answer
+    append_frame(answer, numbering, &welcome_to(version));
 }
 
-/// Returns the octets that answer a carrier's notice.
+/// Encodes the answer to a carrier's notice. `answer` becomes its octets, whatever it was before.
 /// `acts` are the site's acts for the notice, at most 16. A HELLO is answered by WELCOME, and a POLL by a TX for each PDU that is sent,
 /// and DONE. Other notices are not answered.
-pub fn carrier_answer(numbering: &mut Numbering, notice: &SiteNotice, acts: &[Act]) -> AnswerText
+pub fn encode_answer(
+    answer: &mut AnswerText,
+    numbering: &mut Numbering,
+    notice: &SiteNotice,
+    acts: &[Act],
+)
     requires { length acts.now ≤ 16 }
-    ensures items { result.items ≡ frames_text numbering.old (answer_frames notice.now acts.now) }
+    ensures items { answer.new.items ≡ frames_text numbering.old (answer_frames notice.now acts.now) }
     ensures next { numbering.new ≡ next_after_frames numbering.old (answer_frames notice.now acts.now) }
     // The answer fits into the room that is made for the notice.
-    ensures few { IsFewAt (event_of_notice notice.now) acts.now → array_vec_len result ≤ most_of (is_some numbering.old) (site_notice notice.now) }
+    ensures few { IsFewAt (event_of_notice notice.now) acts.now → array_vec_len answer.new ≤ most_of (is_some numbering.old) (site_notice notice.now) }
 {
+    answer.clear();
     match notice {
-        SiteNotice::Accepted(_, version) => hello_answer(numbering, *version),
-        SiteNotice::Happened(Event::Poll(_)) => poll_answer(numbering, acts),
-        SiteNotice::Happened(_) => ArrayVec::new(),
+        SiteNotice::Accepted(_, version) => append_hello_answer(answer, numbering, *version),
+        SiteNotice::Happened(Event::Poll(_)) => append_poll_answer(answer, numbering, acts),
+        SiteNotice::Happened(_) => {}
     }
 }

@@ -10,6 +10,7 @@ ghost use Rattle.dmr_link.specs.Closing.{cause_of_refusal, closes, first_fault, 
 ghost use Rattle.dmr_wire.specs.declared.closing.Closing.TheVariants as closed;
 ghost use Rattle.dmr_link.specs.Notices.{Accepted, Happened, Refused, notice_meant};
 ghost use Rattle.dmr_link.specs.Sound.{IsConnectionSound};
+ghost use Rattle.dmr_link.specs.Zeros.{is_up_between};
 ghost use Rattle.dmr_link.specs.Steps.{new_connection, notice_of_octet, notices_of_octets, connection_after_octet, connection_after_octets, running_produces, waiting_produces, waiting_leaves, running_leaves};
 
 use crate::notices::{Notice, PeerNotice, SiteNotice};
@@ -262,6 +263,16 @@ impl Connection {
         ensures { result ≡ new_connection who.now }
     {
         Connection::Waiting(Cutter::new(who.greatest))
+    }
+
+    /// Reports whether the carrier is up and no frame has begun.
+    pub fn is_up_between(&self) -> bool
+        ensures { result ≡ is_up_between self.now }
+    {
+        match self {
+            Connection::Running { cutter, .. } => cutter.is_between(),
+            Connection::Closed | Connection::Waiting(_) => false,
+        }
     }
 
     /// Returns a copy of the connection. Octets that one of the two receives do not change the other.

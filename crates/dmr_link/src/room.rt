@@ -1,11 +1,13 @@
 //! Computes the most octets that can answer a piece of input before it is processed, and makes room for them in a text. Nothing else in
 //! this crate makes a text grow.
 
-ghost use Rattle.std.specs.Prelude.{◌≡◌, ◌+◌, ◌<◌, ◌≤◌, ◌^◌, ◌-◌, min, vec_len, vec_capacity, option_map, OnOk, OnErr};
+ghost use Rattle.std.specs.Prelude.{◌≡◌, ◌+◌, ◌<◌, ◌≤◌, ◌^◌, ◌-◌, ◌/◌, ◌&&◌, Bool, true, min, nat_le, vec_len, vec_capacity, option_map, OnOk, OnErr};
 ghost use Rattle.dmr_link.specs.Meaning.{list_of_notice};
 ghost use Rattle.dmr_link.specs.Notices.{notice_meant, site_notice};
 ghost use Rattle.dmr_link.specs.Room.{MakesRoom, most_in, most_of, most_to_hello, most_to_poll, numbered_after_all};
 ghost use Rattle.dmr_link.specs.Steps.{notices_of_octets};
+ghost use Rattle.dmr_link.specs.Zeros.{is_up_between, zeros_in};
+ghost use Rattle.dmr_link.specs.declared.connection.CarrierIdentity.{CarrierIdentity as AnIdentity};
 
 use crate::connection::{CarrierIdentity, Connection};
 use crate::notices::{Notice, PeerNotice, SiteNotice};
@@ -14,6 +16,9 @@ use dmr_pdu::OutOfMemory;
 
 /// The length of WELCOME, and of REFUSED, which answer a HELLO: type, length, and a version or a refusal.
 const ANSWER_TO_HELLO: usize = 3;
+
+/// The most octets that answer a POLL, in whichever version.
+const MOST_FOR_POLL: usize = 60;
 
 /// Returns the most octets that answer a POLL: a TX in each of two slots, and DONE. A TX is one octet longer if it has a number.
 fn most_for_poll(numbered: bool) -> usize
@@ -77,6 +82,24 @@ pub fn room_for(
         from += count;
     }
     room
+}
+
+/// Returns how many octets are 0.
+fn zeros(octets: &[u8]) -> usize
+    ensures { result ≡ zeros_in octets.now }
+{
+    octets.iter().filter(|octet| **octet == 0).count()
+}
+
+/// Reports whether a text surely has room for the octets that answer these, without a look at their frames.
+/// A carrier that is up is answered for its POLLs alone, the last octet of a POLL is 0, and at most 60 octets answer it. If the result is
+/// `false`, there may still be room: [`room_for`] has the exact number.
+pub fn has_room(text: &Vec<u8>, connection: &Connection, octets: &[u8]) -> bool
+    ensures value { result ≡ (is_up_between connection.now && nat_le (zeros_in octets.now) ((vec_capacity text.now - vec_len text.now) / 60)) }
+    ensures fits { (who : AnIdentity) (numbered : Bool) → result ≡ true → vec_len text.now + most_in numbered (notices_of_octets who connection.now octets.now) ≤ vec_capacity text.now }
+{
+    let spare = text.capacity() - text.len();
+    connection.is_up_between() && zeros(octets) <= spare / MOST_FOR_POLL
 }
 
 /// Makes room for `octets` more octets at the end of a text.

@@ -6,7 +6,7 @@ ghost use Rattle.dmr_link.specs.Moves.{WritesText};
 ghost use Rattle.dmr_link.specs.Notices.{peer_notice};
 ghost use Rattle.dmr_link.specs.Peers.{answer_text, peer_notice_text, next_after_answer};
 
-use crate::answers::carrier_answer;
+use crate::answers::{AnswerText, encode_answer};
 use crate::limits::MOST_INTERRUPTIONS;
 use crate::notices::{LineFault, PeerNotice, SiteNotice};
 use crate::numbering::Numbering;
@@ -77,7 +77,8 @@ pub fn write_answer<W: Wire>(
     match notice {
         SiteNotice::Happened(Event::Say(_)) => write_reply(port, &acts.said),
         _ => {
-            let answer = carrier_answer(numbering, notice, acts.list.as_slice());
+            let mut answer = AnswerText::new();
+            encode_answer(&mut answer, numbering, notice, acts.list.as_slice());
             write_octets(port, answer.as_slice())
         }
     }

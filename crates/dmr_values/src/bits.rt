@@ -1,7 +1,8 @@
 //! Worked values of fields of octets, and of words of 196 bits.
 
+use crate::lines::{expect_same, expect_true};
 use dmr_bits::{BadPad, Octets10, Word196, bit_at, field, set_bit, set_field};
-use std::test::Fail;
+use std::process::Abort;
 
 /// TV_GRANT on channel 1, slot 1, late entry, group 91, source 1001, by the table of layouts.
 const GRANT: Octets10 = [0xB1, 0x00, 0x00, 0x1C, 0x00, 0x00, 0x5B, 0x00, 0x03, 0xE9];
@@ -17,27 +18,25 @@ fn fields_of_a_grant(rt: HostRuntime) {
         (32, 24, 91),
         (56, 24, 1001),
     ] {
-        assert_eq!(rt;
-            field(&GRANT, first, width),
-            number,
-            "bits {first}, {width}"
-        );
+        expect_same(&rt, first, field(&GRANT, first, width), number);
     }
     set_field(&mut octets, 0, 8, 0xB1);
     set_field(&mut octets, 16, 12, 1);
     set_field(&mut octets, 28, 2, 3);
     set_field(&mut octets, 32, 24, 91);
     set_field(&mut octets, 56, 24, 1001);
-    assert_eq!(rt; octets, GRANT);
+    expect_same(&rt, "all fields", octets, GRANT);
 }
 
 #[test]
 fn bits_of_octets(rt: HostRuntime) {
     let mut octets = [0x80, 0x01];
-    assert!(rt; bit_at(&octets, 0) && bit_at(&octets, 15) && !bit_at(&octets, 7));
+    for (place, bit) in [(0usize, true), (7, false), (15, true)] {
+        expect_same(&rt, place, bit_at(&octets, place), bit);
+    }
     set_bit(&mut octets, 8, true);
     set_bit(&mut octets, 0, false);
-    assert_eq!(rt; octets, [0x00, 0x81]);
+    expect_same(&rt, "both octets", octets, [0x00, 0x81]);
 }
 
 /// The registration burst of the format's test vectors.
@@ -46,40 +45,41 @@ const BURST: [u8; 25] = [
     0x13, 0x8C, 0x9A, 0x38, 0xF9, 0x62, 0x48, 0xE1, 0x80,
 ];
 
+/// Returns the word of that burst.
+fn word_of_burst(rt: &impl Abort) -> Word196 {
+    Word196::from_octets(&BURST).expect(rt, "a word")
+}
+
 /// 0E begins 0000 1110; the last octet, 80, has the bits 192 to 195.
 #[test]
-fn bits_of_a_word(rt: HostRuntime) -> Result<(), Fail> {
-    let word = Word196::from_octets(&BURST)?;
+fn bits_of_a_word(rt: HostRuntime) {
+    let word = word_of_burst(&rt);
     for (place, bit) in [(3usize, false), (4, true), (192, true), (193, false)] {
-        assert_eq!(rt; word.bit(place), bit, "place {place}");
+        expect_same(&rt, place, word.bit(place), bit);
     }
-    Ok(())
 }
 
 #[test]
-fn octets_and_back(rt: HostRuntime) -> Result<(), Fail> {
-    let mut word = Word196::from_octets(&BURST)?;
-    assert_eq!(rt; word.to_octets(), BURST);
+fn octets_and_back(rt: HostRuntime) {
+    let mut word = word_of_burst(&rt);
+    expect_same(&rt, "the burst", word.to_octets(), BURST);
     word.flip(4);
     word.set(193, true);
     let mut other = BURST;
     other[0] = 0x06;
     other[24] = 0xC0;
-    assert_eq!(rt; word.to_octets(), other);
-    Ok(())
+    expect_same(&rt, "two bits changed", word.to_octets(), other);
 }
 
 #[test]
-fn zero(rt: HostRuntime) -> Result<(), Fail> {
-    let word = Word196::from_octets(&BURST)?;
-    assert_eq!(rt; Word196::zero().to_octets(), [0; 25]);
-    assert!(rt; word != Word196::zero());
-    Ok(())
+fn zero(rt: HostRuntime) {
+    expect_same(&rt, "zero", Word196::zero().to_octets(), [0; 25]);
+    expect_true(&rt, "not zero", word_of_burst(&rt) != Word196::zero());
 }
 
 #[test]
-fn parts_of_words(rt: HostRuntime) -> Result<(), Fail> {
-    let word = Word196::from_octets(&BURST)?;
+fn parts_of_words(rt: HostRuntime) {
+    let word = word_of_burst(&rt);
     let parts: [u64; 4] = [
         0x0EB4_9CDF_34F2_749C,
         0xECBA_5CB3_B7C4_0E88,
@@ -87,15 +87,14 @@ fn parts_of_words(rt: HostRuntime) -> Result<(), Fail> {
         0x8000_0000_0000_0000,
     ];
     for k in 0..4usize {
-        assert_eq!(rt; word.part(k), parts[k], "part {k}");
+        expect_same(&rt, k, word.part(k), parts[k]);
     }
     // Place 0 is not counted.
     let mut other = word;
     for (place, apart) in [(0usize, 0u32), (1, 1), (63, 2), (64, 3), (195, 4), (64, 3)] {
         other.flip(place);
-        assert_eq!(rt; word.places_apart(&other), apart, "with place {place}");
+        expect_same(&rt, place, word.places_apart(&other), apart);
     }
-    Ok(())
 }
 
 #[test]
@@ -103,20 +102,19 @@ fn pads(rt: HostRuntime) {
     for pad in [1, 2, 4, 8] {
         let mut octets = BURST;
         octets[24] = 0x80 | pad;
-        assert_eq!(rt; Word196::from_octets(&octets), Err(BadPad));
+        expect_same(&rt, pad, Word196::from_octets(&octets), Err(BadPad));
     }
 }
 
 #[test]
-fn bits_under_masks(rt: HostRuntime) -> Result<(), Fail> {
-    let word = Word196::from_octets(&BURST)?;
+fn bits_under_masks(rt: HostRuntime) {
+    let word = word_of_burst(&rt);
     for (mask, count) in [
         ([u64::MAX; 4], 96u32),
         ([0xFF00_0000_0000_0000, 0, 0, 0], 3),
         ([0, u64::MAX, 0, 0], 33),
         ([0; 4], 0),
     ] {
-        assert_eq!(rt; word.set_under(&mask), count, "under {mask:?}");
+        expect_same(&rt, count, word.set_under(&mask), count);
     }
-    Ok(())
 }

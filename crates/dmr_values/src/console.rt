@@ -2,6 +2,7 @@
 
 ghost use Rattle.std.specs.Prelude.{◌<◌};
 
+use crate::lines::{expect_same, expect_true};
 use arrayvec::ArrayVec;
 use dmr_calls::{Call, Line};
 use dmr_console::{
@@ -60,20 +61,20 @@ const UNKNOWN: [&str; 33] = [
 #[test]
 fn commands_without_numbers(rt: HostRuntime) {
     for (line, command) in &COMMANDS {
-        assert_eq!(rt; parse(line.as_bytes()), Some(*command), "{line}");
+        expect_same(&rt, *line, parse(line.as_bytes()), Some(*command));
     }
 }
 
 #[test]
 fn unknown_lines(rt: HostRuntime) {
     for line in &UNKNOWN {
-        assert_eq!(rt; parse(line.as_bytes()), None, "{line}");
+        expect_same(&rt, *line, parse(line.as_bytes()), None);
     }
 }
 
 /// Checks that a line is this command.
 fn expect_command(rt: &impl Abort, line: &str, command: Command) {
-    assert_eq!(rt; parse(line.as_bytes()), Some(command), "{line}");
+    expect_same(rt, line, parse(line.as_bytes()), Some(command));
 }
 
 #[test]
@@ -309,8 +310,8 @@ fn short_texts(rt: HostRuntime) {
     expect_text(&rt, &Reply::Busy, "error busy\n");
     expect_text(&rt, &Reply::NoCall, "error no call\n");
     expect_text(&rt, &Reply::NoCarrier, "error no carrier\n");
-    assert_eq!(rt; unknown_command(), "error unknown command\n");
-    assert_eq!(rt; line_too_long(), "error line too long\n");
+    expect_same(&rt, "unknown", unknown_command(), "error unknown command\n");
+    expect_same(&rt, "too long", line_too_long(), "error line too long\n");
 }
 
 #[test]
@@ -321,5 +322,5 @@ fn laws_do_nothing(rt: HostRuntime) {
     dmr_calls::limits_are_stated();
     dmr_core::limits_are_stated();
     dmr_console::limits_are_stated();
-    assert!(rt; parse(b"").is_none());
+    expect_true(&rt, "no command", parse(b"").is_none());
 }

@@ -1,5 +1,6 @@
 //! Worked checks of control bursts.
 
+use crate::lines::expect_same;
 use dmr_bits::Octets10;
 use dmr_csbk::{check_of, open_sealed, seal, seals_open};
 
@@ -27,7 +28,7 @@ const VECTORS: [(Octets10, u16); 5] = [
 #[test]
 fn checks(rt: HostRuntime) {
     for (octets, check) in VECTORS {
-        assert_eq!(rt; check_of(&octets), check, "of {octets:?}");
+        expect_same(&rt, check, check_of(&octets), check);
     }
 }
 
@@ -38,8 +39,8 @@ fn seals(rt: HostRuntime) {
     let sealed = [
         0x9F, 0x00, 0x02, 0x0E, 0xFF, 0xFE, 0xC6, 0x00, 0x03, 0xE9, 0xC8, 0x4F,
     ];
-    assert_eq!(rt; seal(&registration), sealed);
-    assert_eq!(rt; open_sealed(&sealed), Some(registration));
+    expect_same(&rt, "sealed", seal(&registration), sealed);
+    expect_same(&rt, "opened", open_sealed(&sealed), Some(registration));
     // The check of ten zero octets is not zero.
-    assert_eq!(rt; open_sealed(&[0; 12]), None);
+    expect_same(&rt, "zeros", open_sealed(&[0; 12]), None);
 }

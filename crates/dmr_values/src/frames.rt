@@ -1,11 +1,13 @@
 //! Worked frames of the link: octet by octet, whole, and written.
 
+use crate::lines::expect_same;
 use dmr_bits::Word196;
 use dmr_frames::{
     Cause, Cutter, Field, FrameIn, FrameKind, FrameOut, Refusal, Step, Version, whole_frame,
     write_frame,
 };
-use dmr_pdu::SlotNo;
+use dmr_pdu::{OutOfMemory, SlotNo};
+use std::fmt::Display;
 use std::process::Abort;
 use std::test::Fail;
 
@@ -35,7 +37,7 @@ fn expect_last(rt: &impl Abort, cutter: &mut Cutter, octets: &[u8], last: Step) 
         } else {
             Step::Need
         };
-        assert_eq!(rt; cutter.feed_byte(*octet), want, "octet {i} of {octets:?}");
+        expect_same(rt, i, cutter.feed_byte(*octet), want);
     }
 }
 
@@ -50,17 +52,8 @@ fn expect_each(rt: &impl Abort, cutter: &mut Cutter, octets: &[u8], want: Step) 
 /// versions up to `greatest`.
 fn greeted(rt: &impl Abort, greatest: Version, version: u8) -> Cutter {
     let mut cutter = Cutter::new(greatest);
-    let hello = FrameIn::Hello {
-        version,
-        carrier: 1,
-        lpcn: 1,
-    };
-    expect_last(
-        rt,
-        &mut cutter,
-        &[0x01, 0x04, version, 0x01, 0x00, 0x01],
-        Step::Frame(hello),
-    );
+    let octets = [0x01, 0x04, version, 0x01, 0x00, 0x01];
+    expect_last(rt, &mut cutter, &octets, Step::Frame(hello(version)));
     cutter
 }
 
@@ -86,61 +79,26 @@ fn hello_in_pieces_and_a_fault(rt: HostRuntime) {
 }
 
 #[test]
-fn a_stream(rt: HostRuntime) -> Result<(), Fail> {
-    let mut cutter = Cutter::new(Version::V1);
-    let hello = FrameIn::Hello {
-        version: 1,
-        carrier: 1,
-        lpcn: 1,
-    };
-    expect_last(
-        &rt,
-        &mut cutter,
-        &[0x01, 0x04, 0x01, 0x01, 0x00, 0x01],
-        Step::Frame(hello),
-    );
-    expect_last(&rt, &mut cutter, &RECEIVED, received()?);
-    expect_last(&rt, &mut cutter, &[0x03, 0x00], Step::Frame(FrameIn::Poll));
-    expect_last(
-        &rt,
-        &mut cutter,
-        &[0x04, 0x01, 0x01],
-        Step::Frame(FrameIn::Active {
-            slot: SlotNo::new(1),
-        }),
-    );
-    expect_last(&rt, &mut cutter, &[0x05, 0x00], Step::Frame(FrameIn::Bye));
-    Ok(())
+fn a_stream(rt: HostRuntime) {
+    let mut cutter = greeted(&rt, Version::V1, 1);
+    let frame = Step::Frame(received(&rt, None));
+    expect_last(&rt, &mut cutter, &RECEIVED, frame);
+    expect_short_frames(&rt, &mut cutter);
 }
 
 #[test]
-fn a_stream_of_version_2(rt: HostRuntime) -> Result<(), Fail> {
+fn a_stream_of_version_2(rt: HostRuntime) {
     let mut cutter = greeted(&rt, Version::V2, 2);
-    let word = Word196::from_octets(&BURST)?;
     for number in [5, 0, 255, 2] {
         let mut octets = RECEIVED_NUMBERED;
         octets[2] = number;
-        let burst = FrameIn::Rx {
-            number: Some(number),
-            slot: SlotNo::new(0),
-            word,
-        };
-        expect_last(&rt, &mut cutter, &octets, Step::Frame(burst));
+        let frame = Step::Frame(received(&rt, Some(number)));
+        expect_last(&rt, &mut cutter, &octets, frame);
     }
-    expect_last(&rt, &mut cutter, &[0x03, 0x00], Step::Frame(FrameIn::Poll));
-    expect_last(
-        &rt,
-        &mut cutter,
-        &[0x04, 0x01, 0x01],
-        Step::Frame(FrameIn::Active {
-            slot: SlotNo::new(1),
-        }),
-    );
-    expect_last(&rt, &mut cutter, &[0x05, 0x00], Step::Frame(FrameIn::Bye));
+    expect_short_frames(&rt, &mut cutter);
     // After all these octets the connection still has version 2.
     let short = Step::Fault(Cause::BadLength);
     expect_last(&rt, &mut cutter, &[0x02, 0x1A], short);
-    Ok(())
 }
 
 /// The greatest version that the site serves, the version in a HELLO, the octets after it, and the fault at the last of
@@ -167,85 +125,95 @@ fn faults_after_a_hello(rt: HostRuntime) {
     for pad in [0x01, 0x02, 0x04, 0x08] {
         let mut octets = RECEIVED_NUMBERED;
         octets[28] = pad;
-        expect_last(
-            &rt,
-            &mut greeted(&rt, Version::V2, 2),
-            &octets,
-            Step::Fault(Cause::BadPad),
-        );
+        let mut cutter = greeted(&rt, Version::V2, 2);
+        expect_last(&rt, &mut cutter, &octets, Step::Fault(Cause::BadPad));
     }
 }
 
-/// Returns the step that the last octet of that RX yields.
-fn received() -> Result<Step, Fail> {
-    Ok(Step::Frame(FrameIn::Rx {
-        number: None,
+/// Returns the word of that burst.
+fn word_of_burst(rt: &impl Abort) -> Word196 {
+    Word196::from_octets(&BURST).expect(rt, "a word")
+}
+
+/// Returns the RX with that burst, with its number in version 2 of the link.
+fn received(rt: &impl Abort, number: Option<u8>) -> FrameIn {
+    FrameIn::Rx {
+        number,
         slot: SlotNo::new(0),
-        word: Word196::from_octets(&BURST)?,
-    }))
+        word: word_of_burst(rt),
+    }
+}
+
+/// Returns a HELLO of this version for carrier 1 with channel 1.
+fn hello(version: u8) -> FrameIn {
+    FrameIn::Hello {
+        version,
+        carrier: 1,
+        lpcn: 1,
+    }
+}
+
+/// Octets, and the frame that the last of them yields.
+type FrameOctets<'a> = (&'a [u8], FrameIn);
+
+/// Feeds frames that come whole.
+fn expect_frames(rt: &impl Abort, cutter: &mut Cutter, frames: &[FrameOctets<'_>]) {
+    for (octets, frame) in frames {
+        expect_last(rt, cutter, *octets, Step::Frame(*frame));
+    }
+}
+
+/// Feeds a POLL, an ACTIVE of slot 1 and a BYE.
+fn expect_short_frames(rt: &impl Abort, cutter: &mut Cutter) {
+    let slot = SlotNo::new(1);
+    let frames: [FrameOctets<'_>; 3] = [
+        (&[0x03, 0x00], FrameIn::Poll),
+        (&[0x04, 0x01, 0x01], FrameIn::Active { slot }),
+        (&[0x05, 0x00], FrameIn::Bye),
+    ];
+    expect_frames(rt, cutter, &frames);
+}
+
+/// Feeds octets to the cutter of a new connection, and checks that the last of them is this fault.
+fn expect_fault(rt: &impl Abort, greatest: Version, octets: &[u8], cause: Cause) {
+    let mut cutter = Cutter::new(greatest);
+    expect_last(rt, &mut cutter, octets, Step::Fault(cause));
 }
 
 #[test]
-fn the_first_frame_is_of_version_1(rt: HostRuntime) -> Result<(), Fail> {
-    let fault = Step::Fault(Cause::BadLength);
-    expect_last(&rt, &mut Cutter::new(Version::V2), &[0x02, 0x1B], fault);
+fn the_first_frame_is_of_version_1(rt: HostRuntime) {
+    expect_fault(&rt, Version::V2, &[0x02, 0x1B], Cause::BadLength);
     // A HELLO that is not the first frame chooses no version.
     let mut cutter = Cutter::new(Version::V2);
-    expect_last(&rt, &mut cutter, &RECEIVED, received()?);
-    let hello = FrameIn::Hello {
-        version: 2,
-        carrier: 1,
-        lpcn: 1,
-    };
-    expect_last(
-        &rt,
-        &mut cutter,
-        &[0x01, 0x04, 0x02, 0x01, 0x00, 0x01],
-        Step::Frame(hello),
-    );
-    expect_last(&rt, &mut cutter, &RECEIVED, received()?);
+    let frames: [FrameOctets<'_>; 3] = [
+        (&RECEIVED, received(&rt, None)),
+        (&[0x01, 0x04, 0x02, 0x01, 0x00, 0x01], hello(2)),
+        (&RECEIVED, received(&rt, None)),
+    ];
+    expect_frames(&rt, &mut cutter, &frames);
     let fault = Step::Fault(Cause::BadLength);
     expect_last(&rt, &mut cutter, &[0x02, 0x1B], fault);
-    Ok(())
 }
+
+/// Octets of a new connection, and the fault at the last of them.
+const FAULTS: [(&[u8], Cause); 6] = [
+    (&[0x00], Cause::UnknownType),
+    (&[0x06], Cause::UnknownType),
+    (&[0x81], Cause::UnknownType),
+    (&[0x01, 0x01], Cause::BadLength),
+    (&[0x02, 0x1A, 0x02], Cause::BadSlot),
+    (&[0x04, 0x01, 0x02], Cause::BadSlot),
+];
 
 #[test]
 fn faults(rt: HostRuntime) {
-    for kind in [0x00, 0x06, 0x81] {
-        expect_last(
-            &rt,
-            &mut Cutter::new(Version::V1),
-            &[kind],
-            Step::Fault(Cause::UnknownType),
-        );
+    for (octets, cause) in FAULTS {
+        expect_fault(&rt, Version::V1, octets, cause);
     }
-    expect_last(
-        &rt,
-        &mut Cutter::new(Version::V1),
-        &[0x01, 0x01],
-        Step::Fault(Cause::BadLength),
-    );
-    expect_last(
-        &rt,
-        &mut Cutter::new(Version::V1),
-        &[0x02, 0x1A, 0x02],
-        Step::Fault(Cause::BadSlot),
-    );
-    expect_last(
-        &rt,
-        &mut Cutter::new(Version::V1),
-        &[0x04, 0x01, 0x02],
-        Step::Fault(Cause::BadSlot),
-    );
     for pad in [0x01, 0x02, 0x04, 0x08] {
         let mut octets = RECEIVED;
         octets[27] = pad;
-        expect_last(
-            &rt,
-            &mut Cutter::new(Version::V1),
-            &octets,
-            Step::Fault(Cause::BadPad),
-        );
+        expect_fault(&rt, Version::V1, &octets, Cause::BadPad);
     }
 }
 
@@ -260,12 +228,7 @@ fn other_lengths(rt: HostRuntime) {
     ] {
         for other in 0..=255u8 {
             if other != length {
-                expect_last(
-                    &rt,
-                    &mut Cutter::new(Version::V1),
-                    &[kind, other],
-                    Step::Fault(Cause::BadLength),
-                );
+                expect_fault(&rt, Version::V1, &[kind, other], Cause::BadLength);
             }
         }
     }
@@ -283,45 +246,35 @@ const SENT_NUMBERED: [u8; 29] = [
     0xED, 0xA0, 0xF7, 0x83, 0xE4, 0x97, 0x54, 0x2E, 0x40, 0x5C, 0xB8, 0x3C, 0xB0,
 ];
 
+/// Frames, and their octets.
+const WRITTEN: [(FrameOut, &[u8]); 5] = [
+    (FrameOut::Welcome { version: 1 }, &[0x81, 0x01, 0x01]),
+    (FrameOut::Welcome { version: 2 }, &[0x81, 0x01, 0x02]),
+    (FrameOut::Done, &[0x83, 0x00]),
+    (FrameOut::Refused(Refusal::BadVersion), &[0x84, 0x01, 0x01]),
+    (
+        FrameOut::Refused(Refusal::WrongCarrier),
+        &[0x84, 0x01, 0x02],
+    ),
+];
+
 /// Checks the octets of a frame.
 fn expect_octets(rt: &impl Abort, frame: FrameOut, want: &[u8]) {
     assert_eq!(rt; write_frame(&frame).as_slice(), want);
 }
 
 #[test]
-fn frames_written(rt: HostRuntime) -> Result<(), Fail> {
-    expect_octets(&rt, FrameOut::Welcome { version: 1 }, &[0x81, 0x01, 0x01]);
-    expect_octets(&rt, FrameOut::Welcome { version: 2 }, &[0x81, 0x01, 0x02]);
+fn frames_written(rt: HostRuntime) {
+    for (frame, octets) in WRITTEN {
+        expect_octets(&rt, frame, octets);
+    }
     let mut burst = [0; 25];
     burst.copy_from_slice(&SENT[3..]);
-    let word = Word196::from_octets(&burst)?;
-    expect_octets(
-        &rt,
-        FrameOut::Tx {
-            number: None,
-            slot: SlotNo::new(0),
-            word,
-        },
-        &SENT,
-    );
-    let numbered = FrameOut::Tx {
-        number: Some(0),
-        slot: SlotNo::new(0),
-        word,
-    };
-    expect_octets(&rt, numbered, &SENT_NUMBERED);
-    expect_octets(&rt, FrameOut::Done, &[0x83, 0x00]);
-    expect_octets(
-        &rt,
-        FrameOut::Refused(Refusal::BadVersion),
-        &[0x84, 0x01, 0x01],
-    );
-    expect_octets(
-        &rt,
-        FrameOut::Refused(Refusal::WrongCarrier),
-        &[0x84, 0x01, 0x02],
-    );
-    Ok(())
+    let word = Word196::from_octets(&burst).expect(&rt, "a word");
+    let slot = SlotNo::new(0);
+    for (number, octets) in [(None, SENT.as_slice()), (Some(0), SENT_NUMBERED.as_slice())] {
+        expect_octets(&rt, FrameOut::Tx { number, slot, word }, octets);
+    }
 }
 
 /// Checks which frame octets are in a version.
@@ -330,48 +283,37 @@ fn expect_whole(rt: &impl Abort, version: Version, octets: &[u8], want: Option<F
 }
 
 #[test]
-fn one_frame(rt: HostRuntime) -> Result<(), Fail> {
+fn one_frame(rt: HostRuntime) {
     let hello = FrameIn::Hello {
         version: 1,
         carrier: 0,
         lpcn: 4094,
     };
-    expect_whole(
-        &rt,
-        Version::V1,
-        &[0x01, 0x04, 0x01, 0x00, 0x0F, 0xFE],
-        Some(hello),
-    );
-    let mut burst = [0; 25];
-    burst.copy_from_slice(&RECEIVED[3..]);
-    let word = Word196::from_octets(&burst)?;
-    expect_whole(
-        &rt,
-        Version::V1,
-        &RECEIVED,
-        Some(FrameIn::Rx {
-            number: None,
-            slot: SlotNo::new(0),
-            word,
-        }),
-    );
-    expect_whole(&rt, Version::V1, &[0x03, 0x00], Some(FrameIn::Poll));
-    let numbered = FrameIn::Rx {
-        number: Some(5),
-        slot: SlotNo::new(0),
-        word,
-    };
-    expect_whole(&rt, Version::V2, &RECEIVED_NUMBERED, Some(numbered));
     let slot = SlotNo::new(1);
-    expect_whole(
-        &rt,
-        Version::V1,
-        &[0x04, 0x01, 0x01],
-        Some(FrameIn::Active { slot }),
-    );
-    expect_whole(&rt, Version::V1, &[0x05, 0x00], Some(FrameIn::Bye));
-    Ok(())
+    let frames: [FrameOctets<'_>; 5] = [
+        (&[0x01, 0x04, 0x01, 0x00, 0x0F, 0xFE], hello),
+        (&RECEIVED, received(&rt, None)),
+        (&[0x03, 0x00], FrameIn::Poll),
+        (&[0x04, 0x01, 0x01], FrameIn::Active { slot }),
+        (&[0x05, 0x00], FrameIn::Bye),
+    ];
+    for (octets, frame) in frames {
+        expect_whole(&rt, Version::V1, octets, Some(frame));
+    }
+    let numbered = received(&rt, Some(5));
+    expect_whole(&rt, Version::V2, &RECEIVED_NUMBERED, Some(numbered));
 }
+
+/// Octets that are no frame of version 1: two frames, and a frame with an octet after it or before it; a frame to a
+/// carrier, and faults.
+const NO_FRAMES: [&[u8]; 6] = [
+    &[0x03, 0x00, 0x05, 0x00],
+    &[0x03, 0x00, 0x03],
+    &[0x03, 0x03, 0x00],
+    &[0x83, 0x00],
+    &[0x03, 0x01],
+    &[0x04, 0x01, 0x02],
+];
 
 #[test]
 fn no_frame(rt: HostRuntime) {
@@ -385,27 +327,31 @@ fn no_frame(rt: HostRuntime) {
     // The RX of the other version.
     expect_whole(&rt, Version::V1, &RECEIVED_NUMBERED, None);
     expect_whole(&rt, Version::V2, &RECEIVED, None);
-    // Two frames, and a frame with an octet after it or before it.
-    expect_whole(&rt, Version::V1, &[0x03, 0x00, 0x05, 0x00], None);
-    expect_whole(&rt, Version::V1, &[0x03, 0x00, 0x03], None);
-    expect_whole(&rt, Version::V1, &[0x03, 0x03, 0x00], None);
-    // A frame to a carrier, and faults.
-    expect_whole(&rt, Version::V1, &[0x83, 0x00], None);
-    expect_whole(&rt, Version::V1, &[0x03, 0x01], None);
-    expect_whole(&rt, Version::V1, &[0x04, 0x01, 0x02], None);
+    for octets in NO_FRAMES {
+        expect_whole(&rt, Version::V1, octets, None);
+    }
+}
+
+/// Checks the text of a frame.
+fn expect_text<F: Display>(
+    rt: &(impl Abort + AllocGlobal),
+    frame: &F,
+    want: &str,
+) -> Result<(), OutOfMemory> {
+    let text = format!(in rt.alloc(); "{frame}")?;
+    assert_eq!(rt; text.as_str(), want);
+    Ok(())
 }
 
 #[test]
 fn bursts_printed(rt: HostRuntime) -> Result<(), Fail> {
     let slot = SlotNo::new(0);
-    let word = Word196::from_octets(&BURST)?;
+    let word = word_of_burst(&rt);
     for (number, want) in [(None, "RX slot=0"), (Some(5), "RX number=5 slot=0")] {
-        let text = format!(in rt.alloc(); "{}", FrameIn::Rx { number, slot, word })?;
-        assert_eq!(rt; text.as_str(), want);
+        expect_text(&rt, &FrameIn::Rx { number, slot, word }, want)?;
     }
     for (number, want) in [(None, "TX slot=0"), (Some(255), "TX number=255 slot=0")] {
-        let text = format!(in rt.alloc(); "{}", FrameOut::Tx { number, slot, word })?;
-        assert_eq!(rt; text.as_str(), want);
+        expect_text(&rt, &FrameOut::Tx { number, slot, word }, want)?;
     }
     Ok(())
 }
@@ -431,11 +377,29 @@ const TO_CARRIERS: [Listed; 4] = [
 /// Checks the row of a frame in the table.
 fn expect_row(rt: &impl Abort, listed: Listed) {
     let (kind, octet, name, first, second) = listed;
-    assert_eq!(rt; kind.row().octet, octet);
-    assert_eq!(rt; kind.name(), name);
-    assert_eq!(rt; kind.row().since, Version::V1);
-    assert_eq!(rt; kind.body_length(Version::V1), first, "{name}");
-    assert_eq!(rt; kind.body_length(Version::V2), second, "{name}");
+    let row = kind.row();
+    expect_same(rt, name, row.octet, octet);
+    expect_same(rt, name, kind.name(), name);
+    expect_same(rt, name, row.since, Version::V1);
+    expect_same(rt, name, kind.body_length(Version::V1), first);
+    expect_same(rt, name, kind.body_length(Version::V2), second);
+}
+
+/// Checks of which frames an octet is the type in a version.
+fn expect_kinds(
+    rt: &impl Abort,
+    version: Version,
+    octet: u8,
+    from_carrier: Option<FrameKind>,
+    to_carrier: Option<FrameKind>,
+) {
+    expect_same(
+        rt,
+        octet,
+        FrameKind::from_carrier(version, octet),
+        from_carrier,
+    );
+    expect_same(rt, octet, FrameKind::to_carrier(version, octet), to_carrier);
 }
 
 #[test]
@@ -443,67 +407,76 @@ fn the_table_of_frames(rt: HostRuntime) {
     for listed in FROM_CARRIERS {
         expect_row(&rt, listed);
         for version in Version::ALL {
-            assert_eq!(rt; FrameKind::from_carrier(version, listed.1), Some(listed.0));
-            assert_eq!(rt; FrameKind::to_carrier(version, listed.1), None);
+            expect_kinds(&rt, version, listed.1, Some(listed.0), None);
         }
     }
     for listed in TO_CARRIERS {
         expect_row(&rt, listed);
         for version in Version::ALL {
-            assert_eq!(rt; FrameKind::to_carrier(version, listed.1), Some(listed.0));
-            assert_eq!(rt; FrameKind::from_carrier(version, listed.1), None);
+            expect_kinds(&rt, version, listed.1, None, Some(listed.0));
         }
     }
     for octet in [0x00, 0x06, 0x80, 0x85, 0xFF] {
-        assert_eq!(rt; FrameKind::from_carrier(Version::NEWEST, octet), None);
-        assert_eq!(rt; FrameKind::to_carrier(Version::NEWEST, octet), None);
+        expect_kinds(&rt, Version::NEWEST, octet, None, None);
     }
 }
 
+/// The fault of an octet of RX's body: the version, the place, the octet and the fault. In version 2 the slot follows
+/// the number. The last octet of the word is the last octet of the body.
+const FAULTS_OF_RX: [(Version, usize, u8, Option<Cause>); 7] = [
+    (Version::V1, 0, 2, Some(Cause::BadSlot)),
+    (Version::V2, 0, 2, None),
+    (Version::V2, 1, 2, Some(Cause::BadSlot)),
+    (Version::V1, 25, 0x01, Some(Cause::BadPad)),
+    (Version::V2, 25, 0x01, None),
+    (Version::V2, 26, 0x01, Some(Cause::BadPad)),
+    (Version::V2, 26, 0x10, None),
+];
+
 #[test]
 fn faults_of_fields(rt: HostRuntime) {
-    // In version 2 the slot follows the number. The last octet of the word is the last octet of the body.
-    let rx = FrameKind::Rx;
-    assert_eq!(rt; rx.fault_at(Version::V1, 0, 2), Some(Cause::BadSlot));
-    assert_eq!(rt; rx.fault_at(Version::V2, 0, 2), None);
-    assert_eq!(rt; rx.fault_at(Version::V2, 1, 2), Some(Cause::BadSlot));
-    assert_eq!(rt; rx.fault_at(Version::V1, 25, 0x01), Some(Cause::BadPad));
-    assert_eq!(rt; rx.fault_at(Version::V2, 25, 0x01), None);
-    assert_eq!(rt; rx.fault_at(Version::V2, 26, 0x01), Some(Cause::BadPad));
-    assert_eq!(rt; rx.fault_at(Version::V2, 26, 0x10), None);
-    assert_eq!(rt; Field::Number.length(Version::V1), 0);
-    assert_eq!(rt; Field::Number.length(Version::V2), 1);
-    assert_eq!(rt; Field::Word.length(Version::V1), 25);
-    assert_eq!(rt; Field::Slot.fault_at(0, 1), None);
-    assert_eq!(rt; Field::Slot.fault_at(0, 2), Some(Cause::BadSlot));
+    for (version, place, octet, fault) in FAULTS_OF_RX {
+        let found = FrameKind::Rx.fault_at(version, place, octet);
+        expect_same(&rt, place, found, fault);
+    }
+    for (field, version, length) in [
+        (Field::Number, Version::V1, 0),
+        (Field::Number, Version::V2, 1),
+        (Field::Word, Version::V1, 25),
+    ] {
+        expect_same(&rt, length, field.length(version), length);
+    }
+    for (octet, fault) in [(1, None), (2, Some(Cause::BadSlot))] {
+        expect_same(&rt, octet, Field::Slot.fault_at(0, octet), fault);
+    }
 }
 
 #[test]
 fn versions(rt: HostRuntime) {
-    assert!(rt; !Version::V1.has_numbers());
-    assert!(rt; Version::V2.has_numbers());
-    assert!(rt; Version::V2.is_since(Version::V1));
-    assert!(rt; !Version::V1.is_since(Version::V2));
-    assert_eq!(rt; Version::by_number(None), Version::V1);
-    assert_eq!(rt; Version::by_number(Some(7)), Version::V2);
+    let (first, second) = (Version::V1, Version::V2);
+    expect_same(&rt, "numbers of version 1", first.has_numbers(), false);
+    expect_same(&rt, "numbers of version 2", second.has_numbers(), true);
+    expect_same(&rt, "version 2 since 1", second.is_since(first), true);
+    expect_same(&rt, "version 1 since 2", first.is_since(second), false);
+    expect_same(&rt, "no number", Version::by_number(None), first);
+    expect_same(&rt, "a number", Version::by_number(Some(7)), second);
     for (octet, want) in [
         (0, Version::V1),
         (1, Version::V1),
         (2, Version::V2),
         (3, Version::V1),
     ] {
-        assert_eq!(rt; Version::version_or_first(octet), want);
+        expect_same(&rt, octet, Version::version_or_first(octet), want);
     }
-    assert_eq!(rt; Refusal::BadVersion.octet(), 1);
-    assert_eq!(rt; Refusal::WrongCarrier.octet(), 2);
+    expect_same(&rt, "bad version", Refusal::BadVersion.octet(), 1);
+    expect_same(&rt, "wrong carrier", Refusal::WrongCarrier.octet(), 2);
 }
 
 #[test]
 fn frames_of_the_table(rt: HostRuntime) {
     let slot = SlotNo::new(1);
-    assert_eq!(rt; FrameIn::Active { slot }.kind(), FrameKind::Active);
-    assert_eq!(rt;
-        FrameOut::Refused(Refusal::BadVersion).kind(),
-        FrameKind::Refused
-    );
+    let active = FrameIn::Active { slot }.kind();
+    expect_same(&rt, "active", active, FrameKind::Active);
+    let refused = FrameOut::Refused(Refusal::BadVersion).kind();
+    expect_same(&rt, "refused", refused, FrameKind::Refused);
 }

@@ -1,5 +1,6 @@
 //! Worked octets of each kind of PDU, in both directions.
 
+use crate::lines::{expect_same, expect_true};
 use dmr_bits::Octets10;
 use dmr_pdu::{Address, Kind, Lpcn, Number, Pdu, Reason, SlotNo, octets_mean_one_pdu};
 use std::process::Abort;
@@ -7,9 +8,8 @@ use std::process::Abort;
 /// Checks that octets are read as a PDU, and that the PDU is written as these octets.
 fn assert_both_ways(rt: &impl Abort, octets: Octets10, pdu: Pdu) {
     octets_mean_one_pdu();
-    let read = Pdu::from_octets(&octets);
-    assert_eq!(rt; read, pdu);
-    assert_eq!(rt; pdu.to_octets(), octets);
+    expect_same(rt, "read", Pdu::from_octets(&octets), pdu);
+    expect_same(rt, "written", pdu.to_octets(), octets);
 }
 
 #[test]
@@ -344,7 +344,9 @@ fn sameness(rt: HostRuntime) {
         lpcn: Lpcn::new(7),
     };
     let octets = register.to_octets();
-    assert!(rt; register.equals(&Pdu::from_octets(&octets)));
+    let same = register.equals(&Pdu::from_octets(&octets));
+    expect_true(&rt, "the same PDU", same);
     // The same octets, but a different PDU.
-    assert!(rt; !register.equals(&Pdu::Other(octets)));
+    let other = register.equals(&Pdu::Other(octets));
+    expect_true(&rt, "a different PDU", !other);
 }

@@ -1,6 +1,6 @@
 //! Worked values of the small types: channels, slots, reasons, kinds, addresses and lists.
 
-use crate::lines::{cut, input_and_answer};
+use crate::lines::{Listener, check_lines, cut, expect_same, expect_true};
 use dmr_pdu::{
     Address, Blank, BoundedList, CarrierNo, Kind, Lpcn, Options, OutOfMemory, Reason, Slot, SlotNo,
 };
@@ -22,6 +22,17 @@ place 31 => 15 1 31
 address 16777215 => 16777215 16777215
 address 16777216 => none
 ";
+
+/// Numbers of each kind as a listener of lines.
+#[derive(Drop)]
+struct NumberKinds;
+
+impl Listener for NumberKinds {
+    fn answer_input(&mut self, input: &str, said: &mut String) -> Result<(), OutOfMemory> {
+        let (kind, digits) = cut(input);
+        write_number(said, kind, digits.parse::<u32>().unwrap_or(0))
+    }
+}
 
 /// Writes a number of a kind.
 fn write_number(said: &mut String, kind: &str, number: u32) -> Result<(), OutOfMemory> {
@@ -55,22 +66,16 @@ fn write_place(said: &mut String, place: usize) -> Result<(), OutOfMemory> {
 
 #[test]
 fn numbers(rt: HostRuntime) -> Result<(), Fail> {
-    for line in NUMBERS.lines() {
-        let (input, wanted) = input_and_answer(line);
-        let (kind, digits) = cut(input);
-        let mut said = String::new(rt.alloc());
-        write_number(&mut said, kind, digits.parse::<u32>().unwrap_or(0))?;
-        assert_eq!(rt; said.as_str(), wanted, "{line}");
-    }
+    check_lines(&rt, NumberKinds, "numbers", NUMBERS)?;
     Ok(())
 }
 
 /// The blank of each type is its smallest value.
 #[test]
 fn blanks(rt: HostRuntime) {
-    assert_eq!(rt; Lpcn::try_new(1), Some(Lpcn::blank()));
-    assert!(rt; Slot::blank() < Slot::at(31));
-    assert!(rt; Address::blank() < Address::new(0xFF_FFFF));
+    expect_same(&rt, "channel", Lpcn::try_new(1), Some(Lpcn::blank()));
+    expect_true(&rt, "slot", Slot::blank() < Slot::at(31));
+    expect_true(&rt, "address", Address::blank() < Address::new(0xFF_FFFF));
 }
 
 #[test]
@@ -94,8 +99,8 @@ fn reasons(rt: HostRuntime) {
         (Reason::WAIT, 0xE0),
     ];
     for (reason, octet) in cases {
-        assert_eq!(rt; reason.get(), octet);
-        assert_eq!(rt; reason, Reason::new(octet));
+        expect_same(&rt, octet, reason.get(), octet);
+        expect_same(&rt, octet, reason, Reason::new(octet));
     }
 }
 
@@ -108,14 +113,14 @@ fn kinds(rt: HostRuntime) {
         (Kind::CANCEL, 15),
     ];
     for (kind, number) in cases {
-        assert_eq!(rt; kind.get(), number);
-        assert_eq!(rt; kind, Kind::new(number));
+        expect_same(&rt, number, kind.get(), number);
+        expect_same(&rt, number, kind, Kind::new(number));
     }
 }
 
 #[test]
 fn options(rt: HostRuntime) {
-    assert_eq!(rt; Options::new(127).get(), 127);
+    expect_same(&rt, "greatest", Options::new(127).get(), 127);
 }
 
 /// The entries of lists. The answer has the length, whether the list is empty, whether it is full, its entries by
@@ -160,14 +165,19 @@ fn write_list(said: &mut String, list: &BoundedList<Address, 3>) -> Result<(), O
     write!(said, "{list:?}")
 }
 
+/// Lists of addresses as a listener of lines.
+#[derive(Drop)]
+struct Lists;
+
+impl Listener for Lists {
+    fn answer_input(&mut self, input: &str, said: &mut String) -> Result<(), OutOfMemory> {
+        write_list(said, &list_of(input))
+    }
+}
+
 #[test]
 fn lists_of_addresses(rt: HostRuntime) -> Result<(), Fail> {
-    for line in LISTS.lines() {
-        let (words, wanted) = input_and_answer(line);
-        let mut said = String::new(rt.alloc());
-        write_list(&mut said, &list_of(words))?;
-        assert_eq!(rt; said.as_str(), wanted, "{line}");
-    }
+    check_lines(&rt, Lists, "lists", LISTS)?;
     Ok(())
 }
 
@@ -177,8 +187,12 @@ fn copies_of_lists(rt: HostRuntime) -> Result<(), Fail> {
     let list = list_of("91 1001");
     let again = list.clone()?;
     let mut copy = list;
-    assert!(rt; copy == list && again == list);
+    expect_true(&rt, "copies", copy == list && again == list);
     add(&mut copy, Address::new(0));
-    assert!(rt; copy != list && copy.is_full() && list.len() == 2);
+    expect_true(
+        &rt,
+        "one changed",
+        copy != list && copy.is_full() && list.len() == 2,
+    );
     Ok(())
 }

@@ -1,6 +1,6 @@
 //! Tests of a port in memory: its answers, call by call, and its record.
 
-use crate::lines::{cut, input_and_answer};
+use crate::lines::{Listener, check_lines, cut};
 use dmr_pdu::OutOfMemory;
 use dmr_wire::{Connect, Got, MemoryPort, Port, Put, Step, Waited, Wire};
 use std::alloc::Global;
@@ -216,18 +216,20 @@ fn port_of(alloc: Global, words: &str, room: usize) -> Result<MemoryPort, Fail> 
     }
 }
 
-/// Writes the answer to a call of a port, or to a question to it.
-fn write_answer(said: &mut String, port: &mut MemoryPort, input: &str) -> Result<(), OutOfMemory> {
-    let (word, text) = cut(input);
-    match word {
-        "connect" => write!(said, "{:?}", port.connect()),
-        "wait" => write!(said, "{:?}", port.wait()),
-        "read" => read(said, port),
-        "write" => write(said, port, text.as_bytes()),
-        "echo" => write!(said, "{}", echoes_once(port)),
-        "entries" => write!(said, "{:?}", port.entries()),
-        "taken" => write_octets(said, port.taken()),
-        _ => said.push_str("?"),
+/// A port as a listener of lines: calls of it, and questions to it.
+impl Listener for MemoryPort {
+    fn answer_input(&mut self, input: &str, said: &mut String) -> Result<(), OutOfMemory> {
+        let (word, text) = cut(input);
+        match word {
+            "connect" => write!(said, "{:?}", self.connect()),
+            "wait" => write!(said, "{:?}", self.wait()),
+            "read" => read(said, self),
+            "write" => write(said, self, text.as_bytes()),
+            "echo" => write!(said, "{}", echoes_once(self)),
+            "entries" => write!(said, "{:?}", self.entries()),
+            "taken" => write_octets(said, self.taken()),
+            _ => said.push_str("?"),
+        }
     }
 }
 
@@ -273,13 +275,8 @@ fn echoes_once<P: Port>(port: &mut P) -> bool {
 #[test]
 fn ports(rt: HostRuntime) -> Result<(), Fail> {
     for story in &STORIES {
-        let mut port = port_of(rt.alloc(), story.steps, story.room)?;
-        for line in story.input.lines() {
-            let (input, wanted) = input_and_answer(line);
-            let mut said = String::new(rt.alloc());
-            write_answer(&mut said, &mut port, input)?;
-            assert_eq!(rt; said.as_str(), wanted, "{}: {line}", story.name);
-        }
+        let port = port_of(rt.alloc(), story.steps, story.room)?;
+        check_lines(&rt, port, story.name, story.input)?;
     }
     Ok(())
 }

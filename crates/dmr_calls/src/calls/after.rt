@@ -39,11 +39,16 @@ impl Calls {
     }
 
     /// The first place of a talkgroup call from a place on; if there is none, the first of all.
+    #[tactic(auto, using(crate::proofs::AfterLemmas::no_place))]
     fn group_place_after(&self, behind: usize) -> Option<usize>
         requires { behind ≤ 32 }
         ensures value { result ≡ option_or (group_place self.now.calls behind) (group_place self.now.calls 0) }
         ensures within { IfSome result (λ place. place < 32) }
     {
+        // Without calls, the two searches would look at 64 places for nothing.
+        if self.calls.is_empty() {
+            return None;
+        }
         match self.group_place(behind) {
             Some(place) => Some(place),
             None => self.group_place(0),

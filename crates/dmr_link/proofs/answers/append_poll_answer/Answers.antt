@@ -9,7 +9,7 @@ use Rattle.dmr_link.specs.Numbering.{next_after_frames}
 use Rattle.dmr_link.specs.Session.{transmissions}
 use Rattle.dmr_link.proofs.NumberingLemmas.{next_item, put_item, write_done, next_after_frames-append}
 use Rattle.dmr_link.proofs.RoomLemmas.{few_more, few_done, one_fits}
-use Rattle.dmr_link.proofs.answers.poll_answer.Goals as goal
+use Rattle.dmr_link.proofs.answers.append_poll_answer.Goals as goal
 
 pub loop-act-preserved : goal.loop-act-preserved
 loop-act-preserved c = record {
@@ -38,7 +38,7 @@ returns-clause-few c = λ two.
     few_done (is_some c.args.numbering.now) (array_vec_len c.loop-act.answer) (array_vec_len c.append_frame.new.answer) c.loop-act.act-index (omega (arith, two, c.loop-act.auto.act-index-end)) c.append_frame.ensures.len c.loop-act.invariant.few
 
 pub append_tx-requires : goal.append_tx-requires
-append_tx-requires c = one_fits (is_some c.args.numbering.now) (array_vec_len c.loop-act.answer) c.loop-act.act-index (omega (arith, c.requires, c.loop-act.auto.act-index-end)) c.loop-act.invariant.few
+append_tx-requires c = one_fits (is_some c.args.numbering.now) (array_vec_len c.loop-act.answer) c.loop-act.act-index (omega (arith, c.requires.most, c.loop-act.auto.act-index-end)) c.loop-act.invariant.few
 
 pub append_frame-requires : goal.append_frame-requires
-append_frame-requires c = one_fits (is_some c.args.numbering.now) (array_vec_len c.loop-act.answer) c.loop-act.act-index (omega (arith, c.requires, c.loop-act.auto.act-index-end)) c.loop-act.invariant.few
+append_frame-requires c = one_fits (is_some c.args.numbering.now) (array_vec_len c.loop-act.answer) c.loop-act.act-index (omega (arith, c.requires.most, c.loop-act.auto.act-index-end)) c.loop-act.invariant.few

@@ -1,0 +1,16 @@
+use Rattle.std.proofs.Common.{◌≡◌, ◌-◌, ◌/◌, ◌≤◌, true, vec_len, vec_capacity, arith}
+use Rattle.std.proofs.lemmas.Bool.{leb-true}
+use Rattle.dmr_link.specs.Zeros.{is_up_between, zeros_in}
+use Rattle.dmr_link.proofs.PollsEndInZero.{room_by_zeros}
+use Rattle.dmr_link.proofs.room.has_room.Goals as goal
+
+pub returns-then-is_up_between-clause-fits : goal.returns-then-is_up_between-clause-fits
+returns-then-is_up_between-clause-fits c = λ who numbered few.
+    let up : is_up_between c.args.connection.now ≡ true = cc in
+    let text = c.args.text.now in
+    let octets = c.args.octets.now in
+    let spare : c.capacity.result - c.len.result ≡ vec_capacity text - vec_len text = cc in
+    let within : vec_len text ≤ vec_capacity text = omega arith in
+    let enough : c.zeros.result ≤ (c.capacity.result - c.len.result) / 60 = leb-true c.zeros.result ((c.capacity.result - c.len.result) / 60) few in
+    let zeros : zeros_in octets ≤ (vec_capacity text - vec_len text) / 60 = rw (← c.zeros.ensures, ← spare) enough in
+    room_by_zeros who numbered c.args.connection.now octets (vec_len text) (vec_capacity text) within up zeros

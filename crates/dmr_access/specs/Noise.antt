@@ -1,14 +1,16 @@
--- The noise numbers: counts of bursts on the control slot that could not be read. The first counts those since the last Poll of the
--- control carrier, the next those between that Poll and the one before, and so on. There are 32, and none while the control carrier
--- is down.
-use Rattle.std.specs.Prelude.{ℕ, ◌+◌, ◌-◌, min, List, [], ◌∷◌, take, replicate, sum, ◌≡◌, ◌≤◌, ◌⊎◌, length}
+-- The noise numbers: counts of bursts on the control slot that could not be read. The first counts those since the last
+-- Poll of the control carrier, the next those between that Poll and the one before, and so on. There are 32, and none
+-- while the control carrier is down.
+use Rattle.std.specs.Prelude.{ℕ, ◌+◌, ◌-◌, min, List, [], ◌∷◌, take, replicate, sum, ◌≡◌, ◌≤◌, ◌⊎◌}
+use Rattle.std.specs.Prelude.{length}
 use Rattle.std.specs.List.{All}
 use Rattle.dmr_plan.specs.declared.settings.Settings.{Settings}
 use Rattle.dmr_access.specs.Limits.{polls_of_window, most_noises}
 
 -- none, or 32 numbers of 0 to 15
 abbrev pub AreNoiseNumbers : List ℕ → Type 0
-AreNoiseNumbers noise = ((length noise ≡ 0) ⊎ (length noise ≡ polls_of_window)) × All (λ n. n ≤ most_noises) noise
+AreNoiseNumbers noise =
+    ((length noise ≡ 0) ⊎ (length noise ≡ polls_of_window)) × All (λ n. n ≤ most_noises) noise
 
 -- the noise numbers when the control carrier comes up
 unfoldable pub noise_at_up : List ℕ

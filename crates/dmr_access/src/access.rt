@@ -1,9 +1,11 @@
 //! The noise on the control slot, and the PDU that fills it.
 
-ghost use Rattle.std.specs.Prelude.{◌≡◌, ◌+◌, ◌^◌, ◌<◌, ◌≤◌, ◌↔◌, ◌&&◌, [], drop, length, sum, slice_get, nat_eq, IsTrue, IfOk};
+ghost use Rattle.std.specs.Prelude.{◌≡◌, ◌+◌, ◌^◌, ◌<◌, ◌≤◌, ◌↔◌, ◌&&◌, [], drop, length, sum};
+ghost use Rattle.std.specs.Prelude.{slice_get, nat_eq, IsTrue, IfOk};
 ghost use Rattle.std.specs.Cmp.Lexicographic.{pointwise};
 ghost use Rattle.circular_buffer.specs.Buffer.{buffer};
-ghost use Rattle.dmr_access.specs.Noise.{AreNoiseNumbers, noise_at_up, with_noise, with_poll, backoff_of};
+ghost use Rattle.dmr_access.specs.Noise.{AreNoiseNumbers, noise_at_up, with_noise, with_poll};
+ghost use Rattle.dmr_access.specs.Noise.{backoff_of};
 ghost use Rattle.dmr_access.specs.Fill.{aloha_pdu, fill_of, is_late_due, move_to, next_fill_count};
 
 use circular_buffer::HeapCircularBuffer;
@@ -23,9 +25,9 @@ const MUST_REGISTER: bool = true;
 
 /// Random access by a plan: the noise on the control slot, and the Fills.
 ///
-/// Contracts see the plan, the noise numbers and the Fills. The first noise number counts the Noises since the control carrier's
-/// last Poll, the next those between that Poll and the one before, and so on. There are 32, each 0 to 15, and none while the
-/// control carrier is down. The Fills are those since the control carrier last came up, modulo 4.
+/// Contracts see the plan, the noise numbers and the Fills. The first noise number counts the Noises since the control
+/// carrier's last Poll, the next those between that Poll and the one before, and so on. There are 32, each 0 to 15, and
+/// none while the control carrier is down. The Fills are those since the control carrier last came up, modulo 4.
 #[derive(Drop)]
 pub struct Access {
     plan: Plan,
@@ -42,12 +44,18 @@ impl Model for Access {
 
     ghost Value = { Window };
 
-    ghost view = { λ access. record { plan = access.plan; noise = access.noise.items; fills = access.fills } };
+    ghost view = { λ access. record {
+      plan = access.plan;
+      noise = access.noise.items;
+      fills = access.fills;
+    } };
 
-    ghost invariant = { λ access. (access.noise.capacity ≡ 32) × AreNoiseNumbers access.noise.items × (access.fills < 4) × (access.noises ≡ sum access.noise.items) };
+    ghost invariant = { λ access. (access.noise.capacity ≡ 32) × AreNoiseNumbers access.noise.items
+        × (access.fills < 4) × (access.noises ≡ sum access.noise.items) };
 }
 
-/// Counts a Noise in the first of the noise numbers, which stays at 15. Returns how many more Noises count after that: 0 or 1.
+/// Counts a Noise in the first of the noise numbers, which stays at 15. Returns how many more Noises count after that:
+/// 0 or 1.
 fn count_noise(noise: &mut HeapCircularBuffer<u8>) -> u16
     requires { AreNoiseNumbers noise.old.items }
     ensures numbers { noise.new ≡ buffer (with_noise noise.old.items) noise.old.capacity }
@@ -79,7 +87,9 @@ fn begin_number(noise: &mut HeapCircularBuffer<u8>) -> u16
 fn is_same_at(one: &HeapCircularBuffer<u8>, other: &HeapCircularBuffer<u8>, index: usize) -> bool
     requires one { index < length one.now.items }
     requires other { index < length other.now.items }
-    ensures { pointwise nat_eq (drop index one.now.items) (drop index other.now.items) ≡ (result && pointwise nat_eq (drop (index + 1) one.now.items) (drop (index + 1) other.now.items)) }
+    ensures { pointwise nat_eq (drop index one.now.items) (drop index other.now.items)
+        ≡ (result
+        && pointwise nat_eq (drop (index + 1) one.now.items) (drop (index + 1) other.now.items)) }
 {
     match (one.get(index), other.get(index)) {
         (Some(number), Some(its)) => number == its,
@@ -104,9 +114,11 @@ fn same_numbers(one: &HeapCircularBuffer<u8>, other: &HeapCircularBuffer<u8>) ->
 }
 
 impl Access {
-    /// Makes the random access of a plan, with the control carrier down. Returns `OutOfMemory` if its memory cannot be allocated.
+    /// Makes the random access of a plan, with the control carrier down. Returns `OutOfMemory` if its memory cannot be
+    /// allocated.
     pub fn new(alloc: Global, plan: &Plan) -> Result<Access, OutOfMemory>
-        ensures { IfOk result (λ access. access ≡ record { plan = plan.now; noise = []; fills = 0 }) }
+        ensures { IfOk result
+            (λ access. access ≡ record { plan = plan.now; noise = []; fills = 0 }) }
     {
         Ok(Access {
             plan: *plan,
@@ -132,8 +144,8 @@ impl Access {
         })
     }
 
-    /// The noise number at an index, 0 to 15. Number 0 counts the Noises since the last Poll. `None` from index 32 on, and while
-    /// the control carrier is down.
+    /// The noise number at an index, 0 to 15. Number 0 counts the Noises since the last Poll. `None` from index 32 on,
+    /// and while the control carrier is down.
     pub fn number(&self, polls: usize) -> Option<u8>
         ensures value { result ≡ slice_get self.now.noise polls }
         ensures kept { AreNoiseNumbers self.now.noise }
@@ -141,16 +153,16 @@ impl Access {
         self.noise.get(polls).copied()
     }
 
-    /// Counts a burst on the control slot that could not be read. The first number stays at 15. While the control carrier is down,
-    /// nothing changes.
+    /// Counts a burst on the control slot that could not be read. The first number stays at 15. While the control
+    /// carrier is down, nothing changes.
     pub fn noise(&mut self)
         ensures { self.new ≡ record self.old { noise = with_noise self.old.noise } }
     {
         self.noises += count_noise(&mut self.noise);
     }
 
-    /// Counts a Poll of the control carrier: the Noises before the 32nd last Poll no longer count. While the control carrier is
-    /// down, nothing changes.
+    /// Counts a Poll of the control carrier: the Noises before the 32nd last Poll no longer count. While the control
+    /// carrier is down, nothing changes.
     pub fn polled(&mut self)
         ensures { self.new ≡ record self.old { noise = with_poll self.old.noise } }
     {
@@ -177,7 +189,8 @@ impl Access {
         self.fills = 0;
     }
 
-    /// The backoff to send, 1 to 15: the plan's lowest plus the number of Noises that count, but at most the plan's highest.
+    /// The backoff to send, 1 to 15: the plan's lowest plus the number of Noises that count, but at most the plan's
+    /// highest.
     pub fn backoff(&self) -> u8
         ensures value { result ≡ backoff_of self.now.plan self.now.noise }
         ensures range { (1 ≤ result) × (result ≤ 15) }
@@ -187,16 +200,16 @@ impl Access {
         raised.min(u32::from(self.plan.backoff_high())) as u8
     }
 
-    /// Reports whether a late entry is due in the next Fill: in the fourth since the control carrier came up, the eighth, and so
-    /// on.
+    /// Reports whether a late entry is due in the next Fill: in the fourth since the control carrier came up, the
+    /// eighth, and so on.
     pub fn late_due(&self) -> bool
         ensures { result ≡ is_late_due self.now.fills }
     {
         self.fills == TURN - 1
     }
 
-    /// The next Fill of the control slot, the first that applies: C_MOVE if `moving` has a channel, `late` if one is due and given,
-    /// C_ALOHA.
+    /// The next Fill of the control slot, the first that applies: C_MOVE if `moving` has a channel, `late` if one is
+    /// due and given, C_ALOHA.
     ///
     /// See TS 102 361-4, clause 7.1.1. The layouts of C_MOVE and C_ALOHA are this project's profile.
     pub fn next_fill(&self, moving: Option<Lpcn>, late: Option<Pdu>) -> Pdu
@@ -226,8 +239,8 @@ impl Access {
         pdu
     }
 
-    /// C_ALOHA with the plan's fields and the backoff. It invites all radios (mask and address 0), for all services (function 0),
-    /// and they must register.
+    /// C_ALOHA with the plan's fields and the backoff. It invites all radios (mask and address 0), for all services
+    /// (function 0), and they must register.
     fn aloha(&self) -> Pdu
         ensures { result ≡ aloha_pdu self.now.plan self.now.noise }
     {

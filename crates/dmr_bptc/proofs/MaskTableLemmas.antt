@@ -1,4 +1,5 @@
--- The masks are those of the equations and the interleaving: the bits set under an equation's mask add up to its failure.
+-- The masks are those of the equations and the interleaving: the bits set under an equation's mask add up to its
+-- failure.
 use Rattle.std.proofs.Common.{◌≡◌, ◌==◌, ℕ, zero, suc, ◌+◌, ◌*◌, ◌/◌, ◌%◌, ◌<◌, Bool, true, false, cond, ◌&&◌, List, [], ◌∷◌, get_or, refl, sym, ap, ◌∙◌, arith, zero-add}
 use Rattle.std.proofs.lemmas.Bool.{agree_below, agree_below_at}
 use Rattle.dmr_bits.specs.Bits.{count_from}

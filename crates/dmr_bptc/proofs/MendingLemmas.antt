@@ -8,7 +8,8 @@ use Rattle.dmr_bptc.specs.Sums.{syndrome_at}
 use Rattle.dmr_bptc.proofs.LineLemmas.{indices_within, marks_apart, syndrome-same, corrected_line-same, clean-stays}
 use Rattle.dmr_bptc.proofs.SyndromeLemmas.{rest-at, rest-next, rest-none, fails-within}
 
--- lines of n bits, which are at places: those before a line are mended, and the others are as they were; the rest of the syndromes are theirs
+-- lines of n bits, which are at places: those before a line are mended, and the others are as they were; the rest of
+-- the syndromes are theirs
 pub record ArePartlyMended (es : List (ℕ × List ℕ)) (n count : ℕ) (place : ℕ → ℕ → ℕ) (before now : List Bool) (syndromes rest line : ℕ) : Type 0 where
   pub rest_is : rest ≡ syndromes / 2 ^ (4 * line)
   pub within : line ≤ count

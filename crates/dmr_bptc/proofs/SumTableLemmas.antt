@@ -110,7 +110,8 @@ unfolding row_equations column_equations
 syndrome-four (Row row) bit = omega arith
 syndrome-four (Column column) bit = omega arith
 
--- if the numbers have an equation's coefficients in a bit, that bit of their sum is 1 exactly if the line fails the equation
+-- if the numbers have an equation's coefficients in a bit, that bit of their sum is 1 exactly if the line fails the
+-- equation
 failure_bit : (word : List Bool) (line : GridLine) (e : ℕ × List ℕ) (number : ℕ → ℕ) (j : ℕ)
     → ((place : ℕ) → place < 196 → (bit_at (number place) j == 1) ≡ coefficient line e place)
     → bit_at (added (word_bit word) number 196) j ≡ fails (line_bit word line) e

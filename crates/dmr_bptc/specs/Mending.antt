@@ -6,7 +6,8 @@ use Rattle.dmr_bptc.specs.Bptc.{add_bits, parity}
 abbrev pub fails : (ℕ → Bool) → ℕ × List ℕ → ℕ
 fails line e = if add_bits (line e.0) (parity line e.1) then 1 else 0
 
--- the syndrome of a line: a number with a bit for each equation, the first most significant; the bit is 1 if the line fails it
+-- the syndrome of a line: a number with a bit for each equation, the first most significant; the bit is 1 if the line
+-- fails it
 abbrev pub syndrome : List (ℕ × List ℕ) → (ℕ → Bool) → ℕ
 syndrome [] line = 0
 syndrome (e ∷ es) line = 2 ^ length es * fails line e + syndrome es line

@@ -7,8 +7,8 @@ ghost use Rattle.dmr_bptc.specs.Functions.{encoding_of};
 use crate::table::GroupTable;
 use dmr_bits::{Octets12, Word196};
 
-/// Encodes twelve octets: returns the codeword with these 96 information bits (TS 102 361-1, clause B.1.1). Bit 0 is the most
-/// significant bit of the first octet. The four reserved bits are 0 (this project's profile).
+/// Encodes twelve octets: returns the codeword with these 96 information bits (TS 102 361-1, clause B.1.1). Bit 0 is
+/// the most significant bit of the first octet. The four reserved bits are 0 (this project's profile).
 pub fn encode(octets: &Octets12) -> Word196
     ensures is { IsEncoding octets.now result }
     // There is no other.

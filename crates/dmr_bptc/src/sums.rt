@@ -1,5 +1,5 @@
-//! The sums over the set bits of a word: the equations that each column and each row fails (TS 102 361-1, clause B.1.1), and the
-//! information. One pass over the word finds all of them.
+//! The sums over the set bits of a word: the equations that each column and each row fails (TS 102 361-1, clause
+//! B.1.1), and the information. One pass over the word finds all of them.
 
 ghost use Rattle.std.specs.Prelude.{◌≡◌, ℕ, ◌<◌, Bool, List, [], ◌∷◌, ◌↔◌, IsTrue};
 ghost use Rattle.dmr_bits.specs.Bits.{octet_bit, IsOctets};
@@ -12,8 +12,8 @@ use dmr_bits::{Octets12, Word196};
 /// The equations that the columns and the rows of a word fail, and the information bits that its cells hold.
 #[derive(Clone, Copy)]
 pub(crate) struct Sums {
-    /// Four bits for each column, those of column 0 the least significant: its syndrome, the failure of the first equation
-    /// the most significant.
+    /// Four bits for each column, those of column 0 the least significant: its syndrome, the failure of the first
+    /// equation the most significant.
     pub(crate) columns: u64,
     /// The same for each row.
     pub(crate) rows: u64,
@@ -79,7 +79,8 @@ impl Sums {
     /// The information bits as octets.
     pub(crate) fn octets(&self) -> Octets12
         ensures octets { IsOctets 12 result }
-        ensures bits { (k : ℕ) → k < 96 → octet_bit result k ≡ packed_bit (self.now.high ∷ self.now.low ∷ []) k }
+        ensures bits { (k : ℕ) → k < 96
+            → octet_bit result k ≡ packed_bit (self.now.high ∷ self.now.low ∷ []) k }
     {
         let mut octets = [0; 12];
         octets[..8].copy_from_slice(&self.high.to_be_bytes());

@@ -1,6 +1,6 @@
 -- The meaning of a word, and the burst of a PDU, as functions, for definitions about many words. The contracts of
--- `meanings_are_single`, `read` and `write` say that they compute the relations `MeansPdu` and `IsBurst`. Nothing depends on how they
--- compute them.
+-- `meanings_are_single`, `read` and `write` say that they compute the relations `MeansPdu` and `IsBurst`. Nothing
+-- depends on how they compute them.
 use Rattle.std.specs.Prelude.{List, Bool, Option, option_map, option_and_then}
 use Rattle.dmr_csbk.specs.Check.{with_check, without_check}
 use Rattle.dmr_bptc.specs.Functions.{decoding_of, encoding_of}

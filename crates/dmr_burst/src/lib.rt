@@ -40,7 +40,8 @@ pub fn read(word: &Word196) -> Option<Pdu>
     // A PDU that the word means is returned.
     ensures only { (pdu : APdu) → MeansPdu word.now pdu → result ≡ Some pdu }
     // If the word is the burst of a readable PDU with at most three flipped bits, that PDU is returned.
-    ensures back { (pdu : APdu) (sent : List Bool) → IsBurst pdu sent → IsReadable pdu → distance word.now sent ≤ 3 → result ≡ Some pdu }
+    ensures back { (pdu : APdu) (sent : List Bool) → IsBurst pdu sent → IsReadable pdu
+        → distance word.now sent ≤ 3 → result ≡ Some pdu }
     ensures meaning { result ≡ meaning_of word.now }
 {
     meanings_are_single();
@@ -60,11 +61,14 @@ fn decode_pdu(word: &Word196) -> Option<Pdu>
 /// A burst with at most three flipped bits means the same as the clean burst.
 pub fn meanings_are_single()
     ensures found { (word : List Bool) → IfSome (meaning_of word) (MeansPdu word) }
-    ensures only { (word : List Bool) (pdu : APdu) → MeansPdu word pdu → meaning_of word ≡ Some pdu }
+    ensures only { (word : List Bool) (pdu : APdu) → MeansPdu word pdu
+        → meaning_of word ≡ Some pdu }
     // A word means the same as the codeword that differs from it in at most three places, be it a PDU or nothing.
-    ensures clean { (word codeword : List Bool) → IsCodeword codeword → distance word codeword ≤ 3 → meaning_of word ≡ meaning_of codeword }
+    ensures clean { (word codeword : List Bool)
+        → IsCodeword codeword → distance word codeword ≤ 3 → meaning_of word ≡ meaning_of codeword }
     // The burst of a readable PDU, with at most three flipped bits, means that PDU.
-    ensures flipped { (pdu : APdu) (sent word : List Bool) → IsBurst pdu sent → IsReadable pdu → distance word sent ≤ 3 → meaning_of word ≡ Some pdu }
+    ensures flipped { (pdu : APdu) (sent word : List Bool) → IsBurst pdu sent → IsReadable pdu
+        → distance word sent ≤ 3 → meaning_of word ≡ Some pdu }
 {
     nearest_codeword();
     seals_open();

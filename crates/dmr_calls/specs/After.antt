@@ -1,5 +1,6 @@
 -- The turns of talkgroup calls: round the slots by carrier, then by number.
-use Rattle.std.specs.Prelude.{◌≡◌, ◌<◌, ◌≤◌, ℕ, ◌+◌, ◌-◌, ◌⊎◌, List, Bool, true, false, Option, Some, None, find}
+use Rattle.std.specs.Prelude.{◌≡◌, ◌<◌, ◌≤◌, ℕ, ◌+◌, ◌-◌, ◌⊎◌, List, Bool, true, false, Option}
+use Rattle.std.specs.Prelude.{Some, None, find}
 use Rattle.std.specs.List.{range_with_len}
 use Rattle.std.specs.Option.{option_and_then, option_map_or, option_or}
 use Rattle.dmr_pdu.specs.declared.slots.Slot.{Slot}
@@ -25,10 +26,12 @@ place_after last = option_map_or (λ slot. place slot + 1) last 0
 abbrev pub group_place : List ActiveCall → ℕ → Option ℕ
 group_place calls from = find (is_group_at calls) (range_with_len from (slots_of_site - from))
 
--- the talkgroup call on the least slot above the last; if there is none above, or no last slot, the one on the least slot of all
+-- the talkgroup call on the least slot above the last; if there is none above, or no last slot, the one on the least
+-- slot of all
 unfoldable pub group_after : List ActiveCall → Option Slot → Option Call
 group_after calls last =
-    option_and_then (λ place. call_on calls (slot_at place)) (option_or (group_place calls (place_after last)) (group_place calls 0))
+    option_and_then (λ place. call_on calls (slot_at place))
+    (option_or (group_place calls (place_after last)) (group_place calls 0))
 
 -- a slot is below another: by carrier, then by number
 abbrev pub IsBelow : Slot → Slot → Type 0
@@ -43,13 +46,17 @@ IsAbove (Some last) slot = IsBelow last slot
 abbrev pub HasNoGroupCall : List ActiveCall → Type 0
 HasNoGroupCall calls = (slot : Slot) → IsSlot slot → is_group_on calls slot ≡ false
 
--- the next talkgroup call: the one on the lowest slot above the last slot, if there is any; else the one on the lowest slot of all
-pub record IsNextGroupCall (calls : List ActiveCall) (last : Option Slot) (call : Call) : Type 0 where
+-- the next talkgroup call: the one on the lowest slot above the last slot, if there is any; else the one on the lowest
+-- slot of all
+pub record IsNextGroupCall (calls : List ActiveCall) (last : Option Slot)
+    (call : Call) : Type 0 where
   pub within : IsSlot call.slot
   pub stands : call_on calls call.slot ≡ Some call
   pub group : call.group ≡ true
-  pub above : (other : Slot) → IsSlot other → is_group_on calls other ≡ true → IsAbove last other → IsAbove last call.slot × (IsBelow other call.slot → ⊥)
-  pub around : (IsAbove last call.slot → ⊥) → (other : Slot) → IsSlot other → is_group_on calls other ≡ true → IsBelow other call.slot → ⊥
+  pub above : (other : Slot) → IsSlot other → is_group_on calls other ≡ true → IsAbove last other
+      → IsAbove last call.slot × (IsBelow other call.slot → ⊥)
+  pub around : (IsAbove last call.slot → ⊥) → (other : Slot) → IsSlot other
+      → is_group_on calls other ≡ true → IsBelow other call.slot → ⊥
 
 -- no place passes, from one on and before another
 abbrev pub NonePass : (ℕ → Bool) → ℕ → ℕ → Type 0
@@ -64,7 +71,9 @@ pub record IsFirst (passes : ℕ → Bool) (from to at : ℕ) : Type 0 where
 
 -- a place is the next that passes: the first from one on; if none passes there, the first of all
 abbrev pub IsNext : (ℕ → Bool) → ℕ → ℕ → Type 0
-IsNext passes from at = IsFirst passes from slots_of_site at ⊎ (NonePass passes from slots_of_site × IsFirst passes 0 slots_of_site at)
+IsNext passes from at =
+    IsFirst passes from slots_of_site at
+    ⊎ (NonePass passes from slots_of_site × IsFirst passes 0 slots_of_site at)
 
 -- it is the turn of a call: it is an active talkgroup call, and its place is the next that has one
 pub record IsTurn (calls : List ActiveCall) (from : ℕ) (call : Call) : Type 0 where

@@ -42,8 +42,12 @@ line_with lines radio = find (is_party_to_line radio) lines
 -- the first call, or else the first ask, or else the first line to which a radio is a party
 abbrev pub engagement_of : ActiveLists → ℕ → Option Engagement
 engagement_of now radio =
-    option_or (option_map CallOf (call_of now.calls radio)) (option_or (option_map AskOf (ask_with now.asks radio)) (option_map LineOf (line_with now.lines radio)))
+    option_or (option_map CallOf (call_of now.calls radio))
+    (option_or (option_map AskOf (ask_with now.asks radio))
+    (option_map LineOf (line_with now.lines radio)))
 
 -- a radio is a party to a call, an ask or a line
 abbrev pub is_engaged : ActiveLists → ℕ → Bool
-is_engaged now radio = list_any (is_party_to_call radio) now.calls || list_any (is_party_to_ask radio) now.asks || list_any (is_party_to_line radio) now.lines
+is_engaged now radio =
+    list_any (is_party_to_call radio) now.calls || list_any (is_party_to_ask radio) now.asks
+    || list_any (is_party_to_line radio) now.lines

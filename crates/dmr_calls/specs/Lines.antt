@@ -1,5 +1,6 @@
 -- Lines: a list in the order in which they were added.
-use Rattle.std.specs.Prelude.{ℕ, List, [], ◌∷◌, ◌++◌, Bool, not, ◌==◌, ◌&&◌, nat_le, nat_lt, length, filter, find, take, drop, Option, slice_get, if◌then◌else◌}
+use Rattle.std.specs.Prelude.{ℕ, List, [], ◌∷◌, ◌++◌, Bool, not, ◌==◌, ◌&&◌, nat_le, nat_lt, length}
+use Rattle.std.specs.Prelude.{filter, find, take, drop, Option, slice_get, if◌then◌else◌}
 use Rattle.std.specs.List.{list_any}
 use Rattle.dmr_calls.specs.declared.line.Line.{Line}
 use Rattle.dmr_calls.specs.Limits.{most_lines, most_listed}
@@ -38,8 +39,10 @@ has_group_line lines group = list_any (λ l. l.group && (l.target == group)) lin
 
 -- the source has a line to the talkgroup
 abbrev pub has_own_group_line : List Line → ℕ → ℕ → Bool
-has_own_group_line lines source group = list_any (λ l. (l.source == source) && (l.group && (l.target == group))) lines
+has_own_group_line lines source group =
+    list_any (λ l. (l.source == source) && (l.group && (l.target == group))) lines
 
 -- the source has an individual line to the target
 abbrev pub has_own_line : List Line → ℕ → ℕ → Bool
-has_own_line lines source target = list_any (λ l. (l.source == source) && (not l.group && (l.target == target))) lines
+has_own_line lines source target =
+    list_any (λ l. (l.source == source) && (not l.group && (l.target == target))) lines

@@ -15,7 +15,9 @@ use Rattle.dmr_calls.specs.Calls.{is_slot}
 
 -- two asks are the same
 abbrev pub is_same_ask : Ask → Ask → Bool
-is_same_ask a b = (a.source == b.source) && (a.target == b.target) && (a.options == b.options) && (a.attempt == b.attempt)
+is_same_ask a b =
+    (a.source == b.source) && (a.target == b.target) && (a.options == b.options)
+    && (a.attempt == b.attempt)
 
 -- two asks are the same, with the same waiting time
 abbrev pub is_same_active_ask : ActiveAsk → ActiveAsk → Bool
@@ -27,7 +29,8 @@ is_same_line a b = (a.source == b.source) && (a.target == b.target) && beq a.gro
 
 -- two calls are the same
 abbrev pub is_same_call : Call → Call → Bool
-is_same_call a b = is_slot a.slot b.slot && (a.source == b.source) && (a.target == b.target) && beq a.group b.group
+is_same_call a b =
+    is_slot a.slot b.slot && (a.source == b.source) && (a.target == b.target) && beq a.group b.group
 
 -- two calls are the same, with the same age and quiet time
 abbrev pub is_same_active_call : ActiveCall → ActiveCall → Bool
@@ -35,7 +38,9 @@ is_same_active_call a b = is_same_call a.call b.call && (a.age == b.age) && (a.q
 
 -- the same asks, lines and calls, in the same order
 abbrev pub are_same : ActiveLists → ActiveLists → Bool
-are_same a b = pointwise is_same_active_ask a.asks b.asks && pointwise is_same_line a.lines b.lines && pointwise is_same_active_call a.calls b.calls
+are_same a b =
+    pointwise is_same_active_ask a.asks b.asks && pointwise is_same_line a.lines b.lines
+    && pointwise is_same_active_call a.calls b.calls
 
 -- the test decides equality
 is_same_active_ask-Decides : (a b : ActiveAsk) → Decides (is_same_active_ask a b) (a ≡ b)
@@ -61,7 +66,10 @@ are_same-Decides a b =
     let calls = pointwise_decides is_same_active_call-Decides a.calls b.calls in
     let d = Decides-and _ _ (Decides-and _ _ asks lines) calls in (
       λ h. let e = d.0 h in same_parts a b e.0.0 e.0.1 e.1,
-      λ e. d.1 ((ap (λ (s : ActiveLists). s.asks) e, ap (λ (s : ActiveLists). s.lines) e), ap (λ (s : ActiveLists). s.calls) e),
+      λ e. d.1 (
+        (ap (λ (s : ActiveLists). s.asks) e, ap (λ (s : ActiveLists). s.lines) e),
+        ap (λ (s : ActiveLists). s.calls) e,
+      ),
     )
 
 -- the test is an equivalence

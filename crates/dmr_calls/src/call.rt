@@ -19,7 +19,12 @@ pub struct Call {
 impl Blank for Call {
     ghost use Rattle.std.specs.Prelude.{false};
 
-    ghost blank = { record { slot = record { carrier = 0; slot = 0 }; source = 0; target = 0; group = false } };
+    ghost blank = { record {
+      slot = record { carrier = 0; slot = 0 };
+      source = 0;
+      target = 0;
+      group = false;
+    } };
 
     fn blank() -> Self {
         Call {

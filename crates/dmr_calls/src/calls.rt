@@ -33,8 +33,8 @@ pub const MOST_CALLS: usize = 31;
 
 /// The asks, lines and calls of a site.
 ///
-/// Contracts see three lists. The asks are in the order of their last C_AHOY, oldest first. The lines are in the order in which
-/// they were added, and the calls in the order in which they began. Asks and calls have their ticks.
+/// Contracts see three lists. The asks are in the order of their last C_AHOY, oldest first. The lines are in the order
+/// in which they were added, and the calls in the order in which they began. Asks and calls have their ticks.
 #[derive(Drop)]
 pub struct Calls {
     asks: KeyedTable<ActiveAsk, MOST_ASKS>,
@@ -55,7 +55,8 @@ impl Model for Calls {
 }
 
 impl Calls {
-    /// Makes an empty value, and allocates the memory for all asks, lines and calls. Returns `OutOfMemory` if the allocation fails.
+    /// Makes an empty value, and allocates the memory for all asks, lines and calls. Returns `OutOfMemory` if the
+    /// allocation fails.
     pub fn new(alloc: Global) -> Result<Calls, OutOfMemory>
         ensures { IfOk result (λ calls. calls ≡ no_active_lists) }
     {
@@ -85,8 +86,8 @@ impl Calls {
 
     /// The first call, or else the first ask, or else the first line to which a radio is a party.
     ///
-    /// A radio is a party to its own requests, and to individual ones whose target it is. Returns `None` exactly if it is a party
-    /// to nothing.
+    /// A radio is a party to its own requests, and to individual ones whose target it is. Returns `None` exactly if it
+    /// is a party to nothing.
     pub fn engaged(&self, radio: Address) -> Option<Engagement>
         ensures value { result ≡ engagement_of self.now radio }
         ensures some { is_some result ≡ is_engaged self.now radio }
@@ -103,8 +104,8 @@ impl Calls {
         None
     }
 
-    /// Counts a tick for each ask and call, and returns the call, ask and line that are due. Nothing is removed: the caller does
-    /// that.
+    /// Counts a tick for each ask and call, and returns the call, ask and line that are due. Nothing is removed: the
+    /// caller does that.
     pub fn tick(&mut self, hang: u16, maximum: u16, ahoy_wait: u16) -> Due
         ensures due { result ≡ due_of (after_tick self.old) hang maximum ahoy_wait }
         ensures counted { self.new ≡ after_tick self.old }
@@ -123,8 +124,8 @@ impl Calls {
 
     /// The call, ask and line that are due.
     ///
-    /// The call is the first that was quiet for `hang` ticks or is `maximum` ticks old; its slot is returned. The ask is the first
-    /// one, if its C_AHOY is `ahoy_wait` ticks old. The line is the first one.
+    /// The call is the first that was quiet for `hang` ticks or is `maximum` ticks old; its slot is returned. The ask
+    /// is the first one, if its C_AHOY is `ahoy_wait` ticks old. The line is the first one.
     pub fn due(&self, hang: u16, maximum: u16, ahoy_wait: u16) -> Due
         ensures { result ≡ due_of self.now hang maximum ahoy_wait }
     {
@@ -145,7 +146,11 @@ impl Calls {
 
     /// The numbers of asks, lines and calls.
     pub fn counts(&self) -> Counts
-        ensures { result ≡ record { asks = length self.now.asks; lines = length self.now.lines; calls = length self.now.calls } }
+        ensures { result ≡ record {
+          asks = length self.now.asks;
+          lines = length self.now.lines;
+          calls = length self.now.calls;
+        } }
     {
         Counts {
             asks: self.asks.len(),

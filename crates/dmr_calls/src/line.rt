@@ -20,7 +20,12 @@ pub struct Line {
 impl Line {
     /// The call of this line on a slot.
     pub fn to_call(&self, slot: Slot) -> Call
-        ensures { result ≡ record { slot = slot; source = self.now.source; target = self.now.target; group = self.now.group } }
+        ensures { result ≡ record {
+          slot = slot;
+          source = self.now.source;
+          target = self.now.target;
+          group = self.now.group;
+        } }
     {
         Call {
             slot,

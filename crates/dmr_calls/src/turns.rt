@@ -7,9 +7,11 @@ ghost use Rattle.dmr_calls.specs.After.{group_after, place_after, HasNoGroupCall
 
 /// Talkgroup calls take turns, for any calls and any last slot.
 ///
-/// The next call after a slot is on the first slot with a talkgroup call from the following place on, by carrier, then by slot
-/// number. If there is none, it is on the first of all slots with one. There is no next call exactly if no talkgroup call is
-/// active.
+/// The next call after a slot is on the first slot with a talkgroup call from the following place on, by carrier, then
+/// by slot number. If there is none, it is on the first of all slots with one. There is no next call exactly if no
+/// talkgroup call is active.
 pub fn talkgroup_calls_take_turns()
-    ensures { (calls : List ActiveCall) (last : Option Slot) → MatchOption (group_after calls last) (HasNoGroupCall calls) (IsTurn calls (place_after last)) }
+    ensures { (calls : List ActiveCall) (last : Option Slot)
+        → MatchOption (group_after calls last) (HasNoGroupCall calls)
+        (IsTurn calls (place_after last)) }
 {}

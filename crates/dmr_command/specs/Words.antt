@@ -1,8 +1,10 @@
 -- The job that the words of the command line ask for.
-use Rattle.std.specs.Prelude.{◌≡◌, ◌≢◌, ◌⊎◌, ℕ, List, [], ◌∷◌, Option, Some, None, true, is_some, codes, pos, ◌^◌, ◌<◌}
+use Rattle.std.specs.Prelude.{◌≡◌, ◌≢◌, ◌⊎◌, ℕ, List, [], ◌∷◌, Option, Some, None, true, is_some}
+use Rattle.std.specs.Prelude.{codes, pos, ◌^◌, ◌<◌}
 use Rattle.std.specs.Str.Parse.{IsNumeral, digits_value, without_leading_plus}
 pub use Rattle.clap.specs.Words.{Text}
-use Rattle.clap.specs.Words.{App, Kinds, Rule, fault_of, first_of, first_value, found_of, matches_of, new_app, new_rule, one_of, one_text, with_rule}
+use Rattle.clap.specs.Words.{App, Kinds, Rule, fault_of, first_of, first_value, found_of}
+use Rattle.clap.specs.Words.{matches_of, new_app, new_rule, one_of, one_text, with_rule}
 use Rattle.clap.specs.declared.builder.action.ArgAction.TheVariants.{Set, SetTrue}
 use Rattle.clap.specs.declared.builder.value_parser.ValueParser.TheVariants.{Signed}
 use Rattle.clap.specs.declared.parser.matches.ArgMatches.{ArgMatches}
@@ -44,13 +46,19 @@ terms_option = record (new_rule (codes "terms")) {
 
 -- a command line of this name, with a version and no option yet
 abbrev pub titled_command : App
-titled_command = let app = new_app (codes "dmr_trunk") in record app { top = record app.top { has_version = true } }
+titled_command =
+    let app = new_app (codes "dmr_trunk") in
+    record app { top = record app.top { has_version = true } }
 
--- the program's command line: `dmr_trunk --site FILE [--script FILE] [--serve] [--terms N]`, and `--help` and `--version`
+-- the program's command line: `dmr_trunk --site FILE [--script FILE] [--serve]
+-- [--terms N]`, and `--help` and `--version`
 abbrev pub command : App
-command = with_rule (with_rule (with_rule (with_rule titled_command site_option) script_option) serve_flag) terms_option
+command =
+    with_rule (with_rule (with_rule (with_rule titled_command site_option) script_option)
+    serve_flag) terms_option
 
--- the kinds of fault that a parse of the words finds; none if the words are accepted. A request for help or for the version is one
+-- the kinds of fault that a parse of the words finds; none if the words are accepted. A request for help or for the
+-- version is one
 unfoldable pub faults_in : List Text → Kinds
 faults_in words = fault_of command words
 
@@ -71,24 +79,30 @@ IsUnset text = text ≢ Some (codes "true")
 
 -- a text spells a number in decimal
 abbrev pub SpellsNumber : Text → ℕ → Type 0
-SpellsNumber text number = IsNumeral 10 (without_leading_plus text) × (digits_value 10 (without_leading_plus text) ≡ number) × (number < 2 ^ 32)
+SpellsNumber text number =
+    IsNumeral 10 (without_leading_plus text)
+    × (digits_value 10 (without_leading_plus text) ≡ number) × (number < 2 ^ 32)
 
 -- the number that a text spells; 0 if there is no text, or it does not spell a number
 abbrev pub AreTerms : Option Text → ℕ → Type 0
 AreTerms None terms = terms ≡ 0
-AreTerms (Some text) terms = SpellsNumber text terms ⊎ ((terms ≡ 0) × ((number : ℕ) → SpellsNumber text number → ⊥))
+AreTerms (Some text) terms =
+    SpellsNumber text terms ⊎ ((terms ≡ 0) × ((number : ℕ) → SpellsNumber text number → ⊥))
 
 -- options of these values ask for this job
 abbrev pub IsAsked : (Text → Option Text) → (Text → Option Text) → Job → Type 0
 IsAsked value one (Script site script) =
-    (value (codes "site") ≡ Some site.now) × (value (codes "script") ≡ Some script.now) × IsUnset (one (codes "serve"))
+    (value (codes "site") ≡ Some site.now) × (value (codes "script") ≡ Some script.now)
+    × IsUnset (one (codes "serve"))
 IsAsked value one (Serve site terms) =
-    (value (codes "site") ≡ Some site.now) × (value (codes "script") ≡ None) × IsSet (one (codes "serve")) × AreTerms (one (codes "terms")) terms
+    (value (codes "site") ≡ Some site.now) × (value (codes "script") ≡ None)
+    × IsSet (one (codes "serve")) × AreTerms (one (codes "terms")) terms
 
 -- there is neither a script nor `--serve`, or there are both
 abbrev pub IsNotOne : (Text → Option Text) → (Text → Option Text) → Type 0
 IsNotOne value one =
-    ((value (codes "script") ≡ None) × IsUnset (one (codes "serve"))) ⊎ ((is_some (value (codes "script")) ≡ true) × IsSet (one (codes "serve")))
+    ((value (codes "script") ≡ None) × IsUnset (one (codes "serve")))
+    ⊎ ((is_some (value (codes "script")) ≡ true) × IsSet (one (codes "serve")))
 
 -- the values found are those of a parse of the words; there is a site file
 pub record HasRead (words : List Text) (found : ArgMatches) : Type 0 where

@@ -1,8 +1,8 @@
 //! The program's command line, the address at which it listens, and its final texts and exit statuses.
 //!
-//! [`choose`] reads the words of the command line, and returns the [`Job`] that they ask for. [`ServeFault`] says why serving ended; it has
-//! the text and the exit status of each reason. `status` has the exit statuses that a replay does not have, and their texts.
-//! [`listen_address`] returns the address of a carrier's port and of the console's.
+//! [`choose`] reads the words of the command line, and returns the [`Job`] that they ask for. [`ServeFault`] says why
+//! serving ended; it has the text and the exit status of each reason. `status` has the exit statuses that a replay does
+//! not have, and their texts. [`listen_address`] returns the address of a carrier's port and of the console's.
 //!
 //! This crate opens no socket, starts no thread and waits for nothing. `dmr_trunk` does the jobs.
 #![tactic(auto)]

@@ -5,8 +5,8 @@ ghost use Rattle.dmr_command.specs.Listening.{IsListenAddress};
 use dmr_plan::Plan;
 use std::net::{Ipv4Addr, SocketAddr, SocketAddrV4};
 
-/// The address to listen at for a carrier or the console: the four octets of the plan's `address`, and this port of the plan. It is this
-/// project's profile.
+/// The address to listen at for a carrier or the console: the four octets of the plan's `address`, and this port of the
+/// plan. It is this project's profile.
 pub fn listen_address(plan: &Plan, port: u16) -> SocketAddr
     ensures { IsListenAddress plan.now.address port result }
 {

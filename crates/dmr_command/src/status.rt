@@ -1,5 +1,5 @@
-//! The exit statuses that a replay does not have, and the texts that go with statuses to standard error. An error of standard error is
-//! ignored.
+//! The exit statuses that a replay does not have, and the texts that go with statuses to standard error. An error of
+//! standard error is ignored.
 
 ghost use Rattle.std.specs.Prelude.{◌≡◌};
 

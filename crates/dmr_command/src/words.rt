@@ -1,11 +1,15 @@
 //! The words of the command line.
 
-ghost use Rattle.std.specs.Prelude.{◌≡◌, ◌≢◌, ◌⊎◌, IfErr, IfNone, IfOk, IfSome, [], codes, false, is_some, map, pos, true};
+ghost use Rattle.std.specs.Prelude.{◌≡◌, ◌≢◌, ◌⊎◌, IfErr, IfNone, IfOk, IfSome, [], codes, false};
+ghost use Rattle.std.specs.Prelude.{is_some, map, pos, true};
 ghost use Rattle.clap.specs.Built.{IsParsedFrom, IsPlainArg, TakesValue};
-ghost use Rattle.clap.specs.Words.{app_of, args_of, first_value, found_of, groups_of, kind_of, one_text, rule_of};
+ghost use Rattle.clap.specs.Words.{app_of, args_of, first_value, found_of, groups_of, kind_of};
+ghost use Rattle.clap.specs.Words.{one_text, rule_of};
 ghost use Rattle.clap.specs.declared.builder.command.Command.TheViews.{out-Command};
 ghost use Rattle.clap.specs.declared.parser.matches.ArgMatches.{ArgMatches};
-ghost use Rattle.dmr_command.specs.Words.{AreRefused, AskFor, HasRead, IsAsked, IsNotOne, command, faults_in, script_option, serve_flag, site_option, terms_option, titled_command};
+ghost use Rattle.dmr_command.specs.Words.{AreRefused, AskFor, HasRead, IsAsked, IsNotOne, command};
+ghost use Rattle.dmr_command.specs.Words.{faults_in, script_option, serve_flag, site_option};
+ghost use Rattle.dmr_command.specs.Words.{terms_option, titled_command};
 
 use crate::status::{WORDS, report_out_of_memory, report_refused_words};
 use crate::version::VERSION;
@@ -28,8 +32,9 @@ pub enum Job<'a> {
 
 /// Reads the program's words. The first is the program's own name.
 ///
-/// If the words are refused, `choose` writes the word reader's text to `err`, or that either a script or `--serve` must be given. `--help`
-/// and `--version` are refusals, too. A fault of `err` is ignored. The error is the exit status: 2, or 4 if memory ran out.
+/// If the words are refused, `choose` writes the word reader's text to `err`, or that either a script or `--serve` must
+/// be given. `--help` and `--version` are refusals, too. A fault of `err` is ignored. The error is the exit status: 2,
+/// or 4 if memory ran out.
 pub fn choose<'a, E: Write>(alloc: Global, words: &'a [&'a str], err: &mut E) -> Result<Job<'a>, u8>
     // The words are accepted, and these are the values of their options.
     ensures job { IfOk result (AskFor (map (λ word. word.now) words.entry.now)) }
@@ -72,8 +77,10 @@ fn read_words<'a>(alloc: Global, words: &'a [&'a str]) -> Result<ArgMatches<'a>,
 /// The job for the options found in the words; `None` if there is neither a script nor `--serve`, or there are both.
 fn job_in<'a>(found: &ArgMatches<'a>) -> Option<Job<'a>>
     requires { is_some (first_value (found_of found.now) (codes "site")) ≡ true }
-    ensures job { IfSome result (IsAsked (first_value (found_of found.now)) (one_text (found_of found.now))) }
-    ensures none { IfNone result (IsNotOne (first_value (found_of found.now)) (one_text (found_of found.now))) }
+    ensures job { IfSome result
+        (IsAsked (first_value (found_of found.now)) (one_text (found_of found.now))) }
+    ensures none { IfNone result
+        (IsNotOne (first_value (found_of found.now)) (one_text (found_of found.now))) }
 {
     let site = found.get_str("site").unwrap_or("");
     match (found.get_str("script"), found.get_flag("serve")) {
@@ -109,7 +116,8 @@ dmr_trunk(8) has more.";
 /// The command line for the word reader. A successful parse has a value for the site file.
 fn command<'a>(alloc: Global) -> Result<Command<'a>, OutOfMemory>
     ensures app { IfOk result (λ c. app_of c ≡ command) }
-    ensures site { IfOk result (λ c. (m : ArgMatches) → IsParsedFrom c m → is_some (first_value (found_of m) (codes "site")) ≡ true) }
+    ensures site { IfOk result (λ c. (m : ArgMatches) → IsParsedFrom c m
+        → is_some (first_value (found_of m) (codes "site")) ≡ true) }
 {
     titled_command(alloc)
         .arg(site_option(alloc))?
@@ -122,7 +130,8 @@ fn command<'a>(alloc: Global) -> Result<Command<'a>, OutOfMemory>
 fn titled_command<'a>(alloc: Global) -> Command<'a>
     ensures app { app_of result ≡ titled_command }
     ensures empty { (args_of result ≡ []) × (groups_of result ≡ []) }
-    ensures local { ((out-Command result).has_globals ≡ false) × ((out-Command result).subcommand_negates_reqs ≡ false) }
+    ensures local { ((out-Command result).has_globals ≡ false)
+        × ((out-Command result).subcommand_negates_reqs ≡ false) }
 {
     Command::new(alloc, "dmr_trunk")
         .version(VERSION)

@@ -1,9 +1,11 @@
 -- The commands of lines.
-use Rattle.std.specs.Prelude.{ℕ, List, [], ◌∷◌, Option, Some, None, option_map, if◌then◌else◌, codes}
+use Rattle.std.specs.Prelude.{ℕ, List, [], ◌∷◌, Option, Some, None, option_map, if◌then◌else◌}
+use Rattle.std.specs.Prelude.{codes}
 use Rattle.std.specs.Str.{bytes_eq}
 use Rattle.dmr_calls.specs.Limits.{most_lines}
 use Rattle.dmr_core.specs.declared.command.Command.{Command}
-use Rattle.dmr_core.specs.declared.command.Command.TheVariants.{Status, Radios, Calls, Lines, Slots, Drop, End, Move, Stay}
+use Rattle.dmr_core.specs.declared.command.Command.TheVariants.{Status, Radios, Calls, Lines, Slots}
+use Rattle.dmr_core.specs.declared.command.Command.TheVariants.{Drop, End, Move, Stay}
 use Rattle.dmr_console.specs.Words.{words_of_line, short_number_within}
 
 -- a command that is a word alone
@@ -23,7 +25,8 @@ end_of carrier slot = None
 
 -- the command of the words after `end`
 abbrev pub end_command : List (List ℕ) → Option Command
-end_command (carrier ∷ slot ∷ []) = end_of (short_number_within 0 15 carrier) (short_number_within 0 1 slot)
+end_command (carrier ∷ slot ∷ []) =
+    end_of (short_number_within 0 15 carrier) (short_number_within 0 1 slot)
 end_command words = None
 
 -- the command of a first word and of the words that follow it

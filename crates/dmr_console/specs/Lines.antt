@@ -1,5 +1,6 @@
 -- Lines of a stream of octets.
-use Rattle.std.specs.Prelude.{◌≢◌, ◌≤◌, ℕ, ◌==◌, ◌+◌, ◌-◌, All, List, [], length, take, map, slice_index, slice_index_or, if◌then◌else◌, nat_lt}
+use Rattle.std.specs.Prelude.{◌≢◌, ◌≤◌, ℕ, ◌==◌, ◌+◌, ◌-◌, All, List, [], length, take, map}
+use Rattle.std.specs.Prelude.{slice_index, slice_index_or, if◌then◌else◌, nat_lt}
 use Rattle.std.specs.List.{slice_split}
 use Rattle.dmr_console.specs.Limits.{longest_line}
 use Rattle.dmr_console.specs.declared.line_cutter.LineStep.{LineStep}
@@ -19,11 +20,14 @@ last_of parts = slice_index_or parts (length parts - 1) []
 
 -- octets without a CR at their end; only one CR is removed
 abbrev pub without_cr : List ℕ → List ℕ
-without_cr octets = if slice_index octets (length octets - 1) == 13 then take (length octets - 1) octets else octets
+without_cr octets =
+    if slice_index octets (length octets - 1) == 13 then take (length octets - 1) octets else octets
 
 -- the line of these octets before an LF: too long, if there are more than a line can have
 abbrev pub line_step_of : List ℕ → LineStep
-line_step_of octets = if nat_lt longest_line (length octets) then TooLong else Line (record { items = without_cr octets })
+line_step_of octets =
+    if nat_lt longest_line (length octets) then TooLong
+    else Line (record { items = without_cr octets })
 
 -- the lines of a stream: one for each LF
 abbrev pub lines_in : List ℕ → List LineStep

@@ -8,7 +8,9 @@ use Rattle.dmr_core.specs.declared.reply.SlotState.{SlotState}
 use Rattle.dmr_core.specs.declared.reply.State.{State}
 use Rattle.dmr_core.specs.declared.reply.State.TheVariants as state
 use Rattle.dmr_core.specs.declared.reply.Reply.{Reply}
-use Rattle.dmr_core.specs.declared.reply.Reply.TheVariants.{Status, Radios, Calls, Lines, Slots, Done, NotRegistered, Busy, NoCall, NoCarrier}
+use Rattle.dmr_core.specs.declared.reply.Reply.TheVariants.{Status, Radios, Calls, Lines, Slots}
+use Rattle.dmr_core.specs.declared.reply.Reply.TheVariants.{Done, NotRegistered, Busy, NoCall}
+use Rattle.dmr_core.specs.declared.reply.Reply.TheVariants.{NoCarrier}
 
 -- ---- rows, each with its LF
 
@@ -36,11 +38,15 @@ parties_text group target source = target_text group target ++ codes " from " ++
 
 -- the row of a call
 abbrev pub call_row : Call → List ℕ
-call_row call = codes "call " ++ slot_text call.slot ++ codes " " ++ parties_text call.group call.target call.source ++ codes "\n"
+call_row call =
+    codes "call " ++ slot_text call.slot ++ codes " "
+    ++ parties_text call.group call.target call.source ++ codes "\n"
 
 -- the row of a line, with its place
 abbrev pub line_row : ℕ × Line → List ℕ
-line_row row = codes "line " ++ decimal row.0 ++ codes " " ++ parties_text row.1.group row.1.target row.1.source ++ codes "\n"
+line_row row =
+    codes "line " ++ decimal row.0 ++ codes " "
+    ++ parties_text row.1.group row.1.target row.1.source ++ codes "\n"
 
 -- the name of a slot's state
 abbrev pub state_text : State → List ℕ
@@ -52,7 +58,8 @@ state_text state.Waiting = codes "waiting"
 
 -- the row of a slot and its state
 abbrev pub slot_row : SlotState → List ℕ
-slot_row row = codes "slot " ++ slot_text row.slot ++ codes " " ++ state_text row.state ++ codes "\n"
+slot_row row =
+    codes "slot " ++ slot_text row.slot ++ codes " " ++ state_text row.state ++ codes "\n"
 
 -- ---- replies
 
@@ -63,8 +70,9 @@ rows_text row rows = flat_map row rows ++ codes "end\n"
 -- the text of a reply
 abbrev pub text_of_reply : Reply → List ℕ
 text_of_reply (Status carriers radios asks lines calls moving) =
-    codes "status carriers " ++ decimal carriers ++ codes " radios " ++ decimal radios ++ codes " asks " ++ decimal asks
-    ++ codes " lines " ++ decimal lines ++ codes " calls " ++ decimal calls ++ codes " fill " ++ fill_text moving ++ codes "\n"
+    codes "status carriers " ++ decimal carriers ++ codes " radios " ++ decimal radios
+    ++ codes " asks " ++ decimal asks ++ codes " lines " ++ decimal lines ++ codes " calls "
+    ++ decimal calls ++ codes " fill " ++ fill_text moving ++ codes "\n"
 text_of_reply (Radios radios) = rows_text radio_row radios
 text_of_reply (Calls calls) = rows_text call_row calls
 text_of_reply (Lines from rows) = rows_text line_row (enumerate_from from rows)

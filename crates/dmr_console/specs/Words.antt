@@ -1,5 +1,6 @@
 -- The words of a line, and their numbers.
-use Rattle.std.specs.Prelude.{ℕ, ◌==◌, ◌&&◌, Bool, true, false, List, [], ◌∷◌, length, filter, nat_lt, nat_le, Option, Some, None, if◌then◌else◌}
+use Rattle.std.specs.Prelude.{ℕ, ◌==◌, ◌&&◌, Bool, true, false, List, [], ◌∷◌, length, filter}
+use Rattle.std.specs.Prelude.{nat_lt, nat_le, Option, Some, None, if◌then◌else◌}
 use Rattle.std.specs.List.{slice_split}
 use Rattle.std.specs.Str.{all_ascii_digits}
 use Rattle.std.specs.Str.Parse.{digits_value}
@@ -20,5 +21,6 @@ is_short_number word = nat_lt 0 (length word) && nat_le (length word) 8 && all_a
 -- the number of a word, if it is from `least` to `most`
 abbrev pub short_number_within : ℕ → ℕ → List ℕ → Option ℕ
 short_number_within least most word =
-    if is_short_number word && nat_le least (digits_value 10 word) && nat_le (digits_value 10 word) most
+    if is_short_number word && nat_le least (digits_value 10 word)
+    && nat_le (digits_value 10 word) most
     then Some (digits_value 10 word) else None

@@ -1,7 +1,8 @@
 //! The console: an operator's lines, the commands that they are, and the texts of the replies (this project's profile).
 //!
-//! A `LineCutter` takes an operator's octets one by one, so it does not matter in which pieces they come. It returns each line at its LF.
-//! `parse` reads a line as a command, and `print` writes a reply as lines. Nothing here allocates memory.
+//! A `LineCutter` takes an operator's octets one by one, so it does not matter in which pieces they come. It returns
+//! each line at its LF. `parse` reads a line as a command, and `print` writes a reply as lines. Nothing here allocates
+//! memory.
 #![tactic(auto)]
 
 mod laws;

@@ -1,7 +1,9 @@
 //! Cuts an operator's octets into lines.
 
 ghost use Rattle.std.specs.Prelude.{◌≡◌, ℕ, List, [], ◌∷◌, ◌++◌};
-ghost use Rattle.dmr_console.specs.Lines.{IsOpenLine, first_octets_of_line, line_step_of as line_of_octets, lines_in, open_in, without_cr as without_cr_of};
+ghost use Rattle.dmr_console.specs.Lines.{IsOpenLine, first_octets_of_line};
+ghost use Rattle.dmr_console.specs.Lines.{line_step_of as line_of_octets, lines_in, open_in};
+ghost use Rattle.dmr_console.specs.Lines.{without_cr as without_cr_of};
 ghost use Rattle.dmr_console.specs.Steps.{open_line_after_octet, line_produced, line_step_at};
 
 use arrayvec::ArrayVec;
@@ -16,7 +18,8 @@ const CR: u8 = b'\r';
 /// The most octets of a line before its LF, including a CR (this project's profile).
 pub const LONGEST_LINE: usize = 80;
 
-/// The most octets of an open line that are kept: one more than a line can have. With that many it is too long, whatever follows.
+/// The most octets of an open line that are kept: one more than a line can have. With that many it is too long,
+/// whatever follows.
 const MOST_KEPT: usize = LONGEST_LINE + 1;
 
 /// The result of an octet (this project's profile).
@@ -26,13 +29,13 @@ pub enum LineStep {
     Need,
     /// The octet is the LF of this line. The line has the octets before the LF, without a CR directly before it.
     Line(ArrayVec<u8, LONGEST_LINE>),
-    /// The octet is the LF of a line of more than 80 octets, including a CR. The line's octets are dropped, and the next octet begins a new
-    /// line.
+    /// The octet is the LF of a line of more than 80 octets, including a CR. The line's octets are dropped, and the
+    /// next octet begins a new line.
     TooLong,
 }
 
-/// Cuts the octets of one connection into lines (this project's profile). It keeps the first 81 octets after the last LF: with 81 the line
-/// is too long, whatever follows. Contracts see these octets.
+/// Cuts the octets of one connection into lines (this project's profile). It keeps the first 81 octets after the last
+/// LF: with 81 the line is too long, whatever follows. Contracts see these octets.
 #[derive(Debug, Drop)]
 pub struct LineCutter {
     begun: ArrayVec<u8, MOST_KEPT>,
@@ -59,11 +62,11 @@ impl LineCutter {
         }
     }
 
-    /// Takes the next octet. At an LF it returns the line, or that the line was too long, and keeps nothing of the line. At any other octet
-    /// it returns `Need`.
+    /// Takes the next octet. At an LF it returns the line, or that the line was too long, and keeps nothing of the
+    /// line. At any other octet it returns `Need`.
     pub fn feed_byte(&mut self, octet: u8) -> LineStep
-        // If the cutter keeps the open line of the octets so far, it also keeps that of these octets with this one. Their lines are those
-        // so far, and the line of this result, if it has one.
+        // If the cutter keeps the open line of the octets so far, it also keeps that of these octets with this one.
+        // Their lines are those so far, and the line of this result, if it has one.
         ensures stream { (octets : List ℕ) → self.old ≡ first_octets_of_line (open_in octets) →
             (lines_in (octets ++ octet ∷ []) ≡ lines_in octets ++ line_produced result)
             × (self.new ≡ first_octets_of_line (open_in (octets ++ octet ∷ []))) }

@@ -2,7 +2,8 @@
 
 ghost use Rattle.std.specs.Prelude.{◌≡◌, ◌≤◌, IfSome};
 ghost use Rattle.dmr_console.specs.Words.{words_of_line};
-ghost use Rattle.dmr_console.specs.Commands.{command_without_words, command_by, command_of, end_command, one_number};
+ghost use Rattle.dmr_console.specs.Commands.{command_without_words, command_by, command_of};
+ghost use Rattle.dmr_console.specs.Commands.{end_command, one_number};
 
 use crate::words::{first_word, number_in};
 use dmr_calls::MOST_LINES;
@@ -12,9 +13,10 @@ use dmr_pdu::{Address, CarrierNo, Lpcn, SlotNo};
 /// The greatest number of a radio.
 const LAST_RADIO: u32 = 16_777_215;
 
-/// Reads the command of a line (this project's profile), from the line's octets without its end. `None` if the line is not a command:
-/// another first word, too few or too many words, a word that is not a number in its range, or no word. One or more spaces separate words,
-/// and spaces at the ends are ignored; case counts. A number has 1 to 8 decimal digits.
+/// Reads the command of a line (this project's profile), from the line's octets without its end. `None` if the line is
+/// not a command: another first word, too few or too many words, a word that is not a number in its range, or no word.
+/// One or more spaces separate words, and spaces at the ends are ignored; case counts. A number has 1 to 8 decimal
+/// digits.
 pub fn parse(line: &[u8]) -> Option<Command>
     ensures { result ≡ command_of line.now }
 {

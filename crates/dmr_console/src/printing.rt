@@ -27,8 +27,8 @@ pub fn line_too_long() -> &'static str
     "error line too long\n"
 }
 
-/// The text of a reply: one or more lines, each with its LF (this project's profile). The line `end` follows rows. Every text fits, with
-/// all its rows.
+/// The text of a reply: one or more lines, each with its LF (this project's profile). The line `end` follows rows.
+/// Every text fits, with all its rows.
 pub fn print(reply: &Reply) -> ArrayString<LONGEST_TEXT>
     ensures { result.bytes ≡ text_of_reply reply.now }
 {

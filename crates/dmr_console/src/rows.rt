@@ -3,7 +3,8 @@
 ghost use Rattle.std.specs.Prelude.{◌≡◌, ◌+◌, ◌*◌, ◌<◌, ◌≤◌, ◌++◌, length};
 ghost use Rattle.std.specs.List.{enumerate_from, flat_map};
 ghost use Rattle.arrayvec.specs.ArrayString.{array_string_len};
-ghost use Rattle.dmr_console.specs.Texts.{call_row, line_row, parties_text, radio_row, slot_row, slot_text, state_text};
+ghost use Rattle.dmr_console.specs.Texts.{call_row, line_row, parties_text, radio_row, slot_row};
+ghost use Rattle.dmr_console.specs.Texts.{slot_text, state_text};
 
 use crate::number_text::{push_address, push_small};
 use crate::printing::LONGEST_TEXT;
@@ -61,7 +62,8 @@ fn push_call(text: &mut ArrayString<LONGEST_TEXT>, call: &Call)
 /// Appends a row for each line, at most 16 of them, the first at the place `from`.
 pub fn push_lines(text: &mut ArrayString<LONGEST_TEXT>, from: LineNo, lines: &[Line])
     requires room { array_string_len text.old + 37 * length lines.now ≤ LONGEST_TEXT }
-    ensures bytes { text.new.bytes ≡ text.old.bytes ++ flat_map line_row (enumerate_from from lines.now) }
+    ensures bytes { text.new.bytes
+        ≡ text.old.bytes ++ flat_map line_row (enumerate_from from lines.now) }
     ensures len { array_string_len text.new ≤ array_string_len text.old + 37 * length lines.now }
 {
     let mut place = u32::from(from.get());

@@ -20,7 +20,8 @@ ticks_in _ = 0
 -- the ticks after the last entry that `opens` accepts; if it accepts none, all ticks and the count before the journal
 abbrev pub ticks_since : (Entry → Bool) → ℕ → List Entry → ℕ
 ticks_since opens before [] = before
-ticks_since opens before (entry ∷ earlier) = if opens entry then 0 else ticks_in entry.event + ticks_since opens before earlier
+ticks_since opens before (entry ∷ earlier) =
+    if opens entry then 0 else ticks_in entry.event + ticks_since opens before earlier
 
 -- the act begins a call on the slot
 abbrev pub is_begin : Slot → Act → Bool
@@ -51,12 +52,15 @@ asked_in radio entry = list_any (is_asked radio) entry.acts.list
 
 -- the age of the call on a slot; 0 if there is none
 abbrev pub age_on : List ActiveCall → Slot → ℕ
-age_on calls slot = option_map_or (λ (s : ActiveCall). s.age) (find (λ s. is_slot s.call.slot slot) calls) 0
+age_on calls slot =
+    option_map_or (λ (s : ActiveCall). s.age) (find (λ s. is_slot s.call.slot slot) calls) 0
 
 -- the quiet time of the call on a slot; 0 if there is none
 abbrev pub quiet_on : List ActiveCall → Slot → ℕ
-quiet_on calls slot = option_map_or (λ (s : ActiveCall). s.quiet) (find (λ s. is_slot s.call.slot slot) calls) 0
+quiet_on calls slot =
+    option_map_or (λ (s : ActiveCall). s.quiet) (find (λ s. is_slot s.call.slot slot) calls) 0
 
 -- the waiting time of a radio's ask; 0 if it has none
 abbrev pub waited_of : List ActiveAsk → ℕ → ℕ
-waited_of asks radio = option_map_or (λ (a : ActiveAsk). a.waited) (find (λ a. a.ask.source == radio) asks) 0
+waited_of asks radio =
+    option_map_or (λ (a : ActiveAsk). a.waited) (find (λ a. a.ask.source == radio) asks) 0

@@ -16,7 +16,8 @@ abbrev pub elsewhere : Settings → Act → ℕ
 elsewhere plan (Queue slot pdu) = cond (is_control plan slot) 0 1
 elsewhere plan _ = 0
 
--- an answer has at most `most` acts; at most `control` of them queue a PDU on the control slot, and at most `others` elsewhere
+-- an answer has at most `most` acts; at most `control` of them queue a PDU on the control slot, and at most `others`
+-- elsewhere
 pub record AreFewActs (plan : Settings) (acts : List Act) (most control others : ℕ) : Type 0 where
   pub size : length acts ≤ most
   pub waiting : total (on_control plan) acts ≤ control

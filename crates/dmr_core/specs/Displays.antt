@@ -1,5 +1,6 @@
 -- The lists in replies to an operator.
-use Rattle.std.specs.Prelude.{ℕ, List, [], ◌∷◌, ◌++◌, not, if◌then◌else◌, Option, Some, None, flat_map}
+use Rattle.std.specs.Prelude.{ℕ, List, [], ◌∷◌, ◌++◌, not, if◌then◌else◌, Option, Some, None}
+use Rattle.std.specs.Prelude.{flat_map}
 use Rattle.dmr_pdu.specs.declared.slots.Slot.{Slot}
 use Rattle.dmr_plan.specs.declared.settings.Settings.{Settings}
 use Rattle.dmr_calls.specs.declared.call.Call.{Call}
@@ -19,7 +20,9 @@ at_most_one (Some call) = call ∷ []
 
 -- the calls on a carrier, by slot
 abbrev pub calls_on_carrier : List ActiveCall → ℕ → List Call
-calls_on_carrier calls c = at_most_one (call_on calls (record { carrier = c; slot = 0 })) ++ at_most_one (call_on calls (record { carrier = c; slot = 1 }))
+calls_on_carrier calls c =
+    at_most_one (call_on calls (record { carrier = c; slot = 0 }))
+    ++ at_most_one (call_on calls (record { carrier = c; slot = 1 }))
 
 -- the state of a slot: the first that applies
 abbrev pub state_of : Settings → Facts → Slot → State
@@ -31,7 +34,10 @@ state_of plan now slot =
 
 -- a slot with its state, if the plan has its carrier
 abbrev pub slot_states : Settings → Facts → Slot → List SlotState
-slot_states plan now slot = if has_carrier plan slot.carrier then record { slot = slot; state = state_of plan now slot } ∷ [] else []
+slot_states plan now slot =
+    if has_carrier plan slot.carrier
+    then record { slot = slot; state = state_of plan now slot } ∷ []
+    else []
 
 -- each slot of the plan with its state, by carrier number, then slot
 unfoldable pub all_slot_states : Settings → Facts → List SlotState

@@ -2,7 +2,8 @@
 use Rattle.std.specs.Prelude.{◌≡◌, false}
 use Rattle.dmr_plan.specs.declared.settings.Settings.{Settings}
 use Rattle.dmr_core.specs.declared.event.Event.{Event}
-use Rattle.dmr_core.specs.declared.event.Event.TheVariants.{Up, Lost, Heard, Noise, Active, Poll, Tick, Say}
+use Rattle.dmr_core.specs.declared.event.Event.TheVariants.{Up, Lost, Heard, Noise, Active, Poll}
+use Rattle.dmr_core.specs.declared.event.Event.TheVariants.{Tick, Say}
 use Rattle.dmr_core.specs.Facts.{Facts, has_carrier}
 use Rattle.dmr_core.specs.Words.{is_up}
 

@@ -1,5 +1,6 @@
 -- The facts after a journal. Each is a fold over the entries, the newest first, with the fact before them at its end.
-use Rattle.std.specs.Prelude.{ℕ, List, [], ◌∷◌, ◌++◌, Bool, true, false, if◌then◌else◌, ◌==◌, fold, map, slice_set, replicate, Option, Some, None}
+use Rattle.std.specs.Prelude.{ℕ, List, [], ◌∷◌, ◌++◌, Bool, true, false, if◌then◌else◌, ◌==◌, fold}
+use Rattle.std.specs.Prelude.{map, slice_set, replicate, Option, Some, None}
 use Rattle.dmr_pdu.specs.declared.pdu.Pdu.{Pdu}
 use Rattle.dmr_pdu.specs.declared.pdu.Pdu.TheVariants.{TvGrant}
 use Rattle.dmr_plan.specs.declared.settings.Settings.{Settings}
@@ -12,15 +13,18 @@ use Rattle.dmr_calls.specs.declared.line.Line.{Line}
 use Rattle.dmr_calls.specs.declared.call.ActiveCall.{ActiveCall}
 use Rattle.dmr_calls.specs.Asks.{new_active_ask, ask_after_tick, others_than}
 use Rattle.dmr_calls.specs.Lines.{without_line}
-use Rattle.dmr_calls.specs.Calls.{just_begun, one_tick_older, with_activity, on_other_slots, on_other_carriers}
+use Rattle.dmr_calls.specs.Calls.{just_begun, one_tick_older, with_activity, on_other_slots}
+use Rattle.dmr_calls.specs.Calls.{on_other_carriers}
 use Rattle.dmr_pdu.specs.Slots.{carriers_of_site, slots_of_site}
 use Rattle.dmr_pool.specs.Slots.{outboxes_without_carrier, outboxes_with_pdu, outboxes_after_send}
 use Rattle.dmr_pool.specs.Free.{is_control}
 use Rattle.dmr_core.specs.declared.event.Event.{Event}
-use Rattle.dmr_core.specs.declared.event.Event.TheVariants.{Up, Lost, Noise, Active, Poll, Tick, Say}
+use Rattle.dmr_core.specs.declared.event.Event.TheVariants.{Up, Lost, Noise, Active, Poll, Tick}
+use Rattle.dmr_core.specs.declared.event.Event.TheVariants.{Say}
 use Rattle.dmr_core.specs.declared.command.Command.TheVariants.{Move, Stay}
 use Rattle.dmr_core.specs.declared.act.Act.{Act}
-use Rattle.dmr_core.specs.declared.act.Act.TheVariants.{Queue, Send, Fill, Joined, Left, Asked, AskOver, Lined, Unlined, Began, Ended}
+use Rattle.dmr_core.specs.declared.act.Act.TheVariants.{Queue, Send, Fill, Joined, Left, Asked}
+use Rattle.dmr_core.specs.declared.act.Act.TheVariants.{AskOver, Lined, Unlined, Began, Ended}
 use Rattle.dmr_core.specs.declared.entry.Entry.{Entry}
 use Rattle.dmr_core.specs.declared.named.NamedSlot.{NamedSlot}
 
@@ -40,7 +44,8 @@ pub record Facts : Type 0 where
 -- a fact after the entries: the fact before them, as changed by each event and each act
 abbrev pub since : {X : Type 0} → (X → Event → X) → (X → Act → X) → X → List Entry → X
 since by_event by_act x [] = x
-since by_event by_act x (entry ∷ earlier) = fold by_act (by_event (since by_event by_act x earlier) entry.event) entry.acts.list
+since by_event by_act x (entry ∷ earlier) =
+    fold by_act (by_event (since by_event by_act x earlier) entry.event) entry.acts.list
 
 -- no event, or no act, changes the fact
 abbrev pub same_as_before : {X Y : Type 0} → X → Y → X
@@ -87,8 +92,8 @@ lines_by_act lines (Lined line) = lines ++ line ∷ []
 lines_by_act lines (Unlined r) = without_line r lines
 lines_by_act lines _ = lines
 
--- calls by event: their carrier's Up and Lost close; Active marks the call on its slot; a Tick adds one to ages and quiet times, up
--- to 65,535
+-- calls by event: their carrier's Up and Lost close; Active marks the call on its slot; a Tick adds one to ages and
+-- quiet times, up to 65,535
 abbrev pub calls_by_event : List ActiveCall → Event → List ActiveCall
 calls_by_event calls (Up c) = on_other_carriers c calls
 calls_by_event calls (Lost c) = on_other_carriers c calls
@@ -147,7 +152,8 @@ late_by_event plan late _ = late
 
 -- the slot of the last late entry, by act: a Fill that is a grant to a talkgroup opens it
 abbrev pub late_by_act : Option NamedSlot → Act → Option NamedSlot
-late_by_act late (Fill slot (TvGrant channel number bit target source)) = Some (record { channel = channel; slot = number })
+late_by_act late (Fill slot (TvGrant channel number bit target source)) =
+    Some (record { channel = channel; slot = number })
 late_by_act late _ = late
 
 -- the facts after the entries, the newest first
@@ -197,4 +203,15 @@ facts_after_act facts act = record {
 
 -- the facts of a site on which nothing has happened
 abbrev pub no_facts : Facts
-no_facts = record { up = replicate carriers_of_site false; registered = []; asks = []; lines = []; calls = []; outboxes = replicate slots_of_site []; noise = []; moving = None; fills = 0; late = None }
+no_facts = record {
+  up = replicate carriers_of_site false;
+  registered = [];
+  asks = [];
+  lines = [];
+  calls = [];
+  outboxes = replicate slots_of_site [];
+  noise = [];
+  moving = None;
+  fills = 0;
+  late = None;
+}

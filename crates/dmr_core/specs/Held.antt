@@ -7,4 +7,5 @@ use Rattle.dmr_core.specs.Words.{has_call_on}
 
 -- a slot is held exactly if a call is active on it
 abbrev pub HoldsCalls : List Bool → List ActiveCall → Type 0
-HoldsCalls held calls = (slot : Slot) → IsSlot slot → is_slot_held held slot ≡ has_call_on calls slot
+HoldsCalls held calls =
+    (slot : Slot) → IsSlot slot → is_slot_held held slot ≡ has_call_on calls slot

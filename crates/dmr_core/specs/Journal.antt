@@ -22,7 +22,8 @@ unattributed_entry event acts = record { actor = 0; event = event; acts = acts }
 -- each entry's acts and reply are the answer to its event after the entries before it
 abbrev pub IsLegal : Settings → Facts → List Entry → Type 0
 IsLegal plan facts [] = Unit {0}
-IsLegal plan facts (entry ∷ earlier) = (entry.acts ≡ answer_after_entries plan facts earlier entry.event) × IsLegal plan facts earlier
+IsLegal plan facts (entry ∷ earlier) =
+    (entry.acts ≡ answer_after_entries plan facts earlier entry.event) × IsLegal plan facts earlier
 
 -- the legal journal of these events, the newest first
 abbrev pub journal_of : Settings → Facts → List Event → List Entry

@@ -1,5 +1,6 @@
 -- A fact by the last event or act that opened or closed it.
-use Rattle.std.specs.Prelude.{ℕ, List, [], ◌∷◌, Bool, true, false, Option, Some, None, unwrap_or, if◌then◌else◌, ◌==◌, ◌&&◌}
+use Rattle.std.specs.Prelude.{ℕ, List, [], ◌∷◌, Bool, true, false, Option, Some, None, unwrap_or}
+use Rattle.std.specs.Prelude.{if◌then◌else◌, ◌==◌, ◌&&◌}
 use Rattle.dmr_pdu.specs.declared.slots.Slot.{Slot}
 use Rattle.dmr_pdu.specs.declared.pdu.Pdu.TheVariants.{TvGrant}
 use Rattle.dmr_plan.specs.declared.settings.Settings.{Settings}
@@ -11,7 +12,8 @@ use Rattle.dmr_core.specs.declared.event.Event.{Event}
 use Rattle.dmr_core.specs.declared.event.Event.TheVariants.{Up, Lost, Say}
 use Rattle.dmr_core.specs.declared.command.Command.TheVariants.{Move, Stay}
 use Rattle.dmr_core.specs.declared.act.Act.{Act}
-use Rattle.dmr_core.specs.declared.act.Act.TheVariants.{Fill, Joined, Left, Asked, AskOver, Lined, Unlined, Began, Ended}
+use Rattle.dmr_core.specs.declared.act.Act.TheVariants.{Fill, Joined, Left, Asked, AskOver, Lined}
+use Rattle.dmr_core.specs.declared.act.Act.TheVariants.{Unlined, Began, Ended}
 use Rattle.dmr_core.specs.declared.entry.Entry.{Entry}
 use Rattle.dmr_core.specs.declared.named.NamedSlot.{NamedSlot}
 use Rattle.dmr_core.specs.Facts.{has_carrier}
@@ -30,7 +32,8 @@ last_given says (act ∷ acts) = or_earlier (last_given says acts) (says act)
 abbrev pub value_after : {X : Type 0} → (Event → Option X) → (Act → Option X) → X → List Entry → X
 value_after by_event by_act before [] = before
 value_after by_event by_act before (entry ∷ earlier) =
-    unwrap_or (or_earlier (last_given by_act entry.acts.list) (by_event entry.event)) (value_after by_event by_act before earlier)
+    unwrap_or (or_earlier (last_given by_act entry.acts.list) (by_event entry.event))
+    (value_after by_event by_act before earlier)
 
 -- no event opens or closes it
 abbrev pub no_event : {X : Type 0} → Event → Option X
@@ -60,7 +63,8 @@ of_move _ = None
 
 -- a Fill that is a grant to a talkgroup opens the slot of the last late entry
 abbrev pub of_late : Act → Option (Option NamedSlot)
-of_late (Fill slot (TvGrant channel number bit target source)) = Some (Some (record { channel = channel; slot = number }))
+of_late (Fill slot (TvGrant channel number bit target source)) =
+    Some (Some (record { channel = channel; slot = number }))
 of_late _ = None
 
 -- a carrier's Up and Lost close the fact

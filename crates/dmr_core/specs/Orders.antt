@@ -1,5 +1,6 @@
 -- The order of registrations, asks, lines and calls, defined by the acts.
-use Rattle.std.specs.Prelude.{◌≡◌, ℕ, List, [], ◌∷◌, ◌++◌, Bool, if◌then◌else◌, filter, flat_map, map}
+use Rattle.std.specs.Prelude.{◌≡◌, ℕ, List, [], ◌∷◌, ◌++◌, Bool, if◌then◌else◌, filter, flat_map}
+use Rattle.std.specs.Prelude.{map}
 use Rattle.std.specs.List.{list_any}
 use Rattle.dmr_pdu.specs.declared.slots.Slot.{Slot}
 use Rattle.dmr_calls.specs.declared.ask.ActiveAsk.{ActiveAsk}
@@ -44,12 +45,14 @@ slots_of_calls calls = map (λ (s : ActiveCall). s.call.slot) calls
 -- the values before the journal, followed by those that its acts opened, oldest first
 abbrev pub with_openings : {X : Type 0} → (Act → List X) → List X → List Entry → List X
 with_openings by_act before [] = before
-with_openings by_act before (entry ∷ earlier) = with_openings by_act before earlier ++ flat_map by_act entry.acts.list
+with_openings by_act before (entry ∷ earlier) =
+    with_openings by_act before earlier ++ flat_map by_act entry.acts.list
 
 -- of equal values, the last alone
 abbrev pub last_of_each : {X : Type 0} → (X → X → Bool) → List X → List X
 last_of_each same [] = []
-last_of_each same (x ∷ xs) = if list_any (same x) xs then last_of_each same xs else x ∷ last_of_each same xs
+last_of_each same (x ∷ xs) =
+    if list_any (same x) xs then last_of_each same xs else x ∷ last_of_each same xs
 
 -- xs has some of the values of `all`, each once, in the order in which they come last
 abbrev pub IsInOrder : {X : Type 0} → (X → X → Bool) → List X → List X → Type 0

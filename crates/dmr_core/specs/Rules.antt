@@ -1,11 +1,19 @@
 -- The answer to each event.
-use Rattle.std.specs.Prelude.{ℕ, ◌+◌, ◌-◌, ◌/◌, ◌%◌, ◌^◌, List, [], ◌∷◌, ◌++◌, Bool, true, false, not, if◌then◌else◌, ◌==◌, ◌&&◌, ◌||◌, nat_lt, nat_le, length, filter, replicate, Option, Some, None, is_some, option_map}
+use Rattle.std.specs.Prelude.{ℕ, ◌+◌, ◌-◌, ◌/◌, ◌%◌, ◌^◌, List, [], ◌∷◌, ◌++◌, Bool, true, false}
+use Rattle.std.specs.Prelude.{not, if◌then◌else◌, ◌==◌, ◌&&◌, ◌||◌, nat_lt, nat_le, length, filter}
+use Rattle.std.specs.Prelude.{replicate, Option, Some, None, is_some, option_map}
 use Rattle.std.specs.Option.{option_map_or}
 use Rattle.dmr_pdu.specs.declared.slots.Slot.{Slot}
 use Rattle.dmr_pdu.specs.declared.pdu.Pdu.{Pdu}
-use Rattle.dmr_pdu.specs.declared.pdu.Pdu.TheVariants.{Ahoy, Random, Ackd, Acku, Clear, PvGrant, TvGrant}
-use Rattle.dmr_pdu.specs.Kinds.{registration as registration_kind, cancel as cancel_kind, individual_voice, talkgroup_voice}
-use Rattle.dmr_pdu.specs.Reasons.{not_supported, perm_user_refused, transient_sys_refused, noreg_ms_away, sysbusy_refused, call_cancel_refused, reg_refused, reg_denied, ms_not_registered, called_party_busy, group_not_allowed, ms_accepted, message_accepted, reg_accepted, queued_for_resource, wait}
+use Rattle.dmr_pdu.specs.declared.pdu.Pdu.TheVariants.{Ahoy, Random, Ackd, Acku, Clear, PvGrant}
+use Rattle.dmr_pdu.specs.declared.pdu.Pdu.TheVariants.{TvGrant}
+use Rattle.dmr_pdu.specs.Kinds.{registration as registration_kind, cancel as cancel_kind}
+use Rattle.dmr_pdu.specs.Kinds.{individual_voice, talkgroup_voice}
+use Rattle.dmr_pdu.specs.Reasons.{not_supported, perm_user_refused, transient_sys_refused}
+use Rattle.dmr_pdu.specs.Reasons.{noreg_ms_away, sysbusy_refused, call_cancel_refused, reg_refused}
+use Rattle.dmr_pdu.specs.Reasons.{reg_denied, ms_not_registered, called_party_busy}
+use Rattle.dmr_pdu.specs.Reasons.{group_not_allowed, ms_accepted, message_accepted, reg_accepted}
+use Rattle.dmr_pdu.specs.Reasons.{queued_for_resource, wait}
 use Rattle.dmr_plan.specs.declared.settings.Settings.{Settings}
 use Rattle.dmr_plan.specs.Plan.{lists_radio, lists_group}
 use Rattle.dmr_registry.specs.Limits.{most_radios}
@@ -17,7 +25,8 @@ use Rattle.dmr_calls.specs.declared.call.Call.{Call}
 use Rattle.dmr_calls.specs.declared.call.ActiveCall.{ActiveCall}
 use Rattle.dmr_calls.specs.Limits.{most_asks, most_lines}
 use Rattle.dmr_calls.specs.Asks.{ask_of, ask_to, has_own_ask}
-use Rattle.dmr_calls.specs.Lines.{first_line, page_of_lines, line_of, line_to, has_group_line, has_own_group_line, has_own_line}
+use Rattle.dmr_calls.specs.Lines.{first_line, page_of_lines, line_of, line_to, has_group_line}
+use Rattle.dmr_calls.specs.Lines.{has_own_group_line, has_own_line}
 use Rattle.dmr_calls.specs.Calls.{call_on, group_call, own_group_call, own_call}
 use Rattle.dmr_calls.specs.Engaged.{call_of}
 use Rattle.dmr_calls.specs.Due.{due_call, due_ask}
@@ -31,11 +40,13 @@ use Rattle.dmr_core.specs.declared.reply.Reply.{Reply}
 use Rattle.dmr_core.specs.declared.reply.Reply.TheVariants as reply
 use Rattle.dmr_core.specs.declared.act.Act.{Act}
 use Rattle.dmr_core.specs.declared.act.Acts.{Acts}
-use Rattle.dmr_core.specs.declared.act.Act.TheVariants.{Queue, Send, Fill, Joined, Left, Asked, AskOver, Lined, Unlined, Began, Ended}
+use Rattle.dmr_core.specs.declared.act.Act.TheVariants.{Queue, Send, Fill, Joined, Left, Asked}
+use Rattle.dmr_core.specs.declared.act.Act.TheVariants.{AskOver, Lined, Unlined, Began, Ended}
 use Rattle.dmr_core.specs.Facts.{Facts, asks_by_event, calls_by_event, has_carrier}
 use Rattle.dmr_core.specs.Late.{next_call}
 use Rattle.dmr_core.specs.Displays.{all_slot_states, calls_on_carrier}
-use Rattle.dmr_core.specs.Words.{is_up, outbox, lpcn_of, lowest_free, slot_for_new_call, has_room, is_registered, is_engaged}
+use Rattle.dmr_core.specs.Words.{is_up, outbox, lpcn_of, lowest_free, slot_for_new_call, has_room}
+use Rattle.dmr_core.specs.Words.{is_registered, is_engaged}
 
 -- C_ACKD to the source, with this reason, that names the target
 abbrev pub ack : Settings → ℕ → ℕ → ℕ → List Act
@@ -50,16 +61,19 @@ grant_pdu plan call late =
 
 -- the grant in as many copies as the plan's `grant_copies`
 unfoldable pub grant : Settings → Call → Bool → List Act
-grant plan call late = replicate plan.grant_copies (Queue (control_slot plan) (grant_pdu plan call late))
+grant plan call late =
+    replicate plan.grant_copies (Queue (control_slot plan) (grant_pdu plan call late))
 
 -- a call ends, and P_CLEAR is queued on its slot in as many copies as the plan's `clear_copies`
 unfoldable pub clear : Settings → Call → List Act
 clear plan call =
-    Ended call.slot ∷ replicate plan.clear_copies (Queue call.slot (Clear (lpcn_of plan plan.control) call.group call.target plan.tsi))
+    Ended call.slot ∷ replicate plan.clear_copies
+    (Queue call.slot (Clear (lpcn_of plan plan.control) call.group call.target plan.tsi))
 
 -- the call that a line becomes on a slot
 abbrev pub call_of_line : Line → Slot → Call
-call_of_line line slot = record { slot = slot; source = line.source; target = line.target; group = line.group }
+call_of_line line slot =
+    record { slot = slot; source = line.source; target = line.target; group = line.group }
 
 -- a call begins, and its grant is queued
 abbrev pub begin : Settings → Call → List Act
@@ -78,14 +92,18 @@ unfoldable pub close : Settings → Facts → ℕ → List Act
 close plan now r =
     option_map_or (λ (call : Call). clear plan call) (call_of now.calls r)
     (option_map_or (λ (ask : Ask). AskOver ask.source ∷ []) (ask_of now.asks r)
-    (option_map_or (λ (ask : Ask). AskOver ask.source ∷ ack plan ask.source ask.target noreg_ms_away) (ask_to now.asks r)
+    (option_map_or (λ (ask : Ask). AskOver ask.source
+    ∷ ack plan ask.source ask.target noreg_ms_away) (ask_to now.asks r)
     (option_map_or (λ (line : Line). Unlined line.source ∷ []) (line_of now.lines r)
-    (option_map_or (λ (line : Line). Unlined line.source ∷ ack plan line.source line.target noreg_ms_away) (line_to now.lines r)
+    (option_map_or (λ (line : Line). Unlined line.source
+    ∷ ack plan line.source line.target noreg_ms_away) (line_to now.lines r)
     []))))
 
 -- the acts for a radio that leaves: its registration ends, if there is one, and it gets an acknowledgement
 unfoldable pub acts_for_leaving : Settings → Facts → Request → List Act
-acts_for_leaving plan now q = close plan now q.source ++ (if is_registered now q.source then Left q.source ∷ [] else []) ++ ack plan q.source q.target message_accepted
+acts_for_leaving plan now q =
+    close plan now q.source ++ (if is_registered now q.source then Left q.source ∷ [] else [])
+    ++ ack plan q.source q.target message_accepted
 
 -- the acts for a registration request: the radio leaves, or is registered if it is listed and there is a place
 unfoldable pub acts_for_registration : Settings → Facts → Request → List Act
@@ -99,15 +117,20 @@ acts_for_registration plan now q =
 -- begins the call if a slot is free and there is no line; otherwise adds the line, or refuses it if there are 32
 unfoldable pub acts_for_new_call : Settings → Facts → Line → List Act
 acts_for_new_call plan now line =
-    option_map_or (λ (slot : Slot). begin plan (call_of_line line slot)) (slot_for_new_call plan now)
-    (if nat_lt (length now.lines) most_lines then Lined line ∷ ack plan line.source line.target queued_for_resource else ack plan line.source line.target sysbusy_refused)
+    option_map_or (λ (slot : Slot). begin plan (call_of_line line slot))
+    (slot_for_new_call plan now)
+    (if nat_lt (length now.lines) most_lines
+    then Lined line ∷ ack plan line.source line.target queued_for_resource
+    else ack plan line.source line.target sysbusy_refused)
 
 -- the acts for a talkgroup request, by the first row that applies
 unfoldable pub acts_for_talkgroup_request : Settings → Facts → Request → List Act
 acts_for_talkgroup_request plan now q =
     if not (lists_group plan q.target) then ack plan q.source q.target group_not_allowed else
-    option_map_or (λ (call : Call). grant plan call false) (own_group_call now.calls q.source q.target)
-    (if has_own_group_line now.lines q.source q.target then ack plan q.source q.target queued_for_resource else
+    option_map_or (λ (call : Call). grant plan call false)
+    (own_group_call now.calls q.source q.target)
+    (if has_own_group_line now.lines q.source q.target
+    then ack plan q.source q.target queued_for_resource else
     if is_engaged now q.source then ack plan q.source q.target transient_sys_refused else
     option_map_or (λ (call : Call). grant plan call true) (group_call now.calls q.target)
     (if has_group_line now.lines q.target then ack plan q.source q.target queued_for_resource else
@@ -115,34 +138,43 @@ acts_for_talkgroup_request plan now q =
 
 -- C_AHOY to the target of an ask
 abbrev pub ahoy : Settings → Ask → List Act
-ahoy plan ask = Queue (control_slot plan) (Ahoy ask.options false individual_voice ask.target ask.source) ∷ []
+ahoy plan ask =
+    Queue (control_slot plan) (Ahoy ask.options false individual_voice ask.target ask.source) ∷ []
 
 -- the acts for an individual request, by the first row that applies
 unfoldable pub acts_for_individual_request : Settings → Facts → Request → List Act
 acts_for_individual_request plan now q =
-    if (q.target == q.source) || not (lists_radio plan q.target) then ack plan q.source q.target perm_user_refused else
+    if (q.target == q.source) || not (lists_radio plan q.target)
+    then ack plan q.source q.target perm_user_refused else
     option_map_or (λ (call : Call). grant plan call false) (own_call now.calls q.source q.target)
     (if has_own_ask now.asks q.source q.target then ack plan q.source q.target wait else
-    if has_own_line now.lines q.source q.target then ack plan q.source q.target queued_for_resource else
+    if has_own_line now.lines q.source q.target
+    then ack plan q.source q.target queued_for_resource else
     if is_engaged now q.source then ack plan q.source q.target transient_sys_refused else
     if not (is_registered now q.target) then ack plan q.source q.target noreg_ms_away else
     if is_engaged now q.target then ack plan q.source q.target called_party_busy else
     if nat_lt (length now.asks) most_asks
-    then Asked (record { source = q.source; target = q.target; options = q.options; attempt = 1 }) ∷ ack plan q.source q.target wait
+    then Asked (record { source = q.source; target = q.target; options = q.options; attempt = 1 })
+    ∷ ack plan q.source q.target wait
     ++ ahoy plan (record { source = q.source; target = q.target; options = q.options; attempt = 1 })
     else ack plan q.source q.target sysbusy_refused)
 
 -- the acts for the acknowledgement of a called radio
 unfoldable pub acts_for_called_radio : Settings → Facts → ℕ → ℕ → List Act
 acts_for_called_radio plan now reason called =
-    option_map_or (λ (ask : Ask). AskOver ask.source ∷ (if reason == ms_accepted then acts_for_new_call plan now (record { source = ask.source; target = ask.target; group = false }) else ack plan ask.source ask.target called_party_busy))
+    option_map_or (λ (ask : Ask). AskOver ask.source
+    ∷ (if reason == ms_accepted then acts_for_new_call plan now
+    (record { source = ask.source; target = ask.target; group = false })
+    else ack plan ask.source ask.target called_party_busy))
     (ask_to now.asks called) []
 
 -- the acts for a request that cancels another
 unfoldable pub acts_for_cancel : Settings → Facts → Request → List Act
 acts_for_cancel plan now q =
-    option_map_or (λ (ask : Ask). AskOver ask.source ∷ ack plan q.source q.target message_accepted) (ask_of now.asks q.source)
-    (option_map_or (λ (line : Line). Unlined line.source ∷ ack plan q.source q.target message_accepted) (line_of now.lines q.source)
+    option_map_or (λ (ask : Ask). AskOver ask.source ∷ ack plan q.source q.target message_accepted)
+    (ask_of now.asks q.source)
+    (option_map_or (λ (line : Line). Unlined line.source
+    ∷ ack plan q.source q.target message_accepted) (line_of now.lines q.source)
     (ack plan q.source q.target call_cancel_refused))
 
 -- the acts for a request on the control slot, with room
@@ -150,21 +182,29 @@ unfoldable pub acts_for_request : Settings → Facts → Request → ℕ → ℕ
 acts_for_request plan now q flags kind =
     if not (flags == 0) then ack plan q.source q.target not_supported else
     if kind == registration_kind then acts_for_registration plan now q else
-    if not (kind == talkgroup_voice) && (not (kind == individual_voice) && not (kind == cancel_kind)) then ack plan q.source q.target not_supported else
+    if not (kind == talkgroup_voice)
+    && (not (kind == individual_voice) && not (kind == cancel_kind))
+    then ack plan q.source q.target not_supported else
     if not (is_registered now q.source) then ack plan q.source q.target ms_not_registered else
     if kind == cancel_kind then acts_for_cancel plan now q else
-    if kind == talkgroup_voice then acts_for_talkgroup_request plan now q else acts_for_individual_request plan now q
+    if kind == talkgroup_voice then acts_for_talkgroup_request plan now q
+    else acts_for_individual_request plan now q
 
 -- the acts for a PDU on the control slot, with room: only requests and acknowledgements have any
 unfoldable pub acts_for_pdu : Settings → Facts → Pdu → List Act
-acts_for_pdu plan now (Random options flags kind target source) = acts_for_request plan now (record { options = options; source = source; target = target }) flags kind
-acts_for_pdu plan now (Acku info reason spare target additional) = acts_for_called_radio plan now reason additional
+acts_for_pdu plan now (Random options flags kind target source) =
+    acts_for_request plan now
+    (record { options = options; source = source; target = target }) flags kind
+acts_for_pdu plan now (Acku info reason spare target additional) =
+    acts_for_called_radio plan now reason additional
 acts_for_pdu plan now _ = []
 
 -- the first line becomes a call, if a slot is free
 unfoldable pub acts_for_first_line : Settings → Facts → List Act
 acts_for_first_line plan now =
-    option_map_or (λ (line : Line). option_map_or (λ (slot : Slot). Unlined line.source ∷ begin plan (call_of_line line slot)) (lowest_free plan now) [])
+    option_map_or (λ (line : Line). option_map_or (λ (slot : Slot). Unlined line.source
+    ∷ begin plan (call_of_line line slot)) (lowest_free plan now)
+    [])
     (first_line now.lines) []
 
 -- the ask whose last C_AHOY is oldest, if it is due: repeated, or removed after the plan's last try
@@ -172,27 +212,43 @@ unfoldable pub acts_for_due_ask : Settings → Facts → List Act
 acts_for_due_ask plan now =
     option_map_or (λ (ask : Ask).
     if nat_lt ask.attempt plan.ahoy_tries
-    then Asked (record { source = ask.source; target = ask.target; options = ask.options; attempt = ask.attempt + 1 }) ∷ ahoy plan ask
+    then Asked (record {
+      source = ask.source;
+      target = ask.target;
+      options = ask.options;
+      attempt = ask.attempt + 1;
+    }) ∷ ahoy plan ask
     else AskOver ask.source ∷ ack plan ask.source ask.target noreg_ms_away)
     (due_ask plan.ahoy_wait now.asks) []
 
 -- the first call that is over is cleared
 unfoldable pub acts_for_due_call : Settings → List ActiveCall → List Act
-acts_for_due_call plan calls = option_map_or (λ (slot : Slot). option_map_or (λ (call : Call). clear plan call) (call_on calls slot) []) (due_call plan.hang plan.maximum calls) []
+acts_for_due_call plan calls =
+    option_map_or
+    (λ (slot : Slot). option_map_or (λ (call : Call). clear plan call) (call_on calls slot) [])
+    (due_call plan.hang plan.maximum calls)
+    []
 
 -- the acts for a Tick, which has been counted
 unfoldable pub acts_for_tick : Settings → Facts → List Act
-acts_for_tick plan now = acts_for_due_call plan now.calls ++ (if has_room plan now then acts_for_due_ask plan now ++ acts_for_first_line plan now else [])
+acts_for_tick plan now =
+    acts_for_due_call plan now.calls
+    ++ (if has_room plan now then acts_for_due_ask plan now ++ acts_for_first_line plan now else [])
 
--- the late entry of the next Fill: the grant of the next talkgroup call. There is one if it is due, the control channel is not to
--- be moved, and a talkgroup call is active.
+-- the late entry of the next Fill: the grant of the next talkgroup call. There is one if it is due, the control channel
+-- is not to be moved, and a talkgroup call is active.
 unfoldable pub late_entry : Settings → Facts → Option Pdu
 late_entry plan now =
-    if is_late_due now.fills && not (is_some now.moving) then option_map (λ (call : Call). grant_pdu plan call true) (next_call plan now) else None
+    if is_late_due now.fills && not (is_some now.moving)
+    then option_map (λ (call : Call). grant_pdu plan call true) (next_call plan now)
+    else None
 
 -- the first PDU that waits for a slot is sent; if none waits and the slot is the control slot, it is filled
 abbrev pub acts_for_outbox : Settings → Facts → Slot → List Pdu → List Act
-acts_for_outbox plan now slot [] = if is_control plan slot then Fill slot (fill_of plan now.moving now.noise now.fills (late_entry plan now)) ∷ [] else []
+acts_for_outbox plan now slot [] =
+    if is_control plan slot
+    then Fill slot (fill_of plan now.moving now.noise now.fills (late_entry plan now)) ∷ []
+    else []
 acts_for_outbox plan now slot (pdu ∷ pdus) = Send slot pdu ∷ []
 
 -- the acts for a slot of a carrier that polls
@@ -207,8 +263,8 @@ reply_alone reply = record { list = []; said = Some reply }
 abbrev pub acts_and_done : List Act → Acts
 acts_and_done acts = record { list = acts; said = Some reply.Done }
 
--- the answer to `drop`: if the radio is registered and there is room, the call, ask or line that engages it ends, then its
--- registration
+-- the answer to `drop`: if the radio is registered and there is room, the call, ask or line that engages it ends, then
+-- its registration
 abbrev pub drop_radio : Settings → Facts → ℕ → Acts
 drop_radio plan now r =
     if not (is_registered now r) then reply_alone reply.NotRegistered else
@@ -219,15 +275,21 @@ drop_radio plan now r =
 abbrev pub end_call : Settings → Facts → Slot → Acts
 end_call plan now slot =
     if not (has_carrier plan slot.carrier) then reply_alone reply.NoCarrier else
-    option_map_or (λ (call : Call). acts_and_done (clear plan call)) (call_on now.calls slot) (reply_alone reply.NoCall)
+    option_map_or (λ (call : Call). acts_and_done (clear plan call)) (call_on now.calls slot)
+    (reply_alone reply.NoCall)
 
 -- the answer to an operator's command: acts and reply
 unfoldable pub answer_to_command : Settings → Facts → Command → Acts
 answer_to_command plan now command.Status =
-    reply_alone (reply.Status (length (filter (λ up. up) now.up)) (length now.registered) (length now.asks) (length now.lines) (length now.calls) now.moving)
-answer_to_command plan now (command.Radios from) = reply_alone (reply.Radios (least_from now.registered from))
-answer_to_command plan now (command.Calls c) = reply_alone (if has_carrier plan c then reply.Calls (calls_on_carrier now.calls c) else reply.NoCarrier)
-answer_to_command plan now (command.Lines from) = reply_alone (reply.Lines from (page_of_lines now.lines (from - 1)))
+    reply_alone (reply.Status (length (filter (λ up. up) now.up)) (length now.registered)
+    (length now.asks) (length now.lines) (length now.calls) now.moving)
+answer_to_command plan now (command.Radios from) =
+    reply_alone (reply.Radios (least_from now.registered from))
+answer_to_command plan now (command.Calls c) =
+    reply_alone (if has_carrier plan c then reply.Calls (calls_on_carrier now.calls c)
+    else reply.NoCarrier)
+answer_to_command plan now (command.Lines from) =
+    reply_alone (reply.Lines from (page_of_lines now.lines (from - 1)))
 answer_to_command plan now command.Slots = reply_alone (reply.Slots (all_slot_states plan now))
 answer_to_command plan now (command.Drop r) = drop_radio plan now r
 answer_to_command plan now (command.End c s) = end_call plan now (record { carrier = c; slot = s })
@@ -237,9 +299,16 @@ answer_to_command plan now command.Stay = acts_and_done []
 -- the acts that answer an event, from the facts before it; a Tick is counted first
 abbrev pub acts_of : Settings → Facts → Event → List Act
 acts_of plan now (Heard slot pdu) =
-    if is_up now slot.carrier && (is_control plan slot && has_room plan now) then acts_for_pdu plan now pdu else []
+    if is_up now slot.carrier && (is_control plan slot && has_room plan now)
+    then acts_for_pdu plan now pdu
+    else []
 acts_of plan now (Poll c) =
-    if is_up now c then acts_for_slot plan now (record { carrier = c; slot = 0 }) ++ acts_for_slot plan now (record { carrier = c; slot = 1 }) else []
-acts_of plan now Tick = acts_for_tick plan (record now { calls = calls_by_event now.calls Tick; asks = asks_by_event plan now.asks Tick })
+    if is_up now c
+    then acts_for_slot plan now (record { carrier = c; slot = 0 })
+    ++ acts_for_slot plan now (record { carrier = c; slot = 1 })
+    else []
+acts_of plan now Tick =
+    acts_for_tick plan
+    (record now { calls = calls_by_event now.calls Tick; asks = asks_by_event plan now.asks Tick })
 acts_of plan now (Say command) = (answer_to_command plan now command).list
 acts_of plan now _ = []

@@ -1,5 +1,6 @@
 -- The facts of a site fit together.
-use Rattle.std.specs.Prelude.{◌≡◌, ◌≤◌, ◌<◌, ℕ, ◌+◌, length, List, [], ◌∷◌, Bool, true, false, not, cond, ◌==◌, ◌&&◌, ◌||◌, Some, None, slice_index_or}
+use Rattle.std.specs.Prelude.{◌≡◌, ◌≤◌, ◌<◌, ℕ, ◌+◌, length, List, [], ◌∷◌, Bool, true, false, not}
+use Rattle.std.specs.Prelude.{cond, ◌==◌, ◌&&◌, ◌||◌, Some, None, slice_index_or}
 use Rattle.std.specs.List.{list_any, list_all, All}
 use Rattle.dmr_pdu.specs.declared.slots.Slot.{Slot}
 use Rattle.dmr_pdu.specs.declared.pdu.Pdu.{Pdu}
@@ -50,7 +51,9 @@ engagements_in_ask r a = party r false a.ask.source a.ask.target
 
 -- how often a radio is engaged by calls, asks and lines
 abbrev pub engagements : List ActiveCall → List ActiveAsk → List Line → ℕ → ℕ
-engagements calls asks lines r = total (engagements_in_call r) calls + total (engagements_in_ask r) asks + total (engagements_in_line r) lines
+engagements calls asks lines r =
+    total (engagements_in_call r) calls + total (engagements_in_ask r) asks
+    + total (engagements_in_line r) lines
 
 -- a call to the talkgroup is active
 abbrev pub has_group_call : List ActiveCall → ℕ → Bool
@@ -65,9 +68,11 @@ is_grant _ = false
 -- if the PDU is a grant that names the call's slot, it is a grant of this call
 abbrev pub is_own : Settings → Call → Pdu → Bool
 is_own plan call (PvGrant l s target source) =
-    not ((l == lpcn_of plan call.slot.carrier) && (s == call.slot.slot)) || (not call.group && ((source == call.source) && (target == call.target)))
+    not ((l == lpcn_of plan call.slot.carrier) && (s == call.slot.slot))
+    || (not call.group && ((source == call.source) && (target == call.target)))
 is_own plan call (TvGrant l s late target source) =
-    not ((l == lpcn_of plan call.slot.carrier) && (s == call.slot.slot)) || (call.group && ((source == call.source) && (target == call.target)))
+    not ((l == lpcn_of plan call.slot.carrier) && (s == call.slot.slot))
+    || (call.group && ((source == call.source) && (target == call.target)))
 is_own plan call _ = true
 
 -- the slot belongs to a carrier that is up, and is not the control slot
@@ -83,7 +88,8 @@ pub record IsSound (plan : Settings) (facts : Facts) : Type 0 where
   pub carriers : length facts.up ≡ carriers_of_site
   pub slots : length facts.outboxes ≡ slots_of_site
   pub known : (c : ℕ) → is_up facts c ≡ true → has_carrier plan c ≡ true
-  -- calls are on distinct payload slots whose outboxes are empty; asks and lines exist only while the control carrier is up
+  -- calls are on distinct payload slots whose outboxes are empty; asks and lines exist only while the control carrier
+  -- is up
   pub apart : AreOnDistinctSlots facts.calls
   pub payload : (slot : Slot) → has_call_on facts.calls slot ≡ true → IsPayload plan facts.up slot
   pub quiet : (slot : Slot) → has_call_on facts.calls slot ≡ true → outbox facts slot ≡ []
@@ -91,15 +97,19 @@ pub record IsSound (plan : Settings) (facts : Facts) : Type 0 where
   pub lines : is_up facts plan.control ≡ false → facts.lines ≡ []
   -- no radio is registered twice; parties are registered and groups listed, and each radio is engaged at most once
   pub distinct : AreDistinct facts.registered
-  pub parties : (r : ℕ) → 0 < engagements facts.calls facts.asks facts.lines r → is_registered facts r ≡ true
+  pub parties : (r : ℕ) → 0 < engagements facts.calls facts.asks facts.lines r
+      → is_registered facts r ≡ true
   pub called : (g : ℕ) → has_group_call facts.calls g ≡ true → lists_group plan g ≡ true
   pub lined : (g : ℕ) → has_group_line facts.lines g ≡ true → lists_group plan g ≡ true
   pub once : (r : ℕ) → engagements facts.calls facts.asks facts.lines r ≤ 1
   -- no PDU waits for a carrier that is not up
-  pub down : (slot : Slot) → slot.slot < 2 → is_up facts slot.carrier ≡ false → outbox facts slot ≡ []
+  pub down : (slot : Slot) → slot.slot < 2 → is_up facts slot.carrier ≡ false
+      → outbox facts slot ≡ []
   -- grants wait for the control slot alone; each is that of the call on its slot, if a call is active there
-  pub elsewhere : (slot : Slot) → slot.slot < 2 → is_control plan slot ≡ false → list_any is_grant (outbox facts slot) ≡ false
-  pub own : (slot : Slot) (call : Call) → call_on facts.calls slot ≡ Some call → list_all (is_own plan call) (outbox facts (control_slot plan)) ≡ true
+  pub elsewhere : (slot : Slot) → slot.slot < 2 → is_control plan slot ≡ false
+      → list_any is_grant (outbox facts slot) ≡ false
+  pub own : (slot : Slot) (call : Call) → call_on facts.calls slot ≡ Some call
+      → list_all (is_own plan call) (outbox facts (control_slot plan)) ≡ true
   -- the limits of counts
   pub few_calls : length facts.calls ≤ most_calls
   pub few_asks : length facts.asks ≤ most_asks

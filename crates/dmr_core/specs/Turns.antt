@@ -1,5 +1,6 @@
 -- Late entries name the talkgroup calls in turn.
-use Rattle.std.specs.Prelude.{◌≡◌, ℕ, ◌+◌, List, [], ◌∷◌, Bool, true, false, ◌&&◌, ◌==◌, ◌⊎◌, if◌then◌else◌, length, filter, Some}
+use Rattle.std.specs.Prelude.{◌≡◌, ℕ, ◌+◌, List, [], ◌∷◌, Bool, true, false, ◌&&◌, ◌==◌, ◌⊎◌}
+use Rattle.std.specs.Prelude.{if◌then◌else◌, length, filter, Some}
 use Rattle.std.specs.List.{list_all}
 use Rattle.dmr_pdu.specs.declared.pdu.Pdu.{Pdu}
 use Rattle.dmr_plan.specs.declared.settings.Settings.{Settings}
@@ -50,10 +51,13 @@ is_turn plan (Up c) = c == plan.control
 is_turn plan (Lost c) = c == plan.control
 is_turn plan _ = false
 
--- the Fills since the control carrier last came up or was lost; if it never did, all Fills and the count before the journal
+-- the Fills since the control carrier last came up or was lost; if it never did, all Fills and the count before the
+-- journal
 abbrev pub fills_since : Settings → ℕ → List Entry → ℕ
 fills_since plan before [] = before
-fills_since plan before (entry ∷ earlier) = (if is_turn plan entry.event then 0 else fills_since plan before earlier) + total fill_in entry.acts.list
+fills_since plan before (entry ∷ earlier) =
+    (if is_turn plan entry.event then 0 else fills_since plan before earlier)
+    + total fill_in entry.acts.list
 
 -- the event is neither Up nor Lost of a carrier, nor an operator's `move`
 abbrev pub is_steady_event : Event → Bool
@@ -70,7 +74,9 @@ is_steady_act _ = true
 
 -- no carrier comes up or is lost in the journal, no call begins or ends, and there is no `move`
 abbrev pub is_steady : List Entry → Bool
-is_steady journal = list_all (λ (entry : Entry). is_steady_event entry.event && list_all is_steady_act entry.acts.list) journal
+is_steady journal =
+    list_all (λ (entry : Entry). is_steady_event entry.event
+    && list_all is_steady_act entry.acts.list) journal
 
 -- the number of active talkgroup calls
 abbrev pub talkgroup_calls : List ActiveCall → ℕ

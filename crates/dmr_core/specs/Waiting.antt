@@ -25,8 +25,10 @@ is_turn_of_carrier c (Up d) = d == c
 is_turn_of_carrier c (Lost d) = d == c
 is_turn_of_carrier c _ = false
 
--- the PDUs that acts named since the carrier last came up or was lost, oldest first; if it never did, `before` and then all
+-- the PDUs that acts named since the carrier last came up or was lost, oldest first; if it never did, `before` and then
+-- all
 abbrev pub since_turn : ℕ → (Act → List Pdu) → List Pdu → List Entry → List Pdu
 since_turn c named before [] = before
 since_turn c named before (entry ∷ earlier) =
-    (if is_turn_of_carrier c entry.event then [] else since_turn c named before earlier) ++ flat_map named entry.acts.list
+    (if is_turn_of_carrier c entry.event then [] else since_turn c named before earlier)
+    ++ flat_map named entry.acts.list

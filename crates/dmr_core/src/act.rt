@@ -70,7 +70,8 @@ impl Acts {
         Acts::without_reply(BoundedList::new())
     }
 
-    /// Removes the acts and the reply. It writes only what is there, so it costs less than [`Acts::none`] if there is little.
+    /// Removes the acts and the reply. It writes only what is there, so it costs less than [`Acts::none`] if there is
+    /// little.
     pub fn clear(&mut self)
         ensures { self.new ≡ record { list = []; said = None } }
     {
@@ -80,8 +81,8 @@ impl Acts {
         }
     }
 
-    /// Reports whether the two are the same answer: the same acts in the same order, and the same reply. It returns what `==`
-    /// returns, with a contract.
+    /// Reports whether the two are the same answer: the same acts in the same order, and the same reply. It returns
+    /// what `==` returns, with a contract.
     pub fn equals(&self, other: &Acts) -> bool
         ensures { IsTrue result ↔ (self.now ≡ other.now) }
     {

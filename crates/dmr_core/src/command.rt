@@ -48,7 +48,8 @@ impl LineNo {
 /// A command that an operator sends to the site.
 #[derive(Clone, Copy, Debug, PartialEq, Eq)]
 pub enum Command {
-    /// Asks for the numbers of carriers up, registered radios, asks, lines and calls, and for the move of the control channel.
+    /// Asks for the numbers of carriers up, registered radios, asks, lines and calls, and for the move of the control
+    /// channel.
     Status,
     /// Asks for the registered radios from this number on.
     Radios(Address),

@@ -1,8 +1,9 @@
 //! The site machine: the state of a trunked site, and the answer to each event.
 //!
-//! An [`Event`] comes from a carrier, the clock or an operator. [`Site::apply`] answers it with [`Acts`]: PDUs that are queued or
-//! sent, and changes of the facts. The facts of a site follow from its events and acts alone: each fact is one that was opened and
-//! not yet closed. The crate does no input or output. Its rules are this project's profile over TS 102 361-4.
+//! An [`Event`] comes from a carrier, the clock or an operator. [`Site::apply`] answers it with [`Acts`]: PDUs that are
+//! queued or sent, and changes of the facts. The facts of a site follow from its events and acts alone: each fact is
+//! one that was opened and not yet closed. The crate does no input or output. Its rules are this project's profile over
+//! TS 102 361-4.
 #![tactic(auto)]
 
 mod act;

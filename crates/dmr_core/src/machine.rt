@@ -54,10 +54,22 @@ impl Model for Machine {
 
     ghost view = { λ m. record {
       plan = m.plan;
-      facts = record { up = m.pool.up; registered = m.registry; asks = m.calls.asks; lines = m.calls.lines; calls = m.calls.calls; outboxes = m.pool.outboxes; noise = m.access.noise; moving = m.moving; fills = m.access.fills; late = m.late };
+      facts = record {
+        up = m.pool.up;
+        registered = m.registry;
+        asks = m.calls.asks;
+        lines = m.calls.lines;
+        calls = m.calls.calls;
+        outboxes = m.pool.outboxes;
+        noise = m.access.noise;
+        moving = m.moving;
+        fills = m.access.fills;
+        late = m.late;
+      };
     } };
 
-    ghost invariant = { λ m. (m.access.plan ≡ m.plan) × (m.pool.plan ≡ m.plan) × HoldsCalls m.pool.held m.calls.calls };
+    ghost invariant = { λ m. (m.access.plan ≡ m.plan) × (m.pool.plan ≡ m.plan)
+        × HoldsCalls m.pool.held m.calls.calls };
 }
 
 /// Does nothing. A proof calls it to use that the numbers of a slot are in their ranges.
@@ -136,13 +148,17 @@ impl Machine {
         &self.plan
     }
 
-    /// Applies the Up of a carrier, which is up then if the plan has it. Its calls end, and the PDUs that waited for its slots are
-    /// removed. For the control carrier, asks and lines end too, and the noise numbers and Fills begin again.
+    /// Applies the Up of a carrier, which is up then if the plan has it. Its calls end, and the PDUs that waited for
+    /// its slots are removed. For the control carrier, asks and lines end too, and the noise numbers and Fills begin
+    /// again.
     #[tactic(auto, using(crate::proofs::HeldLemmas::lost))]
     // Out of line: an event of another kind then does not clear this function's locals.
     #[inline(never)]
     fn apply_up(&mut self, carrier: CarrierNo)
-        ensures { self.new ≡ record { plan = self.old.plan; facts = facts_after_event self.old.plan self.old.facts (Up carrier) } }
+        ensures { self.new ≡ record {
+          plan = self.old.plan;
+          facts = facts_after_event self.old.plan self.old.facts (Up carrier);
+        } }
     {
         self.pool.use_invariant();
         self.calls.end_calls_of_carrier(carrier);
@@ -158,13 +174,16 @@ impl Machine {
         }
     }
 
-    /// Applies the Lost of a carrier. Its calls end, and the PDUs that waited for its slots are removed. For the control carrier,
-    /// asks and lines end too, and there are no noise numbers.
+    /// Applies the Lost of a carrier. Its calls end, and the PDUs that waited for its slots are removed. For the
+    /// control carrier, asks and lines end too, and there are no noise numbers.
     #[tactic(auto, using(crate::proofs::HeldLemmas::lost))]
     // Out of line: an event of another kind then does not clear this function's locals.
     #[inline(never)]
     fn apply_lost(&mut self, lost: CarrierNo)
-        ensures { self.new ≡ record { plan = self.old.plan; facts = facts_after_event self.old.plan self.old.facts (Lost lost) } }
+        ensures { self.new ≡ record {
+          plan = self.old.plan;
+          facts = facts_after_event self.old.plan self.old.facts (Lost lost);
+        } }
     {
         self.pool.use_invariant();
         self.calls.end_calls_of_carrier(lost);
@@ -179,7 +198,10 @@ impl Machine {
     /// Applies an event to the facts, without its acts.
     #[tactic(auto, using(crate::proofs::HeldLemmas::marked_held, crate::proofs::HeldLemmas::counted_held))]
     fn update_facts(&mut self, event: &Event)
-        ensures { self.new ≡ record { plan = self.old.plan; facts = facts_after_event self.old.plan self.old.facts event.now } }
+        ensures { self.new ≡ record {
+          plan = self.old.plan;
+          facts = facts_after_event self.old.plan self.old.facts event.now;
+        } }
     {
         match event {
             Event::Up(carrier) => self.apply_up(*carrier),
@@ -205,7 +227,10 @@ impl Machine {
     /// Begins a call, which holds its slot.
     fn begin_call(&mut self, call: &Call)
         requires { MayBegin self.old.plan self.old.facts call.now }
-        ensures { self.new ≡ record { plan = self.old.plan; facts = facts_after_act self.old.facts (Began call.now) } }
+        ensures { self.new ≡ record {
+          plan = self.old.plan;
+          facts = facts_after_act self.old.facts (Began call.now);
+        } }
     {
         slot_is_in_range(&call.slot);
         self.pool.use_invariant();
@@ -215,7 +240,10 @@ impl Machine {
 
     /// Ends the call on a slot and releases the slot.
     fn end_call_on(&mut self, slot: &Slot)
-        ensures { self.new ≡ record { plan = self.old.plan; facts = facts_after_act self.old.facts (Ended slot.now) } }
+        ensures { self.new ≡ record {
+          plan = self.old.plan;
+          facts = facts_after_act self.old.facts (Ended slot.now);
+        } }
     {
         slot_is_in_range(slot);
         self.pool.use_invariant();
@@ -226,7 +254,8 @@ impl Machine {
     /// Applies an act to the facts.
     fn apply_act(&mut self, act: &Act)
         requires { MayDo self.old.plan self.old.facts act.now }
-        ensures { self.new ≡ record { plan = self.old.plan; facts = facts_after_act self.old.facts act.now } }
+        ensures { self.new
+            ≡ record { plan = self.old.plan; facts = facts_after_act self.old.facts act.now } }
     {
         match act {
             Act::Queue(slot, pdu) => self.pool.add_pdu(slot, pdu),
@@ -245,7 +274,10 @@ impl Machine {
 
     fn apply_acts(&mut self, acts: &[Act])
         requires { AllMayDo self.old.plan self.old.facts acts.now }
-        ensures { self.new ≡ record { plan = self.old.plan; facts = fold facts_after_act self.old.facts acts.now } }
+        ensures { self.new ≡ record {
+          plan = self.old.plan;
+          facts = fold facts_after_act self.old.facts acts.now;
+        } }
     {
         for act in acts {
             self.apply_act(act);
@@ -257,7 +289,8 @@ impl Machine {
     #[inline(never)]
     fn answer_pdu_on(&self, acts: &mut ActList, slot: &Slot, pdu: &Pdu)
         requires { length acts.old + 7 ≤ 16 }
-        ensures { acts.new ≡ acts.old ++ acts_of self.now.plan self.now.facts (Heard slot.now pdu.now) }
+        ensures { acts.new
+            ≡ acts.old ++ acts_of self.now.plan self.now.facts (Heard slot.now pdu.now) }
     {
         if self.is_up(slot.carrier) && self.is_control(slot) && self.has_room() {
             self.answer_pdu(acts, pdu);
@@ -277,7 +310,10 @@ impl Machine {
     fn answer_event(&self, event: &Event, acts: &mut Acts)
         requires other { event.now ≢ Tick }
         requires empty { acts.old ≡ record { list = []; said = None } }
-        ensures { acts.new ≡ record { list = acts_of self.now.plan self.now.facts event.now; said = reply_to self.now.plan self.now.facts event.now } }
+        ensures { acts.new ≡ record {
+          list = acts_of self.now.plan self.now.facts event.now;
+          said = reply_to self.now.plan self.now.facts event.now;
+        } }
     {
         match event {
             Event::Heard(slot, pdu) => self.answer_pdu_on(&mut acts.list, slot, pdu),
@@ -289,8 +325,14 @@ impl Machine {
 
     /// Applies an event to the facts, and makes `acts` its answer. A Tick is counted before it is answered.
     fn answer_and_note(&mut self, event: &Event, acts: &mut Acts)
-        ensures acts { acts.new ≡ record { list = acts_of self.old.plan self.old.facts event.now; said = reply_to self.old.plan self.old.facts event.now } }
-        ensures facts { self.new ≡ record { plan = self.old.plan; facts = facts_after_event self.old.plan self.old.facts event.now } }
+        ensures acts { acts.new ≡ record {
+          list = acts_of self.old.plan self.old.facts event.now;
+          said = reply_to self.old.plan self.old.facts event.now;
+        } }
+        ensures facts { self.new ≡ record {
+          plan = self.old.plan;
+          facts = facts_after_event self.old.plan self.old.facts event.now;
+        } }
     {
         acts.clear();
         if let Event::Tick = event {
@@ -304,9 +346,17 @@ impl Machine {
 
     /// Answers an event and applies it with its acts. `acts` becomes the answer, whatever it was before.
     pub fn apply_to(&mut self, event: &Event, acts: &mut Acts)
-        requires { AllMayDo self.old.plan (facts_after_event self.old.plan self.old.facts event.now) (acts_of self.old.plan self.old.facts event.now) }
-        ensures acts { acts.new ≡ record { list = acts_of self.old.plan self.old.facts event.now; said = reply_to self.old.plan self.old.facts event.now } }
-        ensures facts { self.new ≡ record { plan = self.old.plan; facts = facts_after self.old.plan self.old.facts (unattributed_entry event.now acts.new ∷ []) } }
+        requires { AllMayDo self.old.plan (facts_after_event self.old.plan self.old.facts event.now)
+            (acts_of self.old.plan self.old.facts event.now) }
+        ensures acts { acts.new ≡ record {
+          list = acts_of self.old.plan self.old.facts event.now;
+          said = reply_to self.old.plan self.old.facts event.now;
+        } }
+        ensures facts { self.new ≡ record {
+          plan = self.old.plan;
+          facts =
+              facts_after self.old.plan self.old.facts (unattributed_entry event.now acts.new ∷ []);
+        } }
     {
         self.answer_and_note(event, acts);
         self.apply_acts(acts.list.as_slice());

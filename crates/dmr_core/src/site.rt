@@ -18,9 +18,9 @@ use std::marker::Model;
 
 /// A trunked site: its plan and its facts.
 ///
-/// The facts are the carriers that are up, the registered radios, and the asks, lines and calls that are active. They are also the
-/// PDUs that wait for each slot, the noise numbers, the Fills, the last late entry, and the move of the control channel. They fit
-/// together at all times, as [`use_invariant`](Site::use_invariant) states.
+/// The facts are the carriers that are up, the registered radios, and the asks, lines and calls that are active. They
+/// are also the PDUs that wait for each slot, the noise numbers, the Fills, the last late entry, and the move of the
+/// control channel. They fit together at all times, as [`use_invariant`](Site::use_invariant) states.
 #[derive(Drop)]
 pub struct Site {
     machine: Machine,
@@ -58,12 +58,15 @@ impl Site {
 
     /// Answers an event with acts and, if it is a command, with a reply.
     ///
-    /// The acts and the reply are those of the rules for the event and the facts before it. The facts afterwards are those that the
-    /// event and the acts leave. No event is refused, and no memory is allocated.
+    /// The acts and the reply are those of the rules for the event and the facts before it. The facts afterwards are
+    /// those that the event and the acts leave. No event is refused, and no memory is allocated.
     pub fn apply(&mut self, event: Event) -> Acts
         ensures acts { result.list ≡ acts_of self.old.plan self.old.facts event }
         ensures said { result.said ≡ reply_to self.old.plan self.old.facts event }
-        ensures facts { self.new ≡ record { plan = self.old.plan; facts = facts_after self.old.plan self.old.facts (unattributed_entry event result ∷ []) } }
+        ensures facts { self.new ≡ record {
+          plan = self.old.plan;
+          facts = facts_after self.old.plan self.old.facts (unattributed_entry event result ∷ []);
+        } }
     {
         let mut acts = Acts::none();
         self.apply_to(&event, &mut acts);
@@ -72,12 +75,16 @@ impl Site {
 
     /// Answers an event as [`apply`](Site::apply) does. `acts` becomes the answer, whatever it was before.
     ///
-    /// An answer has room for sixteen acts and a reply, most of which an event leaves unused. A caller that keeps `acts` from event to
-    /// event does not pay for that room at each event.
+    /// An answer has room for sixteen acts and a reply, most of which an event leaves unused. A caller that keeps
+    /// `acts` from event to event does not pay for that room at each event.
     pub fn apply_to(&mut self, event: &Event, acts: &mut Acts)
         ensures acts { acts.new.list ≡ acts_of self.old.plan self.old.facts event.now }
         ensures said { acts.new.said ≡ reply_to self.old.plan self.old.facts event.now }
-        ensures facts { self.new ≡ record { plan = self.old.plan; facts = facts_after self.old.plan self.old.facts (unattributed_entry event.now acts.new ∷ []) } }
+        ensures facts { self.new ≡ record {
+          plan = self.old.plan;
+          facts =
+              facts_after self.old.plan self.old.facts (unattributed_entry event.now acts.new ∷ []);
+        } }
     {
         self.machine.apply_to(event, acts);
     }

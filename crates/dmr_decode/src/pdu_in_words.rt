@@ -32,8 +32,8 @@ fn named<T: Copy>(names: &[(T, &str)], name: &str) -> Option<T> {
     None
 }
 
-/// The fields after a PDU's name, which are read one after the other. If one has no value, or no valid one, the reading goes on, so
-/// that there is one way out of it: [`Fields::checked`] returns the first fault.
+/// The fields after a PDU's name, which are read one after the other. If one has no value, or no valid one, the reading
+/// goes on, so that there is one way out of it: [`Fields::checked`] returns the first fault.
 #[derive(Clone, Copy)]
 struct Fields<'w, 'a> {
     words: &'w [&'a str],

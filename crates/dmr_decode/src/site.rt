@@ -62,7 +62,8 @@ fn show_frame<W: Write>(
 /// Returns the first frame of octets and the rest, or `None` if they begin with no frame.
 fn front_of<'a>(octets: &'a [u8]) -> Option<Front<'a>>
     // The octets are the frame's octets and then the rest.
-    ensures { IfSome result (λ front. octets.entry.now ≡ spelling_out front.frame ++ front.rest.now) }
+    ensures { IfSome result
+        (λ front. octets.entry.now ≡ spelling_out front.frame ++ front.rest.now) }
 {
     let frame = frame_at(octets)?;
     let spelling = write_frame(&frame);

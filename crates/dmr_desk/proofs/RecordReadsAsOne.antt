@@ -84,7 +84,8 @@ none_progress row writing reads (a ∷ answers) wire =
 abbrev Begins : Reading → Type 0
 Begins r = (r.writing ≡ 0) × (((r.reads ≡ 0) × (r.row ≡ 0)) ⊎ (r.reads ≡ 64))
 
--- a reading agrees with a call after some of its reads; it began the call itself, or continues after the 64 reads of the call before
+-- a reading agrees with a call after some of its reads; it began the call itself, or continues after the 64 reads of
+-- the call before
 record Matches (ss : List Session) (r : Reading) (k : Progress) (reads : ℕ) : Type 0 where
   pub past : r.past ≡ k.session ∷ ss
   pub writing : r.writing ≡ k.writing

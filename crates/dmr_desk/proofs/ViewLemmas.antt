@@ -13,7 +13,8 @@ view_here actor e es same = ap (λ (b : Bool). map deposit_in (cond b (e ∷ fil
 pub view_other : (actor : ℕ) (e : Entry) (es : List Entry) → e.actor ≢ actor → view_of actor (e ∷ es) ≡ view_of actor es
 view_other actor e es other = ap (λ (b : Bool). map deposit_in (cond b (e ∷ filter (λ (x : Entry). x.actor == actor) es) (filter (λ (x : Entry). x.actor == actor) es))) (ne_eqb e.actor actor other)
 
--- the deposits from the n-th on are the view of the entries from the i-th on, exactly if all deposits are the view of all entries
+-- the deposits from the n-th on are the view of the entries from the i-th on, exactly if all deposits are the view of
+-- all entries
 pub record IsRest (deposits : List Deposit) (actor : ℕ) (journal : List Entry) (n i : ℕ) : Type 0 where
   pub down : deposits ≡ view_of actor journal → drop n deposits ≡ view_of actor (drop i journal)
   pub up : drop n deposits ≡ view_of actor (drop i journal) → deposits ≡ view_of actor journal

@@ -1,5 +1,6 @@
 -- The result of closing a desk: its report, or why there is none.
-use Rattle.std.specs.Prelude.{◌≡◌, ◌≢◌, ◌⊎◌, ◌<◌, ◌≤◌, ◌+◌, ℕ, List, [], ◌∷◌, length, reverse, slice_get, Some, Contains, All}
+use Rattle.std.specs.Prelude.{◌≡◌, ◌≢◌, ◌⊎◌, ◌<◌, ◌≤◌, ◌+◌, ℕ, List, [], ◌∷◌, length, reverse}
+use Rattle.std.specs.Prelude.{slice_get, Some, Contains, All}
 use Rattle.dmr_core.specs.declared.entry.Entry.{Entry}
 use Rattle.dmr_core.specs.Journal.{IsLegal}
 use Rattle.dmr_core.specs.State.{SiteState}
@@ -12,20 +13,25 @@ use Rattle.dmr_desk.specs.BookState.{IsSoundBook, site_after_entries}
 use Rattle.dmr_desk.specs.Seats.{SeatState, Opened, HasSeat, NoneMissing}
 use Rattle.dmr_desk.specs.Views.{view_of}
 
--- seats and views are equally many; each actor that has a view has a seat, and each seat's deposits are its actor's view
+-- seats and views are equally many; each actor that has a view has a seat, and each seat's deposits are its actor's
+-- view
 pub record AreGathered (seats : List SeatState) (views : List (List Deposit)) : Type 0 where
   pub as_many : length views ≡ length seats
   pub has : (actor : ℕ) → actor < length views → HasSeat seats actor
-  pub each : (seat : SeatState) → Contains seats seat → slice_get views seat.actor ≡ Some seat.deposits
+  pub each : (seat : SeatState) → Contains seats seat
+      → slice_get views seat.actor ≡ Some seat.deposits
 
 -- each view is the journal's list for its actor, and each entry belongs to an actor that has a view
 pub record AreViews (views : List (List Deposit)) (journal : List Entry) : Type 0 where
-  pub each : (actor : ℕ) → actor < length views → slice_get views actor ≡ Some (view_of actor journal)
+  pub each : (actor : ℕ) → actor < length views
+      → slice_get views actor ≡ Some (view_of actor journal)
   pub others : All (λ (entry : Entry). entry.actor < length views) journal
 
--- a report from this opening site and with this limit, with these views. Its journal is legal from that site, its acts are safe, and it has
--- at most `limit` entries. The report's site is in the state that the journal leads to; the views are the journal's lists for their actors
-pub record IsReported (opening : SiteState) (limit : ℕ) (views : List (List Deposit)) (report : Report) : Type 0 where
+-- a report from this opening site and with this limit, with these views. Its journal is legal from that site, its acts
+-- are safe, and it has at most `limit` entries. The report's site is in the state that the journal leads to; the views
+-- are the journal's lists for their actors
+pub record IsReported (opening : SiteState) (limit : ℕ) (views : List (List Deposit))
+    (report : Report) : Type 0 where
   pub legal : IsLegal opening.plan opening.facts (reverse report.journal)
   pub safe : IsSafe opening.plan opening.facts (reverse report.journal)
   pub within : length report.journal ≤ limit
@@ -41,16 +47,19 @@ pub record IsAudited (desk : Opened) (seats : List SeatState) (report : Report) 
 
 -- the view of each actor below a number is the journal's list for it
 abbrev pub SameBelow : ℕ → List (List Deposit) → List Entry → Type 0
-SameBelow n views journal = (actor : ℕ) → actor < n → slice_get views actor ≡ Some (view_of actor journal)
+SameBelow n views journal =
+    (actor : ℕ) → actor < n → slice_get views actor ≡ Some (view_of actor journal)
 
 -- the view of this actor differs from the journal's list for it, and it is the least such actor
 abbrev pub IsDiffering : List (List Deposit) → List Entry → ℕ → Type 0
 IsDiffering views journal actor =
-    (actor < length views) × (slice_get views actor ≢ Some (view_of actor journal)) × SameBelow actor views journal
+    (actor < length views) × (slice_get views actor ≢ Some (view_of actor journal))
+    × SameBelow actor views journal
 
 -- an actor below the number has no seat among these, and each actor of a lower number has one
 abbrev pub IsLeastMissing : List SeatState → ℕ → ℕ → Type 0
-IsLeastMissing seats actors actor = (actor < actors) × ¬ HasSeat seats actor × NoneMissing seats actor
+IsLeastMissing seats actors actor =
+    (actor < actors) × ¬ HasSeat seats actor × NoneMissing seats actor
 
 -- the number of deposits in these views together
 abbrev pub count_of_deposits : List (List Deposit) → ℕ
@@ -62,30 +71,34 @@ abbrev pub deposits_of_seats : List SeatState → ℕ
 deposits_of_seats [] = 0
 deposits_of_seats (seat ∷ seats) = length seat.deposits + deposits_of_seats seats
 
--- a journal that a desk may have kept after this many deposits: it is legal from the desk's site, within the desk's limit, and has one
--- entry for each deposit
+-- a journal that a desk may have kept after this many deposits: it is legal from the desk's site, within the desk's
+-- limit, and has one entry for each deposit
 pub record IsJournalFor (desk : Opened) (deposits : ℕ) (journal : List Entry) : Type 0 where
   pub kept : IsSoundBook (record { opening = desk.site; limit = desk.limit; entries = journal })
   pub counted : length journal ≡ deposits
 
 -- the deposits of this actor's seat differ from the journal's list for it, and it is the least such actor
-pub record IsLeastDiffering (seats : List SeatState) (journal : List Entry) (actor : ℕ) : Type 0 where
+pub record IsLeastDiffering (seats : List SeatState) (journal : List Entry)
+    (actor : ℕ) : Type 0 where
   pub seat : SeatState
   pub has : Contains seats seat
   pub own : seat.actor ≡ actor
   pub differs : seat.deposits ≢ view_of actor journal
-  pub least : (other : SeatState) → Contains seats other → other.actor < actor → other.deposits ≡ view_of other.actor journal
+  pub least : (other : SeatState) → Contains seats other → other.actor < actor
+      → other.deposits ≡ view_of other.actor journal
 
--- why a desk has no report: a seat is missing, or a seat differs from a journal of this desk; either names the least such actor. A seat
--- differs only if each actor has its seat and there is no other seat
+-- why a desk has no report: a seat is missing, or a seat differs from a journal of this desk; either names the least
+-- such actor. A seat differs only if each actor has its seat and there is no other seat
 abbrev pub IsFault : Opened → List SeatState → CloseFault → Type 0
 IsFault desk seats (SeatMissing actor) = IsLeastMissing seats desk.actors actor
 IsFault desk seats (Differs actor) =
     NoneMissing seats desk.actors × (length seats ≡ desk.actors)
-    × (journal : List Entry) × IsJournalFor desk (deposits_of_seats seats) journal × IsLeastDiffering seats journal actor
+    × (journal : List Entry) × IsJournalFor desk (deposits_of_seats seats) journal
+    × IsLeastDiffering seats journal actor
 
 -- a seat of a list, and the list without it
-pub record IsOutOf (seats : List SeatState) (seat : SeatState) (left : List SeatState) : Type 0 where
+pub record IsOutOf (seats : List SeatState) (seat : SeatState)
+    (left : List SeatState) : Type 0 where
   pub one_less : length left + 1 ≡ length seats
   pub had : Contains seats seat
   pub keeps : (other : SeatState) → Contains left other → Contains seats other

@@ -15,7 +15,8 @@ pub record BookState : Type 0 where
 
 -- the site in the state that the entries lead to
 abbrev pub site_after_entries : SiteState → List Entry → SiteState
-site_after_entries opening entries = record { plan = opening.plan; facts = facts_after opening.plan opening.facts (reverse entries) }
+site_after_entries opening entries =
+    record { plan = opening.plan; facts = facts_after opening.plan opening.facts (reverse entries) }
 
 -- the pages with one more entry, the newest: an actor's event and its answer
 abbrev pub book_with_entry : BookState → ℕ → Event → Acts → BookState
@@ -27,7 +28,8 @@ book_with_entry pages actor event acts = record {
 
 -- the answer to an event after the entries
 abbrev pub answer_to : BookState → Event → Acts
-answer_to pages event = answer_after_entries pages.opening.plan pages.opening.facts (reverse pages.entries) event
+answer_to pages event =
+    answer_after_entries pages.opening.plan pages.opening.facts (reverse pages.entries) event
 
 -- every book was opened with a site, its journal is legal from there, and it has at most `limit` entries
 pub record IsSoundBook (pages : BookState) : Type 0 where

@@ -1,5 +1,6 @@
 -- All terms as one: one journal, and for each actor one list of events. Lists of terms have the newest term first.
-use Rattle.std.specs.Prelude.{◌≡◌, ◌≤◌, ℕ, ◌+◌, List, [], ◌∷◌, ◌++◌, Option, length, map, slice_index_or}
+use Rattle.std.specs.Prelude.{◌≡◌, ◌≤◌, ℕ, ◌+◌, List, [], ◌∷◌, ◌++◌, Option, length, map}
+use Rattle.std.specs.Prelude.{slice_index_or}
 use Rattle.dmr_core.specs.declared.entry.Entry.{Entry}
 use Rattle.dmr_wire.specs.Answers.{Answer}
 use Rattle.dmr_link.specs.declared.desk.Deposit.{Deposit}
@@ -9,7 +10,8 @@ use Rattle.dmr_link.specs.Sessions.{Session, HasPast, Happens}
 use Rattle.dmr_desk.specs.Meaning.{in_record, read_on}
 use Rattle.dmr_desk.specs.Pace.{Paced, Answered, AreTicks}
 use Rattle.dmr_desk.specs.Term.{End}
-use Rattle.dmr_desk.specs.Work.{StationState, WorkState, work_state, sides_at, Step, happened_of, past_after, deposits_of_sessions, IsOrderly}
+use Rattle.dmr_desk.specs.Work.{StationState, WorkState, work_state, sides_at, Step, happened_of}
+use Rattle.dmr_desk.specs.Work.{past_after, deposits_of_sessions, IsOrderly}
 
 -- ---- the journal
 
@@ -38,7 +40,8 @@ happened_of_terms (doings ∷ earlier) = happened_of_terms earlier ++ happened_o
 -- the steps of each term are in order, from the connections that the terms before it left
 abbrev pub AreOrderly : Peer → List Session → List (List Step) → Type 0
 AreOrderly who past [] = Unit {0}
-AreOrderly who past (doings ∷ earlier) = IsOrderly who (past_after_terms past earlier) doings × AreOrderly who past earlier
+AreOrderly who past (doings ∷ earlier) =
+    IsOrderly who (past_after_terms past earlier) doings × AreOrderly who past earlier
 
 -- these steps, term by term, lead from moment `m` to moment `n`
 pub record WentOn (m : WorkState) (n : WorkState) (terms : List (List Step)) : Type 0 where
@@ -46,14 +49,20 @@ pub record WentOn (m : WorkState) (n : WorkState) (terms : List (List Step)) : T
   -- the reports of port, desk and gate continue with exactly what happened
   pub happens : Happens (sides_at m.at m.calls) (happened_of_terms terms) (sides_at n.at n.calls)
   -- if connections agreed with the link's state before (`StandsFor`), they agree with it after these steps
-  pub stands : (past : List Session) → HasPast m.at.link past → HasPast n.at.link (past_after_terms past terms)
+  pub stands : (past : List Session) → HasPast m.at.link past
+      → HasPast n.at.link (past_after_terms past terms)
   -- the desks' deposits in these steps, in one list, are those of these connections since
-  pub view : (past : List Session) → HasPast m.at.link past → deposits_of_sessions (past_after_terms past terms) ≡ deposits_of_sessions past ++ deposits_in (happened_of_terms terms)
+  pub view : (past : List Session) → HasPast m.at.link past
+      → deposits_of_sessions (past_after_terms past terms)
+      ≡ deposits_of_sessions past ++ deposits_in (happened_of_terms terms)
   pub orderly : (past : List Session) → HasPast m.at.link past → AreOrderly m.at.link.who past terms
 
--- a link's worker did its work in this many terms, from one state of its station to another; the desks took these events, in this order
+-- a link's worker did its work in this many terms, from one state of its station to another; the desks took these
+-- events, in this order
 abbrev pub HasWorkedOn : ℕ → StationState → StationState → List Deposit → Type 0
-HasWorkedOn count s t view = (terms : List (List Step)) × (length terms ≡ count) × WentOn (work_state s []) (work_state t view) terms
+HasWorkedOn count s t view =
+    (terms : List (List Step)) × (length terms ≡ count)
+    × WentOn (work_state s []) (work_state t view) terms
 
 -- ---- a port's record, term by term
 
@@ -73,9 +82,10 @@ read_terms past (answers ∷ earlier) = read_on (read_terms past earlier) answer
 
 -- ---- the ticker
 
--- the desks took these events of the ticker in this many terms: ticks alone, each of which the pacer gave. The pacer gave at most one more
--- for each term
-pub record HasTickedOn (count : ℕ) (before after : Option Paced) (view : List Deposit) : Type 0 where
+-- the desks took these events of the ticker in this many terms: ticks alone, each of which the pacer gave. The pacer
+-- gave at most one more for each term
+pub record HasTickedOn (count : ℕ) (before after : Option Paced)
+    (view : List Deposit) : Type 0 where
   pub given : ℕ
   pub gave : Answered before after given
   pub ticks : AreTicks view

@@ -24,7 +24,8 @@ read_on past answers = (reading_after_all (reading_at (map in_record past) 0 0 0
 
 -- ONE RECORD: all answers of the port, read in one go, give the connections that the steps produced, one after another
 abbrev pub IsOneRecord : List Session → List Step → Type 0
-IsOneRecord past doings = map in_record (past_after past doings) ≡ read_on past (answers_in (happened_of doings))
+IsOneRecord past doings =
+    map in_record (past_after past doings) ≡ read_on past (answers_in (happened_of doings))
 
 -- ---- one meaning
 
@@ -32,24 +33,28 @@ IsOneRecord past doings = map in_record (past_after past doings) ≡ read_on pas
 abbrev pub AllMean : Peer → List Session → List Notice → Type 0
 AllMean who [] notices = notices ≡ []
 AllMean who (s ∷ ss) notices =
-    (earlier : List Notice) × (own : List Notice) × (notices ≡ earlier ++ own) × AllMean who ss earlier × ConnectionMeans who s.how s.came own
+    (earlier : List Notice) × (own : List Notice) × (notices ≡ earlier ++ own)
+    × AllMean who ss earlier × ConnectionMeans who s.how s.came own
 
--- the octets that came on a connection mean `done`, then `owing`; the desk took exactly the events of `done`. The octets that the
--- connection took are the text of `done`, or the first part of it if a write failed or an event was kept at a cut
+-- the octets that came on a connection mean `done`, then `owing`; the desk took exactly the events of `done`. The
+-- octets that the connection took are the text of `done`, or the first part of it if a write failed or an event was
+-- kept at a cut
 pub record IsAccounted (who : Peer) (s : Session) (done owing : List Notice) : Type 0 where
   pub means : ConnectionMeans who s.how s.came (done ++ owing)
   pub events : events_in done ≡ map (λ d. d.event) s.calls
   pub taken : IsFirst s.how s.taken (text_to_peer who done s.calls)
 
--- the connections, newest first, account for `done`, oldest first; `owing` is pending of the newest connection, and nothing of the others
+-- the connections, newest first, account for `done`, oldest first; `owing` is pending of the newest connection, and
+-- nothing of the others
 abbrev pub AreAccounted : Peer → List Session → List Notice → List Notice → Type 0
 AreAccounted who [] done owing = (done ≡ []) × (owing ≡ [])
 AreAccounted who (s ∷ ss) done owing =
-    (earlier : List Notice) × (own : List Notice) × (done ≡ earlier ++ own) × AreAccounted who ss earlier [] × IsAccounted who s own owing
+    (earlier : List Notice) × (own : List Notice) × (done ≡ earlier ++ own)
+    × AreAccounted who ss earlier [] × IsAccounted who s own owing
 
--- ONE MEANING: the octets that came on all connections of a link, one after another, mean `done`, and then the link's pending notices. The
--- events of `done` are those that the desk took from these connections, in its order. The same holds of each connection, and each took its
--- text, or a first part of it
+-- ONE MEANING: the octets that came on all connections of a link, one after another, mean `done`, and then the link's
+-- pending notices. The events of `done` are those that the desk took from these connections, in its order. The same
+-- holds of each connection, and each took its text, or a first part of it
 pub record IsOneMeaning (link : LinkState) (past : List Session) : Type 0 where
   pub done : List Notice
   pub means : AllMean link.who past (done ++ pending_notices link)

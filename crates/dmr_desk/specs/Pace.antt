@@ -1,5 +1,6 @@
 -- A pacer's reports, and the ticker's work.
-use Rattle.std.specs.Prelude.{◌≡◌, ℕ, ◌+◌, ◌⊎◌, Bool, true, false, List, ◌++◌, Option, Some, None, length, All}
+use Rattle.std.specs.Prelude.{◌≡◌, ℕ, ◌+◌, ◌⊎◌, Bool, true, false, List, ◌++◌, Option, Some, None}
+use Rattle.std.specs.Prelude.{length, All}
 use Rattle.dmr_core.specs.declared.event.Event.TheVariants.{Tick}
 use Rattle.dmr_link.specs.declared.desk.Deposit.{Deposit}
 use Rattle.dmr_desk.specs.declared.ending.Ending.{Ending}
@@ -43,19 +44,26 @@ AreTicks deposits = All (λ (deposit : Deposit). deposit.event ≡ Tick) deposit
 abbrev pub TicksTo : Option Paced → Option Paced → ℕ → Ending → Type 0
 TicksTo before after taken ending.Finished = Answered before after taken × ReportsFinished after
 TicksTo before after taken ending.GateShut = ⊥
-TicksTo before after taken ending.TermOver = Answered before after taken ⊎ Answered before after (taken + 1)
+TicksTo before after taken ending.TermOver =
+    Answered before after taken ⊎ Answered before after (taken + 1)
 
--- the ticker's desk took a tick for each that the pacer gave, except one that may have been dropped when the term was over
+-- the ticker's desk took a tick for each that the pacer gave, except one that may have been dropped when the term was
+-- over
 abbrev pub Ticks : Option Paced → List Deposit → Option Paced → List Deposit → Ending → Type 0
-Ticks before calls after later e = (took : List Deposit) × (later ≡ calls ++ took) × AreTicks took × TicksTo before after (length took) e
+Ticks before calls after later e =
+    (took : List Deposit) × (later ≡ calls ++ took) × AreTicks took
+    × TicksTo before after (length took) e
 
 -- ---- on the way
 
 -- so far the ticker's desk took a tick for each that the pacer gave
 abbrev pub Ticking : Option Paced → List Deposit → Option Paced → List Deposit → Type 0
-Ticking before calls after later = (took : List Deposit) × (later ≡ calls ++ took) × AreTicks took × Answered before after (length took)
+Ticking before calls after later =
+    (took : List Deposit) × (later ≡ calls ++ took) × AreTicks took
+    × Answered before after (length took)
 
 -- after a step the ticker continues, or its work has ended with this ending
-abbrev pub TicksOn : Option Paced → List Deposit → Option Paced → List Deposit → Option Ending → Type 0
+abbrev pub TicksOn : Option Paced → List Deposit → Option Paced → List Deposit → Option Ending
+    → Type 0
 TicksOn before calls after later None = Ticking before calls after later
 TicksOn before calls after later (Some e) = Ticks before calls after later e

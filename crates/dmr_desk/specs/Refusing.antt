@@ -1,5 +1,6 @@
 -- When there is no term.
-use Rattle.std.specs.Prelude.{◌≡◌, ◌≢◌, ◌<◌, ℕ, zero, suc, ◌+◌, ltb, List, [], ◌∷◌, Option, Some, None, map, length, slice_get, if◌then◌else◌}
+use Rattle.std.specs.Prelude.{◌≡◌, ◌≢◌, ◌<◌, ℕ, zero, suc, ◌+◌, ltb, List, [], ◌∷◌, Option, Some}
+use Rattle.std.specs.Prelude.{None, map, length, slice_get, if◌then◌else◌}
 use Rattle.dmr_core.specs.Facts.{has_carrier}
 use Rattle.dmr_pdu.specs.Slots.{carriers_of_site}
 use Rattle.dmr_plan.specs.declared.settings.Settings.{Settings}
@@ -10,7 +11,8 @@ use Rattle.dmr_desk.specs.declared.ending.Ending.TheVariants as ending
 use Rattle.dmr_desk.specs.declared.fault.CloseFault.{CloseFault}
 use Rattle.dmr_desk.specs.declared.fault.OpenFault.TheVariants.{BadLimit, BadActors, OutOfMemory}
 use Rattle.dmr_desk.specs.declared.fault.TermFault.{TermFault}
-use Rattle.dmr_desk.specs.declared.fault.TermFault.TheVariants.{BadStations, Open, NoThread, Audit, Early}
+use Rattle.dmr_desk.specs.declared.fault.TermFault.TheVariants.{BadStations, Open, NoThread, Audit}
+use Rattle.dmr_desk.specs.declared.fault.TermFault.TheVariants.{Early}
 use Rattle.dmr_desk.specs.Audited.{IsFault}
 use Rattle.dmr_desk.specs.Opening.{IsLimit}
 use Rattle.dmr_desk.specs.Seats.{SeatState, HasSeat}
@@ -20,7 +22,9 @@ use Rattle.dmr_desk.specs.Work.{StationState}
 -- the carrier numbers of the plan among the `many` numbers that begin with `n`, least first
 abbrev pub numbers_from : Settings → ℕ → ℕ → List ℕ
 numbers_from plan zero n = []
-numbers_from plan (suc many) n = if has_carrier plan n then n ∷ numbers_from plan many (n + 1) else numbers_from plan many (n + 1)
+numbers_from plan (suc many) n =
+    if has_carrier plan n then n ∷ numbers_from plan many (n + 1)
+    else numbers_from plan many (n + 1)
 
 -- the numbers of the plan's carriers, least first
 abbrev pub carrier_numbers : Settings → List ℕ
@@ -33,10 +37,12 @@ carrier_of_peer Operator = None
 
 -- there is one station for each carrier of the plan, by number
 abbrev pub AreStations : Settings → List StationState → Type 0
-AreStations plan stations = map (λ (s : StationState). carrier_of_peer s.link.who) stations ≡ map (λ (n : ℕ). Some n) (carrier_numbers plan)
+AreStations plan stations =
+    map (λ (s : StationState). carrier_of_peer s.link.who) stations
+    ≡ map (λ (n : ℕ). Some n) (carrier_numbers plan)
 
--- all actors have done their part, and this is the least actor that ended because the term was over although the journal was below its
--- limit
+-- all actors have done their part, and this is the least actor that ended because the term was over although the
+-- journal was below its limit
 pub record IsEarly (start : Start) (actor : ℕ) : Type 0 where
   pub end : End
   pub run : HasRun start end
@@ -48,7 +54,9 @@ pub record IsEarly (start : Start) (actor : ℕ) : Type 0 where
 pub record IsUnaudited (start : Start) (fault : CloseFault) : Type 0 where
   pub seats : List SeatState
   pub each : (actor : ℕ) → actor < length start.stations + 2 → HasSeat seats actor
-  pub refused : IsFault (record { site = start.site; limit = start.limit; actors = length start.stations + 2 }) seats fault
+  pub refused : IsFault
+      (record { site = start.site; limit = start.limit; actors = length start.stations + 2 }) seats
+      fault
 
 -- a fault that applies if the stations are right; the first one
 abbrev pub IsFaultFor : Start → TermFault → Type 0

@@ -14,7 +14,10 @@ pub record SeatState : Type 0 where
 
 -- the seat with one more deposit, the newest: an event and its answer
 abbrev pub seat_with_deposit : SeatState → Event → Acts → SeatState
-seat_with_deposit seat event acts = record { actor = seat.actor; deposits = seat.deposits ++ record { event = event; acts = acts } ∷ [] }
+seat_with_deposit seat event acts = record {
+  actor = seat.actor;
+  deposits = seat.deposits ++ record { event = event; acts = acts } ∷ [];
+}
 
 -- settings that no site file yields
 abbrev pub no_settings : Settings

@@ -1,5 +1,6 @@
 -- A term: each actor's part, and the whole.
-use Rattle.std.specs.Prelude.{◌≡◌, ℕ, ◌+◌, ◌≤◌, ◌<◌, ◌==◌, ◌&&◌, Bool, true, false, List, [], ◌∷◌, Option, Some, length, reverse, slice_get, All}
+use Rattle.std.specs.Prelude.{◌≡◌, ℕ, ◌+◌, ◌≤◌, ◌<◌, ◌==◌, ◌&&◌, Bool, true, false, List, [], ◌∷◌}
+use Rattle.std.specs.Prelude.{Option, Some, length, reverse, slice_get, All}
 use Rattle.dmr_core.specs.State.{SiteState}
 use Rattle.dmr_core.specs.Journal.{IsLegal}
 use Rattle.dmr_core.specs.declared.entry.Entry.{Entry}
@@ -46,10 +47,12 @@ pub record End : Type 0 where
 
 -- the start of a term from these arguments
 abbrev pub start_of_term : SiteState → ℕ → List StationState → Option Paced → StationState → Start
-start_of_term site limit stations pacer console = record { site = site; limit = limit; stations = stations; pacer = pacer; console = console }
+start_of_term site limit stations pacer console =
+    record { site = site; limit = limit; stations = stations; pacer = pacer; console = console }
 
 -- the end of a term with these results
-abbrev pub end_of_term : Report → List Ending → List StationState → Option Paced → StationState → End
+abbrev pub end_of_term : Report → List Ending → List StationState → Option Paced → StationState
+    → End
 end_of_term report ends stations pacer console = record {
   site = report.site;
   journal = report.journal;
@@ -60,10 +63,11 @@ end_of_term report ends stations pacer console = record {
   console = console;
 }
 
--- the work of a whole term: a legal, safe journal, a view for each actor, and each actor's part. The actors are the stations, in their
--- order, then the ticker, then the console
+-- the work of a whole term: a legal, safe journal, a view for each actor, and each actor's part. The actors are the
+-- stations, in their order, then the ticker, then the console
 pub record HasRun (start : Start) (end : End) : Type 0 where
-  -- the journal is legal from the site of the start, safe, and has at most `limit` entries; the end's site is in the state that it leads to
+  -- the journal is legal from the site of the start, safe, and has at most `limit` entries; the end's site is in the
+  -- state that it leads to
   pub legal : IsLegal start.site.plan start.site.facts (reverse end.journal)
   pub safe : IsSafe start.site.plan start.site.facts (reverse end.journal)
   pub within : length end.journal ≤ start.limit
@@ -76,15 +80,19 @@ pub record HasRun (start : Start) (end : End) : Type 0 where
   pub handed_back : length end.stations ≡ length start.stations
   pub all_ended : length end.ends ≡ length start.stations + 2
   -- each actor did its part, and its view is the list of its desk's deposits
-  pub carriers : (k : ℕ) (s t : StationState) (e : Ending) → slice_get start.stations k ≡ Some s → slice_get end.stations k ≡ Some t → slice_get end.ends k ≡ Some e
+  pub carriers : (k : ℕ) (s t : StationState) (e : Ending) → slice_get start.stations k ≡ Some s
+      → slice_get end.stations k ≡ Some t → slice_get end.ends k ≡ Some e
       → HasWorked s t (view_of k end.journal) e
-  pub ticker : (e : Ending) → slice_get end.ends (length start.stations) ≡ Some e → HasTicked start.pacer end.pacer (view_of (length start.stations) end.journal) e
-  pub console : (e : Ending) → slice_get end.ends (length start.stations + 1) ≡ Some e → HasWorked start.console end.console (view_of (length start.stations + 1) end.journal) e
+  pub ticker : (e : Ending) → slice_get end.ends (length start.stations) ≡ Some e
+      → HasTicked start.pacer end.pacer (view_of (length start.stations) end.journal) e
+  pub console : (e : Ending) → slice_get end.ends (length start.stations + 1) ≡ Some e
+      → HasWorked start.console end.console (view_of (length start.stations + 1) end.journal) e
 
 -- A TERM: all this was done, and a worker ended because the term was over only if the journal was at its limit
 pub record IsTerm (start : Start) (end : End) : Type 0 where
   pub run : HasRun start end
-  pub over : (k : ℕ) → slice_get end.ends k ≡ Some ending.TermOver → length end.journal ≡ start.limit
+  pub over : (k : ℕ) → slice_get end.ends k ≡ Some ending.TermOver
+      → length end.journal ≡ start.limit
 
 -- ---- on the way
 

@@ -8,7 +8,8 @@ use Rattle.dmr_desk.specs.Term.{Start, End, IsTerm, start_of_term}
 
 -- ---- a chain of terms, newest first
 
--- the start of the term that follows a term with this end: the site, the stations, the pacer and the console are as that term left them
+-- the start of the term that follows a term with this end: the site, the stations, the pacer and the console are as
+-- that term left them
 abbrev pub next_start : ℕ → End → Start
 next_start limit end = start_of_term end.site limit end.stations end.pacer end.console
 
@@ -29,17 +30,22 @@ abbrev pub journals_of : List End → List (List Entry)
 journals_of [] = []
 journals_of (end ∷ earlier) = journals_of earlier ++ end.journal ∷ []
 
--- an observer saw these journals between two moments, oldest first: if it reports a record at the second, that is the record of the first with
--- these journals appended
-pub record Sees (before : Option (List (List Entry))) (journals : List (List Entry)) (after : Option (List (List Entry))) : Type 0 where
-  pub follows : (whole : List (List Entry)) → after ≡ Some whole → (begun : List (List Entry)) × (before ≡ Some begun) × (whole ≡ begun ++ journals)
+-- an observer saw these journals between two moments, oldest first: if it reports a record at the second, that is the
+-- record of the first with these journals appended
+pub record Sees (before : Option (List (List Entry))) (journals : List (List Entry))
+    (after : Option (List (List Entry))) : Type 0 where
+  pub follows : (whole : List (List Entry)) → after ≡ Some whole
+      → (begun : List (List Entry)) × (before ≡ Some begun) × (whole ≡ begun ++ journals)
 
--- a term can begin so: there is one station for each carrier of the plan, by number, and a journal may have `limit` entries
+-- a term can begin so: there is one station for each carrier of the plan, by number, and a journal may have `limit`
+-- entries
 abbrev pub Fits : Start → Type 0
 Fits start = AreStations start.site.plan start.stations × IsLimit start.limit
 
--- this many terms have run from `start`, and another would begin at `next`. The observer saw the journal of each term, and no other
-pub record HaveRun (start : Start) (terms : ℕ) (next : Start) (before after : Option (List (List Entry))) : Type 0 where
+-- this many terms have run from `start`, and another would begin at `next`. The observer saw the journal of each term,
+-- and no other
+pub record HaveRun (start : Start) (terms : ℕ) (next : Start)
+    (before after : Option (List (List Entry))) : Type 0 where
   pub ends : List End
   pub are : AreTerms start ends
   pub count : length ends ≡ terms
@@ -48,7 +54,8 @@ pub record HaveRun (start : Start) (terms : ℕ) (next : Start) (before after : 
   pub fits : 0 < terms → Fits start
 
 -- fewer than `terms` terms have run from `start`, and for this reason there is not another
-pub record HaveStopped (start : Start) (terms : ℕ) (fault : TermsFault) (before after : Option (List (List Entry))) : Type 0 where
+pub record HaveStopped (start : Start) (terms : ℕ) (fault : TermsFault)
+    (before after : Option (List (List Entry))) : Type 0 where
   pub next : Start
   pub run : HaveRun start fault.done next before after
   pub fewer : fault.done < terms

@@ -6,11 +6,15 @@ use Rattle.dmr_link.specs.declared.ended.Ended.{Ended}
 use Rattle.dmr_link.specs.declared.ended.Ended.TheVariants as ended
 use Rattle.dmr_link.specs.declared.stream.Peer.{Peer}
 use Rattle.dmr_link.specs.declared.link_state.LinkState.{LinkState}
-use Rattle.dmr_link.specs.Happenings.{Happening, Answered, Deposited, answers_in, deposits_in, passages_in, Outside, stage_after_all, stage_at, passages_of, EndsInBlock}
+use Rattle.dmr_link.specs.Happenings.{Happening, Answered, Deposited, answers_in, deposits_in}
+use Rattle.dmr_link.specs.Happenings.{passages_in, Outside, stage_after_all, stage_at, passages_of}
+use Rattle.dmr_link.specs.Happenings.{EndsInBlock}
 use Rattle.dmr_link.specs.Limits.{most_reads}
 use Rattle.dmr_link.specs.Passages.{Passage}
 use Rattle.dmr_link.specs.Recorded.{sessions_after_silence}
-use Rattle.dmr_link.specs.Sessions.{Session, new_session, with_calls, progress_at, progress_after_answers, reads_in, AreOfWire, IsQuiet, IsOver, HasPast, sessions_after, KeepsTurns, Sides, sides, Happens}
+use Rattle.dmr_link.specs.Sessions.{Session, new_session, with_calls, progress_at}
+use Rattle.dmr_link.specs.Sessions.{progress_after_answers, reads_in, AreOfWire, IsQuiet, IsOver}
+use Rattle.dmr_link.specs.Sessions.{HasPast, sessions_after, KeepsTurns, Sides, sides, Happens}
 use Rattle.dmr_link.specs.LinkSteps.{is_live}
 use Rattle.dmr_desk.specs.declared.ending.Ending.{Ending}
 use Rattle.dmr_desk.specs.declared.ending.Ending.TheVariants as ending
@@ -54,8 +58,8 @@ pub record ChangesLink (before : StationState) (after : StationState) : Type 0 w
 
 -- ---- steps, newest first
 
--- a step: a request for a connection, a call of `serve`, or a wait. A call has what happened in it and how it ended; a wait has what the
--- desk took when the link was cut for silence
+-- a step: a request for a connection, a call of `serve`, or a wait. A call has what happened in it and how it ended; a
+-- wait has what the desk took when the link was cut for silence
 pub data Step : Type 0 where
   Asked : (answer : Answer) → Step
   Served : (happened : List Happening) (stop : Ended) → Step
@@ -84,13 +88,15 @@ sessions_after_ask past answer = past
 
 -- the connections after a wait
 abbrev pub sessions_after_wait : List Session → Answer → List Deposit → List Session
-sessions_after_wait past Silent deposits = with_newest_deposits (sessions_after_silence past) deposits
+sessions_after_wait past Silent deposits =
+    with_newest_deposits (sessions_after_silence past) deposits
 sessions_after_wait past answer deposits = past
 
 -- the connections after a step
 abbrev pub past_then : List Session → Step → List Session
 past_then past (Asked answer) = sessions_after_ask past answer
-past_then past (Served happened stop) = sessions_after past (answers_in happened) (deposits_in happened)
+past_then past (Served happened stop) =
+    sessions_after past (answers_in happened) (deposits_in happened)
 past_then past (Waited answer deposits) = sessions_after_wait past answer deposits
 
 -- the connections after all steps
@@ -122,7 +128,8 @@ IsWait answer deposits = ⊥
 abbrev pub Rests : List Session → Type 0
 Rests past = (link : LinkState) × IsOver link × HasPast link past
 
--- a call of `serve` may begin at the start, at an opening, after an Again, and after the `most_reads` reads of the call before
+-- a call of `serve` may begin at the start, at an opening, after an Again, and after the `most_reads` reads of the call
+-- before
 abbrev pub MayBeginServe : List Step → Type 0
 MayBeginServe [] = Unit {0}
 MayBeginServe (Asked Opened ∷ earlier) = Unit {0}
@@ -141,36 +148,48 @@ StopsAt ended.Idle answers = EndsInBlock answers
 StopsAt ended.Paused answers = reads_in answers ≡ most_reads
 StopsAt stop answers = Unit {0}
 
--- a call of `serve` on these connections of a peer: it only reads and writes, and reads at most `most_reads` times. It passes the gate for
--- each event, and writes an event's answer after the event. It reads and writes connections in their turn
-pub record IsCall (who : Peer) (past : List Session) (happened : List Happening) (stop : Ended) : Type 0 where
+-- a call of `serve` on these connections of a peer: it only reads and writes, and reads at most `most_reads` times. It
+-- passes the gate for each event, and writes an event's answer after the event. It reads and writes connections in
+-- their turn
+pub record IsCall (who : Peer) (past : List Session) (happened : List Happening)
+    (stop : Ended) : Type 0 where
   pub wire : AreOfWire (answers_in happened)
   pub few : reads_in (answers_in happened) ≤ most_reads
   pub order : stage_after_all Outside happened ≡ stage_at stop
   pub passages : passages_in happened ≡ passages_of (deposits_in happened) stop
-  pub turns : (s : Session) (ss : List Session) → past ≡ s ∷ ss → KeepsTurns who (progress_at s 0) happened
-  pub rested : (s : Session) (ss : List Session) → past ≡ s ∷ ss → (progress_after_answers (progress_at s 0) (answers_in happened)).writing ≡ 0
+  pub turns : (s : Session) (ss : List Session) → past ≡ s ∷ ss
+      → KeepsTurns who (progress_at s 0) happened
+  pub rested : (s : Session) (ss : List Session) → past ≡ s ∷ ss
+      → (progress_after_answers (progress_at s 0) (answers_in happened)).writing ≡ 0
   pub stops : StopsAt stop (answers_in happened)
 
--- a worker asks for a connection only if none is open and nothing is pending, begins a call of `serve` only if `MayBeginServe` holds, and
--- waits only if `MayWait` does. So each wait directly follows a read that would block
+-- a worker asks for a connection only if none is open and nothing is pending, begins a call of `serve` only if
+-- `MayBeginServe` holds, and waits only if `MayWait` does. So each wait directly follows a read that would block
 abbrev pub IsOrderly : Peer → List Session → List Step → Type 0
 IsOrderly who past [] = Unit {0}
-IsOrderly who past (Asked answer ∷ earlier) = IsAsk answer × Rests (past_after past earlier) × IsOrderly who past earlier
-IsOrderly who past (Served happened stop ∷ earlier) = IsCall who (past_after past earlier) happened stop × MayBeginServe earlier × IsOrderly who past earlier
-IsOrderly who past (Waited answer deposits ∷ earlier) = IsWait answer deposits × MayWait earlier × IsOrderly who past earlier
+IsOrderly who past (Asked answer ∷ earlier) =
+    IsAsk answer × Rests (past_after past earlier) × IsOrderly who past earlier
+IsOrderly who past (Served happened stop ∷ earlier) =
+    IsCall who (past_after past earlier) happened stop × MayBeginServe earlier
+    × IsOrderly who past earlier
+IsOrderly who past (Waited answer deposits ∷ earlier) =
+    IsWait answer deposits × MayWait earlier × IsOrderly who past earlier
 
 -- ---- from one moment to another
 
--- these steps lead from moment `m` to moment `n`: what port, desk and gate report goes on by them, and so do the link's connections
+-- these steps lead from moment `m` to moment `n`: what port, desk and gate report goes on by them, and so do the link's
+-- connections
 pub record Steps (m : WorkState) (n : WorkState) (doings : List Step) : Type 0 where
   pub who : n.at.link.who ≡ m.at.link.who
   -- the reports of port, desk and gate continue with exactly what happened
   pub happens : Happens (sides_at m.at m.calls) (happened_of doings) (sides_at n.at n.calls)
   -- if connections agreed with the link's state before (`StandsFor`), they agree with it after these steps
-  pub stands : (past : List Session) → HasPast m.at.link past → HasPast n.at.link (past_after past doings)
+  pub stands : (past : List Session) → HasPast m.at.link past
+      → HasPast n.at.link (past_after past doings)
   -- the desk's deposits in these steps, in one list, are those of these connections since
-  pub view : (past : List Session) → HasPast m.at.link past → deposits_of_sessions (past_after past doings) ≡ deposits_of_sessions past ++ deposits_in (happened_of doings)
+  pub view : (past : List Session) → HasPast m.at.link past
+      → deposits_of_sessions (past_after past doings)
+      ≡ deposits_of_sessions past ++ deposits_in (happened_of doings)
   pub orderly : (past : List Session) → HasPast m.at.link past → IsOrderly m.at.link.who past doings
 
 -- the last answer to a request was that there will be no more connections
@@ -197,11 +216,14 @@ WorksUntil m n e = (doings : List Step) × Steps m n doings × EndsFor e n.at.li
 
 -- the work continues, with a call of `serve` or a request for a connection
 abbrev pub IsAtWork : WorkState → WorkState → Type 0
-IsAtWork m n = (doings : List Step) × Steps m n doings × (is_live n.at.link ≡ true → MayBeginServe doings)
+IsAtWork m n =
+    (doings : List Step) × Steps m n doings × (is_live n.at.link ≡ true → MayBeginServe doings)
 
 -- the worker is about to wait
 abbrev pub IsAboutToWait : WorkState → WorkState → Type 0
-IsAboutToWait m n = (doings : List Step) × Steps m n doings × MayWait doings × IsQuiet n.at.link × (n.at.link.unread ≡ [])
+IsAboutToWait m n =
+    (doings : List Step) × Steps m n doings × MayWait doings × IsQuiet n.at.link
+    × (n.at.link.unread ≡ [])
 
 -- the work continues, or it has ended with this ending
 abbrev pub IsNextStep : WorkState → WorkState → Option Ending → Type 0

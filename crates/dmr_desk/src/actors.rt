@@ -45,7 +45,9 @@ pub struct LinkPromise<S>(pub Snapshot<S>, pub u8);
 impl<S: Serving, L: Ledger> Promise<LinkWork<S, L>> for LinkPromise<S> {
     ghost use Rattle.dmr_desk.specs.declared.ending.Ending.TheVariants.{GateShut};
 
-    ghost kept_by = { λ p r. IsWorkDone p.1 (S.state p.0.value) (work_done (S.state r.station) r.seat r.ending) × (r.ending ≡ GateShut → S.shut r.station) };
+    ghost kept_by = { λ p r. IsWorkDone p.1 (S.state p.0.value)
+        (work_done (S.state r.station) r.seat r.ending)
+        × (r.ending ≡ GateShut → S.shut r.station) };
 }
 
 /// The promise that the ticker does its work with this pacer, and a new seat of this actor.
@@ -64,7 +66,8 @@ pub fn work_from_seat<S: Serving, L: DeskLedger, R: Wait>(
     seat: Seat<L>,
 ) -> LinkWork<S, L>
     requires { seat.deposits ≡ [] }
-    ensures done { IsWorkDone seat.actor (S.state station) (work_done (S.state result.station) result.seat result.ending) }
+    ensures done { IsWorkDone seat.actor (S.state station)
+        (work_done (S.state result.station) result.seat result.ending) }
     ensures shut { result.ending ≡ Ending.GateShut → S.shut result.station }
 {
     let mut station = station;

@@ -2,7 +2,8 @@
 
 ghost use Rattle.std.specs.Prelude.{◌≡◌, ◌<◌, [], length, reverse, IsOk, IsTrue, ◌↔◌, IfOk, IfErr};
 ghost use Rattle.dmr_link.specs.Runs.{IsSafe};
-ghost use Rattle.dmr_desk.specs.BookState.{IsSoundBook, answer_to, book_with_entry, site_after_entries};
+ghost use Rattle.dmr_desk.specs.BookState.{IsSoundBook, answer_to, book_with_entry};
+ghost use Rattle.dmr_desk.specs.BookState.{site_after_entries};
 
 use crate::report::Journal;
 use crate::room::push_copy;
@@ -12,9 +13,9 @@ use dmr_pdu::OutOfMemory;
 use std::alloc::Global;
 use std::marker::Model;
 
-/// A site, with the journal of all events and answers since the book was opened. Contracts see the site at its opening, the limit of the
-/// journal, and the entries, oldest first. The journal is legal from that site ([`use_invariant`](Book::use_invariant)), and the site is in the state that
-/// the journal leads to.
+/// A site, with the journal of all events and answers since the book was opened. Contracts see the site at its opening,
+/// the limit of the journal, and the entries, oldest first. The journal is legal from that site
+/// ([`use_invariant`](Book::use_invariant)), and the site is in the state that the journal leads to.
 #[derive(Drop)]
 pub struct Book {
     opening: Site,
@@ -29,9 +30,16 @@ impl Model for Book {
 
     ghost Value = { BookState };
 
-    ghost view = { λ b. record { opening = b.opening; limit = b.limit; entries = b.journal.items } };
+    ghost view = { λ b. record {
+      opening = b.opening;
+      limit = b.limit;
+      entries = b.journal.items;
+    } };
 
-    ghost invariant = { λ b. IsSoundBook (record { opening = b.opening; limit = b.limit; entries = b.journal.items }) × (b.site ≡ site_after_entries b.opening b.journal.items) × (b.limit ≤ vec_capacity b.journal) };
+    ghost invariant = { λ b.
+        IsSoundBook (record { opening = b.opening; limit = b.limit; entries = b.journal.items })
+        × (b.site ≡ site_after_entries b.opening b.journal.items)
+        × (b.limit ≤ vec_capacity b.journal) };
 }
 
 /// Makes the entry of an actor's event and its answer.
@@ -46,10 +54,11 @@ fn entry_of(actor: u8, event: &Event, acts: &Acts) -> Entry
 }
 
 impl Book {
-    /// Opens the book of a site, without entries. Its journal may have `limit` entries, and has room for them from the beginning. On an
-    /// error an allocation was refused; the error returns the site unchanged.
+    /// Opens the book of a site, without entries. Its journal may have `limit` entries, and has room for them from the
+    /// beginning. On an error an allocation was refused; the error returns the site unchanged.
     pub fn new(alloc: Global, site: Site, limit: usize) -> Result<Book, (OutOfMemory, Site)>
-        ensures ok { IfOk result (λ book. book ≡ record { opening = site; limit = limit; entries = [] }) }
+        ensures ok { IfOk result
+            (λ book. book ≡ record { opening = site; limit = limit; entries = [] }) }
         ensures err { IfErr result (λ fault. fault.1 ≡ site) }
     {
         let Ok(opening) = site.try_clone(alloc) else {
@@ -68,13 +77,17 @@ impl Book {
         })
     }
 
-    /// Applies an event of the actor with this number to the site, enters it with the answer, and returns the answer. It allocates no
-    /// memory. On an error the journal is at its limit; the site has not received the event, and nothing has changed.
+    /// Applies an event of the actor with this number to the site, enters it with the answer, and returns the answer.
+    /// It allocates no memory. On an error the journal is at its limit; the site has not received the event, and
+    /// nothing has changed.
     pub fn apply(&mut self, actor: u8, event: Event) -> Result<Acts, TermOver>
         ensures acts { IfOk result (λ acts. acts ≡ answer_to self.old event) }
-        ensures entered { IfOk result (λ acts. self.new ≡ book_with_entry self.old actor event acts) }
+        ensures entered { IfOk result
+            (λ acts. self.new ≡ book_with_entry self.old actor event acts) }
         ensures room { length self.old.entries < self.old.limit → IsOk result }
-        ensures over { IfErr result (λ over. (self.new ≡ self.old) × (over.entries ≡ length self.old.entries) × (length self.old.entries ≡ self.old.limit)) }
+        ensures over { IfErr result (λ over. (self.new ≡ self.old)
+            × (over.entries ≡ length self.old.entries)
+            × (length self.old.entries ≡ self.old.limit)) }
     {
         self.apply_borrowed(actor, &event)
     }
@@ -82,9 +95,12 @@ impl Book {
     /// Does the same as [`apply`](Book::apply), for a borrowed event.
     fn apply_borrowed(&mut self, actor: u8, event: &Event) -> Result<Acts, TermOver>
         ensures acts { IfOk result (λ acts. acts ≡ answer_to self.old event.now) }
-        ensures entered { IfOk result (λ acts. self.new ≡ book_with_entry self.old actor event.now acts) }
+        ensures entered { IfOk result
+            (λ acts. self.new ≡ book_with_entry self.old actor event.now acts) }
         ensures room { length self.old.entries < self.old.limit → IsOk result }
-        ensures over { IfErr result (λ over. (self.new ≡ self.old) × (over.entries ≡ length self.old.entries) × (length self.old.entries ≡ self.old.limit)) }
+        ensures over { IfErr result (λ over. (self.new ≡ self.old)
+            × (over.entries ≡ length self.old.entries)
+            × (length self.old.entries ≡ self.old.limit)) }
     {
         let entries = self.journal.len();
         if entries >= self.limit {
@@ -112,7 +128,8 @@ impl Book {
     /// Does nothing. By its contract every book's journal is legal and within its limit, and every act in it is safe.
     pub fn use_invariant(&self)
         ensures kept { IsSoundBook self.now }
-        ensures safe { IsSafe self.now.opening.plan self.now.opening.facts (reverse self.now.entries) }
+        ensures safe { IsSafe self.now.opening.plan self.now.opening.facts
+            (reverse self.now.entries) }
     {
         each_act_is_safe();
         let _ = &self.journal;

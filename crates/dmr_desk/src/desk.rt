@@ -1,6 +1,7 @@
 //! The desk: a book that a lock guards, and its seats.
 
-ghost use Rattle.std.specs.Prelude.{◌≡◌, ◌≤◌, ◌+◌, ◌↔◌, ◌⊎◌, length, true, false, IsTrue, IfOk, IfErr, OnOk};
+ghost use Rattle.std.specs.Prelude.{◌≡◌, ◌≤◌, ◌+◌, ◌↔◌, ◌⊎◌, length, true, false, IsTrue, IfOk};
+ghost use Rattle.std.specs.Prelude.{IfErr, OnOk};
 ghost use Rattle.dmr_desk.specs.BookState.{answer_to, book_with_entry};
 ghost use Rattle.dmr_desk.specs.Seats.{seat_with_deposit, empty_seats};
 ghost use Rattle.dmr_desk.specs.Limits.{most_actors};
@@ -22,8 +23,9 @@ use std::marker::Model;
 use std::sync::ledger::{Blank, Ledger, Share};
 use std::sync::{Mutex, Wait, ledger};
 
-/// The content of the lock. `total` is the ledger's total, which is the number of the book's entries. `rest` has the parts of the ledger
-/// that no seat has. `actors` is the number of seats. By its type, the content belongs to the desk that the ledger names.
+/// The content of the lock. `total` is the ledger's total, which is the number of the book's entries. `rest` has the
+/// parts of the ledger that no seat has. `actors` is the number of seats. By its type, the content belongs to the desk
+/// that the ledger names.
 #[derive(Drop)]
 struct Locked<L: DeskLedger> {
     book: Book,
@@ -38,13 +40,16 @@ struct Locked<L: DeskLedger> {
 }
 
 impl<L: DeskLedger> Locked<L> {
-    /// Applies an event to the site for a seat, and returns the answer. On an error the book has no room or the desk was abandoned; nothing
-    /// has changed, and the error has the number of the book's entries.
+    /// Applies an event to the site for a seat, and returns the answer. On an error the book has no room or the desk
+    /// was abandoned; nothing has changed, and the error has the number of the book's entries.
     fn deposit(&mut self, seat: &mut Seat<L>, event: &Event) -> Result<Acts, TermOver>
         ensures acts { IfOk result (λ acts. acts ≡ answer_to self.old.book event.now) }
-        ensures entered { IfOk result (λ acts. self.new.book ≡ book_with_entry self.old.book seat.old.actor event.now acts) }
-        ensures deposited { IfOk result (λ acts. seat.new ≡ seat_with_deposit seat.old event.now acts) }
-        ensures over { IfErr result (λ over. (self.new.book ≡ self.old.book) × (seat.new ≡ seat.old) × (over.entries ≡ length self.old.book.entries)) }
+        ensures entered { IfOk result
+            (λ acts. self.new.book ≡ book_with_entry self.old.book seat.old.actor event.now acts) }
+        ensures deposited { IfOk result
+            (λ acts. seat.new ≡ seat_with_deposit seat.old event.now acts) }
+        ensures over { IfErr result (λ over. (self.new.book ≡ self.old.book) × (seat.new ≡ seat.old)
+            × (over.entries ≡ length self.old.book.entries)) }
         ensures among { IfErr result (λ over. length seat.old.deposits ≤ over.entries) }
         ensures taken { OnOk result (self.old.abandoned ≡ false) }
         ensures abandoned { self.new.abandoned ≡ self.old.abandoned }
@@ -63,7 +68,8 @@ impl<L: DeskLedger> Locked<L> {
 
     /// Whether the term is over: the book is at its limit, or the desk was abandoned.
     fn is_over(&self) -> bool
-        ensures { IsTrue result ↔ ((length self.now.book.entries ≡ self.now.book.limit) ⊎ (self.now.abandoned ≡ true)) }
+        ensures { IsTrue result
+            ↔ ((length self.now.book.entries ≡ self.now.book.limit) ⊎ (self.now.abandoned ≡ true)) }
     {
         self.abandoned || self.book.is_full()
     }
@@ -76,12 +82,16 @@ impl<L: DeskLedger> Locked<L> {
         self.abandoned = true;
     }
 
-    /// Returns the report of the book and these seats. On an error a seat is missing, and the error names the least such actor. If none is
-    /// missing, a seat differs from the journal, and the error names the least such actor.
+    /// Returns the report of the book and these seats. On an error a seat is missing, and the error names the least
+    /// such actor. If none is missing, a seat differs from the journal, and the error names the least such actor.
     fn audit_seats(self, seats: Vec<Seat<L>>) -> Result<Report, CloseFault>
         requires { L.parts ≡ most_actors }
-        ensures ok { IfOk result (λ report. IsAudited (record { site = self.book.opening; limit = self.book.limit; actors = self.actors }) seats.items report) }
-        ensures fault { IfErr result (λ fault. IsFault (record { site = self.book.opening; limit = self.book.limit; actors = self.actors }) seats.items fault) }
+        ensures ok { IfOk result (λ report. IsAudited
+            (record { site = self.book.opening; limit = self.book.limit; actors = self.actors })
+            seats.items report) }
+        ensures fault { IfErr result (λ fault. IsFault
+            (record { site = self.book.opening; limit = self.book.limit; actors = self.actors })
+            seats.items fault) }
     {
         let Locked {
             book,
@@ -107,8 +117,8 @@ impl<L: DeskLedger> Locked<L> {
     }
 }
 
-/// Returns the seats of the actors 0 to `actors - 1`. Each has one part of `rest`, in which nothing is counted yet. On an error an
-/// allocation was refused.
+/// Returns the seats of the actors 0 to `actors - 1`. Each has one part of `rest`, in which nothing is counted yet. On
+/// an error an allocation was refused.
 fn seats_for<L: Ledger>(
     alloc: Global,
     rest: &mut Share<L>,
@@ -129,9 +139,9 @@ fn seats_for<L: Ledger>(
     Ok(seats)
 }
 
-/// One site to which many threads apply events, one at a time. Contracts see the site at its opening, the limit of the journal and the
-/// number of actors, as the desk's ledger names them. Contracts cannot name the content of the lock; the report shows it when the desk is
-/// closed.
+/// One site to which many threads apply events, one at a time. Contracts see the site at its opening, the limit of the
+/// journal and the number of actors, as the desk's ledger names them. Contracts cannot name the content of the lock;
+/// the report shows it when the desk is closed.
 #[derive(Drop)]
 pub struct SharedDesk<L: DeskLedger> {
     locked: Mutex<Locked<L>>,
@@ -146,10 +156,11 @@ impl<L: DeskLedger> Model for SharedDesk<L> {
 }
 
 impl<L: DeskLedger> SharedDesk<L> {
-    /// Opens a desk for a site, and returns it with the seats of `actors` actors (1 to 18), numbered from 0, in this order. The journal may
-    /// have `limit` entries (1 to 100,000). The journal and each seat have room for `limit` from the beginning. The blank belongs to the
-    /// ledger `L`, of [`PARTS`](crate::PARTS) parts, and the ledger names this site, this limit and this number of actors ([`DeskLedger`]).
-    /// The error is the first fault that applies, in the order of [`OpenFault`]. It returns the site unchanged; the blank is used up.
+    /// Opens a desk for a site, and returns it with the seats of `actors` actors (1 to 18), numbered from 0, in this
+    /// order. The journal may have `limit` entries (1 to 100,000). The journal and each seat have room for `limit` from
+    /// the beginning. The blank belongs to the ledger `L`, of [`PARTS`](crate::PARTS) parts, and the ledger names this
+    /// site, this limit and this number of actors ([`DeskLedger`]). The error is the first fault that applies, in the
+    /// order of [`OpenFault`]. It returns the site unchanged; the blank is used up.
     pub fn open(
         alloc: Global,
         blank: Blank,
@@ -162,7 +173,8 @@ impl<L: DeskLedger> SharedDesk<L> {
         requires eighteen { blank.parts ≡ most_actors }
         requires desk { L.desk ≡ record { site = site; limit = limit; actors = actors } }
         ensures numbers { OnOk result (IsLimit limit × IsNumber actors) }
-        ensures desk { IfOk result (λ opened. opened.0 ≡ record { site = site; limit = limit; actors = actors }) }
+        ensures desk { IfOk result
+            (λ opened. opened.0 ≡ record { site = site; limit = limit; actors = actors }) }
         ensures seats { IfOk result (λ opened. opened.1.items ≡ empty_seats actors) }
         ensures fault { IfErr result (λ refused. IsRefused limit actors refused.0) }
         ensures site { IfErr result (λ refused. refused.1 ≡ site) }
@@ -192,11 +204,12 @@ impl<L: DeskLedger> SharedDesk<L> {
         }
     }
 
-    /// Applies an event to the site from a seat, and returns the site's answer, which the seat keeps with the event. It waits for the lock,
-    /// so the threads' events are applied one at a time. It allocates no memory. On an error the journal is at its limit, or a thread of
-    /// the desk's term could not be started. The site has not received the event, and nothing has changed. `entries` is the length of the
-    /// journal, which is at least the number of deposits from this seat. The clauses describe the seat alone; the report shows the site and
-    /// the journal, which the lock guards.
+    /// Applies an event to the site from a seat, and returns the site's answer, which the seat keeps with the event. It
+    /// waits for the lock, so the threads' events are applied one at a time. It allocates no memory. On an error the
+    /// journal is at its limit, or a thread of the desk's term could not be started. The site has not received the
+    /// event, and nothing has changed. `entries` is the length of the journal, which is at least the number of deposits
+    /// from this seat. The clauses describe the seat alone; the report shows the site and the journal, which the lock
+    /// guards.
     pub fn deposit<R: Wait>(
         &self,
         rt: &R,
@@ -204,30 +217,32 @@ impl<L: DeskLedger> SharedDesk<L> {
         event: Event,
     ) -> Result<Acts, TermOver>
         ensures ok { IfOk result (λ acts. seat.new ≡ seat_with_deposit seat.old event acts) }
-        ensures over { IfErr result (λ over. (seat.new ≡ seat.old) × (length seat.old.deposits ≤ over.entries)) }
+        ensures over { IfErr result (λ over. (seat.new ≡ seat.old)
+            × (length seat.old.deposits ≤ over.entries)) }
     {
         self.locked.lock(rt).deposit(seat, &event)
     }
 
-    /// Whether the journal is at its limit, or a thread of the desk's term could not be started. It waits for the lock, as
-    /// [`deposit`](SharedDesk::deposit) does. No clause describes the result: contracts cannot name the content of the lock.
+    /// Whether the journal is at its limit, or a thread of the desk's term could not be started. It waits for the lock,
+    /// as [`deposit`](SharedDesk::deposit) does. No clause describes the result: contracts cannot name the content of
+    /// the lock.
     pub fn over<R: Wait>(&self, rt: &R) -> bool {
         self.locked.lock(rt).is_over()
     }
 
     /// Abandons the desk, because a thread of its term could not be started. From now on the desk takes no event, and
-    /// [`over`](SharedDesk::over) returns true. It waits for the lock. The journal does not change. No clause says so: contracts cannot
-    /// name the content of the lock.
+    /// [`over`](SharedDesk::over) returns true. It waits for the lock. The journal does not change. No clause says so:
+    /// contracts cannot name the content of the lock.
     pub fn abandon<R: Wait>(&self, rt: &R) {
         self.locked.lock(rt).abandon();
     }
 
-    /// Closes the desk, with its seats in any order. The report has the site, the journal, and the view of each actor, moved out of its
-    /// seat; [`reports_account`](crate::reports_account) has all that holds of it. It allocates no memory. On an error a seat is missing,
-    /// and the error names the least such actor. If none is missing, a seat differs from the journal, and the error names the least such
-    /// actor. The site, the journal and the seats are then lost. If a seat differs, the clause cannot name the journal, which the lock
-    /// guarded. It says of the journal that it is legal from the desk's site, within the desk's limit, and has one entry for each deposit
-    /// of all seats.
+    /// Closes the desk, with its seats in any order. The report has the site, the journal, and the view of each actor,
+    /// moved out of its seat; [`reports_account`](crate::reports_account) has all that holds of it. It allocates no
+    /// memory. On an error a seat is missing, and the error names the least such actor. If none is missing, a seat
+    /// differs from the journal, and the error names the least such actor. The site, the journal and the seats are then
+    /// lost. If a seat differs, the clause cannot name the journal, which the lock guarded. It says of the journal that
+    /// it is legal from the desk's site, within the desk's limit, and has one entry for each deposit of all seats.
     pub fn close<R: Wait>(self, _rt: &R, seats: Vec<Seat<L>>) -> Result<Report, CloseFault>
         requires { L.parts ≡ most_actors }
         ensures ok { IfOk result (λ report. IsAudited self seats.items report) }

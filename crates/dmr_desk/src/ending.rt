@@ -7,8 +7,8 @@ pub enum Ending {
     Finished,
     /// Its gate was shut. The link keeps the event that it was about to deposit.
     GateShut,
-    /// The term is over: the journal is at its limit, or a thread of the term could not be started, and then `run_term` returns no term.
-    /// The link keeps an event that the desk did not take; a tick is dropped.
+    /// The term is over: the journal is at its limit, or a thread of the term could not be started, and then `run_term`
+    /// returns no term. The link keeps an event that the desk did not take; a tick is dropped.
     TermOver,
 }
 

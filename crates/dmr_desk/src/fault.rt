@@ -16,15 +16,15 @@ pub enum OpenFault {
     OutOfMemory,
 }
 
-/// Why a desk returns no report: the first fault that applies, with the least such actor. The desk, with its site and journal, and the
-/// seats are lost.
+/// Why a desk returns no report: the first fault that applies, with the least such actor. The desk, with its site and
+/// journal, and the seats are lost.
 #[derive(Clone, Copy, PartialEq, Eq, Debug, Error)]
 pub enum CloseFault {
     /// The call received no seat of this actor, which is one of the desk's.
     #[error("the seat of actor {0} is missing")]
     SeatMissing(u8),
-    /// The deposits of this actor's seat differ from the journal's list for the actor. It is proved that the site, the limit and the number
-    /// of actors in the lock are those that the desk was opened with.
+    /// The deposits of this actor's seat differ from the journal's list for the actor. It is proved that the site, the
+    /// limit and the number of actors in the lock are those that the desk was opened with.
     #[error("the seat of actor {0} differs from the journal")]
     Differs(u8),
 }
@@ -38,15 +38,15 @@ pub enum TermFault {
     /// The desk was not opened, or there was no memory for the workers' results. No thread was started.
     #[error("the desk was not opened: {0}")]
     Open(OpenFault),
-    /// A thread could not be started. The desk then took no further event, and each started worker has ended, when it next asked whether
-    /// the term is over. The events that the workers had deposited are lost with the site.
+    /// A thread could not be started. The desk then took no further event, and each started worker has ended, when it
+    /// next asked whether the term is over. The events that the workers had deposited are lost with the site.
     #[error("a thread could not be started")]
     NoThread,
     /// The workers have ended, and the desk returned no report.
     #[error("no report: {0}")]
     Audit(CloseFault),
-    /// The workers have ended, and this actor, the least such, received the answer that the term is over while the journal was below its
-    /// limit.
+    /// The workers have ended, and this actor, the least such, received the answer that the term is over while the
+    /// journal was below its limit.
     #[error("actor {0} was told too early that the term is over")]
     Early(u8),
 }

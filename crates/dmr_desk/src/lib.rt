@@ -1,17 +1,21 @@
-//! One site for many threads. Each event takes a lock and becomes one entry of a journal. When the site is closed, the contract says that
-//! each thread received exactly the answers that one legal journal has for it.
+//! One site for many threads. Each event takes a lock and becomes one entry of a journal. When the site is closed, the
+//! contract says that each thread received exactly the answers that one legal journal has for it.
 //!
 //! - A [`Book`] is a site with the journal of its events, for one thread. Each event is entered with its answer.
-//! - A [`SharedDesk`] is a book with a lock, and a [`Seat`] is an actor's place at it. The owner of a seat deposits events from it. Each
-//!   deposit takes the lock and becomes one entry; the seat keeps the deposit with its answer. A [`SeatAt`] is a seat as a link's `Desk`.
-//! - [`close`](SharedDesk::close) takes the desk and all its seats, and returns a [`Report`]: the site, the [`Journal`], and the [`View`]
-//!   of each actor. It compares each seat with the journal. The contract of [`reports_account`] has all that holds of a report.
-//! - A worker serves the connections of one [`Station`] or of the [`ConsoleStation`] from a seat, or deposits the ticks of a [`Pacer`].
-//!   [`run_term`] starts a thread for each worker at one desk, waits for all of them, closes the desk, and returns a [`Term`].
+//! - A [`SharedDesk`] is a book with a lock, and a [`Seat`] is an actor's place at it. The owner of a seat deposits
+//!   events from it. Each deposit takes the lock and becomes one entry; the seat keeps the deposit with its answer. A
+//!   [`SeatAt`] is a seat as a link's `Desk`.
+//! - [`close`](SharedDesk::close) takes the desk and all its seats, and returns a [`Report`]: the site, the
+//!   [`Journal`], and the [`View`] of each actor. It compares each seat with the journal. The contract of
+//!   [`reports_account`] has all that holds of a report.
+//! - A worker serves the connections of one [`Station`] or of the [`ConsoleStation`] from a seat, or deposits the ticks
+//!   of a [`Pacer`]. [`run_term`] starts a thread for each worker at one desk, waits for all of them, closes the desk,
+//!   and returns a [`Term`].
 //!
-//! Two things need no comparison. No entry belongs to another actor: a desk and its seats share the parts of a ledger, which counts each
-//! deposit. When all parts are together, the journal is exactly as long as all seats' lists. The content of the lock belongs to the desk's
-//! own site, limit and number of actors: the ledger names them ([`DeskLedger`]), and the content's type says that they agree.
+//! Two things need no comparison. No entry belongs to another actor: a desk and its seats share the parts of a ledger,
+//! which counts each deposit. When all parts are together, the journal is exactly as long as all seats' lists. The
+//! content of the lock belongs to the desk's own site, limit and number of actors: the ledger names them
+//! ([`DeskLedger`]), and the content's type says that they agree.
 //!
 //! [`run_terms`] runs terms in a row, and an [`Observer`] sees each report. [`one_life`] says what all terms come to,
 //! and [`terms_go_on`] how rows of terms join.

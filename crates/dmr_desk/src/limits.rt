@@ -9,7 +9,8 @@ pub const MOST_ENTRIES: usize = 100_000;
 /// The most actors of a desk: a worker for each of 16 carriers, the ticker, and the console's worker.
 pub const MOST_ACTORS: usize = 18;
 
-/// The number of parts of a desk's ledger: one for each actor that a desk may have. Each seat has one part, and the lock keeps the others.
+/// The number of parts of a desk's ledger: one for each actor that a desk may have. Each seat has one part, and the
+/// lock keeps the others.
 pub const PARTS: u64 = MOST_ACTORS as u64;
 
 /// Does nothing. Its contract says that the constants are the numbers of the definitions.

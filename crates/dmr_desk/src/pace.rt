@@ -23,8 +23,8 @@ pub enum Pace {
 
 /// Decides when a tick is due.
 pub trait Pacer {
-    /// If the pacer reports it: the number of ticks so far, and whether its last answer was that there are no more. It may stop reporting
-    /// at any call, and then never reports again.
+    /// If the pacer reports it: the number of ticks so far, and whether its last answer was that there are no more. It
+    /// may stop reporting at any call, and then never reports again.
     ghost paced: { Self → Option Paced };
 
     /// Waits for the next tick, as long as it decides to, and says whether the tick is due.
@@ -35,8 +35,13 @@ pub trait Pacer {
 /// Asks the pacer once, and deposits a tick if one is due. Returns `Some` if the work has ended.
 fn tick_once<T: Pacer, D: Desk>(pacer: &mut T, desk: &mut D) -> Option<Ending>
     ensures actor { D.actor desk.new ≡ D.actor desk.old }
-    ensures ticks { (before : _) (calls : _) → Ticking before calls (T.paced pacer.old) (D.calls desk.old) → TicksOn before calls (T.paced pacer.new) (D.calls desk.new) result }
-    ensures over { result ≡ Some Ending.TermOver → ((before : _) × (event : AnEvent) × (over : ATermOver) × D.refuses before event over desk.new) ⊎ ((before : _) × D.ends before desk.new) }
+    ensures ticks { (before : _) (calls : _)
+        → Ticking before calls (T.paced pacer.old) (D.calls desk.old)
+        → TicksOn before calls (T.paced pacer.new) (D.calls desk.new) result }
+    ensures over { result ≡ Some Ending.TermOver
+        → ((before : _) × (event : AnEvent) × (over : ATermOver)
+        × D.refuses before event over desk.new)
+        ⊎ ((before : _) × D.ends before desk.new) }
 {
     if desk.over() {
         return Some(Ending::TermOver);
@@ -51,12 +56,17 @@ fn tick_once<T: Pacer, D: Desk>(pacer: &mut T, desk: &mut D) -> Option<Ending>
     }
 }
 
-/// Deposits a tick whenever the pacer says that one is due, until the pacer has no more or the term is over. A tick that the desk does not
-/// take is dropped. Before each question to the pacer, the ticker asks the desk whether the term is over.
+/// Deposits a tick whenever the pacer says that one is due, until the pacer has no more or the term is over. A tick
+/// that the desk does not take is dropped. Before each question to the pacer, the ticker asks the desk whether the term
+/// is over.
 pub fn work_ticker<R: Wait, T: Pacer, D: Desk>(rt: &R, pacer: &mut T, desk: &mut D) -> Ending
     ensures actor { D.actor desk.new ≡ D.actor desk.old }
-    ensures ticks { Ticks (T.paced pacer.old) (D.calls desk.old) (T.paced pacer.new) (D.calls desk.new) result }
-    ensures over { result ≡ Ending.TermOver → ((before : _) × (event : AnEvent) × (over : ATermOver) × D.refuses before event over desk.new) ⊎ ((before : _) × D.ends before desk.new) }
+    ensures ticks { Ticks (T.paced pacer.old) (D.calls desk.old) (T.paced pacer.new)
+        (D.calls desk.new) result }
+    ensures over { result ≡ Ending.TermOver
+        → ((before : _) × (event : AnEvent) × (over : ATermOver)
+        × D.refuses before event over desk.new)
+        ⊎ ((before : _) × D.ends before desk.new) }
 {
     for _ in rt.forever() {
         if let Some(ending) = tick_once(pacer, desk) {

@@ -1,9 +1,11 @@
 //! Running a term.
 
-ghost use Rattle.std.specs.Prelude.{◌≡◌, ◌+◌, ◌-◌, ◌≤◌, ◌↔◌, ℕ, [], IfErr, IfOk, IsTrue, None, OnOk, Some, map, slice_get, vec_capacity, vec_len};
+ghost use Rattle.std.specs.Prelude.{◌≡◌, ◌+◌, ◌-◌, ◌≤◌, ◌↔◌, ℕ, [], IfErr, IfOk, IsTrue, None};
+ghost use Rattle.std.specs.Prelude.{OnOk, Some, map, slice_get, vec_capacity, vec_len};
 ghost use Rattle.dmr_desk.specs.Limits.{most_actors};
 ghost use Rattle.dmr_desk.specs.Opening.{IsLimit};
-ghost use Rattle.dmr_desk.specs.Refusing.{AreStations, IsFaultFor, IsTermFault, carrier_of_peer, numbers_from};
+ghost use Rattle.dmr_desk.specs.Refusing.{AreStations, IsFaultFor, IsTermFault, carrier_of_peer};
+ghost use Rattle.dmr_desk.specs.Refusing.{numbers_from};
 ghost use Rattle.dmr_desk.specs.Term.{IsTerm, end_of_term, start_of_term};
 ghost use Rattle.dmr_desk.specs.Work.{station_state};
 
@@ -28,10 +30,13 @@ use std::sync::Wait;
 use std::sync::ledger::{Blank, Ledger};
 use std::thread::Threads;
 
-/// Whether these are the stations of the plan's carriers among the last `many` carrier numbers, in the order of their numbers.
+/// Whether these are the stations of the plan's carriers among the last `many` carrier numbers, in the order of their
+/// numbers.
 fn are_stations<P, G>(plan: &Plan, many: u32, stations: &[Station<P, G>]) -> bool
     requires { many ≤ 16 }
-    ensures { IsTrue result ↔ (map (λ s. carrier_of_peer s.link.who) stations.now ≡ map (λ n. Some n) (numbers_from plan.now many (16 - many))) }
+    ensures { IsTrue result
+        ↔ (map (λ s. carrier_of_peer s.link.who) stations.now
+        ≡ map (λ n. Some n) (numbers_from plan.now many (16 - many))) }
 {
     if many == 0 {
         return stations.is_empty();
@@ -51,15 +56,18 @@ fn are_stations<P, G>(plan: &Plan, many: u32, stations: &[Station<P, G>]) -> boo
     }
 }
 
-/// Allocates room for the results of the workers of `stations` stations, the ticker and the console. On an error an allocation was refused.
+/// Allocates room for the results of the workers of `stations` stations, the ticker and the console. On an error an
+/// allocation was refused.
 fn room_for<S: Drop, L: Ledger>(
     alloc: Global,
     stations: usize,
 ) -> Result<(Vec<LinkWork<S, L>>, HandedBack<S, L>), OutOfMemory>
     requires few { stations ≤ 16 }
     ensures room { IfOk result (λ r. (r.0.items ≡ []) × (stations ≤ vec_capacity r.0)) }
-    ensures stations { IfOk result (λ r. (r.1.stations.items ≡ []) × (stations ≤ vec_capacity r.1.stations)) }
-    ensures seats { IfOk result (λ r. (r.1.seats.items ≡ []) × (stations + 2 ≤ vec_capacity r.1.seats)) }
+    ensures stations { IfOk result (λ r. (r.1.stations.items ≡ [])
+        × (stations ≤ vec_capacity r.1.stations)) }
+    ensures seats { IfOk result (λ r. (r.1.seats.items ≡ [])
+        × (stations + 2 ≤ vec_capacity r.1.seats)) }
     ensures ends { IfOk result (λ r. r.1.ends.items ≡ []) }
 {
     let room = Vec::with_capacity(alloc, stations)?;
@@ -93,11 +101,17 @@ where
     requires eighteen { blank.parts ≡ most_actors }
     requires few { vec_len stations ≤ 16 }
     requires desk { L.desk ≡ record { site = site; limit = limit; actors = vec_len stations + 2 } }
-    ensures term { IfOk result (λ t. IsTerm (start_of_term site limit (map (λ s. S.state s) stations.items) (T.paced pacer) (C.state console))
-        (end_of_term t.report t.ends.items (map (λ s. S.state s) t.stations.items) (T.paced t.pacer) (C.state t.console))) }
-    ensures shut { IfOk result (λ t. (k : ℕ) (s : _) → slice_get t.stations.items k ≡ Some s → slice_get t.ends.items k ≡ Some Ending.GateShut → S.shut s) }
-    ensures open { IfOk result (λ t. slice_get t.ends.items (vec_len stations + 1) ≡ Some Ending.GateShut → C.shut t.console) }
-    ensures fault { IfErr result (IsFaultFor (start_of_term site limit (map (λ s. S.state s) stations.items) (T.paced pacer) (C.state console))) }
+    ensures term { IfOk result (λ t. IsTerm (start_of_term site limit
+        (map (λ s. S.state s) stations.items) (T.paced pacer) (C.state console))
+        (end_of_term t.report t.ends.items (map (λ s. S.state s) t.stations.items) (T.paced t.pacer)
+        (C.state t.console))) }
+    ensures shut { IfOk result (λ t. (k : ℕ) (s : _) → slice_get t.stations.items k ≡ Some s
+        → slice_get t.ends.items k ≡ Some Ending.GateShut → S.shut s) }
+    ensures open { IfOk result
+        (λ t. slice_get t.ends.items (vec_len stations + 1) ≡ Some Ending.GateShut
+        → C.shut t.console) }
+    ensures fault { IfErr result (IsFaultFor (start_of_term site limit
+        (map (λ s. S.state s) stations.items) (T.paced pacer) (C.state console))) }
     ensures limit { OnOk result (IsLimit limit) }
 {
     let count = stations.len();
@@ -122,13 +136,14 @@ where
     }
 }
 
-/// Runs a term at one desk: a worker for each station, one for the ticker and one for the console, each in a thread of its own. The desk's
-/// journal may have `limit` entries (1 to 100,000). There is one station for each carrier of the plan, in the order of their numbers. The
-/// actors are the stations, then the ticker, then the console. When all workers have ended, the term is over: the desk is closed, and its
-/// journal is compared with the answers that each worker received. All memory is allocated before a thread is started, and the call waits
-/// for each started thread. If a thread cannot be started, the desk takes no further event. Each started worker then ends when it next asks
-/// whether the term is over; no clause says how soon. The error is the first fault that applies, in the order of [`TermFault`]; all
-/// arguments are used up.
+/// Runs a term at one desk: a worker for each station, one for the ticker and one for the console, each in a thread of
+/// its own. The desk's journal may have `limit` entries (1 to 100,000). There is one station for each carrier of the
+/// plan, in the order of their numbers. The actors are the stations, then the ticker, then the console. When all
+/// workers have ended, the term is over: the desk is closed, and its journal is compared with the answers that each
+/// worker received. All memory is allocated before a thread is started, and the call waits for each started thread. If
+/// a thread cannot be started, the desk takes no further event. Each started worker then ends when it next asks whether
+/// the term is over; no clause says how soon. The error is the first fault that applies, in the order of [`TermFault`];
+/// all arguments are used up.
 pub fn run_term<P, G, T, C, R>(
     rt: &R,
     alloc: Global,
@@ -144,12 +159,23 @@ where
     T: Pacer + Send + Drop,
     C: Port + Send + Drop,
     R: Wait + Threads + Sync,
-    ensures term { IfOk result (λ t. IsTerm (start_of_term site limit (map (λ s. station_state s.link (P.reported s.port) (G.passed s.gate)) stations.items) (T.paced pacer) (station_state console.link (C.reported console.port) None))
-        (end_of_term t.report t.ends.items (map (λ s. station_state s.link (P.reported s.port) (G.passed s.gate)) t.stations.items) (T.paced t.pacer) (station_state t.console.link (C.reported t.console.port) None))) }
-    ensures shut { IfOk result (λ t. (k : ℕ) (s : _) → slice_get t.stations.items k ≡ Some s → slice_get t.ends.items k ≡ Some Ending.GateShut → (before : _) × G.shuts before s.gate) }
-    ensures open { IfOk result (λ t. slice_get t.ends.items (vec_len stations + 1) ≡ Some Ending.GateShut → ⊥) }
-    ensures fault { IfErr result (IsTermFault (start_of_term site limit (map (λ s. station_state s.link (P.reported s.port) (G.passed s.gate)) stations.items) (T.paced pacer) (station_state console.link (C.reported console.port) None))) }
-    ensures fits { OnOk result (AreStations site.plan (map (λ s. station_state s.link (P.reported s.port) (G.passed s.gate)) stations.items) × IsLimit limit) }
+    ensures term { IfOk result (λ t. IsTerm (start_of_term site limit
+        (map (λ s. station_state s.link (P.reported s.port) (G.passed s.gate)) stations.items)
+        (T.paced pacer) (station_state console.link (C.reported console.port) None))
+        (end_of_term t.report t.ends.items
+        (map (λ s. station_state s.link (P.reported s.port) (G.passed s.gate)) t.stations.items)
+        (T.paced t.pacer) (station_state t.console.link (C.reported t.console.port) None))) }
+    ensures shut { IfOk result (λ t. (k : ℕ) (s : _) → slice_get t.stations.items k ≡ Some s
+        → slice_get t.ends.items k ≡ Some Ending.GateShut → (before : _) × G.shuts before s.gate) }
+    ensures open { IfOk result
+        (λ t. slice_get t.ends.items (vec_len stations + 1) ≡ Some Ending.GateShut
+        → ⊥) }
+    ensures fault { IfErr result (IsTermFault (start_of_term site limit
+        (map (λ s. station_state s.link (P.reported s.port) (G.passed s.gate)) stations.items)
+        (T.paced pacer) (station_state console.link (C.reported console.port) None))) }
+    ensures fits { OnOk result (AreStations site.plan
+        (map (λ s. station_state s.link (P.reported s.port) (G.passed s.gate)) stations.items)
+        × IsLimit limit) }
 {
     if !are_stations(site.plan(), 16, stations.as_slice()) {
         return Err(TermFault::BadStations);

@@ -15,8 +15,9 @@ use std::marker::Model;
 use std::sync::ledger;
 use std::sync::ledger::{Ledger, Share};
 
-/// One actor's place at a desk: the actor's number and the deposits, in order. Contracts see both. By the ledger `L` it fits only the desk
-/// that it was opened with. It has room for as many deposits as that desk's journal may have entries.
+/// One actor's place at a desk: the actor's number and the deposits, in order. Contracts see both. By the ledger `L` it
+/// fits only the desk that it was opened with. It has room for as many deposits as that desk's journal may have
+/// entries.
 #[derive(Drop)]
 pub struct Seat<L: Ledger> {
     actor: u8,
@@ -33,7 +34,8 @@ impl<L: Ledger> Model for Seat<L> {
 
     ghost view = { λ s. record { actor = s.actor; deposits = s.deposits.items } };
 
-    ghost invariant = { λ s. (s.share.parts ≡ 1) × (s.share.amount ≡ vec_len s.deposits) × (s.limit ≤ vec_capacity s.deposits) };
+    ghost invariant = { λ s. (s.share.parts ≡ 1) × (s.share.amount ≡ vec_len s.deposits)
+        × (s.limit ≤ vec_capacity s.deposits) };
 }
 
 impl<L: Ledger> Seat<L> {
@@ -57,8 +59,8 @@ impl<L: Ledger> Seat<L> {
         })
     }
 
-    /// Makes the error of a refused deposit, with the number of the book's entries. If the ledger counts the book's entries, that is at
-    /// least the number of deposits from this seat. Nothing changes.
+    /// Makes the error of a refused deposit, with the number of the book's entries. If the ledger counts the book's
+    /// entries, that is at least the number of deposits from this seat. Nothing changes.
     pub(crate) fn refusal(&mut self, book: &Book, total: &mut ledger::Book<L>) -> TermOver
         ensures seat { self.new ≡ self.old }
         ensures total { total.new.total ≡ total.old.total }
@@ -72,8 +74,8 @@ impl<L: Ledger> Seat<L> {
         }
     }
 
-    /// Applies an event to the book for this actor, counts it in the ledger, and keeps it with the answer. On an error the book or the seat
-    /// has no room, and nothing has changed; the error has the number of the book's entries.
+    /// Applies an event to the book for this actor, counts it in the ledger, and keeps it with the answer. On an error
+    /// the book or the seat has no room, and nothing has changed; the error has the number of the book's entries.
     pub(crate) fn apply_event(
         &mut self,
         book: &mut Book,
@@ -81,14 +83,18 @@ impl<L: Ledger> Seat<L> {
         event: &Event,
     ) -> Result<Acts, TermOver>
         ensures acts { IfOk result (λ acts. acts ≡ answer_to book.old event.now) }
-        ensures entered { IfOk result (λ acts. book.new ≡ book_with_entry book.old self.old.actor event.now acts) }
-        ensures deposited { IfOk result (λ acts. self.new ≡ seat_with_deposit self.old event.now acts) }
+        ensures entered { IfOk result
+            (λ acts. book.new ≡ book_with_entry book.old self.old.actor event.now acts) }
+        ensures deposited { IfOk result
+            (λ acts. self.new ≡ seat_with_deposit self.old event.now acts) }
         ensures among { length self.old.deposits ≤ total.old.total }
         ensures counted { OnOk result (total.new.total ≡ total.old.total + 1) }
-        ensures over { IfErr result (λ over. (book.new ≡ book.old) × (self.new ≡ self.old) × (total.new.total ≡ total.old.total) × (over.entries ≡ length book.old.entries)) }
+        ensures over { IfErr result (λ over. (book.new ≡ book.old) × (self.new ≡ self.old)
+            × (total.new.total ≡ total.old.total) × (over.entries ≡ length book.old.entries)) }
     {
         let over = self.refusal(book, total);
-        // If the seat is full, the book is full too, since each deposit is an entry. No contract says so: nothing ties the two limits.
+        // If the seat is full, the book is full too, since each deposit is an entry. No contract says so: nothing ties
+        // the two limits.
         if self.deposits.len() >= self.limit {
             return Err(over);
         }

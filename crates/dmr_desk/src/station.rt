@@ -51,13 +51,18 @@ pub trait Serving {
     fn open(&mut self)
         requires { is_live (state self.old).link ≡ false }
         ensures turns { ChangesLink (state self.old) (state self.new) }
-        ensures stands { (past : List Session) → HasPast (state self.old).link past → HasPast (state self.new).link (new_session ∷ past) };
+        ensures stands { (past : List Session) → HasPast (state self.old).link past
+            → HasPast (state self.new).link (new_session ∷ past) };
 
     /// Serves the link until it has to stop.
     fn serve<D: Desk>(&mut self, desk: &mut D) -> Ended
         ensures actor { D.actor desk.new ≡ D.actor desk.old }
-        ensures serves { Serves (state self.old).link (state self.new).link (sides_at (state self.old) (D.calls desk.old)) (sides_at (state self.new) (D.calls desk.new)) result }
-        ensures over { result ≡ Ended.TermOver → (before : _) × (event : AnEvent) × (over : ATermOver) × D.refuses before event over desk.new }
+        ensures serves { Serves (state self.old).link (state self.new).link
+            (sides_at (state self.old) (D.calls desk.old))
+            (sides_at (state self.new) (D.calls desk.new)) result }
+        ensures over { result ≡ Ended.TermOver
+            → (before : _) × (event : AnEvent) × (over : ATermOver)
+            × D.refuses before event over desk.new }
         ensures shut { result ≡ Ended.GateShut → shut self.new };
 
     /// Waits on the port.
@@ -69,9 +74,11 @@ pub trait Serving {
         requires { is_live (state self.old).link ≡ true }
         ensures actor { D.actor desk.new ≡ D.actor desk.old }
         ensures turns { ChangesLink (state self.old) (state self.new) }
-        ensures cuts { Cuts (state self.old).link (state self.new).link (D.calls desk.old) (D.calls desk.new) }
+        ensures cuts { Cuts (state self.old).link (state self.new).link (D.calls desk.old)
+            (D.calls desk.new) }
         ensures done { IfOk result (λ _. IsOver (state self.new).link) }
-        ensures over { IfErr result (λ over. (before : _) × (event : AnEvent) × D.refuses before event over desk.new) };
+        ensures over { IfErr result (λ over. (before : _) × (event : AnEvent)
+            × D.refuses before event over desk.new) };
 
     /// Reports to the port how the link's connection was closed.
     fn report_closing(&mut self)

@@ -1,12 +1,15 @@
 //! A term: the workers of a site, each in a thread of its own, at one desk.
 
-ghost use Rattle.std.specs.Prelude.{◌≡◌, ◌+◌, ◌≤◌, ◌<◌, ◌++◌, ◌∷◌, [], ℕ, All, List, Option, Some, IfOk, IfErr, IfSome, map, slice_get, vec_len, vec_capacity, length};
+ghost use Rattle.std.specs.Prelude.{◌≡◌, ◌+◌, ◌≤◌, ◌<◌, ◌++◌, ◌∷◌, [], ℕ, All, List, Option, Some};
+ghost use Rattle.std.specs.Prelude.{IfOk, IfErr, IfSome, map, slice_get, vec_len, vec_capacity};
+ghost use Rattle.std.specs.Prelude.{length};
 ghost use Rattle.arrayvec.specs.ArrayVec.{array_vec_len};
 ghost use Rattle.dmr_desk.specs.Limits.{most_actors};
 ghost use Rattle.dmr_desk.specs.Pace.{Paced};
 ghost use Rattle.dmr_desk.specs.Refusing.{IsLate, early_actor, first_over};
 ghost use Rattle.dmr_desk.specs.Seats.{empty_seats};
-ghost use Rattle.dmr_desk.specs.Term.{AllDone, IsWorkDone, IsTerm, IsTicked, work_done, end_of_term, start_of_term};
+ghost use Rattle.dmr_desk.specs.Term.{AllDone, IsWorkDone, IsTerm, IsTicked, work_done};
+ghost use Rattle.dmr_desk.specs.Term.{end_of_term, start_of_term};
 ghost use Rattle.dmr_desk.specs.Work.{StationState};
 
 use crate::actors::LinkWork;
@@ -86,7 +89,8 @@ fn split_works<S: Drop, L: Ledger>(
     requires stations { vec_len back.stations + vec_len works ≤ vec_capacity back.stations }
     requires seats { vec_len back.seats + vec_len works ≤ vec_capacity back.seats }
     requires ends { array_vec_len back.ends + vec_len works ≤ most_actors }
-    ensures stations { result.stations.items ≡ back.stations.items ++ map (λ w. w.station) works.items }
+    ensures stations { result.stations.items
+        ≡ back.stations.items ++ map (λ w. w.station) works.items }
     ensures seats { result.seats.items ≡ back.seats.items ++ map (λ w. w.seat) works.items }
     ensures ends { result.ends.items ≡ back.ends.items ++ map (λ w. w.ending) works.items }
     ensures len { vec_len result.stations ≡ vec_len back.stations + vec_len works }
@@ -122,8 +126,10 @@ fn split_all_works<S: Drop, T: Drop, C: Drop, L: Ledger>(
     requires room { vec_len all.carriers ≤ vec_capacity back.stations }
     requires seats_room { vec_len all.carriers + 2 ≤ vec_capacity back.seats }
     ensures stations { result.0.stations.items ≡ map (λ w. w.station) all.carriers.items }
-    ensures seats { result.0.seats.items ≡ map (λ w. w.seat) all.carriers.items ++ all.ticker.seat ∷ all.console.seat ∷ [] }
-    ensures ends { result.0.ends.items ≡ map (λ w. w.ending) all.carriers.items ++ all.ticker.ending ∷ all.console.ending ∷ [] }
+    ensures seats { result.0.seats.items
+        ≡ map (λ w. w.seat) all.carriers.items ++ all.ticker.seat ∷ all.console.seat ∷ [] }
+    ensures ends { result.0.ends.items
+        ≡ map (λ w. w.ending) all.carriers.items ++ all.ticker.ending ∷ all.console.ending ∷ [] }
     ensures pacer { result.1 ≡ all.ticker.pacer }
     ensures console { result.2 ≡ all.console.station }
 {
@@ -140,8 +146,8 @@ fn split_all_works<S: Drop, T: Drop, C: Drop, L: Ledger>(
     (back, ticker.pacer, console.station)
 }
 
-/// Closes the desk with the workers' seats. `back` has room for their results. On an error the desk returned no report, or else a worker
-/// ended early; the error names the least such actor.
+/// Closes the desk with the workers' seats. `back` has room for their results. On an error the desk returned no report,
+/// or else a worker ended early; the error names the least such actor.
 pub fn close_term<S, T, C, L, R>(
     rt: &R,
     desk: SharedDesk<L>,
@@ -164,19 +170,31 @@ where
     requires ends { back.ends.items ≡ [] }
     requires room { vec_len all.carriers ≤ vec_capacity back.stations }
     requires seats_room { vec_len all.carriers + 2 ≤ vec_capacity back.seats }
-    ensures term { IfOk result (λ t. (stations : List StationState) (pacer : Option Paced) (console : StationState)
-        → AllDone 0 stations (map (λ w. work_done (S.state w.station) w.seat w.ending) all.carriers.items)
-        → IsTicked (length stations) pacer (T.paced all.ticker.pacer) all.ticker.seat all.ticker.ending
-        → IsWorkDone (length stations + 1) console (work_done (C.state all.console.station) all.console.seat all.console.ending)
-        → IsTerm (start_of_term desk.site desk.limit stations pacer console) (end_of_term t.report t.ends.items (map (λ s. S.state s) t.stations.items) (T.paced t.pacer) (C.state t.console))) }
-    ensures shut { IfOk result (λ t. All (λ w. w.ending ≡ Ending.GateShut → S.shut w.station) all.carriers.items
-        → (k : ℕ) (s : _) → slice_get t.stations.items k ≡ Some s → slice_get t.ends.items k ≡ Some Ending.GateShut → S.shut s) }
-    ensures open { IfOk result (λ t. (all.console.ending ≡ Ending.GateShut → C.shut all.console.station)
-        → slice_get t.ends.items (vec_len all.carriers + 1) ≡ Some Ending.GateShut → C.shut t.console) }
-    ensures late { IfErr result (λ fault. (stations : List StationState) (pacer : Option Paced) (console : StationState)
-        → AllDone 0 stations (map (λ w. work_done (S.state w.station) w.seat w.ending) all.carriers.items)
-        → IsTicked (length stations) pacer (T.paced all.ticker.pacer) all.ticker.seat all.ticker.ending
-        → IsWorkDone (length stations + 1) console (work_done (C.state all.console.station) all.console.seat all.console.ending)
+    ensures term { IfOk result (λ t. (stations : List StationState) (pacer : Option Paced)
+        (console : StationState) → AllDone 0 stations
+        (map (λ w. work_done (S.state w.station) w.seat w.ending) all.carriers.items)
+        → IsTicked (length stations) pacer
+        (T.paced all.ticker.pacer) all.ticker.seat all.ticker.ending
+        → IsWorkDone (length stations + 1) console
+        (work_done (C.state all.console.station) all.console.seat all.console.ending)
+        → IsTerm (start_of_term desk.site desk.limit stations pacer console)
+        (end_of_term t.report t.ends.items (map (λ s. S.state s) t.stations.items) (T.paced t.pacer)
+        (C.state t.console))) }
+    ensures shut { IfOk result
+        (λ t. All (λ w. w.ending ≡ Ending.GateShut → S.shut w.station) all.carriers.items
+        → (k : ℕ) (s : _) → slice_get t.stations.items k ≡ Some s
+        → slice_get t.ends.items k ≡ Some Ending.GateShut → S.shut s) }
+    ensures open { IfOk result
+        (λ t. (all.console.ending ≡ Ending.GateShut → C.shut all.console.station)
+        → slice_get t.ends.items (vec_len all.carriers + 1) ≡ Some Ending.GateShut
+        → C.shut t.console) }
+    ensures late { IfErr result (λ fault. (stations : List StationState) (pacer : Option Paced)
+        (console : StationState) → AllDone 0 stations
+        (map (λ w. work_done (S.state w.station) w.seat w.ending) all.carriers.items)
+        → IsTicked (length stations) pacer
+        (T.paced all.ticker.pacer) all.ticker.seat all.ticker.ending
+        → IsWorkDone (length stations + 1) console
+        (work_done (C.state all.console.station) all.console.seat all.console.ending)
         → IsLate (start_of_term desk.site desk.limit stations pacer console) fault) }
 {
     let (back, pacer, console) = split_all_works(all, back);
@@ -204,9 +222,9 @@ where
     }
 }
 
-/// Runs the workers, each in a thread of its own, from new seats: one for each station, then the ticker's, then the console's. `room` is
-/// for the results of the stations' workers. If a thread could not be started, returns `None`; the desk was abandoned, and all started
-/// threads have ended.
+/// Runs the workers, each in a thread of its own, from new seats: one for each station, then the ticker's, then the
+/// console's. `room` is for the results of the stations' workers. If a thread could not be started, returns `None`; the
+/// desk was abandoned, and all started threads have ended.
 pub fn run_threads<S, T, C, L, R>(
     rt: &R,
     desk: &SharedDesk<L>,
@@ -225,12 +243,17 @@ where
     requires seats { seats.items ≡ empty_seats (vec_len stations + 2) }
     requires empty { room.items ≡ [] }
     requires room { vec_len stations ≤ vec_capacity room }
-    ensures carriers { IfSome result (λ r. AllDone 0 (map (λ s. S.state s) stations.items) (map (λ w. work_done (S.state w.station) w.seat w.ending) r.carriers.items)) }
-    ensures shut { IfSome result (λ r. All (λ w. w.ending ≡ Ending.GateShut → S.shut w.station) r.carriers.items) }
+    ensures carriers { IfSome result (λ r. AllDone 0 (map (λ s. S.state s) stations.items)
+        (map (λ w. work_done (S.state w.station) w.seat w.ending) r.carriers.items)) }
+    ensures shut { IfSome result
+        (λ r. All (λ w. w.ending ≡ Ending.GateShut → S.shut w.station) r.carriers.items) }
     ensures len { IfSome result (λ r. vec_len r.carriers ≡ vec_len stations) }
-    ensures ticker { IfSome result (λ r. IsTicked (vec_len stations) (T.paced pacer) (T.paced r.ticker.pacer) r.ticker.seat r.ticker.ending) }
-    ensures console { IfSome result (λ r. IsWorkDone (vec_len stations + 1) (C.state console) (work_done (C.state r.console.station) r.console.seat r.console.ending)) }
-    ensures open { IfSome result (λ r. r.console.ending ≡ Ending.GateShut → C.shut r.console.station) }
+    ensures ticker { IfSome result (λ r. IsTicked (vec_len stations) (T.paced pacer)
+        (T.paced r.ticker.pacer) r.ticker.seat r.ticker.ending) }
+    ensures console { IfSome result (λ r. IsWorkDone (vec_len stations + 1) (C.state console)
+        (work_done (C.state r.console.station) r.console.seat r.console.ending)) }
+    ensures open { IfSome result (λ r. r.console.ending ≡ Ending.GateShut
+        → C.shut r.console.station) }
 {
     let console_seat = seats.pop()?;
     let pacer_seat = seats.pop()?;

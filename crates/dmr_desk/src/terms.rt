@@ -22,7 +22,8 @@ use std::thread::Threads;
 
 /// Sees the report of each term, in their order.
 pub trait Observer {
-    /// If the observer reports it: the journals that it saw, oldest first. It may stop reporting at any call, and then never reports again.
+    /// If the observer reports it: the journals that it saw, oldest first. It may stop reporting at any call, and then
+    /// never reports again.
     ghost seen: { Self → Option (List (List AnEntry)) };
 
     /// Sees the report of a term that has ended. The journal is dropped afterwards.
@@ -91,9 +92,18 @@ where
     C: Port + Send + Drop,
     O: Observer,
     R: Wait + Threads + Sync,
-    ensures run { IfOk result (λ next. HaveRun (start_of_term service.site limit (map (λ s. station_state s.link (P.reported s.port) (G.passed s.gate)) service.stations.items) (T.paced service.pacer) (station_state service.console.link (C.reported service.console.port) None)) 1
-        (start_of_term next.site limit (map (λ s. station_state s.link (P.reported s.port) (G.passed s.gate)) next.stations.items) (T.paced next.pacer) (station_state next.console.link (C.reported next.console.port) None)) (O.seen observer.old) (O.seen observer.new)) }
-    ensures fault { IfErr result (IsTermFault (start_of_term service.site limit (map (λ s. station_state s.link (P.reported s.port) (G.passed s.gate)) service.stations.items) (T.paced service.pacer) (station_state service.console.link (C.reported service.console.port) None))) }
+    ensures run { IfOk result (λ next. HaveRun (start_of_term service.site limit
+        (map (λ s. station_state s.link (P.reported s.port) (G.passed s.gate))
+        service.stations.items) (T.paced service.pacer)
+        (station_state service.console.link (C.reported service.console.port) None))
+        1 (start_of_term next.site limit
+        (map (λ s. station_state s.link (P.reported s.port) (G.passed s.gate)) next.stations.items)
+        (T.paced next.pacer) (station_state next.console.link (C.reported next.console.port) None))
+        (O.seen observer.old) (O.seen observer.new)) }
+    ensures fault { IfErr result
+        (IsTermFault (start_of_term service.site limit (map (λ s. station_state s.link
+        (P.reported s.port) (G.passed s.gate)) service.stations.items) (T.paced service.pacer)
+        (station_state service.console.link (C.reported service.console.port) None))) }
     ensures unseen { OnErr result (O.seen observer.new ≡ O.seen observer.old) }
 {
     let Service {
@@ -108,12 +118,14 @@ where
     }
 }
 
-/// Runs `terms` terms in a row, as [`run_term`] does. The first begins with `service`, each other with the state that the one before it
-/// left. Each journal may have `limit` entries (1 to 100,000). The observer sees the report of each term once it was audited. Returns the
-/// state that the last term left; if `terms` is 0, that is `service`. The call stops at the first term that fails.
+/// Runs `terms` terms in a row, as [`run_term`] does. The first begins with `service`, each other with the state that
+/// the one before it left. Each journal may have `limit` entries (1 to 100,000). The observer sees the report of each
+/// term once it was audited. Returns the state that the last term left; if `terms` is 0, that is `service`. The call
+/// stops at the first term that fails.
 ///
-/// A program without end calls this again and again. By [`terms_go_on`](crate::terms_go_on), n terms followed by m terms are n + m terms, so
-/// each state on the way is that of all terms so far. [`one_life`](crate::one_life) says what all terms come to.
+/// A program without end calls this again and again. By [`terms_go_on`](crate::terms_go_on), n terms followed by m
+/// terms are n + m terms, so each state on the way is that of all terms so far. [`one_life`](crate::one_life) says what
+/// all terms come to.
 pub fn run_terms<P, G, T, C, O, R>(
     rt: &R,
     alloc: Global,
@@ -129,10 +141,19 @@ where
     C: Port + Send + Drop,
     O: Observer,
     R: Wait + Threads + Sync,
-    ensures run { IfOk result (λ next. HaveRun (start_of_term service.site limit (map (λ s. station_state s.link (P.reported s.port) (G.passed s.gate)) service.stations.items) (T.paced service.pacer) (station_state service.console.link (C.reported service.console.port) None)) terms
-        (start_of_term next.site limit (map (λ s. station_state s.link (P.reported s.port) (G.passed s.gate)) next.stations.items) (T.paced next.pacer) (station_state next.console.link (C.reported next.console.port) None)) (O.seen observer.old) (O.seen observer.new)) }
-    ensures fault { IfErr result (λ fault. HaveStopped (start_of_term service.site limit (map (λ s. station_state s.link (P.reported s.port) (G.passed s.gate)) service.stations.items) (T.paced service.pacer) (station_state service.console.link (C.reported service.console.port) None)) terms
-        fault (O.seen observer.old) (O.seen observer.new)) }
+    ensures run { IfOk result (λ next. HaveRun (start_of_term service.site limit
+        (map (λ s. station_state s.link (P.reported s.port) (G.passed s.gate))
+        service.stations.items) (T.paced service.pacer)
+        (station_state service.console.link (C.reported service.console.port) None))
+        terms (start_of_term next.site limit
+        (map (λ s. station_state s.link (P.reported s.port) (G.passed s.gate)) next.stations.items)
+        (T.paced next.pacer) (station_state next.console.link (C.reported next.console.port) None))
+        (O.seen observer.old) (O.seen observer.new)) }
+    ensures fault { IfErr result (λ fault. HaveStopped (start_of_term service.site limit
+        (map (λ s. station_state s.link (P.reported s.port) (G.passed s.gate))
+        service.stations.items) (T.paced service.pacer)
+        (station_state service.console.link (C.reported service.console.port) None))
+        terms fault (O.seen observer.old) (O.seen observer.new)) }
 {
     for done in 0..terms {
         service = match run_next(rt, alloc, limit, service, observer) {

@@ -1,7 +1,9 @@
 //! The threads of a term.
 
-ghost use Rattle.std.specs.Prelude.{◌≡◌, ◌≤◌, ◌+◌, [], All, IfSome, true, map, vec_len, vec_capacity};
-ghost use Rattle.dmr_desk.specs.Term.{AllDone, AreNew, IsWorkDone, IsNew, IsTicked, are_new, work_done, is_new};
+ghost use Rattle.std.specs.Prelude.{◌≡◌, ◌≤◌, ◌+◌, [], All, IfSome, true, map, vec_len};
+ghost use Rattle.std.specs.Prelude.{vec_capacity};
+ghost use Rattle.dmr_desk.specs.Term.{AllDone, AreNew, IsWorkDone, IsNew, IsTicked, are_new};
+ghost use Rattle.dmr_desk.specs.Term.{work_done, is_new};
 
 use crate::actors::{
     LinkPromise, LinkWork, TickerPromise, TickerWork, tick_from_seat, work_from_seat,
@@ -55,7 +57,8 @@ where
     L: DeskLedger + Send + Sync + 's,
     R: Wait + Threads + Sync,
     requires { seat.deposits ≡ [] }
-    ensures done { IfSome result (λ r. IsWorkDone seat.actor (C.state station) (work_done (C.state r.station) r.seat r.ending)) }
+    ensures done { IfSome result (λ r. IsWorkDone seat.actor (C.state station)
+        (work_done (C.state r.station) r.seat r.ending)) }
     ensures shut { IfSome result (λ r. r.ending ≡ Ending.GateShut → C.shut r.station) }
 {
     let promise = LinkPromise(Snapshot::of(&station), seat.actor());
@@ -63,7 +66,9 @@ where
         promise,
         move || -> LinkWork<C, L>
             requires { seat.deposits ≡ [] }
-            ensures { IsWorkDone seat.actor (C.state station) (work_done (C.state result.station) result.seat result.ending) × (result.ending ≡ Ending.GateShut → C.shut result.station) }
+            ensures { IsWorkDone seat.actor (C.state station)
+                (work_done (C.state result.station) result.seat result.ending)
+                × (result.ending ≡ Ending.GateShut → C.shut result.station) }
         { work_from_seat(rt, desk, station, seat) },
     ) {
         Ok(child) => Some(child.join(rt)),
@@ -74,8 +79,8 @@ where
     }
 }
 
-/// Starts the ticker and the console's worker, and waits for both. If a thread cannot be started, abandons the desk, so that a started one
-/// ends, and returns `None`.
+/// Starts the ticker and the console's worker, and waits for both. If a thread cannot be started, abandons the desk, so
+/// that a started one ends, and returns `None`.
 fn run_ticker_and_console<'s, E, S, T, C, L, R>(
     rt: &'s R,
     scope: &'s Scope<'s, E>,
@@ -92,9 +97,13 @@ where
     requires pacer { others.pacer_seat.deposits ≡ [] }
     requires console { others.console_seat.deposits ≡ [] }
     ensures carriers { IfSome result (λ r. r.carriers ≡ carriers) }
-    ensures ticker { IfSome result (λ r. IsTicked others.pacer_seat.actor (T.paced others.pacer) (T.paced r.ticker.pacer) r.ticker.seat r.ticker.ending) }
-    ensures console { IfSome result (λ r. IsWorkDone others.console_seat.actor (C.state others.console) (work_done (C.state r.console.station) r.console.seat r.console.ending)) }
-    ensures shut { IfSome result (λ r. r.console.ending ≡ Ending.GateShut → C.shut r.console.station) }
+    ensures ticker { IfSome result (λ r. IsTicked others.pacer_seat.actor (T.paced others.pacer)
+        (T.paced r.ticker.pacer) r.ticker.seat r.ticker.ending) }
+    ensures console { IfSome result
+        (λ r. IsWorkDone others.console_seat.actor (C.state others.console)
+        (work_done (C.state r.console.station) r.console.seat r.console.ending)) }
+    ensures shut { IfSome result (λ r. r.console.ending ≡ Ending.GateShut
+        → C.shut r.console.station) }
 {
     let TickerAndConsole {
         pacer,
@@ -107,7 +116,8 @@ where
         promise,
         move || -> TickerWork<T, L>
             requires { pacer_seat.deposits ≡ [] }
-            ensures { IsTicked pacer_seat.actor (T.paced pacer) (T.paced result.pacer) result.seat result.ending }
+            ensures { IsTicked pacer_seat.actor (T.paced pacer)
+                (T.paced result.pacer) result.seat result.ending }
         { tick_from_seat(rt, desk, pacer, pacer_seat) },
     ) {
         Ok(child) => {
@@ -129,8 +139,8 @@ where
     }
 }
 
-/// Starts the last station's worker, runs the rest, and waits for the worker. If a thread could not be started, returns `None`; the desk
-/// was abandoned, and all started threads have ended.
+/// Starts the last station's worker, runs the rest, and waits for the worker. If a thread could not be started, returns
+/// `None`; the desk was abandoned, and all started threads have ended.
 fn run_stations<'s, E, S, T, C, L, R>(
     rt: &'s R,
     scope: &'s Scope<'s, E>,
@@ -152,13 +162,19 @@ where
     requires console { others.console_seat.deposits ≡ [] }
     requires empty { room.items ≡ [] }
     requires room { vec_len stations ≤ vec_capacity room }
-    ensures carriers { IfSome result (λ r. AllDone 0 (map (λ s. S.state s) stations.items) (map (λ w. work_done (S.state w.station) w.seat w.ending) r.carriers.items)) }
-    ensures shut { IfSome result (λ r. All (λ w. w.ending ≡ Ending.GateShut → S.shut w.station) r.carriers.items) }
+    ensures carriers { IfSome result (λ r. AllDone 0 (map (λ s. S.state s) stations.items)
+        (map (λ w. work_done (S.state w.station) w.seat w.ending) r.carriers.items)) }
+    ensures shut { IfSome result
+        (λ r. All (λ w. w.ending ≡ Ending.GateShut → S.shut w.station) r.carriers.items) }
     ensures len { IfSome result (λ r. vec_len r.carriers ≡ vec_len stations) }
     ensures room { IfSome result (λ r. vec_capacity r.carriers ≡ vec_capacity room) }
-    ensures ticker { IfSome result (λ r. IsTicked others.pacer_seat.actor (T.paced others.pacer) (T.paced r.ticker.pacer) r.ticker.seat r.ticker.ending) }
-    ensures console { IfSome result (λ r. IsWorkDone others.console_seat.actor (C.state others.console) (work_done (C.state r.console.station) r.console.seat r.console.ending)) }
-    ensures open { IfSome result (λ r. r.console.ending ≡ Ending.GateShut → C.shut r.console.station) }
+    ensures ticker { IfSome result (λ r. IsTicked others.pacer_seat.actor (T.paced others.pacer)
+        (T.paced r.ticker.pacer) r.ticker.seat r.ticker.ending) }
+    ensures console { IfSome result
+        (λ r. IsWorkDone others.console_seat.actor (C.state others.console)
+        (work_done (C.state r.console.station) r.console.seat r.console.ending)) }
+    ensures open { IfSome result (λ r. r.console.ending ≡ Ending.GateShut
+        → C.shut r.console.station) }
 {
     let Some(station) = stations.pop() else {
         return run_ticker_and_console(rt, scope, desk, others, room);
@@ -171,7 +187,9 @@ where
         promise,
         move || -> LinkWork<S, L>
             requires { seat.deposits ≡ [] }
-            ensures { IsWorkDone seat.actor (S.state station) (work_done (S.state result.station) result.seat result.ending) × (result.ending ≡ Ending.GateShut → S.shut result.station) }
+            ensures { IsWorkDone seat.actor (S.state station)
+                (work_done (S.state result.station) result.seat result.ending)
+                × (result.ending ≡ Ending.GateShut → S.shut result.station) }
         { work_from_seat(rt, desk, station, seat) },
     ) {
         Ok(child) => {
@@ -211,8 +229,8 @@ pub struct Workers<S, T, C, L: Ledger> {
     ghost fits: { vec_len stations ≤ vec_capacity room },
 }
 
-/// Starts the workers of the whole crew, and waits for them. If a thread could not be started, returns `None`; the desk was abandoned, and
-/// all started threads have ended.
+/// Starts the workers of the whole crew, and waits for them. If a thread could not be started, returns `None`; the desk
+/// was abandoned, and all started threads have ended.
 fn run_crew<'s, E, S, T, C, L, R>(
     rt: &'s R,
     scope: &'s Scope<'s, E>,
@@ -225,12 +243,18 @@ where
     C: Serving + Send + Drop + 's,
     L: DeskLedger + Send + Sync + 's,
     R: Wait + Threads + Sync,
-    ensures carriers { IfSome result (λ r. AllDone 0 (map (λ s. S.state s) crew.stations.items) (map (λ w. work_done (S.state w.station) w.seat w.ending) r.carriers.items)) }
-    ensures shut { IfSome result (λ r. All (λ w. w.ending ≡ Ending.GateShut → S.shut w.station) r.carriers.items) }
+    ensures carriers { IfSome result (λ r. AllDone 0 (map (λ s. S.state s) crew.stations.items)
+        (map (λ w. work_done (S.state w.station) w.seat w.ending) r.carriers.items)) }
+    ensures shut { IfSome result
+        (λ r. All (λ w. w.ending ≡ Ending.GateShut → S.shut w.station) r.carriers.items) }
     ensures len { IfSome result (λ r. vec_len r.carriers ≡ vec_len crew.stations) }
-    ensures ticker { IfSome result (λ r. IsTicked (vec_len crew.stations) (T.paced crew.others.pacer) (T.paced r.ticker.pacer) r.ticker.seat r.ticker.ending) }
-    ensures console { IfSome result (λ r. IsWorkDone (vec_len crew.stations + 1) (C.state crew.others.console) (work_done (C.state r.console.station) r.console.seat r.console.ending)) }
-    ensures open { IfSome result (λ r. r.console.ending ≡ Ending.GateShut → C.shut r.console.station) }
+    ensures ticker { IfSome result (λ r. IsTicked (vec_len crew.stations)
+        (T.paced crew.others.pacer) (T.paced r.ticker.pacer) r.ticker.seat r.ticker.ending) }
+    ensures console { IfSome result
+        (λ r. IsWorkDone (vec_len crew.stations + 1) (C.state crew.others.console)
+        (work_done (C.state r.console.station) r.console.seat r.console.ending)) }
+    ensures open { IfSome result (λ r. r.console.ending ≡ Ending.GateShut
+        → C.shut r.console.station) }
 {
     let Workers {
         stations,
@@ -241,8 +265,8 @@ where
     run_stations(rt, scope, desk, stations, seats, others, room)
 }
 
-/// Runs all workers, each in a thread of its own, and waits for them. If a thread could not be started, returns `None`; the desk was
-/// abandoned, and each started worker ended when it next asked whether the term is over.
+/// Runs all workers, each in a thread of its own, and waits for them. If a thread could not be started, returns `None`;
+/// the desk was abandoned, and each started worker ended when it next asked whether the term is over.
 pub fn run_workers<S, T, C, L, R>(
     rt: &R,
     desk: &SharedDesk<L>,
@@ -254,12 +278,18 @@ where
     C: Serving + Send + Drop,
     L: DeskLedger + Send + Sync,
     R: Wait + Threads + Sync,
-    ensures carriers { IfSome result (λ r. AllDone 0 (map (λ s. S.state s) crew.stations.items) (map (λ w. work_done (S.state w.station) w.seat w.ending) r.carriers.items)) }
-    ensures shut { IfSome result (λ r. All (λ w. w.ending ≡ Ending.GateShut → S.shut w.station) r.carriers.items) }
+    ensures carriers { IfSome result (λ r. AllDone 0 (map (λ s. S.state s) crew.stations.items)
+        (map (λ w. work_done (S.state w.station) w.seat w.ending) r.carriers.items)) }
+    ensures shut { IfSome result
+        (λ r. All (λ w. w.ending ≡ Ending.GateShut → S.shut w.station) r.carriers.items) }
     ensures len { IfSome result (λ r. vec_len r.carriers ≡ vec_len crew.stations) }
-    ensures ticker { IfSome result (λ r. IsTicked (vec_len crew.stations) (T.paced crew.others.pacer) (T.paced r.ticker.pacer) r.ticker.seat r.ticker.ending) }
-    ensures console { IfSome result (λ r. IsWorkDone (vec_len crew.stations + 1) (C.state crew.others.console) (work_done (C.state r.console.station) r.console.seat r.console.ending)) }
-    ensures open { IfSome result (λ r. r.console.ending ≡ Ending.GateShut → C.shut r.console.station) }
+    ensures ticker { IfSome result (λ r. IsTicked (vec_len crew.stations)
+        (T.paced crew.others.pacer) (T.paced r.ticker.pacer) r.ticker.seat r.ticker.ending) }
+    ensures console { IfSome result
+        (λ r. IsWorkDone (vec_len crew.stations + 1) (C.state crew.others.console)
+        (work_done (C.state r.console.station) r.console.seat r.console.ending)) }
+    ensures open { IfSome result (λ r. r.console.ending ≡ Ending.GateShut
+        → C.shut r.console.station) }
 {
     thread::scope(thread::scope_env(), rt, move |scope| {
         run_crew(rt, scope, desk, crew)

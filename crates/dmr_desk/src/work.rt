@@ -4,7 +4,8 @@ ghost use Rattle.std.specs.Prelude.{◌≡◌, ◌⊎◌, true, false, None, Som
 ghost use Rattle.dmr_core.specs.declared.event.Event.{Event as AnEvent};
 ghost use Rattle.dmr_link.specs.declared.desk.TermOver.{TermOver as ATermOver};
 ghost use Rattle.dmr_link.specs.LinkSteps.{is_live};
-ghost use Rattle.dmr_desk.specs.Work.{station_state, work_state, IsAtWork, IsAboutToWait, IsNextStep, WorksUntil};
+ghost use Rattle.dmr_desk.specs.Work.{station_state, work_state, IsAtWork, IsAboutToWait};
+ghost use Rattle.dmr_desk.specs.Work.{IsNextStep, WorksUntil};
 
 use crate::ending::Ending;
 use crate::station::{ConsoleStation, Serving, Station};
@@ -17,7 +18,8 @@ use std::sync::Wait;
 fn ask_for_connection<S: Serving, D: Desk>(station: &mut S, desk: &mut D) -> Option<Ending>
     requires { is_live (S.state station.old).link ≡ false }
     ensures actor { D.actor desk.new ≡ D.actor desk.old }
-    ensures goes { (m : _) → IsAtWork m (work_state (S.state station.old) (D.calls desk.old)) → IsNextStep m (work_state (S.state station.new) (D.calls desk.new)) result }
+    ensures goes { (m : _) → IsAtWork m (work_state (S.state station.old) (D.calls desk.old))
+        → IsNextStep m (work_state (S.state station.new) (D.calls desk.new)) result }
     ensures shut { result ≡ Some Ending.GateShut → ⊥ }
     ensures over { result ≡ Some Ending.TermOver → (before : _) × D.ends before desk.new }
 {
@@ -36,14 +38,18 @@ fn ask_for_connection<S: Serving, D: Desk>(station: &mut S, desk: &mut D) -> Opt
     }
 }
 
-/// Waits after a read that would block. If the other side was silent, cuts the link and reports that to the port. Returns `Some` if the
-/// work has ended.
+/// Waits after a read that would block. If the other side was silent, cuts the link and reports that to the port.
+/// Returns `Some` if the work has ended.
 fn wait_for_port<S: Serving, D: Desk>(station: &mut S, desk: &mut D) -> Option<Ending>
     requires { is_live (S.state station.old).link ≡ true }
     ensures actor { D.actor desk.new ≡ D.actor desk.old }
-    ensures goes { (m : _) → IsAboutToWait m (work_state (S.state station.old) (D.calls desk.old)) → IsNextStep m (work_state (S.state station.new) (D.calls desk.new)) result }
+    ensures goes { (m : _) → IsAboutToWait m (work_state (S.state station.old) (D.calls desk.old))
+        → IsNextStep m (work_state (S.state station.new) (D.calls desk.new)) result }
     ensures shut { result ≡ Some Ending.GateShut → ⊥ }
-    ensures over { result ≡ Some Ending.TermOver → ((before : _) × (event : AnEvent) × (over : ATermOver) × D.refuses before event over desk.new) ⊎ ((before : _) × D.ends before desk.new) }
+    ensures over { result ≡ Some Ending.TermOver
+        → ((before : _) × (event : AnEvent) × (over : ATermOver)
+        × D.refuses before event over desk.new)
+        ⊎ ((before : _) × D.ends before desk.new) }
 {
     links_rest();
     happenings_follow();
@@ -62,14 +68,18 @@ fn wait_for_port<S: Serving, D: Desk>(station: &mut S, desk: &mut D) -> Option<E
     }
 }
 
-/// Serves the link once. Waits if a read would block; if the connection was closed, reports to the port how. Returns `Some` if the work has
-/// ended.
+/// Serves the link once. Waits if a read would block; if the connection was closed, reports to the port how. Returns
+/// `Some` if the work has ended.
 fn serve_once<S: Serving, D: Desk>(station: &mut S, desk: &mut D) -> Option<Ending>
     requires { is_live (S.state station.old).link ≡ true }
     ensures actor { D.actor desk.new ≡ D.actor desk.old }
-    ensures goes { (m : _) → IsAtWork m (work_state (S.state station.old) (D.calls desk.old)) → IsNextStep m (work_state (S.state station.new) (D.calls desk.new)) result }
+    ensures goes { (m : _) → IsAtWork m (work_state (S.state station.old) (D.calls desk.old))
+        → IsNextStep m (work_state (S.state station.new) (D.calls desk.new)) result }
     ensures shut { result ≡ Some Ending.GateShut → S.shut station.new }
-    ensures over { result ≡ Some Ending.TermOver → ((before : _) × (event : AnEvent) × (over : ATermOver) × D.refuses before event over desk.new) ⊎ ((before : _) × D.ends before desk.new) }
+    ensures over { result ≡ Some Ending.TermOver
+        → ((before : _) × (event : AnEvent) × (over : ATermOver)
+        × D.refuses before event over desk.new)
+        ⊎ ((before : _) × D.ends before desk.new) }
 {
     links_rest();
     happenings_follow();
@@ -92,9 +102,13 @@ fn serve_once<S: Serving, D: Desk>(station: &mut S, desk: &mut D) -> Option<Endi
 /// Serves the link if it is live, and otherwise asks for a connection. Returns `Some` if the work has ended.
 fn do_step<S: Serving, D: Desk>(station: &mut S, desk: &mut D) -> Option<Ending>
     ensures actor { D.actor desk.new ≡ D.actor desk.old }
-    ensures goes { (m : _) → IsAtWork m (work_state (S.state station.old) (D.calls desk.old)) → IsNextStep m (work_state (S.state station.new) (D.calls desk.new)) result }
+    ensures goes { (m : _) → IsAtWork m (work_state (S.state station.old) (D.calls desk.old))
+        → IsNextStep m (work_state (S.state station.new) (D.calls desk.new)) result }
     ensures shut { result ≡ Some Ending.GateShut → S.shut station.new }
-    ensures over { result ≡ Some Ending.TermOver → ((before : _) × (event : AnEvent) × (over : ATermOver) × D.refuses before event over desk.new) ⊎ ((before : _) × D.ends before desk.new) }
+    ensures over { result ≡ Some Ending.TermOver
+        → ((before : _) × (event : AnEvent) × (over : ATermOver)
+        × D.refuses before event over desk.new)
+        ⊎ ((before : _) × D.ends before desk.new) }
 {
     if station.live() {
         serve_once(station, desk)
@@ -106,9 +120,13 @@ fn do_step<S: Serving, D: Desk>(station: &mut S, desk: &mut D) -> Option<Ending>
 /// Serves a station's connections, one after another, until the work has ended.
 pub fn work_station<R: Wait, S: Serving, D: Desk>(rt: &R, station: &mut S, desk: &mut D) -> Ending
     ensures actor { D.actor desk.new ≡ D.actor desk.old }
-    ensures works { WorksUntil (work_state (S.state station.old) (D.calls desk.old)) (work_state (S.state station.new) (D.calls desk.new)) result }
+    ensures works { WorksUntil (work_state (S.state station.old) (D.calls desk.old))
+        (work_state (S.state station.new) (D.calls desk.new)) result }
     ensures shut { result ≡ Ending.GateShut → S.shut station.new }
-    ensures over { result ≡ Ending.TermOver → ((before : _) × (event : AnEvent) × (over : ATermOver) × D.refuses before event over desk.new) ⊎ ((before : _) × D.ends before desk.new) }
+    ensures over { result ≡ Ending.TermOver
+        → ((before : _) × (event : AnEvent) × (over : ATermOver)
+        × D.refuses before event over desk.new)
+        ⊎ ((before : _) × D.ends before desk.new) }
 {
     links_rest();
     happenings_follow();
@@ -120,34 +138,47 @@ pub fn work_station<R: Wait, S: Serving, D: Desk>(rt: &R, station: &mut S, desk:
     unreachable!()
 }
 
-/// Serves a carrier's connections, one after another, until its port has no more of them, its gate is shut, or the term is over. Before
-/// each request for a connection, each call of `serve` and each wait, the worker asks the desk whether the term is over. It reports to the
-/// port how each connection was closed (`Port::closed`) before it asks for the next.
+/// Serves a carrier's connections, one after another, until its port has no more of them, its gate is shut, or the term
+/// is over. Before each request for a connection, each call of `serve` and each wait, the worker asks the desk whether
+/// the term is over. It reports to the port how each connection was closed (`Port::closed`) before it asks for the
+/// next.
 pub fn work_carrier<R: Wait, P: Port, G: Gate, D: Desk>(
     rt: &R,
     station: &mut Station<P, G>,
     desk: &mut D,
 ) -> Ending
     ensures actor { D.actor desk.new ≡ D.actor desk.old }
-    ensures works { WorksUntil (work_state (station_state station.old.link (P.reported station.old.port) (G.passed station.old.gate)) (D.calls desk.old)) (work_state (station_state station.new.link (P.reported station.new.port) (G.passed station.new.gate)) (D.calls desk.new)) result }
+    ensures works { WorksUntil (work_state (station_state station.old.link
+        (P.reported station.old.port) (G.passed station.old.gate)) (D.calls desk.old))
+        (work_state (station_state station.new.link (P.reported station.new.port)
+        (G.passed station.new.gate)) (D.calls desk.new)) result }
     ensures shut { result ≡ Ending.GateShut → (before : _) × G.shuts before station.new.gate }
-    ensures over { result ≡ Ending.TermOver → ((before : _) × (event : AnEvent) × (over : ATermOver) × D.refuses before event over desk.new) ⊎ ((before : _) × D.ends before desk.new) }
+    ensures over { result ≡ Ending.TermOver
+        → ((before : _) × (event : AnEvent) × (over : ATermOver)
+        × D.refuses before event over desk.new)
+        ⊎ ((before : _) × D.ends before desk.new) }
 {
     work_station(rt, station, desk)
 }
 
-/// Serves the console's connections, one after another, until its port has no more of them, or the term is over. Before each request for a
-/// connection, each call of `serve` and each wait, the worker asks the desk whether the term is over. It reports to the port how each
-/// connection was closed (`Port::closed`) before it asks for the next.
+/// Serves the console's connections, one after another, until its port has no more of them, or the term is over. Before
+/// each request for a connection, each call of `serve` and each wait, the worker asks the desk whether the term is
+/// over. It reports to the port how each connection was closed (`Port::closed`) before it asks for the next.
 pub fn work_console<R: Wait, P: Port, D: Desk>(
     rt: &R,
     station: &mut ConsoleStation<P>,
     desk: &mut D,
 ) -> Ending
     ensures actor { D.actor desk.new ≡ D.actor desk.old }
-    ensures works { WorksUntil (work_state (station_state station.old.link (P.reported station.old.port) None) (D.calls desk.old)) (work_state (station_state station.new.link (P.reported station.new.port) None) (D.calls desk.new)) result }
+    ensures works { WorksUntil (work_state
+        (station_state station.old.link (P.reported station.old.port) None) (D.calls desk.old))
+        (work_state (station_state station.new.link (P.reported station.new.port) None)
+        (D.calls desk.new)) result }
     ensures open { result ≡ Ending.GateShut → ⊥ }
-    ensures over { result ≡ Ending.TermOver → ((before : _) × (event : AnEvent) × (over : ATermOver) × D.refuses before event over desk.new) ⊎ ((before : _) × D.ends before desk.new) }
+    ensures over { result ≡ Ending.TermOver
+        → ((before : _) × (event : AnEvent) × (over : ATermOver)
+        × D.refuses before event over desk.new)
+        ⊎ ((before : _) × D.ends before desk.new) }
 {
     work_station(rt, station, desk)
 }

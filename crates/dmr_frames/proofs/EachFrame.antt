@@ -1,5 +1,5 @@
--- Frame by frame, and field by field: all that these proofs know of each by itself. A new frame needs one more case in functions here, and
--- in no other file.
+-- Frame by frame, and field by field: all that these proofs know of each by itself. A new frame needs one more case in
+-- functions here, and in no other file.
 use Rattle.std.proofs.Common.{◌≡◌, ◌==◌, ℕ, suc, ◌+◌, ◌-◌, ◌*◌, ◌/◌, ◌%◌, ◌<◌, ◌≤◌, nat_lt, cond, Bool, true, false, Option, Some, None, List, [], ◌∷◌, ◌++◌, length, get_or, replicate, refl, sym, ap, ◌∙◌, arith, ⊎_elim, length-append, subst}
 use Rattle.std.proofs.lemmas.Bool.{cases_lt}
 use Rattle.std.proofs.lemmas.List.{get_or-append_right, get_or-replicate, get_or_past, length-replicate}

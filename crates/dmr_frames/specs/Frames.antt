@@ -1,5 +1,6 @@
 -- The octets of each frame, in each version of the link format, and the frame of each whole body.
-use Rattle.std.specs.Prelude.{◌≡◌, ℕ, ◌+◌, ◌*◌, ◌/◌, ◌%◌, ◌<◌, Bool, true, false, List, [], ◌∷◌, length, Option, Some, None, IfSome}
+use Rattle.std.specs.Prelude.{◌≡◌, ℕ, ◌+◌, ◌*◌, ◌/◌, ◌%◌, ◌<◌, Bool, true, false, List, [], ◌∷◌}
+use Rattle.std.specs.Prelude.{length, Option, Some, None, IfSome}
 use Rattle.dmr_bits.specs.Words.{word_of, word_octets}
 use Rattle.dmr_frames.specs.declared.cutter.Step.{Step}
 use Rattle.dmr_frames.specs.declared.cutter.Step.TheVariants.{Need, Frame}
@@ -17,7 +18,8 @@ use Rattle.dmr_frames.specs.Versions.{has_numbers, version_by}
 
 -- a frame: its type, its length, its body
 abbrev pub frame_octets : Version → FrameKind → List ℕ → List ℕ
-frame_octets version kind body = (frame_row kind).octet ∷ body_length (has_numbers version) kind ∷ body
+frame_octets version kind body =
+    (frame_row kind).octet ∷ body_length (has_numbers version) kind ∷ body
 
 -- a frame whose octets are the same in each version that has it
 abbrev pub plain_octets : FrameKind → List ℕ → List ℕ
@@ -48,8 +50,10 @@ IsFrame v Bye = Unit {0}
 
 -- the octets of a frame from a carrier; only RX has different octets in each version
 abbrev pub spelling : FrameIn → List ℕ
-spelling (Hello version carrier lpcn) = plain_octets kind.Hello (version ∷ carrier ∷ (lpcn / 256) ∷ (lpcn % 256) ∷ [])
-spelling (Rx number slot word) = frame_octets (version_by number) kind.Rx (burst_octets number slot (word_octets word))
+spelling (Hello version carrier lpcn) =
+    plain_octets kind.Hello (version ∷ carrier ∷ (lpcn / 256) ∷ (lpcn % 256) ∷ [])
+spelling (Rx number slot word) =
+    frame_octets (version_by number) kind.Rx (burst_octets number slot (word_octets word))
 spelling Poll = plain_octets kind.Poll []
 spelling (Active slot) = plain_octets kind.Active (slot ∷ [])
 spelling Bye = plain_octets kind.Bye []
@@ -103,6 +107,7 @@ IsFrameOut (Refused refusal) = Unit {0}
 -- the octets of a frame to a carrier; only TX has different octets in each version
 abbrev pub spelling_out : FrameOut → List ℕ
 spelling_out (Welcome version) = plain_octets kind.Welcome (version ∷ [])
-spelling_out (Tx number slot word) = frame_octets (version_by number) kind.Tx (burst_octets number slot (word_octets word))
+spelling_out (Tx number slot word) =
+    frame_octets (version_by number) kind.Tx (burst_octets number slot (word_octets word))
 spelling_out Done = plain_octets kind.Done []
 spelling_out (Refused refusal) = plain_octets kind.Refused (refusal_octet refusal ∷ [])

@@ -1,5 +1,6 @@
 -- The result of each octet, for the rest before it.
-use Rattle.std.specs.Prelude.{◌≡◌, ℕ, ◌+◌, Bool, List, [], ◌∷◌, ◌++◌, length, nat_lt, ◌==◌, not, Option, Some, None, is_some, if◌then◌else◌}
+use Rattle.std.specs.Prelude.{◌≡◌, ℕ, ◌+◌, Bool, List, [], ◌∷◌, ◌++◌, length, nat_lt, ◌==◌, not}
+use Rattle.std.specs.Prelude.{Option, Some, None, is_some, if◌then◌else◌}
 use Rattle.std.specs.List.{flat_map, fold, scan}
 use Rattle.dmr_frames.specs.declared.frame.FrameIn.{FrameIn}
 use Rattle.dmr_frames.specs.declared.frame.Cause.{Cause}
@@ -28,7 +29,8 @@ unless_fault (Some cause) step = Fault cause
 -- the result of an octet of a body
 unfoldable pub body_step : Bool → FrameKind → List ℕ → ℕ → Step
 body_step numbered kind body x = unless_fault (body_fault numbered kind (length body) x)
-    (if nat_lt (length body + 1) (body_length numbered kind) then Need else whole_step numbered kind (body ++ x ∷ []))
+    (if nat_lt (length body + 1) (body_length numbered kind) then Need
+    else whole_step numbered kind (body ++ x ∷ []))
 
 -- the result of an octet after a type octet of this kind and after these octets
 unfoldable pub kind_step : Bool → Option FrameKind → List ℕ → ℕ → Step
@@ -39,7 +41,8 @@ kind_step numbered (Some kind) (n ∷ body) x = body_step numbered kind body x
 -- the result of an octet after an open rest
 unfoldable pub step_at : Version → List ℕ → ℕ → Step
 step_at version [] x = if is_some (carrier_kind version x) then Need else Fault UnknownType
-step_at version (octet ∷ rest) x = kind_step (has_numbers version) (carrier_kind version octet) rest x
+step_at version (octet ∷ rest) x =
+    kind_step (has_numbers version) (carrier_kind version octet) rest x
 
 -- the result of an octet
 abbrev pub step_from : Rest → ℕ → Step
@@ -70,7 +73,8 @@ frames_from rest octets = flat_map frame_of (scan rest_after_octet step_from res
 abbrev pub ProduceAtLast : Rest → List ℕ → Step → Type 0
 ProduceAtLast rest [] step = ⊥
 ProduceAtLast rest (x ∷ []) step = step_from rest x ≡ step
-ProduceAtLast rest (x ∷ y ∷ octets) step = (step_from rest x ≡ Need) × ProduceAtLast (rest_after_octet rest x) (y ∷ octets) step
+ProduceAtLast rest (x ∷ y ∷ octets) step =
+    (step_from rest x ≡ Need) × ProduceAtLast (rest_after_octet rest x) (y ∷ octets) step
 
 -- the rest after octets
 abbrev pub rest_after_octets : Rest → List ℕ → Rest

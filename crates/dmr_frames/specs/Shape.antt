@@ -1,5 +1,7 @@
--- The octets from which a frame can follow: definitions for the cutter and its private functions. No public contract depends on them.
-use Rattle.std.specs.Prelude.{◌≡◌, ℕ, ◌<◌, Bool, true, false, List, [], ◌∷◌, length, slice_index, Option, Some, None}
+-- The octets from which a frame can follow: definitions for the cutter and its private functions. No public contract
+-- depends on them.
+use Rattle.std.specs.Prelude.{◌≡◌, ℕ, ◌<◌, Bool, true, false, List, [], ◌∷◌, length, slice_index}
+use Rattle.std.specs.Prelude.{Option, Some, None}
 use Rattle.dmr_bits.specs.Bits.{field_of}
 use Rattle.dmr_frames.specs.declared.table.Field.{Field}
 use Rattle.dmr_frames.specs.declared.table.FrameKind.{FrameKind}
@@ -13,7 +15,8 @@ AreSmall xs = (k : ℕ) → slice_index xs k < 256
 
 -- no octet of these fields is a fault
 abbrev pub AreFaultless : Bool → List Field → List ℕ → Type 0
-AreFaultless numbered fields octets = (k : ℕ) → k < length octets → fields_fault numbered fields k (slice_index octets k) ≡ None
+AreFaultless numbered fields octets =
+    (k : ℕ) → k < length octets → fields_fault numbered fields k (slice_index octets k) ≡ None
 
 -- no octet of a body is a fault
 abbrev pub AreFitting : Bool → FrameKind → List ℕ → Type 0
@@ -51,7 +54,8 @@ IsActiveBody (slot ∷ more) = slot < 2
 abbrev pub IsShapeOf : Bool → Option FrameKind → List ℕ → Type 0
 IsShapeOf numbered None rest = ⊥
 IsShapeOf numbered (Some kind) [] = Unit {0}
-IsShapeOf numbered (Some kind) (n ∷ body) = (n ≡ body_length numbered kind) × IsBegun numbered kind body
+IsShapeOf numbered (Some kind) (n ∷ body) =
+    (n ≡ body_length numbered kind) × IsBegun numbered kind body
 
 -- octets from which a frame can follow
 abbrev pub IsShape : Version → List ℕ → Type 0

@@ -1,9 +1,11 @@
 -- A stream of octets: frames, and a rest. The first frame chooses the version of those after it.
-use Rattle.std.specs.Prelude.{◌≡◌, ℕ, ◌+◌, Bool, List, [], ◌∷◌, ◌++◌, length, Option, Some, None, if◌then◌else◌, ◌==◌, ◌||◌}
+use Rattle.std.specs.Prelude.{◌≡◌, ℕ, ◌+◌, Bool, List, [], ◌∷◌, ◌++◌, length, Option, Some, None}
+use Rattle.std.specs.Prelude.{if◌then◌else◌, ◌==◌, ◌||◌}
 use Rattle.std.specs.List.{flat_map}
 use Rattle.dmr_frames.specs.declared.frame.FrameIn.{FrameIn}
 use Rattle.dmr_frames.specs.declared.frame.Cause.{Cause}
-use Rattle.dmr_frames.specs.declared.frame.Cause.TheVariants.{UnknownType, BadLength, BadSlot, BadPad}
+use Rattle.dmr_frames.specs.declared.frame.Cause.TheVariants.{UnknownType, BadLength, BadSlot}
+use Rattle.dmr_frames.specs.declared.frame.Cause.TheVariants.{BadPad}
 use Rattle.dmr_frames.specs.declared.cutter.Step.{Step}
 use Rattle.dmr_frames.specs.declared.cutter.Step.TheVariants.{Need, Frame, Fault}
 use Rattle.dmr_frames.specs.declared.table.FrameKind.TheVariants as kind
@@ -20,7 +22,8 @@ Begins version q = (f : FrameIn) × (more : List ℕ) × IsFrame version f × (q
 
 -- a proper prefix of the spelling of some frame of this version
 abbrev pub IsOpen : Version → List ℕ → Type 0
-IsOpen version q = (f : FrameIn) × (x : ℕ) × (more : List ℕ) × IsFrame version f × (q ++ x ∷ more ≡ spelling f)
+IsOpen version q =
+    (f : FrameIn) × (x : ℕ) × (more : List ℕ) × IsFrame version f × (q ++ x ∷ more ≡ spelling f)
 
 -- the place of the slot in an RX, counted from 0; in an ACTIVE it is 2 in each version
 abbrev pub slot_place : Bool → ℕ
@@ -55,7 +58,8 @@ AreFrames table [] = Unit {0}
 AreFrames table (f ∷ fs) = IsFrame (version_of table) f × AreFrames (table_after table f) fs
 
 -- the octets are the spellings of these frames, the first by this table, followed by this rest
-pub record Reads (table : FrameTable) (octets : List ℕ) (frames : List FrameIn) (rest : Rest) : Type 0 where
+pub record Reads (table : FrameTable) (octets : List ℕ) (frames : List FrameIn)
+    (rest : Rest) : Type 0 where
   pub tail : List ℕ
   pub whole : octets ≡ flat_map spelling frames ++ tail
   pub each : AreFrames table frames
@@ -65,4 +69,5 @@ pub record Reads (table : FrameTable) (octets : List ℕ) (frames : List FrameIn
 abbrev pub IsStep : Version → List ℕ → ℕ → Step → Type 0
 IsStep version q x Need = IsOpen version (q ++ x ∷ [])
 IsStep version q x (Frame f) = IsFrame version f × (q ++ x ∷ [] ≡ spelling f)
-IsStep version q x (Fault cause) = (Begins version (q ++ x ∷ []) → ⊥) × (fault_at (has_numbers version) (length q) ≡ Some cause)
+IsStep version q x (Fault cause) =
+    (Begins version (q ++ x ∷ []) → ⊥) × (fault_at (has_numbers version) (length q) ≡ Some cause)

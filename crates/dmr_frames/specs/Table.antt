@@ -1,5 +1,7 @@
--- The table of frames: of each frame its type octet, its name, the version that introduced it, and the fields of its body.
-use Rattle.std.specs.Prelude.{ℕ, ◌+◌, ◌-◌, ◌%◌, ◌==◌, nat_lt, Bool, List, [], ◌∷◌, Option, Some, None, if◌then◌else◌, codes}
+-- The table of frames: of each frame its type octet, its name, the version that introduced it, and the fields of its
+-- body.
+use Rattle.std.specs.Prelude.{ℕ, ◌+◌, ◌-◌, ◌%◌, ◌==◌, nat_lt, Bool, List, [], ◌∷◌, Option, Some}
+use Rattle.std.specs.Prelude.{None, if◌then◌else◌, codes}
 use Rattle.dmr_frames.specs.declared.frame.Cause.{Cause}
 use Rattle.dmr_frames.specs.declared.frame.Cause.TheVariants.{BadSlot, BadPad}
 use Rattle.dmr_frames.specs.declared.table.Field.{Field}
@@ -45,7 +47,9 @@ site_kinds = kind.Welcome ∷ kind.Tx ∷ kind.Done ∷ kind.Refused ∷ []
 abbrev pub kind_among : Version → List FrameKind → ℕ → Option FrameKind
 kind_among version [] octet = None
 kind_among version (kind ∷ kinds) octet =
-    if octet == (frame_row kind).octet then (if is_since (frame_row kind).since version then Some kind else None) else kind_among version kinds octet
+    if octet == (frame_row kind).octet
+    then (if is_since (frame_row kind).since version then Some kind else None)
+    else kind_among version kinds octet
 
 -- the frame from a carrier that has a type octet in a version
 abbrev pub carrier_kind : Version → ℕ → Option FrameKind
@@ -65,7 +69,8 @@ field_length numbered other = 1
 -- the number of octets of fields together
 abbrev pub fields_length : Bool → List Field → ℕ
 fields_length numbered [] = 0
-fields_length numbered (field ∷ fields) = field_length numbered field + fields_length numbered fields
+fields_length numbered (field ∷ fields) =
+    field_length numbered field + fields_length numbered fields
 
 -- the number of octets of a frame after its length octet
 abbrev pub body_length : Bool → FrameKind → ℕ
@@ -74,14 +79,16 @@ body_length numbered kind = fields_length numbered (frame_row kind).body
 -- the fault of an octet at a place of a field: a slot has to be 0 or 1, and the last four bits of a word's octets 0
 abbrev pub field_fault : Field → ℕ → ℕ → Option Cause
 field_fault field.Slot place octet = if nat_lt octet 2 then None else Some BadSlot
-field_fault field.Word place octet = if place == 24 then (if octet % 16 == 0 then None else Some BadPad) else None
+field_fault field.Word place octet =
+    if place == 24 then (if octet % 16 == 0 then None else Some BadPad) else None
 field_fault other place octet = None
 
 -- the fault of an octet at a place of fields
 abbrev pub fields_fault : Bool → List Field → ℕ → ℕ → Option Cause
 fields_fault numbered [] place octet = None
 fields_fault numbered (field ∷ fields) place octet =
-    if nat_lt place (field_length numbered field) then field_fault field place octet else fields_fault numbered fields (place - field_length numbered field) octet
+    if nat_lt place (field_length numbered field) then field_fault field place octet
+    else fields_fault numbered fields (place - field_length numbered field) octet
 
 -- the fault of an octet at a place of a frame's body
 abbrev pub body_fault : Bool → FrameKind → ℕ → ℕ → Option Cause

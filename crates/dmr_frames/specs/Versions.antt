@@ -1,5 +1,6 @@
 -- The versions of the link format, and the version of each frame of a connection.
-use Rattle.std.specs.Prelude.{ℕ, ◌==◌, ◌&&◌, Bool, true, false, List, Option, Some, None, if◌then◌else◌, fold}
+use Rattle.std.specs.Prelude.{ℕ, ◌==◌, ◌&&◌, Bool, true, false, List, Option, Some, None}
+use Rattle.std.specs.Prelude.{if◌then◌else◌, fold}
 use Rattle.dmr_frames.specs.declared.frame.FrameIn.{FrameIn}
 use Rattle.dmr_frames.specs.declared.frame.FrameIn.TheVariants.{Hello}
 use Rattle.dmr_frames.specs.declared.version.Version.{Version}
@@ -30,7 +31,9 @@ version_by (Some number) = V2
 
 -- the version that an octet names, if it is at most the greatest that is served
 abbrev pub version_named : Version → ℕ → Option Version
-version_named greatest octet = if octet == 0x01 then Some V1 else if octet == 0x02 && is_since V2 greatest then Some V2 else None
+version_named greatest octet =
+    if octet == 0x01 then Some V1 else if octet == 0x02 && is_since V2 greatest then Some V2
+    else None
 
 -- a version, or else the first
 abbrev pub or_first : Option Version → Version
@@ -41,7 +44,8 @@ or_first (Some version) = version
 abbrev pub named_or_first : ℕ → Version
 named_or_first octet = or_first (version_named V2 octet)
 
--- the version that a first frame chooses: a HELLO chooses that of its octet, if it is served; any other frame chooses the first
+-- the version that a first frame chooses: a HELLO chooses that of its octet, if it is served; any other frame chooses
+-- the first
 abbrev pub chosen_by : Version → FrameIn → Version
 chosen_by greatest (Hello version carrier lpcn) = or_first (version_named greatest version)
 chosen_by greatest other = V1

@@ -6,12 +6,15 @@ ghost use Rattle.dmr_bits.specs.Words.{word_of};
 ghost use Rattle.dmr_frames.specs.Between.{is_between};
 ghost use Rattle.dmr_frames.specs.Rest.{Open};
 ghost use Rattle.dmr_frames.specs.Versions.{has_numbers};
-ghost use Rattle.dmr_frames.specs.Shape.{IsShape, IsBegun, IsWhole, IsRxBody, IsBurst, IsActiveBody};
+ghost use Rattle.dmr_frames.specs.Shape.{IsShape, IsBegun, IsWhole, IsRxBody, IsBurst};
+ghost use Rattle.dmr_frames.specs.Shape.{IsActiveBody};
 ghost use Rattle.dmr_frames.specs.declared.frame.FrameIn.{FrameIn};
 ghost use Rattle.dmr_frames.specs.declared.version.FrameTable.{FrameTable};
 ghost use Rattle.dmr_frames.specs.Stream.{Reads};
-ghost use Rattle.dmr_frames.specs.Reading.{ProduceAtLast, frame_of, step_from, rest_after_octet, rest_after_octets};
-ghost use Rattle.dmr_frames.specs.Frames.{IsFrame, spelling, whole_step, hello_step, rx_step, burst_step, active_step};
+ghost use Rattle.dmr_frames.specs.Reading.{ProduceAtLast, frame_of, step_from, rest_after_octet};
+ghost use Rattle.dmr_frames.specs.Reading.{rest_after_octets};
+ghost use Rattle.dmr_frames.specs.Frames.{IsFrame, spelling, whole_step, hello_step, rx_step};
+ghost use Rattle.dmr_frames.specs.Frames.{burst_step, active_step};
 ghost use Rattle.dmr_frames.specs.Reading.{step_at, length_step, body_step};
 
 use crate::frame::{Cause, FrameIn, LONGEST_FRAME};
@@ -32,8 +35,8 @@ pub enum Step {
     Fault(Cause),
 }
 
-/// Cuts the octets of one connection into frames. It keeps the octets since the last whole frame and the table by which they are cut, or
-/// the fault that was found. Contracts see this `Rest`.
+/// Cuts the octets of one connection into frames. It keeps the octets since the last whole frame and the table by which
+/// they are cut, or the fault that was found. Contracts see this `Rest`.
 #[derive(Debug, Drop)]
 pub struct Cutter {
     octets: [u8; LONGEST_FRAME],
@@ -53,7 +56,8 @@ impl Model for Cutter {
 
     ghost view = { λ c. rest_of c.fault c.table (take c.count c.octets) };
 
-    ghost invariant = { λ c. (c.count < LONGEST_FRAME) × IsShape (version_of c.table) (take c.count c.octets) };
+    ghost invariant = { λ c. (c.count < LONGEST_FRAME)
+        × IsShape (version_of c.table) (take c.count c.octets) };
 }
 
 impl Cutter {
@@ -95,14 +99,15 @@ impl Cutter {
         self.count == 0 && self.fault.is_none()
     }
 
-    /// Takes the next octet, and returns its result. A frame is returned at its last octet. A fault is returned at the first octet with
-    /// which the octets since the last frame can no longer begin a frame: `UnknownType`, `BadLength`, `BadSlot` or `BadPad`. From then on
-    /// every octet returns that same fault.
+    /// Takes the next octet, and returns its result. A frame is returned at its last octet. A fault is returned at the
+    /// first octet with which the octets since the last frame can no longer begin a frame: `UnknownType`, `BadLength`,
+    /// `BadSlot` or `BadPad`. From then on every octet returns that same fault.
     ///
-    /// The table of version 1 cuts the first frame. The table of the version that the first frame chose cuts those after it.
+    /// The table of version 1 cuts the first frame. The table of the version that the first frame chose cuts those
+    /// after it.
     pub fn feed_byte(&mut self, octet: u8) -> Step
-        // If the octets so far are the spellings of these frames and a rest, they still are with this octet. The frames then include the
-        // frame of this result, if it has one.
+        // If the octets so far are the spellings of these frames and a rest, they still are with this octet. The frames
+        // then include the frame of this result, if it has one.
         ensures stream { (table : FrameTable) (octets : List ℕ) (frames : List FrameIn) →
             Reads table octets frames self.old →
             Reads table (octets ++ octet ∷ []) (frames ++ frame_of result) self.new }
@@ -112,8 +117,9 @@ impl Cutter {
         self.take_octet(octet)
     }
 
-    /// Takes octets up to the end of the next frame, up to a fault, or all of them. Returns how many it took, and the step of the last of
-    /// these. The result is that of [`Cutter::feed_byte`] for each octet, but a whole frame is taken at once.
+    /// Takes octets up to the end of the next frame, up to a fault, or all of them. Returns how many it took, and the
+    /// step of the last of these. The result is that of [`Cutter::feed_byte`] for each octet, but a whole frame is
+    /// taken at once.
     pub fn feed(&mut self, octets: &[u8]) -> (usize, Step)
         requires { 0 < length octets.now }
         ensures count { result.0 ≤ length octets.now }

@@ -7,22 +7,23 @@ use dmr_bits::Word196;
 use dmr_pdu::SlotNo;
 use std::fmt;
 
-/// The octets of the longest frames, RX and TX of version 2: type, length, number, slot, and the 25 of a word. In version 1 they have no
-/// number and are one octet shorter.
+/// The octets of the longest frames, RX and TX of version 2: type, length, number, slot, and the 25 of a word. In
+/// version 1 they have no number and are one octet shorter.
 pub const LONGEST_FRAME: usize = 29;
 
 /// A frame that comes from a carrier.
 #[derive(Clone, Copy, Debug, PartialEq, Eq)]
 pub enum FrameIn {
-    /// HELLO, the first frame of a connection: the version of the link format that the carrier speaks, the carrier's number within the
-    /// site, and its logical physical channel number. All three are as they were sent; their ranges were not checked.
+    /// HELLO, the first frame of a connection: the version of the link format that the carrier speaks, the carrier's
+    /// number within the site, and its logical physical channel number. All three are as they were sent; their ranges
+    /// were not checked.
     Hello {
         version: u8,
         carrier: u8,
         lpcn: u16,
     },
-    /// RX: a burst was received on a slot. The carrier counts its bursts by the number, one octet, in version 2 of the link format. In
-    /// version 1 there is none.
+    /// RX: a burst was received on a slot. The carrier counts its bursts by the number, one octet, in version 2 of the
+    /// link format. In version 1 there is none.
     Rx {
         number: Option<u8>,
         slot: SlotNo,
@@ -98,7 +99,8 @@ impl fmt::Display for Refusal {
 /// A frame that goes to a carrier.
 #[derive(Clone, Copy, Debug, PartialEq, Eq)]
 pub enum FrameOut {
-    /// WELCOME: the answer to a HELLO that is accepted. It names the version of the link format for all frames after it.
+    /// WELCOME: the answer to a HELLO that is accepted. It names the version of the link format for all frames after
+    /// it.
     Welcome {
         version: u8,
     },
@@ -136,12 +138,14 @@ impl fmt::Display for FrameOut {
     }
 }
 
-/// A fault of a connection. The cutter finds the first four at one octet; the session finds the last four at a whole frame.
+/// A fault of a connection. The cutter finds the first four at one octet; the session finds the last four at a whole
+/// frame.
 #[derive(Clone, Copy, Debug, PartialEq, Eq)]
 pub enum Cause {
     /// A type octet that is not one of a carrier's frames, 01 to 05.
     UnknownType,
-    /// A length octet that does not belong to the type octet before it, in the version of the link format by which the octets are cut.
+    /// A length octet that does not belong to the type octet before it, in the version of the link format by which the
+    /// octets are cut.
     BadLength,
     /// A slot octet, in RX or ACTIVE, that is not 00 or 01.
     BadSlot,

@@ -1,10 +1,11 @@
 //! Link frames of versions 1 and 2 (this project's profile): the octets that a carrier and the site exchange.
 //!
-//! A frame is a type octet, a length octet that counts its body's octets, and the body. A `Cutter` takes a carrier's octets one by one, so
-//! it does not matter in which pieces they come, and returns each frame at its last octet. `write_frame` spells the frames that go to a
-//! carrier. Nothing here allocates memory.
+//! A frame is a type octet, a length octet that counts its body's octets, and the body. A `Cutter` takes a carrier's
+//! octets one by one, so it does not matter in which pieces they come, and returns each frame at its last octet.
+//! `write_frame` spells the frames that go to a carrier. Nothing here allocates memory.
 //!
-//! The versions differ in RX and TX, which in version 2 have a number octet before the slot. The first frame of a connection is of version
+//! The versions differ in RX and TX, which in version 2 have a number octet before the slot. The first frame of a
+//! connection is of version
 //! 1. If it is a HELLO of version 2, and version 2 is served, those after it are of version 2.
 #![tactic(auto)]
 

@@ -1,13 +1,16 @@
-//! The table of frames: of each frame its type octet, its name, the version that introduced it, and the fields of its body. All code here
-//! that cuts, writes or names frames reads it. A frame is its type octet, the number of octets in its body, and the body (this project's
-//! profile). The values that a field may have are here too; the meaning of a frame is not.
+//! The table of frames: of each frame its type octet, its name, the version that introduced it, and the fields of its
+//! body. All code here that cuts, writes or names frames reads it. A frame is its type octet, the number of octets in
+//! its body, and the body (this project's profile). The values that a field may have are here too; the meaning of a
+//! frame is not.
 
 ghost use Rattle.std.specs.Prelude.{◌≡◌, ◌<◌, IsTrue, length, slice_index};
 ghost use Rattle.dmr_frames.specs.Frames.{spelling, spelling_out};
 ghost use Rattle.dmr_frames.specs.declared.version.Version.{Version};
 ghost use Rattle.dmr_frames.specs.Shape.{AreFaultless, AreFitting};
 ghost use Rattle.dmr_frames.specs.Versions.{has_numbers};
-ghost use Rattle.dmr_frames.specs.Table.{body_fault, body_length, carrier_kind, field_fault, field_length, fields_fault, fields_length, frame_row, kind_among, site_kind};
+ghost use Rattle.dmr_frames.specs.Table.{body_fault, body_length, carrier_kind, field_fault};
+ghost use Rattle.dmr_frames.specs.Table.{field_length, fields_fault, fields_length, frame_row};
+ghost use Rattle.dmr_frames.specs.Table.{kind_among, site_kind};
 
 use crate::frame::{Cause, FrameIn, FrameOut};
 use crate::version::Version;

@@ -2,7 +2,9 @@
 
 ghost use Rattle.std.specs.Prelude.{◌≡◌};
 ghost use Rattle.dmr_frames.specs.declared.version.Version.{Version};
-ghost use Rattle.dmr_frames.specs.Versions.{chosen_by, has_numbers, is_since, named_or_first, version_by, version_named, version_octet, version_of, table_after};
+ghost use Rattle.dmr_frames.specs.Versions.{chosen_by, has_numbers, is_since, named_or_first};
+ghost use Rattle.dmr_frames.specs.Versions.{version_by, version_named, version_octet, version_of};
+ghost use Rattle.dmr_frames.specs.Versions.{table_after};
 
 use crate::frame::FrameIn;
 
@@ -59,7 +61,8 @@ impl Version {
         }
     }
 
-    /// The version of an octet, if it is at most this one, the greatest that is served. `None` if the octet names no such version.
+    /// The version of an octet, if it is at most this one, the greatest that is served. `None` if the octet names no
+    /// such version.
     pub fn served_version(self, octet: u8) -> Option<Version>
         ensures { result ≡ version_named self octet }
     {
@@ -85,8 +88,8 @@ impl Version {
         }
     }
 
-    /// The version that a connection's first frame chooses for those after it, if versions up to this one are served. A HELLO chooses the
-    /// version of its octet, if that is served. Any other frame chooses version 1.
+    /// The version that a connection's first frame chooses for those after it, if versions up to this one are served. A
+    /// HELLO chooses the version of its octet, if that is served. Any other frame chooses version 1.
     pub fn chosen_by(self, frame: &FrameIn) -> Version
         ensures { result ≡ chosen_by self frame.now }
     {
@@ -120,8 +123,8 @@ impl FrameTable {
         }
     }
 
-    /// The table after a frame. A first frame that is a HELLO of a served version chooses that version; any other first frame chooses
-    /// version 1.
+    /// The table after a frame. A first frame that is a HELLO of a served version chooses that version; any other first
+    /// frame chooses version 1.
     pub fn next_table(self, frame: &FrameIn) -> FrameTable
         ensures { result ≡ table_after self frame.now }
     {

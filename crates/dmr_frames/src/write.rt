@@ -29,7 +29,8 @@ fn plain_head(kind: FrameKind) -> ArrayVec<u8, LONGEST_FRAME>
 
 /// Returns the octets of a TX up to its word: type and length, the number, if it has one, and the slot.
 fn burst_head(number: Option<u8>, slot: SlotNo) -> ArrayVec<u8, LONGEST_FRAME>
-    ensures { result.items ≡ frame_octets (version_by number) FrameKind.Tx (burst_octets number slot []) }
+    ensures { result.items
+        ≡ frame_octets (version_by number) FrameKind.Tx (burst_octets number slot []) }
 {
     let mut octets = head_of(Version::by_number(number), FrameKind::Tx);
     if let Some(number) = number {

@@ -1,4 +1,5 @@
--- The number of a link's next TX is one of its connection's version, since it follows from the octets that came and their answers.
+-- The number of a link's next TX is one of its connection's version, since it follows from the octets that came and
+-- their answers.
 use Rattle.std.proofs.Common.{◌≡◌, ℕ, suc, List, [], ◌∷◌, ◌++◌, Bool, true, false, ◌==◌, Option, Some, None, map, length, refl, sym, ap, ◌∙◌, subst, append_assoc, arith}
 use Rattle.std.specs.Prelude.{if◌then◌else◌}
 use Rattle.std.proofs.lemmas.List.{append-nil}

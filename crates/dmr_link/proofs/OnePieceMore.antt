@@ -24,7 +24,8 @@ pub most-append : (numbered : Bool) (notice : Option Notice) (more : List Notice
 most-append numbered None more = omega arith
 most-append numbered (Some notice) more = omega arith
 
--- the carrier of the octets, the connection before the piece, the notice that the piece produced, and the connection after it
+-- the carrier of the octets, the connection before the piece, the notice that the piece produced, and the connection
+-- after it
 module _ (who whose : CarrierIdentity) (same : whose ≡ who) (k later : Connection) (octets : List ℕ) (i n : ℕ) (brought : Option Notice)
     (brings : notices_of_octets whose k (take n (drop i octets)) ≡ list_of_notice brought) (left : later ≡ connection_after_octets whose k (take n (drop i octets))) where
   abbrev before : List Notice

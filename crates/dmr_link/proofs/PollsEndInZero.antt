@@ -70,7 +70,7 @@ whole_poll numbered kind.Tx body h = cc
 whole_poll numbered kind.Done body h = cc
 whole_poll numbered kind.Refused body h = cc
 
--- octets of a frame that has begun, which is no POLL with a body
+-- octets of a frame that has begun, and that is not a POLL with a body
 abbrev IsNoLongPoll : Version → List ℕ → Type 0
 IsNoLongPoll version [] = Unit {0}
 IsNoLongPoll version (octet ∷ []) = Unit {0}

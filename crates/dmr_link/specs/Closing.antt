@@ -44,7 +44,8 @@ cause_of_refusal refusal.WrongCarrier = cause.WrongCarrier
 -- how a first frame that is not accepted closes a connection: a HELLO is refused, for its version before all else
 abbrev pub first_fault : CarrierIdentity → FrameIn → Closing
 first_fault who (frame.Hello version carrier lpcn) =
-    closing.Refused (if is_served who version then cause.WrongCarrier else cause.BadVersion) (record { version = version; carrier = carrier; lpcn = lpcn })
+    closing.Refused (if is_served who version then cause.WrongCarrier else cause.BadVersion)
+    (record { version = version; carrier = carrier; lpcn = lpcn })
 first_fault who other = closing.Bad cause.NoHello
 
 -- how a first frame closes a connection, if it does
@@ -70,11 +71,14 @@ up_closed (f ∷ fs) rest = or_else (frame_closes f) (up_closed fs rest)
 -- how the frames of a connection, and the rest after them, close it, if they do
 abbrev pub frames_closed : CarrierIdentity → List FrameIn → Rest → Option Closing
 frames_closed who [] rest = fault_of rest
-frames_closed who (f ∷ fs) rest = if is_accepted who f then up_closed fs rest else Some (first_fault who f)
+frames_closed who (f ∷ fs) rest =
+    if is_accepted who f then up_closed fs rest else Some (first_fault who f)
 
 -- HOW OCTETS CLOSE a connection, if they do: by a BYE of a carrier that is up, or for a cause
 unfoldable pub closing_of_octets : CarrierIdentity → List ℕ → Option Closing
-closing_of_octets who octets = frames_closed who (frames_from (no_octets who) octets) (rest_after_octets (no_octets who) octets)
+closing_of_octets who octets =
+    frames_closed who (frames_from (no_octets who) octets)
+    (rest_after_octets (no_octets who) octets)
 
 -- ---- octet by octet
 
@@ -99,4 +103,5 @@ closes who (Running rest newest) x = running_closes (step_from rest x)
 -- how octets close a connection, if they do: the first octet that does decides
 abbrev pub all_closes : CarrierIdentity → Connection → List ℕ → Option Closing
 all_closes who k [] = None
-all_closes who k (x ∷ xs) = or_else (closes who k x) (all_closes who (connection_after_octet who k x) xs)
+all_closes who k (x ∷ xs) =
+    or_else (closes who k x) (all_closes who (connection_after_octet who k x) xs)

@@ -1,6 +1,8 @@
--- The states of carriers that an engine keeps, by carrier number. Its contracts see their connections and the numbers of their next TX.
--- Only the engine's type and contracts inside this crate name these definitions; nothing above depends on them.
-use Rattle.std.specs.Prelude.{◌≡◌, ◌<◌, ℕ, List, Option, Some, None, length, map, replicate, slice_index_or}
+-- The states of carriers that an engine keeps, by carrier number. Its contracts see their connections and the numbers
+-- of their next TX. Only the engine's type and contracts inside this crate name these definitions; nothing above
+-- depends on them.
+use Rattle.std.specs.Prelude.{◌≡◌, ◌<◌, ℕ, List, Option, Some, None, length, map, replicate}
+use Rattle.std.specs.Prelude.{slice_index_or}
 use Rattle.dmr_pdu.specs.Slots.{carriers_of_site}
 use Rattle.dmr_plan.specs.declared.settings.Settings.{Settings}
 use Rattle.dmr_link.specs.declared.connection.CarrierIdentity.{CarrierIdentity}
@@ -34,19 +36,28 @@ carrier_in (Some state) = Some state.who
 abbrev pub carrier_after : Site → CarrierState → List ℕ → CarrierState
 carrier_after site s octets =
     state_on s.who (connection_after_octets s.who s.connection octets)
-    (next_after_frames s.numbering (frames_said site.plan site.facts (notices_of_octets s.who s.connection octets)))
+    (next_after_frames s.numbering
+    (frames_said site.plan site.facts (notices_of_octets s.who s.connection octets)))
 
 -- the connection of a state is sound, and its next TX has a number of the connection's version
 abbrev pub IsStateSound : CarrierState → Type 0
-IsStateSound s = IsConnectionSound s.who.greatest s.connection × IsNumberingOf s.connection s.numbering
+IsStateSound s =
+    IsConnectionSound s.who.greatest s.connection × IsNumberingOf s.connection s.numbering
 
--- the states of a plan's carriers: each carrier of the plan has one, which is its own and sound, and other numbers have none
+-- the states of a plan's carriers: each carrier of the plan has one, which is its own and sound, and other numbers have
+-- none
 pub record AreCarrierStates (plan : Settings) (states : List (Option CarrierState)) : Type 0 where
   pub sixteen : length states ≡ carriers_of_site
-  pub own : (carrier : ℕ) → carrier < carriers_of_site → carrier_in (slice_index_or states carrier None) ≡ who_of plan carrier
-  pub sound : (carrier : ℕ) → IsConnectionSound (greatest_of plan) (connection_in (slice_index_or states carrier None))
-  pub numbered : (carrier : ℕ) → IsNumberingOf (connection_in (slice_index_or states carrier None)) (next_in (slice_index_or states carrier None))
+  pub own : (carrier : ℕ) → carrier < carriers_of_site
+      → carrier_in (slice_index_or states carrier None) ≡ who_of plan carrier
+  pub sound : (carrier : ℕ)
+      → IsConnectionSound (greatest_of plan) (connection_in (slice_index_or states carrier None))
+  pub numbered : (carrier : ℕ)
+      → IsNumberingOf (connection_in (slice_index_or states carrier None))
+      (next_in (slice_index_or states carrier None))
 
 -- no state has a connection, or a number for the next TX
 abbrev pub AreUnconnected : List (Option CarrierState) → Type 0
-AreUnconnected states = (map connection_in states ≡ replicate carriers_of_site Closed) × (map next_in states ≡ replicate carriers_of_site None)
+AreUnconnected states =
+    (map connection_in states ≡ replicate carriers_of_site Closed)
+    × (map next_in states ≡ replicate carriers_of_site None)

@@ -1,6 +1,8 @@
 -- The happenings of a call of `serve`, in their order.
-use Rattle.std.specs.Prelude.{◌≡◌, ℕ, ◌==◌, List, [], ◌∷◌, ◌++◌, Option, Some, None, Result, Ok, Err, if◌then◌else◌, filter_map, fold}
-use Rattle.dmr_wire.specs.Answers.{Answer, Came, InputEnded, ReadInterrupted, ReadBlocked, ReadFailed}
+use Rattle.std.specs.Prelude.{◌≡◌, ℕ, ◌==◌, List, [], ◌∷◌, ◌++◌, Option, Some, None, Result, Ok}
+use Rattle.std.specs.Prelude.{Err, if◌then◌else◌, filter_map, fold}
+use Rattle.dmr_wire.specs.Answers.{Answer, Came, InputEnded, ReadInterrupted, ReadBlocked}
+use Rattle.dmr_wire.specs.Answers.{ReadFailed}
 use Rattle.dmr_link.specs.declared.desk.Deposit.{Deposit}
 use Rattle.dmr_link.specs.declared.ended.Ended.{Ended}
 use Rattle.dmr_link.specs.declared.ended.Ended.TheVariants as ended
@@ -53,9 +55,10 @@ is_read other = 0
 
 -- ---- their order
 
--- the stage of a call of `serve`, by which the order of its happenings is defined. `Outside`: outside the gate. `Within`: within it, with
--- an event to hand in. `Answering`: within it, after the desk took the event. `TurnedAway`: it left the gate, and the desk took no event.
--- `ShutOut`: before a shut gate. `Blocked`: after a read that would block. `Disordered`: out of order
+-- the stage of a call of `serve`, by which the order of its happenings is defined. `Outside`: outside the gate.
+-- `Within`: within it, with an event to hand in. `Answering`: within it, after the desk took the event. `TurnedAway`:
+-- it left the gate, and the desk took no event. `ShutOut`: before a shut gate. `Blocked`: after a read that would
+-- block. `Disordered`: out of order
 pub data Stage : Type 0 where
   Outside : Stage
   Within : Stage
@@ -65,8 +68,8 @@ pub data Stage : Type 0 where
   Blocked : Stage
   Disordered : Stage
 
--- the stage after a happening outside the gate. There the call reads, and writes the answers to notices for the peer alone; a read that
--- would block is the last
+-- the stage after a happening outside the gate. There the call reads, and writes the answers to notices for the peer
+-- alone; a read that would block is the last
 abbrev pub outside_then : Happening → Stage
 outside_then (Answered ReadBlocked) = Blocked
 outside_then (Answered a) = Outside
@@ -114,8 +117,8 @@ abbrev pub stage_after : {X : Type 0} → Result X Ended → Stage
 stage_after (Ok done) = Outside
 stage_after (Err stop) = stage_at stop
 
--- the passages of the gate in a call that ends with this result, and in which the desk took these events. The gate is entered and left
--- for each of them, and for an event that the desk refused. If it was shut, that is the last passage
+-- the passages of the gate in a call that ends with this result, and in which the desk took these events. The gate is
+-- entered and left for each of them, and for an event that the desk refused. If it was shut, that is the last passage
 abbrev pub passages_of : List Deposit → Ended → List Passage
 passages_of [] ended.TermOver = Entered ∷ Left ∷ []
 passages_of [] ended.GateShut = Shut ∷ []

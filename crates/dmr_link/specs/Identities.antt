@@ -13,4 +13,8 @@ greatest_of plan = named_or_first plan.link_version
 
 -- the identity of the plan's carrier with this number, if the plan has one
 abbrev pub who_of : Settings → ℕ → Option CarrierIdentity
-who_of plan carrier = option_map (λ (row : CarrierRow). record { carrier = carrier; lpcn = row.lpcn; greatest = greatest_of plan }) (row_with plan.carriers carrier)
+who_of plan carrier = option_map (λ (row : CarrierRow). record {
+  carrier = carrier;
+  lpcn = row.lpcn;
+  greatest = greatest_of plan;
+}) (row_with plan.carriers carrier)

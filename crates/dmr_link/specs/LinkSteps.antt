@@ -1,6 +1,7 @@
--- The steps of a link. Only contracts inside this crate name these definitions, except `is_live` and `IsLinkNumbering`; nothing above
--- depends on the others.
-use Rattle.std.specs.Prelude.{◌≡◌, ℕ, ◌≤◌, Bool, true, false, ◌||◌, List, [], Option, Some, None, Result, Ok, Err}
+-- The steps of a link. Only contracts inside this crate name these definitions, except `is_live` and `IsLinkNumbering`;
+-- nothing above depends on the others.
+use Rattle.std.specs.Prelude.{◌≡◌, ℕ, ◌≤◌, Bool, true, false, ◌||◌, List, [], Option, Some, None}
+use Rattle.std.specs.Prelude.{Result, Ok, Err}
 use Rattle.dmr_core.specs.declared.event.Event.TheVariants.{Lost}
 use Rattle.dmr_wire.specs.Answers.{Answer}
 use Rattle.dmr_link.specs.Notices.{Notice}
@@ -22,7 +23,8 @@ use Rattle.dmr_link.specs.Moves.{Moves, WritesText}
 use Rattle.dmr_link.specs.Numbering.{first_number}
 use Rattle.dmr_link.specs.Sound.{IsNumberingOf}
 use Rattle.dmr_frames.specs.Versions.{version_octet}
-use Rattle.dmr_link.specs.Peers.{opened_for, is_going, up_of, produces, left_after, closes_by, numbered}
+use Rattle.dmr_link.specs.Peers.{opened_for, is_going, up_of, produces, left_after, closes_by}
+use Rattle.dmr_link.specs.Peers.{numbered}
 use Rattle.dmr_link.specs.Sessions.{Sides, IsQuiet, IsOver, is_kept, is_lost, is_pending}
 
 -- the number of the next TX after the WELCOME that is kept, if one is, is written
@@ -34,7 +36,8 @@ next_when_answered (Some (site.Accepted c version)) next = first_number (version
 -- the number of a link's next TX, after that WELCOME, is one of its connection's version
 abbrev pub IsLinkNumbering : Stream → Option SiteNotice → Type 0
 IsLinkNumbering stream.Closed kept = Unit {0}
-IsLinkNumbering (stream.Frames state) kept = IsNumberingOf state.connection (next_when_answered kept state.numbering)
+IsLinkNumbering (stream.Frames state) kept =
+    IsNumberingOf state.connection (next_when_answered kept state.numbering)
 IsLinkNumbering (stream.Lines begun) kept = Unit {0}
 
 -- ---- pending notices
@@ -74,13 +77,27 @@ pending_weight p = weight_of p.kept p.lost
 
 -- a link with this queue
 abbrev pub with_pending : LinkState → Pending → LinkState
-with_pending l p = record { who = l.who; connection = l.connection; pending = p; is_cut = l.is_cut; unread = l.unread; closing = l.closing }
+with_pending l p = record {
+  who = l.who;
+  connection = l.connection;
+  pending = p;
+  is_cut = l.is_cut;
+  unread = l.unread;
+  closing = l.closing;
+}
 
 -- ---- a link's steps
 
 -- a link after its connection was closed in this way
 abbrev pub closed_as : LinkState → Closing → LinkState
-closed_as l closing = record { who = l.who; connection = stream.Closed; pending = record { kept = l.pending.kept; lost = up_of l.connection }; is_cut = l.is_cut; unread = l.unread; closing = closing }
+closed_as l closing = record {
+  who = l.who;
+  connection = stream.Closed;
+  pending = record { kept = l.pending.kept; lost = up_of l.connection };
+  is_cut = l.is_cut;
+  unread = l.unread;
+  closing = closing;
+}
 
 -- the event that is kept after a notice: that of the notice, or the one that was kept before
 abbrev pub kept_then : Option SiteNotice → Option Notice → Option SiteNotice
@@ -106,7 +123,8 @@ abbrev pub state_after_octet : LinkState → ℕ → LinkState
 state_after_octet l x = record {
   who = l.who;
   connection = left_after l.connection x;
-  pending = record { kept = kept_then l.pending.kept (produces l.connection x); lost = l.pending.lost };
+  pending =
+      record { kept = kept_then l.pending.kept (produces l.connection x); lost = l.pending.lost };
   is_cut = l.is_cut;
   unread = l.unread;
   closing = closing_then l.closing (closes_by l.connection x);
@@ -118,7 +136,14 @@ is_live l = is_going l.connection || is_kept l.pending.kept || is_lost l.pending
 
 -- a link whose next TX has this number
 abbrev pub with_next : LinkState → Option ℕ → LinkState
-with_next l next = record { who = l.who; connection = numbered l.connection next; pending = l.pending; is_cut = l.is_cut; unread = l.unread; closing = l.closing }
+with_next l next = record {
+  who = l.who;
+  connection = numbered l.connection next;
+  pending = l.pending;
+  is_cut = l.is_cut;
+  unread = l.unread;
+  closing = l.closing;
+}
 
 -- a link after octets were written: the first if the port took all of them, else the second with its connection closed
 abbrev pub after_write : Bool → LinkState → LinkState → LinkState
@@ -126,9 +151,11 @@ after_write true whole l = whole
 after_write false whole l = closed_as l WriteFailed
 
 -- octets were written, unless the connection was cut
-abbrev pub Replies : Bool → LinkState → Option (List Answer) → List ℕ → LinkState → LinkState → Option (List Answer) → Type 0
+abbrev pub Replies : Bool → LinkState → Option (List Answer) → List ℕ → LinkState → LinkState
+    → Option (List Answer) → Type 0
 Replies true old reported octets written new now = (new ≡ old) × (now ≡ reported)
-Replies false old reported octets written new now = (whole : Bool) × WritesText reported octets whole now × (new ≡ after_write whole written old)
+Replies false old reported octets written new now =
+    (whole : Bool) × WritesText reported octets whole now × (new ≡ after_write whole written old)
 
 -- an event could not be handed in and is pending, or this proposition holds
 abbrev pub IsHeld : {X : Type 0} → Result X Ended → LinkState → Type 0 → Type 0
@@ -137,8 +164,8 @@ IsHeld (Err ended.TermOver) l P = is_pending l ≡ true
 IsHeld (Err ended.GateShut) l P = is_pending l ≡ true
 IsHeld (Err other) l P = ⊥
 
--- a step stopped for this reason: an event could not be handed in and is pending, or the connection is closed in this way and nothing is
--- pending
+-- a step stopped for this reason: an event could not be handed in and is pending, or the connection is closed in this
+-- way and nothing is pending
 abbrev pub IsStop : Ended → LinkState → Type 0
 IsStop ended.TermOver l = is_pending l ≡ true
 IsStop ended.GateShut l = is_pending l ≡ true
@@ -193,8 +220,22 @@ lost_then (Some c) up = Some c
 
 -- a link after a cut
 abbrev pub cut_state : LinkState → LinkState
-cut_state l = record { who = l.who; connection = stream.Closed; pending = record { kept = l.pending.kept; lost = lost_then l.pending.lost (up_of l.connection) }; is_cut = true; unread = l.unread; closing = Over }
+cut_state l = record {
+  who = l.who;
+  connection = stream.Closed;
+  pending = record { kept = l.pending.kept; lost = lost_then l.pending.lost (up_of l.connection) };
+  is_cut = true;
+  unread = l.unread;
+  closing = Over;
+}
 
 -- a link after a connection has begun
 abbrev pub with_new_connection : LinkState → LinkState
-with_new_connection l = record { who = l.who; connection = opened_for l.who; pending = l.pending; is_cut = false; unread = []; closing = l.closing }
+with_new_connection l = record {
+  who = l.who;
+  connection = opened_for l.who;
+  pending = l.pending;
+  is_cut = false;
+  unread = [];
+  closing = l.closing;
+}

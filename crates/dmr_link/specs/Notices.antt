@@ -12,8 +12,8 @@ use Rattle.dmr_link.specs.declared.notices.Notice.TheVariants as notice
 use Rattle.dmr_link.specs.declared.notices.SiteNotice.{SiteNotice}
 use Rattle.dmr_link.specs.declared.notices.SiteNotice.TheVariants as site
 
--- an event of the site, an accepted HELLO of a carrier, a refused carrier, or a rejected line of an operator. An accepted HELLO is the
--- carrier's Up, in this version of the link. The site does not learn of the last two
+-- an event of the site, an accepted HELLO of a carrier, a refused carrier, or a rejected line of an operator. An
+-- accepted HELLO is the carrier's Up, in this version of the link. The site does not learn of the last two
 pub data Notice : Type 0 where
   Happened : (event : Event) → Notice
   Accepted : (carrier : ℕ) (version : Version) → Notice

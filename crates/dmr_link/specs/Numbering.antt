@@ -1,5 +1,6 @@
 -- The numbers of a connection's TX frames. In a version that numbers bursts they count from 0, and 0 follows 255.
-use Rattle.std.specs.Prelude.{ℕ, ◌+◌, ◌%◌, List, Option, Some, None, option_map, if◌then◌else◌, flat_map, fold, scan}
+use Rattle.std.specs.Prelude.{ℕ, ◌+◌, ◌%◌, List, Option, Some, None, option_map, if◌then◌else◌}
+use Rattle.std.specs.Prelude.{flat_map, fold, scan}
 use Rattle.dmr_frames.specs.declared.frame.FrameOut.{FrameOut}
 use Rattle.dmr_frames.specs.declared.frame.FrameOut.TheVariants as out
 use Rattle.dmr_frames.specs.Frames.{spelling_out}

@@ -1,5 +1,6 @@
 -- Carriers and operators: the meaning of octets from each, and the octets written to each.
-use Rattle.std.specs.Prelude.{ℕ, Bool, true, false, List, [], Option, Some, None, map, flat_map, scan}
+use Rattle.std.specs.Prelude.{ℕ, Bool, true, false, List, [], Option, Some, None, map, flat_map}
+use Rattle.std.specs.Prelude.{scan}
 use Rattle.dmr_console.specs.declared.line_cutter.LineStep.{LineStep}
 use Rattle.dmr_console.specs.declared.line_cutter.LineStep.TheVariants as step
 use Rattle.dmr_console.specs.Commands.{command_of}
@@ -24,7 +25,8 @@ use Rattle.dmr_link.specs.declared.stream.Stream.{Stream}
 use Rattle.dmr_link.specs.declared.stream.Stream.TheVariants as stream
 use Rattle.dmr_link.specs.CarrierStates.{state_on, is_open, up_by}
 use Rattle.dmr_link.specs.Closing.{closing_of_octets, closes}
-use Rattle.dmr_link.specs.Console.{notice_of_command, meaning_of_text, console_text, fault_text, reply_text}
+use Rattle.dmr_link.specs.Console.{notice_of_command, meaning_of_text, console_text, fault_text}
+use Rattle.dmr_link.specs.Console.{reply_text}
 use Rattle.dmr_link.specs.Meaning.{meaning_of_octets, left_by_octets, list_of_notice}
 use Rattle.dmr_link.specs.Numbering.{frames_text, next_after_frames}
 use Rattle.dmr_link.specs.Session.{answer_frames, session_frames, session_text}
@@ -32,13 +34,14 @@ use Rattle.dmr_link.specs.Steps.{new_connection, notice_of_octet, connection_aft
 
 -- ---- the meaning of octets
 
--- MEANING of a connection: the notices of the octets that came on it, and of its end if it has ended. A carrier's end is its Lost, if it
--- was up. An operator's end means nothing, and neither does the line that it leaves open
+-- MEANING of a connection: the notices of the octets that came on it, and of its end if it has ended. A carrier's end
+-- is its Lost, if it was up. An operator's end means nothing, and neither does the line that it leaves open
 abbrev pub meaning_from : Peer → List ℕ → Bool → List Notice
 meaning_from (Carrier who) octets has_ended = meaning_of_octets who octets has_ended
 meaning_from Operator octets has_ended = meaning_of_text octets
 
--- the connection on which these octets came, and whose next TX has this number; of an operator's open line the first 81 octets are kept
+-- the connection on which these octets came, and whose next TX has this number; of an operator's open line the first 81
+-- octets are kept
 abbrev pub left_from : Peer → List ℕ → Option ℕ → Stream
 left_from (Carrier who) octets next = stream.Frames (state_on who (left_by_octets who octets) next)
 left_from Operator octets next = stream.Lines (first_octets_of_line (open_in octets))
@@ -54,22 +57,25 @@ closing_from Operator octets = None
 abbrev pub entry_of_deposit : Deposit → Entry
 entry_of_deposit d = unattributed_entry d.event d.acts
 
--- the octets written to a peer for notices and the events that a desk took, if the next TX has this number: a carrier's session text, or
--- the console text
+-- the octets written to a peer for notices and the events that a desk took, if the next TX has this number: a carrier's
+-- session text, or the console text
 abbrev pub text_onward : Peer → Option ℕ → List Notice → List Deposit → List ℕ
-text_onward (Carrier who) next notices calls = session_text next who.carrier notices (map entry_of_deposit calls)
+text_onward (Carrier who) next notices calls =
+    session_text next who.carrier notices (map entry_of_deposit calls)
 text_onward Operator next notices calls = console_text notices (map entry_of_deposit calls)
 
 -- the number of the next TX after these octets
 abbrev pub next_onward : Peer → Option ℕ → List Notice → List Deposit → Option ℕ
-next_onward (Carrier who) next notices calls = next_after_frames next (session_frames who.carrier notices (map entry_of_deposit calls))
+next_onward (Carrier who) next notices calls =
+    next_after_frames next (session_frames who.carrier notices (map entry_of_deposit calls))
 next_onward Operator next notices calls = next
 
 -- TEXT to a peer: the octets written for the notices of a connection and the events that a desk took of it
 abbrev pub text_to_peer : Peer → List Notice → List Deposit → List ℕ
 text_to_peer who notices calls = text_onward who None notices calls
 
--- the octets that answer a notice for the site: WELCOME, a command's reply, or the frames that answer an event to its carrier
+-- the octets that answer a notice for the site: WELCOME, a command's reply, or the frames that answer an event to its
+-- carrier
 abbrev pub answer_text : Option ℕ → SiteNotice → Acts → List ℕ
 answer_text next (site.Happened (Say command)) acts = reply_text acts.said
 answer_text next notice acts = frames_text next (answer_frames notice acts.list)
@@ -129,7 +135,9 @@ produces (stream.Lines begun) x = line_produces (line_step_at begun x)
 -- the connection after an octet
 abbrev pub left_after : Stream → ℕ → Stream
 left_after stream.Closed x = stream.Closed
-left_after (stream.Frames state) x = stream.Frames (state_on state.who (connection_after_octet state.who state.connection x) state.numbering)
+left_after (stream.Frames state) x =
+    stream.Frames
+    (state_on state.who (connection_after_octet state.who state.connection x) state.numbering)
 left_after (stream.Lines begun) x = stream.Lines (open_line_after_octet begun x)
 
 -- how an octet closes the connection, if it does

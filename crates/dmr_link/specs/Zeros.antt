@@ -1,5 +1,5 @@
--- A bound on the octets that answer octets of a carrier, from the number of zeros among them. Only contracts inside this crate name these
--- definitions; nothing above depends on them.
+-- A bound on the octets that answer octets of a carrier, from the number of zeros among them. Only contracts inside
+-- this crate name these definitions; nothing above depends on them.
 use Rattle.std.specs.Prelude.{ℕ, ◌==◌, Bool, false, List, length, filter}
 use Rattle.dmr_frames.specs.Between.{is_between}
 use Rattle.dmr_link.specs.declared.connection.Connection.{Connection}

@@ -1,7 +1,8 @@
-//! Encodes the answers to a carrier's events. The engine appends them to its outputs, a link writes them. No other code encodes the
-//! answer to an event of a carrier.
+//! Encodes the answers to a carrier's events. The engine appends them to its outputs, a link writes them. No other code
+//! encodes the answer to an event of a carrier.
 
-ghost use Rattle.std.specs.Prelude.{◌≡◌, ◌+◌, ◌*◌, ◌≤◌, ◌++◌, [], ◌∷◌, None, flat_map, is_some, length, MatchOption};
+ghost use Rattle.std.specs.Prelude.{◌≡◌, ◌+◌, ◌*◌, ◌≤◌, ◌++◌, [], ◌∷◌, None, flat_map, is_some};
+ghost use Rattle.std.specs.Prelude.{length, MatchOption};
 ghost use Rattle.arrayvec.specs.ArrayVec.{array_vec_len};
 ghost use Rattle.dmr_link.specs.Notices.{event_of_notice, site_notice};
 ghost use Rattle.dmr_link.specs.Answering.{IsFewAt};
@@ -23,8 +24,8 @@ const LONGEST_ANSWER: usize = (16 + 1) * LONGEST_FRAME;
 pub type AnswerText = ArrayVec<u8, LONGEST_ANSWER>;
 
 /// The answer to an event: the site's answer, and its octets for the carrier.
-/// Both have room for more than most events need. So an engine keeps one answer from event to event, and no event pays for clearing or
-/// copying all of that room.
+/// Both have room for more than most events need. So an engine keeps one answer from event to event, and no event pays
+/// for clearing or copying all of that room.
 #[derive(Drop)]
 pub struct Answer {
     /// The acts, and the reply to an operator.
@@ -57,7 +58,8 @@ fn welcome_to(version: Version) -> FrameOut
 
 /// Returns the TX of an act, if the act sends a PDU in a slot. The TX receives its number when it is encoded.
 fn tx_of(act: &Act) -> Option<FrameOut>
-    ensures { MatchOption result (transmissions act.now ≡ []) (λ frame. transmissions act.now ≡ frame ∷ []) }
+    ensures { MatchOption result (transmissions act.now ≡ [])
+        (λ frame. transmissions act.now ≡ frame ∷ []) }
 {
     match act {
         Act::Send(slot, pdu) | Act::Fill(slot, pdu) => Some(FrameOut::Tx {
@@ -74,7 +76,8 @@ fn append_frame(answer: &mut AnswerText, numbering: &mut Numbering, frame: &Fram
     requires { array_vec_len answer.old + 29 ≤ 493 }
     ensures items { answer.new.items ≡ answer.old.items ++ frame_text numbering.old frame.now }
     ensures next { numbering.new ≡ next_after numbering.old frame.now }
-    ensures len { array_vec_len answer.new ≡ array_vec_len answer.old + length (frame_text numbering.old frame.now) }
+    ensures len { array_vec_len answer.new
+        ≡ array_vec_len answer.old + length (frame_text numbering.old frame.now) }
 {
     let octets = numbering.encode_frame(frame);
     let Ok(()) = answer.try_extend_from_slice(octets.as_slice()) else {
@@ -85,9 +88,11 @@ fn append_frame(answer: &mut AnswerText, numbering: &mut Numbering, frame: &Fram
 /// Appends the TX of an act, if the act sends a PDU in a slot.
 fn append_tx(answer: &mut AnswerText, numbering: &mut Numbering, act: &Act)
     requires { array_vec_len answer.old + 29 ≤ 493 }
-    ensures items { answer.new.items ≡ answer.old.items ++ frames_text numbering.old (transmissions act.now) }
+    ensures items { answer.new.items
+        ≡ answer.old.items ++ frames_text numbering.old (transmissions act.now) }
     ensures next { numbering.new ≡ next_after_frames numbering.old (transmissions act.now) }
-    ensures few { array_vec_len answer.new ≤ array_vec_len answer.old + length_of_tx (is_some numbering.old) }
+    ensures few { array_vec_len answer.new
+        ≤ array_vec_len answer.old + length_of_tx (is_some numbering.old) }
     ensures numbered { is_some numbering.new ≡ is_some numbering.old }
 {
     if let Some(frame) = tx_of(act) {
@@ -99,9 +104,12 @@ fn append_tx(answer: &mut AnswerText, numbering: &mut Numbering, act: &Act)
 fn append_poll_answer(answer: &mut AnswerText, numbering: &mut Numbering, acts: &[Act])
     requires empty { answer.old.items ≡ [] }
     requires most { length acts.now ≤ 16 }
-    ensures items { answer.new.items ≡ frames_text numbering.old (flat_map transmissions acts.now ++ FrameOut.Done ∷ []) }
-    ensures next { numbering.new ≡ next_after_frames numbering.old (flat_map transmissions acts.now ++ FrameOut.Done ∷ []) }
-    ensures few { length acts.now ≤ 2 → array_vec_len answer.new ≤ most_to_poll (is_some numbering.old) }
+    ensures items { answer.new.items
+        ≡ frames_text numbering.old (flat_map transmissions acts.now ++ FrameOut.Done ∷ []) }
+    ensures next { numbering.new
+        ≡ next_after_frames numbering.old (flat_map transmissions acts.now ++ FrameOut.Done ∷ []) }
+    ensures few { length acts.now ≤ 2
+        → array_vec_len answer.new ≤ most_to_poll (is_some numbering.old) }
 {
     for act in acts {
         append_tx(answer, numbering, act);
@@ -119,9 +127,9 @@ fn append_hello_answer(answer: &mut AnswerText, numbering: &mut Numbering, versi
     append_frame(answer, numbering, &welcome_to(version));
 }
 
-/// Encodes the answer to a carrier's notice. `answer` becomes its octets, whatever it was before.
-/// `acts` are the site's acts for the notice, at most 16. A HELLO is answered by WELCOME, and a POLL by a TX for each PDU that is sent,
-/// and DONE. Other notices are not answered.
+/// Encodes the answer to a carrier's notice. `answer` becomes its octets, whatever it was before. `acts` are the site's
+/// acts for the notice, at most 16. A HELLO is answered by WELCOME, and a POLL by a TX for each PDU that is sent, and
+/// DONE. Other notices are not answered.
 pub fn encode_answer(
     answer: &mut AnswerText,
     numbering: &mut Numbering,
@@ -129,10 +137,13 @@ pub fn encode_answer(
     acts: &[Act],
 )
     requires { length acts.now ≤ 16 }
-    ensures items { answer.new.items ≡ frames_text numbering.old (answer_frames notice.now acts.now) }
-    ensures next { numbering.new ≡ next_after_frames numbering.old (answer_frames notice.now acts.now) }
+    ensures items { answer.new.items
+        ≡ frames_text numbering.old (answer_frames notice.now acts.now) }
+    ensures next { numbering.new
+        ≡ next_after_frames numbering.old (answer_frames notice.now acts.now) }
     // The answer fits into the room that is made for the notice.
-    ensures few { IsFewAt (event_of_notice notice.now) acts.now → array_vec_len answer.new ≤ most_of (is_some numbering.old) (site_notice notice.now) }
+    ensures few { IsFewAt (event_of_notice notice.now) acts.now
+        → array_vec_len answer.new ≤ most_of (is_some numbering.old) (site_notice notice.now) }
 {
     answer.clear();
     match notice {

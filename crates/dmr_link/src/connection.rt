@@ -1,17 +1,24 @@
 //! A carrier's connection, and the effect of its octets.
 
-ghost use Rattle.std.specs.Prelude.{◌≡◌, ◌<◌, ◌≤◌, Some, None, false, true, length, option_map, take, IfErr, IfOk};
+ghost use Rattle.std.specs.Prelude.{◌≡◌, ◌<◌, ◌≤◌, Some, None, false, true, length, option_map};
+ghost use Rattle.std.specs.Prelude.{take, IfErr, IfOk};
 ghost use Rattle.dmr_burst.specs.Functions.{meaning_of};
 ghost use Rattle.dmr_frames.specs.Versions.{chosen_by};
 ghost use Rattle.dmr_core.specs.declared.event.Event.TheVariants.{Lost};
 ghost use Rattle.dmr_frames.specs.declared.frame.FrameIn.TheVariants as frame;
-ghost use Rattle.dmr_link.specs.Meaning.{list_of_notice, event_of_burst as burst_event, is_accepted, is_repeat as is_newest_repeat, refusal_of_first};
-ghost use Rattle.dmr_link.specs.Closing.{cause_of_refusal, closes, first_fault, waiting_closes, running_closes};
+ghost use Rattle.dmr_link.specs.Meaning.{list_of_notice, event_of_burst as burst_event};
+ghost use Rattle.dmr_link.specs.Meaning.{is_accepted, is_repeat as is_newest_repeat};
+ghost use Rattle.dmr_link.specs.Meaning.{refusal_of_first};
+ghost use Rattle.dmr_link.specs.Closing.{cause_of_refusal, closes, first_fault, waiting_closes};
+ghost use Rattle.dmr_link.specs.Closing.{running_closes};
 ghost use Rattle.dmr_wire.specs.declared.closing.Closing.TheVariants as closed;
 ghost use Rattle.dmr_link.specs.Notices.{Accepted, Happened, Refused, notice_meant};
 ghost use Rattle.dmr_link.specs.Sound.{IsConnectionSound};
 ghost use Rattle.dmr_link.specs.Zeros.{is_up_between};
-ghost use Rattle.dmr_link.specs.Steps.{new_connection, notice_of_octet, notices_of_octets, connection_after_octet, connection_after_octets, running_produces, waiting_produces, waiting_leaves, running_leaves};
+ghost use Rattle.dmr_link.specs.Steps.{new_connection, notice_of_octet, notices_of_octets};
+ghost use Rattle.dmr_link.specs.Steps.{connection_after_octet, connection_after_octets};
+ghost use Rattle.dmr_link.specs.Steps.{running_produces, waiting_produces, waiting_leaves};
+ghost use Rattle.dmr_link.specs.Steps.{running_leaves};
 
 use crate::notices::{Notice, PeerNotice, SiteNotice};
 use dmr_bits::Word196;
@@ -50,7 +57,8 @@ pub enum Connection {
     },
 }
 
-/// The effect of an octet on a connection: the notice it produces, if any, and how it closes the connection, if it does.
+/// The effect of an octet on a connection: the notice it produces, if any, and how it closes the connection, if it
+/// does.
 #[derive(Clone, Copy, Debug)]
 pub struct Outcome {
     /// The notice that it produces, if any.
@@ -60,12 +68,19 @@ pub struct Outcome {
 }
 
 impl CarrierIdentity {
-    /// Returns the version of the link that a HELLO with these numbers chooses, if that is served and the numbers are this carrier's.
-    /// `Err` is the reason of the refusal: `BadVersion` if the version is not served, whatever the other numbers are, else
-    /// `WrongCarrier`.
+    /// Returns the version of the link that a HELLO with these numbers chooses, if that is served and the numbers are
+    /// this carrier's. `Err` is the reason of the refusal: `BadVersion` if the version is not served, whatever the
+    /// other numbers are, else `WrongCarrier`.
     fn check_hello(&self, version: u8, carrier: u8, lpcn: u16) -> Result<Version, Refusal>
-        ensures ok { IfOk result (λ v. (is_accepted self.now (frame.Hello version carrier lpcn) ≡ true) × (chosen_by self.now.greatest (frame.Hello version carrier lpcn) ≡ v)) }
-        ensures err { IfErr result (λ r. (is_accepted self.now (frame.Hello version carrier lpcn) ≡ false) × (refusal_of_first self.now (frame.Hello version carrier lpcn) ≡ Some (Refused self.now.carrier r)) × (first_fault self.now (frame.Hello version carrier lpcn) ≡ closed.Refused (cause_of_refusal r) (record { version = version; carrier = carrier; lpcn = lpcn }))) }
+        ensures ok { IfOk result
+            (λ v. (is_accepted self.now (frame.Hello version carrier lpcn) ≡ true)
+            × (chosen_by self.now.greatest (frame.Hello version carrier lpcn) ≡ v)) }
+        ensures err { IfErr result
+            (λ r. (is_accepted self.now (frame.Hello version carrier lpcn) ≡ false)
+            × (refusal_of_first self.now (frame.Hello version carrier lpcn)
+            ≡ Some (Refused self.now.carrier r))
+            × (first_fault self.now (frame.Hello version carrier lpcn) ≡ closed.Refused
+            (cause_of_refusal r) (record { version = version; carrier = carrier; lpcn = lpcn }))) }
     {
         let Some(version) = self.greatest.served_version(version) else {
             return Err(Refusal::BadVersion);
@@ -98,7 +113,8 @@ fn event_of_burst(slot: Slot, word: &Word196) -> Event
     }
 }
 
-/// Returns whether an RX is a repeat: it has a number, and the newest RX before it has the same. Each number is `None` if there is none.
+/// Returns whether an RX is a repeat: it has a number, and the newest RX before it has the same. Each number is `None`
+/// if there is none.
 fn is_repeat(newest: Option<u8>, number: Option<u8>) -> bool
     ensures { (slot : _) (word : _) → result ≡ is_newest_repeat newest (frame.Rx number slot word) }
 {
@@ -160,7 +176,8 @@ fn event_outcome(event: Event) -> Outcome
     }
 }
 
-/// Returns the outcome if the connection of a carrier that was up is closed: its Lost, and how the connection is closed.
+/// Returns the outcome if the connection of a carrier that was up is closed: its Lost, and how the connection is
+/// closed.
 fn loss(carrier: CarrierNo, closing: Closing) -> Outcome
     ensures notice { option_map notice_meant result.notice ≡ Some (Happened (Lost carrier)) }
     ensures closing { result.closing ≡ Some closing }
@@ -207,15 +224,16 @@ fn outcome_of_first(who: &CarrierIdentity, cutter: Cutter, step: &Step) -> (Outc
     }
 }
 
-/// Returns the outcome of a cutter's step while the carrier is up, and the connection after it. `newest` is the number of the newest RX,
-/// if it has one.
+/// Returns the outcome of a cutter's step while the carrier is up, and the connection after it. `newest` is the number
+/// of the newest RX, if it has one.
 fn outcome_of_step(
     carrier: CarrierNo,
     cutter: Cutter,
     newest: Option<u8>,
     step: &Step,
 ) -> (Outcome, Connection)
-    ensures notice { option_map notice_meant result.0.notice ≡ running_produces carrier newest step.now }
+    ensures notice { option_map notice_meant result.0.notice
+        ≡ running_produces carrier newest step.now }
     ensures closing { result.0.closing ≡ running_closes step.now }
     ensures connection { result.1 ≡ running_leaves cutter newest step.now }
 {
@@ -289,14 +307,16 @@ impl Connection {
         }
     }
 
-    /// Processes the next octet. Returns the notice that it produces, if any, and how it closes the connection, if it does.
-    /// A frame is processed at its last octet. A fault closes the connection, and so does a frame that ends it. After that, octets have
-    /// no effect.
+    /// Processes the next octet. Returns the notice that it produces, if any, and how it closes the connection, if it
+    /// does. A frame is processed at its last octet. A fault closes the connection, and so does a frame that ends it.
+    /// After that, octets have no effect.
     pub fn receive(&mut self, who: &CarrierIdentity, octet: u8) -> Outcome
-        ensures notice { option_map notice_meant result.notice ≡ notice_of_octet who.now self.old octet }
+        ensures notice { option_map notice_meant result.notice
+            ≡ notice_of_octet who.now self.old octet }
         ensures closing { result.closing ≡ closes who.now self.old octet }
         ensures connection { self.new ≡ connection_after_octet who.now self.old octet }
-        ensures sound { IsConnectionSound who.now.greatest self.old → IsConnectionSound who.now.greatest self.new }
+        ensures sound { IsConnectionSound who.now.greatest self.old
+            → IsConnectionSound who.now.greatest self.new }
     {
         let (outcome, next) = match replace(self, Connection::Closed) {
             Connection::Closed => return Outcome::NOTHING,
@@ -313,15 +333,18 @@ impl Connection {
         outcome
     }
 
-    /// Takes octets up to the end of the next frame, up to a fault, or all of them. Returns how many it took, and the notice that these
-    /// produce, if any. The result is that of [`Connection::receive`] for each octet.
+    /// Takes octets up to the end of the next frame, up to a fault, or all of them. Returns how many it took, and the
+    /// notice that these produce, if any. The result is that of [`Connection::receive`] for each octet.
     pub fn receive_piece(&mut self, who: &CarrierIdentity, octets: &[u8]) -> (usize, Option<Notice>)
         requires { 0 < length octets.now }
         ensures some { 0 < result.0 }
         ensures count { result.0 ≤ length octets.now }
-        ensures notice { notices_of_octets who.now self.old (take result.0 octets.now) ≡ list_of_notice (option_map notice_meant result.1) }
-        ensures connection { self.new ≡ connection_after_octets who.now self.old (take result.0 octets.now) }
-        ensures sound { IsConnectionSound who.now.greatest self.old → IsConnectionSound who.now.greatest self.new }
+        ensures notice { notices_of_octets who.now self.old (take result.0 octets.now)
+            ≡ list_of_notice (option_map notice_meant result.1) }
+        ensures connection { self.new
+            ≡ connection_after_octets who.now self.old (take result.0 octets.now) }
+        ensures sound { IsConnectionSound who.now.greatest self.old
+            → IsConnectionSound who.now.greatest self.new }
     {
         one_reading();
         match replace(self, Connection::Closed) {

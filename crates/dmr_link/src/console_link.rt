@@ -4,7 +4,8 @@ ghost use Rattle.std.specs.Prelude.{◌≡◌, List, [], ◌∷◌, None, not, t
 ghost use Rattle.dmr_core.specs.declared.event.Event.{Event as AnEvent};
 ghost use Rattle.dmr_frames.specs.declared.frame.Cause.{Cause};
 ghost use Rattle.dmr_link.specs.Closing.{ended_of};
-ghost use Rattle.dmr_link.specs.Sessions.{Session, new_session, HasPast, IsOver, sides, Serves, Cuts};
+ghost use Rattle.dmr_link.specs.Sessions.{Session, new_session, HasPast, IsOver, sides, Serves};
+ghost use Rattle.dmr_link.specs.Sessions.{Cuts};
 ghost use Rattle.dmr_link.specs.LinkSteps.{is_live};
 ghost use Rattle.dmr_link.specs.declared.desk.TermOver.{TermOver as ATermOver};
 ghost use Rattle.dmr_link.specs.declared.stream.Peer.TheVariants.{Operator};
@@ -17,10 +18,10 @@ use dmr_wire::{Closing, Wire};
 use std::marker::Model;
 
 /// Serves the console's connections, one after another, between a port and a desk.
-/// It is a [`Link`](crate::Link) with lines and replies in place of frames. An operator is not a carrier: there is no Lost, no line
-/// closes a connection, and there is no gate. A link has one connection or none. It keeps everything that a desk has not taken: a
-/// command, and octets of the last read that are not yet processed. Contracts see this state, and the connections that a link has had
-/// (`HasPast`).
+/// It is a [`Link`](crate::Link) with lines and replies in place of frames. An operator is not a carrier: there is no
+/// Lost, no line closes a connection, and there is no gate. A link has one connection or none. It keeps everything that
+/// a desk has not taken: a command, and octets of the last read that are not yet processed. Contracts see this state,
+/// and the connections that a link has had (`HasPast`).
 #[derive(Drop)]
 pub struct ConsoleLink {
     state: LinkState,
@@ -36,7 +37,8 @@ impl Model for ConsoleLink {
 
     ghost view = { λ l. l.state };
 
-    ghost invariant = { λ l. (l.state.who ≡ Operator) × ((past : List Session) × HasPast l.state past) };
+    ghost invariant = { λ l. (l.state.who ≡ Operator)
+        × ((past : List Session) × HasPast l.state past) };
 }
 
 impl ConsoleLink {
@@ -57,16 +59,16 @@ impl ConsoleLink {
         self.state.is_live()
     }
 
-    /// Returns how the connection was closed: by the end of its input, a fault or a cut. While a connection is open, it is how the one
-    /// before was closed.
+    /// Returns how the connection was closed: by the end of its input, a fault or a cut. While a connection is open, it
+    /// is how the one before was closed.
     pub fn closing(&self) -> Closing
         ensures { result ≡ self.now.closing }
     {
         self.state.closing
     }
 
-    /// Does nothing. A proof that calls it learns that the peer of every console link is an operator, and that the link has a past
-    /// (`HasPast`).
+    /// Does nothing. A proof that calls it learns that the peer of every console link is an operator, and that the link
+    /// has a past (`HasPast`).
     pub fn use_invariant(&self)
         ensures who { self.now.who ≡ Operator }
         ensures past { (past : List Session) × HasPast self.now past }
@@ -74,12 +76,13 @@ impl ConsoleLink {
         let _ = &self.state;
     }
 
-    /// Begins a connection with no open line: the open line of an earlier connection has no effect. Returns `false` if the link is live,
-    /// and nothing has changed then.
+    /// Begins a connection with no open line: the open line of an earlier connection has no effect. Returns `false` if
+    /// the link is live, and nothing has changed then.
     pub fn open(&mut self) -> bool
         ensures answer { result ≡ not (is_live self.old) }
         ensures no { result ≡ false → self.new ≡ self.old }
-        ensures yes { result ≡ true → (past : List Session) → HasPast self.old past → HasPast self.new (new_session ∷ past) }
+        ensures yes { result ≡ true → (past : List Session) → HasPast self.old past
+            → HasPast self.new (new_session ∷ past) }
     {
         if self.state.is_live() {
             return false;
@@ -88,19 +91,26 @@ impl ConsoleLink {
         true
     }
 
-    /// Serves the connection until the link has to stop, and returns why, but never `BadFrame` or `GateShut`.
-    /// The link hands in a pending command, reads lines, hands in their commands, and writes the replies. [`Ended`] says what is left. If
-    /// a line is too long or not a command, the operator receives an error, and the connection goes on. A call makes at most
-    /// [`MOST_READS`](crate::MOST_READS) reads, of at most 64 octets each. It tries an interrupted read or write again, at most
-    /// [`MOST_INTERRUPTIONS`](crate::MOST_INTERRUPTIONS) times in a row. After a cut it neither reads nor writes.
+    /// Serves the connection until the link has to stop, and returns why, but never `BadFrame` or `GateShut`. The link
+    /// hands in a pending command, reads lines, hands in their commands, and writes the replies. [`Ended`] says what is
+    /// left. If a line is too long or not a command, the operator receives an error, and the connection goes on. A call
+    /// makes at most [`MOST_READS`](crate::MOST_READS) reads, of at most 64 octets each. It tries an interrupted read
+    /// or write again, at most [`MOST_INTERRUPTIONS`](crate::MOST_INTERRUPTIONS) times in a row. After a cut it neither
+    /// reads nor writes.
     pub fn serve<W: Wire, D: Desk>(&mut self, port: &mut W, desk: &mut D) -> Ended
         ensures actor { D.actor desk.new ≡ D.actor desk.old }
-        ensures serves { Serves self.old self.new (sides (W.reported port.old) (D.calls desk.old) None) (sides (W.reported port.new) (D.calls desk.new) None) result }
-        ensures over { result ≡ Ended.TermOver → (before : _) × (event : AnEvent) × (over : ATermOver) × D.refuses before event over desk.new }
+        ensures serves { Serves self.old self.new
+            (sides (W.reported port.old) (D.calls desk.old) None)
+            (sides (W.reported port.new) (D.calls desk.new) None) result }
+        ensures over { result ≡ Ended.TermOver
+            → (before : _) × (event : AnEvent) × (over : ATermOver)
+            × D.refuses before event over desk.new }
         ensures open { result ≡ Ended.GateShut → ⊥ }
         ensures no_cause { (cause : Cause) → result ≡ Ended.BadFrame cause → ⊥ }
         // A link that is not live returns how its connection was closed, and touches nothing.
-        ensures ended { is_live self.old ≡ false → (result ≡ ended_of self.old.closing) × (self.new ≡ self.old) × (port.new ≡ port.old) × (desk.new ≡ desk.old) }
+        ensures ended { is_live self.old ≡ false
+            → (result ≡ ended_of self.old.closing) × (self.new ≡ self.old) × (port.new ≡ port.old)
+            × (desk.new ≡ desk.old) }
     {
         if !self.state.is_live() {
             return Ended::from(self.state.closing);
@@ -109,14 +119,18 @@ impl ConsoleLink {
     }
 
     /// Cuts the connection, and hands in the command that is kept. It writes nothing, and an open line has no effect.
-    /// After that, `serve` returns `Closed` until `open`. `Err`: the term is over. The link is cut all the same, and the next `cut` or
-    /// `serve` hands in the command. A link that is not live does not change.
+    /// After that, `serve` returns `Closed` until `open`. `Err`: the term is over. The link is cut all the same, and
+    /// the next `cut` or `serve` hands in the command. A link that is not live does not change.
     pub fn cut<D: Desk>(&mut self, desk: &mut D) -> Result<(), TermOver>
         ensures actor { D.actor desk.new ≡ D.actor desk.old }
-        ensures cuts { is_live self.old ≡ true → Cuts self.old self.new (D.calls desk.old) (D.calls desk.new) }
-        ensures done { is_live self.old ≡ true → IfOk result (λ _. IsOver self.new × (ended_of self.new.closing ≡ Ended.Closed)) }
-        ensures over { IfErr result (λ over. (is_live self.new ≡ true) × (before : _) × (event : AnEvent) × D.refuses before event over desk.new) }
-        ensures none { is_live self.old ≡ false → (result ≡ Ok tt) × (self.new ≡ self.old) × (desk.new ≡ desk.old) }
+        ensures cuts { is_live self.old ≡ true
+            → Cuts self.old self.new (D.calls desk.old) (D.calls desk.new) }
+        ensures done { is_live self.old ≡ true
+            → IfOk result (λ _. IsOver self.new × (ended_of self.new.closing ≡ Ended.Closed)) }
+        ensures over { IfErr result (λ over. (is_live self.new ≡ true) × (before : _)
+            × (event : AnEvent) × D.refuses before event over desk.new) }
+        ensures none { is_live self.old ≡ false
+            → (result ≡ Ok tt) × (self.new ≡ self.old) × (desk.new ≡ desk.old) }
     {
         if !self.state.is_live() {
             return Ok(());

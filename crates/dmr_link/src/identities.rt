@@ -8,7 +8,8 @@ use dmr_frames::Version;
 use dmr_pdu::CarrierNo;
 use dmr_plan::Plan;
 
-/// Returns the greatest version of the link that a plan's site serves its carriers: the key `link_version` of the site file.
+/// Returns the greatest version of the link that a plan's site serves its carriers: the key `link_version` of the site
+/// file.
 pub fn greatest_version(plan: &Plan) -> Version
     ensures { result ≡ greatest_of plan.now }
 {

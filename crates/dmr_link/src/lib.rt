@@ -1,16 +1,17 @@
 //! Turns the octets of a site's carriers and operators into events of the site, and the site's answers into octets.
 //!
-//! The meaning of a carrier's octets, and the octets that answer them, follow this project's link profile, versions 1 and 2. The meaning
-//! of an operator's octets follows its console profile. There are two ways to use this crate:
+//! The meaning of a carrier's octets, and the octets that answer them, follow this project's link profile, versions 1
+//! and 2. The meaning of an operator's octets follows its console profile. There are two ways to use this crate:
 //!
-//! - An [`Engine`] holds a site, the connections of its carriers, and an operator's open line. It takes [`Input`]s one by one, in one
-//!   thread: a connection begins, octets arrive on a connection, a connection is cut, octets arrive from an operator, or the clock ticks.
-//!   Octets may arrive in pieces of any length.
-//! - A [`Link`] holds one carrier's connection, and a [`ConsoleLink`] holds an operator's. Neither has a site: each reads octets from a
-//!   `Wire`, hands their events to a [`Desk`], and writes the answers to the wire. Each link can have a thread of its own, with a desk of
-//!   its own; the desks share a site. A wire may fail, block or be interrupted, and a desk may take no more events. The link then reports
-//!   why it stopped ([`Ended`]), and keeps everything that the desk has not taken. While a carrier's link serves, it enters a [`Gate`]
-//!   before it hands in an event, and leaves it after that.
+//! - An [`Engine`] holds a site, the connections of its carriers, and an operator's open line. It takes [`Input`]s one
+//!   by one, in one thread: a connection begins, octets arrive on a connection, a connection is cut, octets arrive from
+//!   an operator, or the clock ticks. Octets may arrive in pieces of any length.
+//! - A [`Link`] holds one carrier's connection, and a [`ConsoleLink`] holds an operator's. Neither has a site: each
+//!   reads octets from a `Wire`, hands their events to a [`Desk`], and writes the answers to the wire. Each link can
+//!   have a thread of its own, with a desk of its own; the desks share a site. A wire may fail, block or be
+//!   interrupted, and a desk may take no more events. The link then reports why it stopped ([`Ended`]), and keeps
+//!   everything that the desk has not taken. While a carrier's link serves, it enters a [`Gate`] before it hands in an
+//!   event, and leaves it after that.
 //!
 //! Octets mean the same to engines and links, by the same definitions. The module [`laws`] states facts about them.
 #![tactic(auto)]

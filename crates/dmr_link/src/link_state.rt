@@ -1,6 +1,7 @@
 //! The state that a link keeps of its connection, and the steps of its work.
 
-ghost use Rattle.std.specs.Prelude.{◌≡◌, ◌+◌, ◌<◌, ◌≤◌, ℕ, Bool, List, [], ◌∷◌, Option, Some, None, option_map, Err, length, drop, true, false, IfOk, IfErr};
+ghost use Rattle.std.specs.Prelude.{◌≡◌, ◌+◌, ◌<◌, ◌≤◌, ℕ, Bool, List, [], ◌∷◌, Option, Some, None};
+ghost use Rattle.std.specs.Prelude.{option_map, Err, length, drop, true, false, IfOk, IfErr};
 ghost use Rattle.dmr_core.specs.declared.event.Event.{Event as AnEvent};
 ghost use Rattle.dmr_wire.specs.Answers.{Answer};
 ghost use Rattle.dmr_link.specs.declared.desk.Deposit.{Deposit as ADeposit};
@@ -10,9 +11,14 @@ ghost use Rattle.dmr_link.specs.Limits.{most_interruptions};
 ghost use Rattle.dmr_link.specs.Moves.{Moves};
 ghost use Rattle.dmr_link.specs.Notices.{peer_notice};
 ghost use Rattle.dmr_link.specs.Passages.{Passage};
-ghost use Rattle.dmr_link.specs.Peers.{answer_text, peer_notice_text, produces, next_after_answer, numbering_of};
+ghost use Rattle.dmr_link.specs.Peers.{answer_text, peer_notice_text, produces, next_after_answer};
+ghost use Rattle.dmr_link.specs.Peers.{numbering_of};
 ghost use Rattle.dmr_link.specs.Sessions.{IsQuiet, IsClosed, sides};
-ghost use Rattle.dmr_link.specs.LinkSteps.{state_after_octet, peer_notice_of, closed_as, first_pending, nothing_pending, is_live, pending_weight, Replies, IsHeld, IsSettled, row_then, row_after, with_next, stage_then_read, HasTurned, Listens, cut_state, with_new_connection};
+ghost use Rattle.dmr_link.specs.LinkSteps.{state_after_octet, peer_notice_of, closed_as};
+ghost use Rattle.dmr_link.specs.LinkSteps.{first_pending, nothing_pending, is_live, pending_weight};
+ghost use Rattle.dmr_link.specs.LinkSteps.{Replies, IsHeld, IsSettled, row_then, row_after};
+ghost use Rattle.dmr_link.specs.LinkSteps.{with_next, stage_then_read, HasTurned, Listens};
+ghost use Rattle.dmr_link.specs.LinkSteps.{cut_state, with_new_connection};
 
 use crate::desk::{Desk, Gate, TermOver};
 use crate::ended::Ended;
@@ -73,7 +79,8 @@ impl LinkState {
     /// Processes an octet. A notice for the site is kept; a notice for the peer alone is returned.
     fn receive(&mut self, octet: u8) -> Option<PeerNotice>
         ensures state { self.new ≡ state_after_octet self.old octet }
-        ensures aside { option_map peer_notice result ≡ peer_notice_of (produces self.old.connection octet) }
+        ensures aside { option_map peer_notice result
+            ≡ peer_notice_of (produces self.old.connection octet) }
     {
         let outcome = self.connection.receive(octet);
         if let Some(closing) = outcome.closing {
@@ -98,7 +105,10 @@ impl LinkState {
 
     /// Writes the answer to a notice, unless the connection was cut. If a write fails, it closes the connection.
     fn answer_peer<W: Wire>(&mut self, notice: &SiteNotice, acts: &Acts, port: &mut W)
-        ensures { Replies self.old.is_cut self.old (W.reported port.old) (answer_text (numbering_of self.old.connection) notice.now acts.now) (with_next self.old (next_after_answer (numbering_of self.old.connection) notice.now acts.now)) self.new (W.reported port.new) }
+        ensures { Replies self.old.is_cut self.old (W.reported port.old)
+            (answer_text (numbering_of self.old.connection) notice.now acts.now) (with_next self.old
+            (next_after_answer (numbering_of self.old.connection) notice.now acts.now))
+            self.new (W.reported port.new) }
     {
         if self.is_cut {
             return;
@@ -111,10 +121,11 @@ impl LinkState {
         }
     }
 
-    /// Writes the answer to a notice for the peer alone. If a write fails, the connection is closed for that, even if its octets closed
-    /// it before.
+    /// Writes the answer to a notice for the peer alone. If a write fails, the connection is closed for that, even if
+    /// its octets closed it before.
     fn answer_peer_notice<W: Wire>(&mut self, aside: &PeerNotice, port: &mut W)
-        ensures { Replies false self.old (W.reported port.old) (peer_notice_text (peer_notice aside.now)) self.old self.new (W.reported port.new) }
+        ensures { Replies false self.old (W.reported port.old)
+            (peer_notice_text (peer_notice aside.now)) self.old self.new (W.reported port.new) }
     {
         if !write_peer_answer(port, aside) {
             self.close(Closing::WriteFailed);
@@ -132,10 +143,16 @@ impl LinkState {
     ) -> Result<(), Ended>
         requires { first_pending self.old.pending ≡ Some notice.now }
         ensures actor { D.actor desk.new ≡ D.actor desk.old }
-        ensures moves { Moves self.old self.new (sides (W.reported port.old) (D.calls desk.old) (G.passed gate.old)) (sides (W.reported port.new) (D.calls desk.new) (G.passed gate.new)) 0 0 0 Outside (stage_after result) }
-        ensures stops { IsHeld result self.new (pending_weight self.new.pending < pending_weight self.old.pending) }
+        ensures moves { Moves self.old self.new
+            (sides (W.reported port.old) (D.calls desk.old) (G.passed gate.old))
+            (sides (W.reported port.new) (D.calls desk.new) (G.passed gate.new)) 0 0 0 Outside
+            (stage_after result) }
+        ensures stops { IsHeld result self.new
+            (pending_weight self.new.pending < pending_weight self.old.pending) }
         ensures unread { self.new.unread ≡ self.old.unread }
-        ensures over { result ≡ Err Ended.TermOver → (before : _) × (event : AnEvent) × (over : ATermOver) × D.refuses before event over desk.new }
+        ensures over { result ≡ Err Ended.TermOver
+            → (before : _) × (event : AnEvent) × (over : ATermOver)
+            × D.refuses before event over desk.new }
         ensures shut { result ≡ Err Ended.GateShut → (before : _) × G.shuts before gate.new }
     {
         if !gate.enter() {
@@ -155,7 +172,8 @@ impl LinkState {
         }
     }
 
-    /// Hands in all pending notices, in order. `Err` says why it stopped, or how the connection was closed if it is not open afterwards.
+    /// Hands in all pending notices, in order. `Err` says why it stopped, or how the connection was closed if it is not
+    /// open afterwards.
     fn deposit_pending<W: Wire, D: Desk, G: Gate>(
         &mut self,
         port: &mut W,
@@ -163,10 +181,15 @@ impl LinkState {
         gate: &mut G,
     ) -> Result<(), Ended>
         ensures actor { D.actor desk.new ≡ D.actor desk.old }
-        ensures moves { Moves self.old self.new (sides (W.reported port.old) (D.calls desk.old) (G.passed gate.old)) (sides (W.reported port.new) (D.calls desk.new) (G.passed gate.new)) 0 0 0 Outside (stage_after result) }
+        ensures moves { Moves self.old self.new
+            (sides (W.reported port.old) (D.calls desk.old) (G.passed gate.old))
+            (sides (W.reported port.new) (D.calls desk.new) (G.passed gate.new)) 0 0 0 Outside
+            (stage_after result) }
         ensures stops { IsSettled result self.new }
         ensures unread { self.new.unread ≡ self.old.unread }
-        ensures over { result ≡ Err Ended.TermOver → (before : _) × (event : AnEvent) × (over : ATermOver) × D.refuses before event over desk.new }
+        ensures over { result ≡ Err Ended.TermOver
+            → (before : _) × (event : AnEvent) × (over : ATermOver)
+            × D.refuses before event over desk.new }
         ensures shut { result ≡ Err Ended.GateShut → (before : _) × G.shuts before gate.new }
     {
         while let Some(notice) = self.pending.first() {
@@ -178,10 +201,13 @@ impl LinkState {
         Err(Ended::from(self.closing))
     }
 
-    /// Processes the first unread octet, if there is one. An event that it produces is kept. The answer to another notice is written.
+    /// Processes the first unread octet, if there is one. An event that it produces is kept. The answer to another
+    /// notice is written.
     fn take_unread<W: Wire>(&mut self, port: &mut W)
         requires { IsQuiet self.old }
-        ensures moves { (calls : List ADeposit) (passed : Option (List Passage)) → Moves self.old self.new (sides (W.reported port.old) calls passed) (sides (W.reported port.new) calls passed) 0 0 0 Outside Outside }
+        ensures moves { (calls : List ADeposit) (passed : Option (List Passage))
+            → Moves self.old self.new (sides (W.reported port.old) calls passed)
+            (sides (W.reported port.new) calls passed) 0 0 0 Outside Outside }
         ensures unread { self.new.unread ≡ drop 1 self.old.unread }
     {
         lines_in_any_cutting();
@@ -201,10 +227,15 @@ impl LinkState {
         gate: &mut G,
     ) -> Result<(), Ended>
         ensures actor { D.actor desk.new ≡ D.actor desk.old }
-        ensures moves { Moves self.old self.new (sides (W.reported port.old) (D.calls desk.old) (G.passed gate.old)) (sides (W.reported port.new) (D.calls desk.new) (G.passed gate.new)) 0 0 0 Outside (stage_after result) }
+        ensures moves { Moves self.old self.new
+            (sides (W.reported port.old) (D.calls desk.old) (G.passed gate.old))
+            (sides (W.reported port.new) (D.calls desk.new) (G.passed gate.new)) 0 0 0 Outside
+            (stage_after result) }
         ensures stops { IsSettled result self.new }
         ensures all { IfOk result (λ _. self.new.unread ≡ []) }
-        ensures over { result ≡ Err Ended.TermOver → (before : _) × (event : AnEvent) × (over : ATermOver) × D.refuses before event over desk.new }
+        ensures over { result ≡ Err Ended.TermOver
+            → (before : _) × (event : AnEvent) × (over : ATermOver)
+            × D.refuses before event over desk.new }
         ensures shut { result ≡ Err Ended.GateShut → (before : _) × G.shuts before gate.new }
     {
         self.deposit_pending(port, desk, gate)?;
@@ -221,7 +252,10 @@ impl LinkState {
         requires quiet { IsQuiet self.old }
         requires none { self.old.unread ≡ [] }
         requires few { row ≤ most_interruptions }
-        ensures moves { (calls : List ADeposit) (passed : Option (List Passage)) → Moves self.old self.new (sides (W.reported port.old) calls passed) (sides (W.reported port.new) calls passed) row (row_then result) 1 Outside (stage_then_read result) }
+        ensures moves { (calls : List ADeposit) (passed : Option (List Passage))
+            → Moves self.old self.new (sides (W.reported port.old) calls passed)
+            (sides (W.reported port.new) calls passed) row (row_then result) 1 Outside
+            (stage_then_read result) }
         ensures few { row_then result ≤ most_interruptions }
         ensures same { (result ≡ Some 0 → ⊥) → self.new ≡ self.old }
     {
@@ -246,8 +280,8 @@ impl LinkState {
         }
     }
 
-    /// Reads once, and processes all octets received. Returns how many reads were interrupted last, in a row, or why it stopped.
-    /// `row` is that number before the read.
+    /// Reads once, and processes all octets received. Returns how many reads were interrupted last, in a row, or why it
+    /// stopped. `row` is that number before the read.
     fn read_and_process<W: Wire, D: Desk, G: Gate>(
         &mut self,
         row: usize,
@@ -259,9 +293,14 @@ impl LinkState {
         requires none { self.old.unread ≡ [] }
         requires few { row ≤ most_interruptions }
         ensures actor { D.actor desk.new ≡ D.actor desk.old }
-        ensures moves { Moves self.old self.new (sides (W.reported port.old) (D.calls desk.old) (G.passed gate.old)) (sides (W.reported port.new) (D.calls desk.new) (G.passed gate.new)) row (row_after result) 1 Outside (stage_after result) }
+        ensures moves { Moves self.old self.new
+            (sides (W.reported port.old) (D.calls desk.old) (G.passed gate.old))
+            (sides (W.reported port.new) (D.calls desk.new) (G.passed gate.new)) row
+            (row_after result) 1 Outside (stage_after result) }
         ensures stops { HasTurned result self.new }
-        ensures over { result ≡ Err Ended.TermOver → (before : _) × (event : AnEvent) × (over : ATermOver) × D.refuses before event over desk.new }
+        ensures over { result ≡ Err Ended.TermOver
+            → (before : _) × (event : AnEvent) × (over : ATermOver)
+            × D.refuses before event over desk.new }
         ensures shut { result ≡ Err Ended.GateShut → (before : _) × G.shuts before gate.new }
     {
         let Some(row) = self.read_once(row, port) else {
@@ -282,8 +321,12 @@ impl LinkState {
         gate: &mut G,
     ) -> Ended
         ensures actor { D.actor desk.new ≡ D.actor desk.old }
-        ensures works { Listens self.old self.new (sides (W.reported port.old) (D.calls desk.old) (G.passed gate.old)) (sides (W.reported port.new) (D.calls desk.new) (G.passed gate.new)) result }
-        ensures over { result ≡ Ended.TermOver → (before : _) × (event : AnEvent) × (over : ATermOver) × D.refuses before event over desk.new }
+        ensures works { Listens self.old self.new
+            (sides (W.reported port.old) (D.calls desk.old) (G.passed gate.old))
+            (sides (W.reported port.new) (D.calls desk.new) (G.passed gate.new)) result }
+        ensures over { result ≡ Ended.TermOver
+            → (before : _) × (event : AnEvent) × (over : ATermOver)
+            × D.refuses before event over desk.new }
         ensures shut { result ≡ Ended.GateShut → (before : _) × G.shuts before gate.new }
     {
         if let Err(stop) = self.process_unread(port, desk, gate) {
@@ -320,13 +363,18 @@ impl LinkState {
         self.closing = Closing::Over;
     }
 
-    /// Hands in all pending notices, in order, and writes nothing. `Err`: the term is over, and the remaining notices are still pending.
+    /// Hands in all pending notices, in order, and writes nothing. `Err`: the term is over, and the remaining notices
+    /// are still pending.
     pub fn flush_pending<D: Desk>(&mut self, desk: &mut D) -> Result<(), TermOver>
         requires { self.old.is_cut ≡ true }
         ensures actor { D.actor desk.new ≡ D.actor desk.old }
-        ensures moves { (reported : Option (List Answer)) (passed : Option (List Passage)) → Moves self.old self.new (sides reported (D.calls desk.old) passed) (sides reported (D.calls desk.new) passed) 0 0 0 Disordered Disordered }
-        ensures ok { IfOk result (λ _. (self.new.pending.kept ≡ None) × (self.new.pending.lost ≡ None)) }
-        ensures over { IfErr result (λ over. (before : _) × (event : AnEvent) × D.refuses before event over desk.new) }
+        ensures moves { (reported : Option (List Answer)) (passed : Option (List Passage))
+            → Moves self.old self.new (sides reported (D.calls desk.old) passed)
+            (sides reported (D.calls desk.new) passed) 0 0 0 Disordered Disordered }
+        ensures ok { IfOk result (λ _. (self.new.pending.kept ≡ None)
+            × (self.new.pending.lost ≡ None)) }
+        ensures over { IfErr result (λ over. (before : _) × (event : AnEvent)
+            × D.refuses before event over desk.new) }
         ensures live { IfErr result (λ _. is_live self.new ≡ true) }
         ensures connection { self.new.connection ≡ self.old.connection }
         ensures closing { self.new.closing ≡ self.old.closing }

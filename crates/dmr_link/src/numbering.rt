@@ -7,7 +7,8 @@ use arrayvec::ArrayVec;
 use dmr_frames::{FrameOut, LONGEST_FRAME, Version, write_frame};
 use std::marker::Model;
 
-/// The number of a connection's next TX, or none if its version of the link has no numbers. Contracts see it as that optional number.
+/// The number of a connection's next TX, or none if its version of the link has no numbers. Contracts see it as that
+/// optional number.
 #[derive(Clone, Copy, Debug)]
 pub struct Numbering {
     next: Option<u8>,
@@ -42,7 +43,8 @@ impl Numbering {
         Numbering { next: None }
     }
 
-    /// Encodes the next frame that goes out. A TX receives its number. A WELCOME starts the numbers, if its version has them.
+    /// Encodes the next frame that goes out. A TX receives its number. A WELCOME starts the numbers, if its version has
+    /// them.
     pub fn encode_frame(&mut self, frame: &FrameOut) -> ArrayVec<u8, LONGEST_FRAME>
         ensures octets { result.items ≡ frame_text self.old frame.now }
         ensures next { self.new ≡ next_after self.old frame.now }

@@ -1,10 +1,12 @@
-//! Computes the most octets that can answer a piece of input before it is processed, and makes room for them in a text. Nothing else in
-//! this crate makes a text grow.
+//! Computes the most octets that can answer a piece of input before it is processed, and makes room for them in a text.
+//! Nothing else in this crate makes a text grow.
 
-ghost use Rattle.std.specs.Prelude.{◌≡◌, ◌+◌, ◌<◌, ◌≤◌, ◌^◌, ◌-◌, ◌/◌, ◌&&◌, Bool, true, min, nat_le, vec_len, vec_capacity, option_map, OnOk, OnErr};
+ghost use Rattle.std.specs.Prelude.{◌≡◌, ◌+◌, ◌<◌, ◌≤◌, ◌^◌, ◌-◌, ◌/◌, ◌&&◌, Bool, true, min};
+ghost use Rattle.std.specs.Prelude.{nat_le, vec_len, vec_capacity, option_map, OnOk, OnErr};
 ghost use Rattle.dmr_link.specs.Meaning.{list_of_notice};
 ghost use Rattle.dmr_link.specs.Notices.{notice_meant, site_notice};
-ghost use Rattle.dmr_link.specs.Room.{MakesRoom, most_in, most_of, most_to_hello, most_to_poll, numbered_after_all};
+ghost use Rattle.dmr_link.specs.Room.{MakesRoom, most_in, most_of, most_to_hello, most_to_poll};
+ghost use Rattle.dmr_link.specs.Room.{numbered_after_all};
 ghost use Rattle.dmr_link.specs.Steps.{notices_of_octets};
 ghost use Rattle.dmr_link.specs.Zeros.{is_up_between, zeros_in};
 ghost use Rattle.dmr_link.specs.declared.connection.CarrierIdentity.{CarrierIdentity as AnIdentity};
@@ -20,7 +22,8 @@ const ANSWER_TO_HELLO: usize = 3;
 /// The most octets that answer a POLL, in whichever version.
 const MOST_FOR_POLL: usize = 60;
 
-/// Returns the most octets that answer a POLL: a TX in each of two slots, and DONE. A TX is one octet longer if it has a number.
+/// Returns the most octets that answer a POLL: a TX in each of two slots, and DONE. A TX is one octet longer if it has
+/// a number.
 fn most_for_poll(numbered: bool) -> usize
     ensures { result ≡ most_to_poll numbered }
 {
@@ -49,10 +52,12 @@ fn most_for_notice(notice: &Option<Notice>, numbered: bool) -> usize
     }
 }
 
-/// Returns whether TX are numbered after a notice. The version of a HELLO that is accepted decides; any other notice leaves `numbered`.
+/// Returns whether TX are numbered after a notice. The version of a HELLO that is accepted decides; any other notice
+/// leaves `numbered`.
 #[tactic(auto, using(crate::proofs::NumbersFollowVersions::numbers_by_version))]
 fn is_numbered_after(notice: &Option<Notice>, numbered: bool) -> bool
-    ensures { result ≡ numbered_after_all numbered (list_of_notice (option_map notice_meant notice.now)) }
+    ensures { result
+        ≡ numbered_after_all numbered (list_of_notice (option_map notice_meant notice.now)) }
 {
     match notice {
         Some(Notice::Site(SiteNotice::Accepted(_, version))) => version.has_numbers(),
@@ -60,16 +65,17 @@ fn is_numbered_after(notice: &Option<Notice>, numbered: bool) -> bool
     }
 }
 
-/// Returns the most octets that can answer octets of a connection: the sum over the frames that they complete.
-/// It is 0 if no connection is open. `numbered` is whether the connection's TX are numbered. If the sum is too large for a `usize`, the
-/// result is the greatest `usize`.
+/// Returns the most octets that can answer octets of a connection: the sum over the frames that they complete. It is 0
+/// if no connection is open. `numbered` is whether the connection's TX are numbered. If the sum is too large for a
+/// `usize`, the result is the greatest `usize`.
 pub fn room_for(
     who: &CarrierIdentity,
     connection: &Connection,
     numbered: bool,
     octets: &[u8],
 ) -> usize
-    ensures { result ≡ min (most_in numbered (notices_of_octets who.now connection.now octets.now)) (2 ^ 64 - 1) }
+    ensures { result ≡ min (most_in numbered (notices_of_octets who.now connection.now octets.now))
+        (2 ^ 64 - 1) }
 {
     let mut trial = connection.fork();
     let mut numbered = numbered;
@@ -91,25 +97,29 @@ fn zeros(octets: &[u8]) -> usize
     octets.iter().filter(|octet| **octet == 0).count()
 }
 
-/// Reports whether a text surely has room for the octets that answer these, without a look at their frames.
-/// A carrier that is up is answered for its POLLs alone, the last octet of a POLL is 0, and at most 60 octets answer it. If the result is
-/// `false`, there may still be room: [`room_for`] has the exact number.
+/// Reports whether a text surely has room for the octets that answer these, without a look at their frames. A carrier
+/// that is up is answered for its POLLs alone, the last octet of a POLL is 0, and at most 60 octets answer it. If the
+/// result is `false`, there may still be room: [`room_for`] has the exact number.
 pub fn has_room(text: &Vec<u8>, connection: &Connection, octets: &[u8]) -> bool
-    ensures value { result ≡ (is_up_between connection.now && nat_le (zeros_in octets.now) ((vec_capacity text.now - vec_len text.now) / 60)) }
-    ensures fits { (who : AnIdentity) (numbered : Bool) → result ≡ true → vec_len text.now + most_in numbered (notices_of_octets who connection.now octets.now) ≤ vec_capacity text.now }
+    ensures value { result ≡ (is_up_between connection.now
+        && nat_le (zeros_in octets.now) ((vec_capacity text.now - vec_len text.now) / 60)) }
+    ensures fits { (who : AnIdentity) (numbered : Bool) → result ≡ true
+        → vec_len text.now + most_in numbered (notices_of_octets who connection.now octets.now)
+        ≤ vec_capacity text.now }
 {
     let spare = text.capacity() - text.len();
     connection.is_up_between() && zeros(octets) <= spare / MOST_FOR_POLL
 }
 
 /// Makes room for `octets` more octets at the end of a text.
-/// A text that must grow does so by its own length, if that is more. A text that is made of many pieces is then not copied for each
-/// piece. If the system refuses that much memory, the text grows by `octets`. `Err`: the system refused that too, and the text is
-/// unchanged.
+/// A text that must grow does so by its own length, if that is more. A text that is made of many pieces is then not
+/// copied for each piece. If the system refuses that much memory, the text grows by `octets`. `Err`: the system refused
+/// that too, and the text is unchanged.
 pub fn make_room(text: &mut Vec<u8>, octets: usize) -> Result<(), OutOfMemory>
     ensures items { text.new.items ≡ text.old.items }
     ensures length { vec_len text.new ≡ vec_len text.old }
-    ensures made { OnOk result (MakesRoom (vec_len text.old) octets (vec_capacity text.old) (vec_capacity text.new)) }
+    ensures made { OnOk result
+        (MakesRoom (vec_len text.old) octets (vec_capacity text.old) (vec_capacity text.new)) }
     ensures fits { OnOk result (vec_len text.new + octets ≤ vec_capacity text.new) }
     ensures refused { OnErr result (vec_capacity text.old < vec_len text.old + octets) }
     ensures kept { OnErr result (vec_capacity text.new ≡ vec_capacity text.old) }

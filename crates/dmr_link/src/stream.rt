@@ -2,7 +2,8 @@
 
 ghost use Rattle.std.specs.Prelude.{◌≡◌, option_map};
 ghost use Rattle.dmr_link.specs.Notices.{notice_meant};
-ghost use Rattle.dmr_link.specs.Peers.{opened_for, is_going, up_of, produces, closes_by, left_after, numbered, numbering_of};
+ghost use Rattle.dmr_link.specs.Peers.{opened_for, is_going, up_of, produces, closes_by};
+ghost use Rattle.dmr_link.specs.Peers.{left_after, numbered, numbering_of};
 
 use crate::carrier_state::CarrierState;
 use crate::connection::{CarrierIdentity, Outcome};
@@ -82,8 +83,8 @@ impl Stream {
         }
     }
 
-    /// Processes the next octet. Returns the notice that it produces, if any, and how it closes the connection, if it does.
-    /// No octet of an operator closes a connection.
+    /// Processes the next octet. Returns the notice that it produces, if any, and how it closes the connection, if it
+    /// does. No octet of an operator closes a connection.
     pub fn receive(&mut self, octet: u8) -> Outcome
         ensures notice { option_map notice_meant result.notice ≡ produces self.old octet }
         ensures closing { result.closing ≡ closes_by self.old octet }

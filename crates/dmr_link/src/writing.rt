@@ -16,8 +16,9 @@ use dmr_frames::{FrameOut, write_frame};
 use dmr_wire::{Put, Wire};
 
 /// Writes octets, write by write, and returns whether the port took all of them.
-/// Without octets it writes nothing. It stops at a write that takes no octet, would block or fails. It also stops at an interruption that
-/// follows [`MOST_INTERRUPTIONS`] others in a row. Octets that the port took until then are not written again.
+/// Without octets it writes nothing. It stops at a write that takes no octet, would block or fails. It also stops at an
+/// interruption that follows [`MOST_INTERRUPTIONS`] others in a row. Octets that the port took until then are not
+/// written again.
 fn write_octets<W: Wire>(port: &mut W, octets: &[u8]) -> bool
     ensures { WritesText (W.reported port.old) octets.now result (W.reported port.new) }
 {
@@ -62,17 +63,19 @@ fn write_reply<W: Wire>(port: &mut W, reply: &Option<Reply>) -> bool
 }
 
 /// Writes the site's answer to a notice, and returns whether the port took all of it.
-/// A carrier receives WELCOME, or the TXs and DONE of a poll; an operator receives the reply. The first write offers the whole answer.
-/// Another write follows only if the port took a part of it, or if the write was interrupted. If the port took all, `numbering` has the
-/// number of the next TX.
+/// A carrier receives WELCOME, or the TXs and DONE of a poll; an operator receives the reply. The first write offers
+/// the whole answer. Another write follows only if the port took a part of it, or if the write was interrupted. If the
+/// port took all, `numbering` has the number of the next TX.
 pub fn write_answer<W: Wire>(
     port: &mut W,
     numbering: &mut Numbering,
     notice: &SiteNotice,
     acts: &Acts,
 ) -> bool
-    ensures puts { WritesText (W.reported port.old) (answer_text numbering.old notice.now acts.now) result (W.reported port.new) }
-    ensures next { result ≡ true → numbering.new ≡ next_after_answer numbering.old notice.now acts.now }
+    ensures puts { WritesText (W.reported port.old)
+        (answer_text numbering.old notice.now acts.now) result (W.reported port.new) }
+    ensures next { result ≡ true
+        → numbering.new ≡ next_after_answer numbering.old notice.now acts.now }
 {
     match notice {
         SiteNotice::Happened(Event::Say(_)) => write_reply(port, &acts.said),
@@ -87,7 +90,8 @@ pub fn write_answer<W: Wire>(
 /// Writes the answer to a notice for the peer alone, and returns whether the port took all of it.
 /// A carrier receives REFUSED; an operator receives what is wrong with a line.
 pub fn write_peer_answer<W: Wire>(port: &mut W, aside: &PeerNotice) -> bool
-    ensures { WritesText (W.reported port.old) (peer_notice_text (peer_notice aside.now)) result (W.reported port.new) }
+    ensures { WritesText (W.reported port.old) (peer_notice_text (peer_notice aside.now)) result
+        (W.reported port.new) }
 {
     match aside {
         PeerNotice::Refused(_, refusal) => {

@@ -46,7 +46,8 @@ row-holds o [] holds i = tt
 row-holds o (r ∷ rows) holds zero = holds.0
 row-holds o (r ∷ rows) holds (suc i) = row-holds o rows holds.1 i
 
--- octets in which the rows of a PDU's layout hold are read as that PDU: one line for each layout, with rows counted from 0
+-- octets in which the rows of a PDU's layout hold are read as that PDU: one line for each layout, with rows counted
+-- from 0
 read-rows : (pdu : Pdu) (o : List ℕ) → IsListed pdu → HasChannel pdu → ((i : ℕ) → RowHolds o (layout pdu) i) → read_as (field_of o 0 8) o ≡ Some pdu
 unfolding layout IsListed HasChannel read_as
 read-rows (Aloha sync version offset active mask function nrand_wait register backoff system address) o listed may r =

@@ -1,6 +1,7 @@
--- The octets of a PDU, and the PDU of octets, as functions. The contract of `octets_mean_one_pdu` says that they compute the relations
--- `SpellsPdu` and `Agrees`. The crates above depend on that contract only.
-use Rattle.std.specs.Prelude.{◌==◌, ℕ, ◌+◌, ◌-◌, ◌*◌, ◌/◌, ◌%◌, ◌^◌, Bool, false, nat_lt, List, [], ◌∷◌, Option, Some, None, if◌then◌else◌, map}
+-- The octets of a PDU, and the PDU of octets, as functions. The contract of `octets_mean_one_pdu` says that they
+-- compute the relations `SpellsPdu` and `Agrees`. The crates above depend on that contract only.
+use Rattle.std.specs.Prelude.{◌==◌, ℕ, ◌+◌, ◌-◌, ◌*◌, ◌/◌, ◌%◌, ◌^◌, Bool, false, nat_lt, List, []}
+use Rattle.std.specs.Prelude.{◌∷◌, Option, Some, None, if◌then◌else◌, map}
 use Rattle.std.specs.List.{list_all, range_with_len}
 use Rattle.dmr_bits.specs.Bits.{bits_value, field_of}
 use Rattle.dmr_pdu.specs.declared.pdu.Pdu.{Pdu}
@@ -11,7 +12,10 @@ use Rattle.dmr_pdu.specs.Reading.{read_as}
 -- the bit at a place of octets that rows are written into
 abbrev pub row_bit : List Row → ℕ → Bool
 row_bit [] place = false
-row_bit (r ∷ rows) place = if nat_lt place (r.0.first + r.0.width) then r.1 / 2 ^ (r.0.first + r.0.width - 1 - place) % 2 == 1 else row_bit rows place
+row_bit (r ∷ rows) place =
+    if nat_lt place (r.0.first + r.0.width)
+    then r.1 / 2 ^ (r.0.first + r.0.width - 1 - place) % 2 == 1
+    else row_bit rows place
 
 -- the ten octets that a PDU is written as
 unfoldable pub octets_of : Pdu → List ℕ

@@ -1,4 +1,5 @@
--- The service kinds by their numbers (TS 102 361-4, clause 7.2), for clauses: a clause cannot name a constant of `Kind`.
+-- The service kinds by their numbers (TS 102 361-4, clause 7.2), for clauses: a clause cannot name a constant of
+-- `Kind`.
 use Rattle.std.specs.Prelude.{ℕ}
 
 -- service kind 0: a voice call to one radio

@@ -1,5 +1,5 @@
--- The reason codes of acknowledgements (TS 102 361-4, clause 7.2) by their octets, for clauses: a clause cannot name a constant of
--- `Reason`. The octets are this project's profile.
+-- The reason codes of acknowledgements (TS 102 361-4, clause 7.2) by their octets, for clauses: a clause cannot name a
+-- constant of `Reason`. The octets are this project's profile.
 use Rattle.std.specs.Prelude.{ℕ}
 
 -- reason code Not_Supported, octet 0x20: the site does not have the service

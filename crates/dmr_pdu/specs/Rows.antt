@@ -1,12 +1,16 @@
--- The rows of a PDU as one number. Only contracts of internal functions name these definitions; nothing above depends on them.
+-- The rows of a PDU as one number. Only contracts of internal functions name these definitions; nothing above depends
+-- on them.
 use Rattle.std.specs.Prelude.{◌≡◌, ℕ, ◌-◌, ◌*◌, ◌%◌, ◌<◌, ◌^◌, bit_or, List, [], ◌∷◌, take, drop}
 use Rattle.dmr_pdu.specs.declared.pdu.Pdu.{Pdu}
 use Rattle.dmr_pdu.specs.Layout.{Row, layout_row, layout, HasChannel, IsListed}
 
--- each row's number fits its place, and a number of 64 bits becomes another one when the rows are put into it: bit 79 is its last bit
+-- each row's number fits its place, and a number of 64 bits becomes another one when the rows are put into it: bit 79
+-- is its last bit
 abbrev pub ArePacked : ℕ → List Row → ℕ → Type 0
 ArePacked number [] packed = number ≡ packed
-ArePacked number (r ∷ rows) packed = (r.1 < 2 ^ r.0.width) × ArePacked (bit_or number (r.1 * 2 ^ (80 - r.0.first - r.0.width) % 2 ^ 64)) rows packed
+ArePacked number (r ∷ rows) packed =
+    (r.1 < 2 ^ r.0.width)
+    × ArePacked (bit_or number (r.1 * 2 ^ (80 - r.0.first - r.0.width) % 2 ^ 64)) rows packed
 
 -- the PDU's layout begins with this opcode
 abbrev pub HasOpcode : Pdu → ℕ → Type 0

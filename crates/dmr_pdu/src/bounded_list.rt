@@ -31,13 +31,20 @@ impl<T: Blank, const N: usize> Model for BoundedList<T, N> {
 
     ghost view = { λ list. take list.count list.cells };
 
-    ghost invariant = { λ list. (list.count ≤ N) × (length list.cells ≡ N) × (drop list.count list.cells ≡ replicate (N - list.count) T.blank) };
+    ghost invariant = { λ list. (list.count ≤ N) × (length list.cells ≡ N)
+        × (drop list.count list.cells ≡ replicate (N - list.count) T.blank) };
 
-    ghost inverse = { λ entries. record { cells = with_padding N T.blank entries; count = length entries } };
+    ghost inverse = { λ entries. record {
+      cells = with_padding N T.blank entries;
+      count = length entries;
+    } };
 
     ghost use Rattle.std.proofs.Common.{arith, length-take-le};
 
-    ghost inverse_ok = { λ list is i. record { cells = with_padding-take N T.blank list.count list.cells is.0 is.1 is.2 i; count = length-take-le list.count list.cells (Prim.omega (arith, is.0, is.1)) i } };
+    ghost inverse_ok = { λ list is i. record {
+      cells = with_padding-take N T.blank list.count list.cells is.0 is.1 is.2 i;
+      count = length-take-le list.count list.cells (Prim.omega (arith, is.0, is.1)) i;
+    } };
 }
 
 /// Copies the list. It never fails.
@@ -126,7 +133,8 @@ impl<T: Blank, const N: usize> BoundedList<T, N> {
         self.cells[self.count] = T::blank();
     }
 
-    /// Removes all entries. It writes only the cells that have entries, so it costs less than a new list if there are few.
+    /// Removes all entries. It writes only the cells that have entries, so it costs less than a new list if there are
+    /// few.
     pub fn clear(&mut self)
         ensures { self.new ≡ [] }
     {

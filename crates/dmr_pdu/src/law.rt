@@ -9,9 +9,11 @@ ghost use Rattle.dmr_pdu.specs.Functions.{octets_of, pdu_of};
 /// Does nothing. A proof learns from it that each PDU has one list of ten octets, and that any ten octets are one PDU.
 pub fn octets_mean_one_pdu()
     // `octets_of` is the one list of ten octets that a PDU is written as.
-    ensures written { (pdu : Pdu) (octets : List ℕ) → IsOctets 10 octets → SpellsPdu pdu octets → octets_of pdu ≡ octets }
+    ensures written { (pdu : Pdu) (octets : List ℕ) → IsOctets 10 octets → SpellsPdu pdu octets
+        → octets_of pdu ≡ octets }
     // `pdu_of` is the one PDU that agrees with octets.
     ensures agrees { (octets : List ℕ) (pdu : Pdu) → Agrees pdu octets ↔ pdu ≡ pdu_of octets }
     // The octets that a readable PDU is written as agree with it.
-    ensures back { (pdu : Pdu) (octets : List ℕ) → IsReadable pdu → SpellsPdu pdu octets → Agrees pdu octets }
+    ensures back { (pdu : Pdu) (octets : List ℕ) → IsReadable pdu → SpellsPdu pdu octets
+        → Agrees pdu octets }
 {}

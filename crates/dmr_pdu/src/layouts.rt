@@ -1,7 +1,8 @@
 //! The table of layouts: the place of each field of each PDU in ten octets. The table is used in both directions, and
 //! for the names of the fields in words.
 
-ghost use Rattle.std.specs.Prelude.{◌≡◌, ◌+◌, ◌-◌, ◌*◌, ◌%◌, ◌<◌, ◌≤◌, ◌^◌, Some, IfSome, if◌then◌else◌};
+ghost use Rattle.std.specs.Prelude.{◌≡◌, ◌+◌, ◌-◌, ◌*◌, ◌%◌, ◌<◌, ◌≤◌, ◌^◌, Some, IfSome};
+ghost use Rattle.std.specs.Prelude.{if◌then◌else◌};
 ghost use Rattle.dmr_bits.specs.Bits.{field_of, IsOctets};
 ghost use Rattle.dmr_pdu.specs.declared.pdu.Pdu.{Pdu as APdu};
 ghost use Rattle.dmr_pdu.specs.Layout.{IsLaidOut, SpellsPdu};
@@ -399,8 +400,8 @@ fn write_move(pdu: &Pdu) -> Octets10
     layouts!(layout, (Move, octets_of, pdu))
 }
 
-/// Returns the PDU of the table that is laid out in ten octets. `None` if there is no such PDU: the first octet is not that
-/// of a layout, a fixed bit is not as listed, or a channel number is 0 or 4095.
+/// Returns the PDU of the table that is laid out in ten octets. `None` if there is no such PDU: the first octet is not
+/// that of a layout, a fixed bit is not as listed, or a channel number is 0 or 4095.
 #[tactic(auto, unfolding(crate::specs::Layout::layout, crate::specs::Layout::IsListed))]
 pub(crate) fn read_pdu(octets: &Octets10) -> Option<Pdu>
     ensures found { IfSome result (λ pdu. IsLaidOut pdu octets.now) }

@@ -147,7 +147,8 @@ impl Pdu {
         ensures octets { IsOctets 10 result }
         ensures is { SpellsPdu self.now result }
         // There are no others.
-        ensures alone { (octets : List ℕ) → IsOctets 10 octets → SpellsPdu self.now octets → octets ≡ result }
+        ensures alone { (octets : List ℕ) → IsOctets 10 octets → SpellsPdu self.now octets
+            → octets ≡ result }
         ensures written { result ≡ octets_of self.now }
     {
         write_pdu(self)

@@ -1,6 +1,8 @@
 -- The array at a key: the types of its items, their number, and reading them in order.
-use Rattle.std.specs.Prelude.{ℕ, suc, List, ◌∷◌, [], ◌++◌, Option, Some, None, Result, Ok, Err, ◌&&◌, Bool, true, false, is_some, if◌then◌else◌, nat_le}
-use Rattle.toml.specs.Data.{Data, array, Items, no_items, item, Members, get_member, as_integer, as_table}
+use Rattle.std.specs.Prelude.{ℕ, suc, List, ◌∷◌, [], ◌++◌, Option, Some, None, Result, Ok, Err}
+use Rattle.std.specs.Prelude.{◌&&◌, Bool, true, false, is_some, if◌then◌else◌, nat_le}
+use Rattle.toml.specs.Data.{Data, array, Items, no_items, item, Members, get_member, as_integer}
+use Rattle.toml.specs.Data.{as_table}
 use Rattle.dmr_plan.specs.declared.key.Key.{Key}
 use Rattle.dmr_plan.specs.declared.key.Content.{Content}
 use Rattle.dmr_plan.specs.declared.key.Content.TheVariants.{OneNumber, Numbers, Pairs, Tables}
@@ -47,7 +49,8 @@ all_items p (item d ds) = p d && all_items p ds
 
 -- the array that a value is: an error if the value is not an array, or an item is not of the key's content
 abbrev pub array_of : Key → Data → Result Items PlanFault
-array_of key (array ds) = if all_items (is_item (limits_of key).content) ds then Ok ds else Err (WrongType key)
+array_of key (array ds) =
+    if all_items (is_item (limits_of key).content) ds then Ok ds else Err (WrongType key)
 array_of key _ = Err (WrongType key)
 
 -- the array that a value is, which must be there
@@ -61,9 +64,12 @@ array_in ms key = array_or_missing key (get_member (name_of key) ms)
 
 -- whether the number of items is within the key's count
 abbrev pub is_count : Key → Items → Bool
-is_count key ds = nat_le (limits_of key).count.fewest (count_of ds) && nat_le (count_of ds) (limits_of key).count.most
+is_count key ds =
+    nat_le (limits_of key).count.fewest (count_of ds)
+    && nat_le (count_of ds) (limits_of key).count.most
 
 -- the items read in order, each together with the results of those before it
-abbrev pub in_turn : {A : Type 0} → (List A → Data → Result A PlanFault) → List A → Items → Result (List A) PlanFault
+abbrev pub in_turn : {A : Type 0} → (List A → Data → Result A PlanFault) → List A → Items
+    → Result (List A) PlanFault
 in_turn f earlier no_items = Ok earlier
 in_turn f earlier (item d ds) = f earlier d >>= λ x. in_turn f (earlier ++ x ∷ []) ds

@@ -30,13 +30,15 @@ has_lpcn_in rows n = list_any (λ (row : CarrierRow). row.lpcn == n) rows
 abbrev pub has_port_in : List CarrierRow → ℕ → Bool
 has_port_in rows n = list_any (λ (row : CarrierRow). row.port == n) rows
 
--- the carrier that a table describes: an error if an earlier carrier has its number, channel or port, or the console has its port
+-- the carrier that a table describes: an error if an earlier carrier has its number, channel or port, or the console
+-- has its port
 unfoldable pub carrier_of_table : ℕ → List CarrierRow → Members → Result CarrierRow PlanFault
 carrier_of_table console_port earlier ms = do
   number ← number_at_key ms Number
   lpcn ← (if has_number_in earlier number then Err (Repeated Number) else number_at_key ms Lpcn)
   port ← (if has_lpcn_in earlier lpcn then Err (Repeated Lpcn) else number_at_key ms Port)
-  if (port == console_port) || has_port_in earlier port then Err (Repeated Port) else Ok (record { number = number; lpcn = lpcn; port = port })
+  if (port == console_port) || has_port_in earlier port then Err (Repeated Port)
+      else Ok (record { number = number; lpcn = lpcn; port = port })
 
 -- the carrier that an item describes: an error if the item is not a table
 abbrev pub carrier_of_item : ℕ → List CarrierRow → Data → Result CarrierRow PlanFault
@@ -45,7 +47,9 @@ carrier_of_item console_port earlier _ = Err (WrongType Carrier)
 
 -- the carriers that the items describe: an error if there are fewer or more than a site may have
 abbrev pub carriers_of_items : ℕ → Items → Result (List CarrierRow) PlanFault
-carriers_of_items console_port ds = if is_count Carrier ds then in_turn (carrier_of_item console_port) [] ds else Err (OutOfRange Carrier)
+carriers_of_items console_port ds =
+    if is_count Carrier ds then in_turn (carrier_of_item console_port) [] ds
+    else Err (OutOfRange Carrier)
 
 -- the carriers of the site file, read in order
 unfoldable pub carriers_of : Members → Result (List CarrierRow) PlanFault

@@ -22,7 +22,8 @@ pub record IsPlan (s : Settings) : Type 0 where
   pub grant_copies : IsNumberOf key.GrantCopies s.grant_copies
   pub clear_copies : IsNumberOf key.ClearCopies s.clear_copies
   pub backoff_low : IsNumberOf key.BackoffLow s.backoff_low
-  pub backoff_high : (s.backoff_low ≤ s.backoff_high) × (s.backoff_high ≤ (limits_of key.BackoffHigh).range.most)
+  pub backoff_high : (s.backoff_low ≤ s.backoff_high)
+      × (s.backoff_high ≤ (limits_of key.BackoffHigh).range.most)
   pub tick_ms : IsNumberOf key.TickMs s.tick_ms
   pub silence : IsNumberOf key.Silence s.silence
   pub term_entries : IsNumberOf key.TermEntries s.term_entries

@@ -1,7 +1,8 @@
 -- The parts of the invariant of a plan: its numbers and lists.
 use Rattle.std.specs.Prelude.{◌≡◌, ◌≤◌, ℕ, List, length, map, false}
 use Rattle.std.specs.List.{All}
-use Rattle.dmr_plan.specs.declared.key.Key.TheVariants.{Address, Radios, Groups, Carrier, Number, Lpcn, Port}
+use Rattle.dmr_plan.specs.declared.key.Key.TheVariants.{Address, Radios, Groups, Carrier, Number}
+use Rattle.dmr_plan.specs.declared.key.Key.TheVariants.{Lpcn, Port}
 use Rattle.dmr_plan.specs.declared.lists.RadioRange.{RadioRange}
 use Rattle.dmr_plan.specs.declared.carriers.CarrierRow.{CarrierRow}
 use Rattle.dmr_plan.specs.Keys.{IsNumberOf, limits_of}

@@ -1,7 +1,14 @@
 -- The key table of the site file.
 use Rattle.std.specs.Prelude.{ℕ, ◌≤◌, List, codes}
 use Rattle.dmr_plan.specs.declared.key.Key.{Key}
-use Rattle.dmr_plan.specs.declared.key.Key.TheVariants.{System, Regi, Tsi, LeaveBit, AlohaSync, AlohaVersion, AlohaOffset, AlohaActive, NrandWait, Hang, Maximum, AhoyWait, AhoyTries, GrantCopies, ClearCopies, BackoffLow, BackoffHigh, TickMs, Silence, TermEntries, LinkVersion, Address, ConsolePort, Radios, Groups, Carrier, Control, Number, Lpcn, Port}
+use Rattle.dmr_plan.specs.declared.key.Key.TheVariants.{System, Regi, Tsi, LeaveBit, AlohaSync}
+use Rattle.dmr_plan.specs.declared.key.Key.TheVariants.{AlohaVersion, AlohaOffset, AlohaActive}
+use Rattle.dmr_plan.specs.declared.key.Key.TheVariants.{NrandWait, Hang, Maximum, AhoyWait}
+use Rattle.dmr_plan.specs.declared.key.Key.TheVariants.{AhoyTries, GrantCopies, ClearCopies}
+use Rattle.dmr_plan.specs.declared.key.Key.TheVariants.{BackoffLow, BackoffHigh, TickMs, Silence}
+use Rattle.dmr_plan.specs.declared.key.Key.TheVariants.{TermEntries, LinkVersion, Address}
+use Rattle.dmr_plan.specs.declared.key.Key.TheVariants.{ConsolePort, Radios, Groups, Carrier}
+use Rattle.dmr_plan.specs.declared.key.Key.TheVariants.{Control, Number, Lpcn, Port}
 use Rattle.dmr_plan.specs.declared.key.Content.{Content}
 use Rattle.dmr_plan.specs.declared.key.Content.TheVariants.{OneNumber, Numbers, Pairs, Tables}
 use Rattle.dmr_plan.specs.declared.key.Fallback.{Fallback}
@@ -12,20 +19,31 @@ use Rattle.dmr_plan.specs.declared.key.Limits.{Limits}
 
 -- the limits of one number: the least, the greatest, and the value if the key is missing
 abbrev pub number_limits : ℕ → ℕ → Fallback → Limits
-number_limits least most fallback = record { content = OneNumber; count = record { fewest = 1; most = 1 }; range = record { least = least; most = most }; fallback = fallback }
+number_limits least most fallback = record {
+  content = OneNumber;
+  count = record { fewest = 1; most = 1 };
+  range = record { least = least; most = most };
+  fallback = fallback;
+}
 
--- the limits of an array: the type of its items, their number, the range of the numbers in them, and the value if the key is missing
+-- the limits of an array: the type of its items, their number, the range of the numbers in them, and the value if the
+-- key is missing
 abbrev pub array_limits : Content → Count → Bounds → Fallback → Limits
-array_limits content count range fallback = record { content = content; count = count; range = range; fallback = fallback }
+array_limits content count range fallback =
+    record { content = content; count = count; range = range; fallback = fallback }
 
 -- the row of a key with one number: its name, the least and the greatest number, and the value if the key is missing
 abbrev pub number_row : List ℕ → ℕ → ℕ → Fallback → List ℕ × Limits
 number_row name least most fallback = (name, number_limits least most fallback)
 
--- the row of a key with an array. The parameters are its name, the type of the items, the fewest and the most items, the least and the
--- greatest number in them, and the value if missing.
+-- the row of a key with an array. The parameters are its name, the type of the items, the fewest and the most items,
+-- the least and the greatest number in them, and the value if missing.
 abbrev pub array_row : List ℕ → Content → ℕ → ℕ → ℕ → ℕ → Fallback → List ℕ × Limits
-array_row name content fewest many least most fallback = (name, array_limits content (record { fewest = fewest; most = many }) (record { least = least; most = most }) fallback)
+array_row name content fewest many least most fallback = (
+  name,
+  array_limits content (record { fewest = fewest; most = many })
+      (record { least = least; most = most }) fallback,
+)
 
 -- the key table: the name of each key, and its limits
 abbrev pub key_row : Key → List ℕ × Limits

@@ -1,5 +1,6 @@
 -- The values of the keys address, radios and groups.
-use Rattle.std.specs.Prelude.{ℕ, List, [], ◌∷◌, Option, Some, None, Result, Ok, Err, ◌&&◌, ◌||◌, Bool, false, if◌then◌else◌, nat_lt, nat_le, ◌==◌}
+use Rattle.std.specs.Prelude.{ℕ, List, [], ◌∷◌, Option, Some, None, Result, Ok, Err, ◌&&◌, ◌||◌}
+use Rattle.std.specs.Prelude.{Bool, false, if◌then◌else◌, nat_lt, nat_le, ◌==◌}
 use Rattle.std.specs.List.{list_any}
 use Rattle.toml.specs.Data.{Data, array, Items, Members, get_member}
 use Rattle.dmr_plan.specs.declared.key.Key.{Key}
@@ -7,7 +8,8 @@ use Rattle.dmr_plan.specs.declared.key.Key.TheVariants.{Address, Radios, Groups}
 use Rattle.dmr_plan.specs.declared.key.Fallback.{Fallback}
 use Rattle.dmr_plan.specs.declared.key.Fallback.TheVariants.{Loopback}
 use Rattle.dmr_plan.specs.declared.fault.PlanFault.{PlanFault}
-use Rattle.dmr_plan.specs.declared.fault.PlanFault.TheVariants.{Missing, WrongType, OutOfRange, Repeated}
+use Rattle.dmr_plan.specs.declared.fault.PlanFault.TheVariants.{Missing, WrongType, OutOfRange}
+use Rattle.dmr_plan.specs.declared.fault.PlanFault.TheVariants.{Repeated}
 use Rattle.dmr_plan.specs.declared.lists.RadioRange.{RadioRange}
 use Rattle.dmr_plan.specs.Keys.{name_of, limits_of}
 use Rattle.dmr_plan.specs.Steps.{◌>>=◌}
@@ -16,7 +18,8 @@ use Rattle.dmr_plan.specs.Arrays.{two_of, array_of, array_in, is_count, in_turn}
 
 -- the address that the items are: an error if there are not four
 abbrev pub address_of_items : Items → Result (List ℕ) PlanFault
-address_of_items ds = if is_count Address ds then in_turn (λ _ d. number Address d) [] ds else Err (WrongType Address)
+address_of_items ds =
+    if is_count Address ds then in_turn (λ _ d. number Address d) [] ds else Err (WrongType Address)
 
 -- the address that a fallback means: an error if the key is required
 abbrev pub address_of_fallback : Fallback → Result (List ℕ) PlanFault
@@ -59,7 +62,8 @@ range_of _ = Err (WrongType Radios)
 
 -- the ranges that the items describe: an error if there are fewer or more than a site file may have
 abbrev pub radios_of_items : Items → Result (List RadioRange) PlanFault
-radios_of_items ds = if is_count Radios ds then in_turn (λ _ d. range_of d) [] ds else Err (OutOfRange Radios)
+radios_of_items ds =
+    if is_count Radios ds then in_turn (λ _ d. range_of d) [] ds else Err (OutOfRange Radios)
 
 -- the ranges of the radios that may register
 unfoldable pub radios_of : Members → Result (List RadioRange) PlanFault
@@ -76,7 +80,9 @@ distinct key xs = if has_repeat xs then Err (Repeated key) else Ok xs
 
 -- the talkgroups that the items are: an error if there are more than a site may have, or one is there twice
 abbrev pub groups_of_items : Items → Result (List ℕ) PlanFault
-groups_of_items ds = if is_count Groups ds then (in_turn (λ _ d. number Groups d) [] ds >>= distinct Groups) else Err (OutOfRange Groups)
+groups_of_items ds =
+    if is_count Groups ds then (in_turn (λ _ d. number Groups d) [] ds >>= distinct Groups)
+    else Err (OutOfRange Groups)
 
 -- the talkgroups of the site file, none twice
 unfoldable pub groups_of : Members → Result (List ℕ) PlanFault

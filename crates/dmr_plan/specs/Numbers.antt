@@ -1,17 +1,20 @@
 -- The values of a key with one number.
-use Rattle.std.specs.Prelude.{ℕ, ℤ, pos, Option, Some, None, Result, Ok, Err, ◌&&◌, Bool, if◌then◌else◌, ◌==◌, nat_le}
+use Rattle.std.specs.Prelude.{ℕ, ℤ, pos, Option, Some, None, Result, Ok, Err, ◌&&◌, Bool}
+use Rattle.std.specs.Prelude.{if◌then◌else◌, ◌==◌, nat_le}
 use Rattle.toml.specs.Data.{Data, integer, Members, get_member}
 use Rattle.dmr_plan.specs.declared.key.Key.{Key}
 use Rattle.dmr_plan.specs.declared.key.Fallback.{Fallback}
 use Rattle.dmr_plan.specs.declared.key.Fallback.TheVariants.{Nothing, Value}
 use Rattle.dmr_plan.specs.declared.fault.PlanFault.{PlanFault}
-use Rattle.dmr_plan.specs.declared.fault.PlanFault.TheVariants.{Missing, WrongType, OutOfRange, Repeated}
+use Rattle.dmr_plan.specs.declared.fault.PlanFault.TheVariants.{Missing, WrongType, OutOfRange}
+use Rattle.dmr_plan.specs.declared.fault.PlanFault.TheVariants.{Repeated}
 use Rattle.dmr_plan.specs.Keys.{name_of, limits_of}
 use Rattle.dmr_plan.specs.Steps.{◌>>=◌}
 
 -- a whole number from least to most, or else out of range
 abbrev pub integer_within : Key → ℕ → ℕ → ℤ → Result ℕ PlanFault
-integer_within key least most (pos n) = if nat_le least n && nat_le n most then Ok n else Err (OutOfRange key)
+integer_within key least most (pos n) =
+    if nat_le least n && nat_le n most then Ok n else Err (OutOfRange key)
 integer_within key least most _ = Err (OutOfRange key)
 
 -- the number that a value is: an error if it is not a whole number from least to most
@@ -62,7 +65,8 @@ number_from key least None = Err (Missing key)
 
 -- the number at a key, at least the number at another key
 unfoldable pub number_from_in : Members → Key → Key → Result ℕ PlanFault
-number_from_in ms key other = number_at_key ms other >>= λ least. number_from key least (get_member (name_of key) ms)
+number_from_in ms key other =
+    number_at_key ms other >>= λ least. number_from key least (get_member (name_of key) ms)
 
 -- the number at a key: an error if it equals the number at another key
 unfoldable pub number_unlike_in : Members → Key → Key → Result ℕ PlanFault

@@ -12,7 +12,8 @@ use Rattle.dmr_plan.specs.declared.sections.ListSection.{ListSection}
 use Rattle.dmr_plan.specs.Keys.{IsNumberOf, limits_of}
 use Rattle.dmr_plan.specs.Kept.{IsAddress, AreRadios, AreGroups, AreCarriers}
 use Rattle.dmr_plan.specs.Steps.{◌>>=◌}
-use Rattle.dmr_plan.specs.Numbers.{number_at_key, bit_in, optional_in, number_from_in, number_unlike_in}
+use Rattle.dmr_plan.specs.Numbers.{number_at_key, bit_in, optional_in, number_from_in}
+use Rattle.dmr_plan.specs.Numbers.{number_unlike_in}
 use Rattle.dmr_plan.specs.Lists.{address_of, radios_of, groups_of}
 use Rattle.dmr_plan.specs.Carriers.{has_number_in, carriers_of}
 
@@ -33,7 +34,13 @@ aloha_of ms = do
   offset ← bit_in ms key.AlohaOffset
   active ← bit_in ms key.AlohaActive
   nrand_wait ← number_at_key ms key.NrandWait
-  Ok (record { sync = sync; version = version; offset = offset; active = active; nrand_wait = nrand_wait })
+  Ok (record {
+    sync = sync;
+    version = version;
+    offset = offset;
+    active = active;
+    nrand_wait = nrand_wait;
+  })
 
 -- the times and counts of calls and of random access
 unfoldable pub calls_of : Members → Result CallSection PlanFault
@@ -46,7 +53,16 @@ calls_of ms = do
   clear_copies ← number_at_key ms key.ClearCopies
   backoff_low ← number_at_key ms key.BackoffLow
   backoff_high ← number_from_in ms key.BackoffHigh key.BackoffLow
-  Ok (record { hang = hang; maximum = maximum; ahoy_wait = ahoy_wait; ahoy_tries = ahoy_tries; grant_copies = grant_copies; clear_copies = clear_copies; backoff_low = backoff_low; backoff_high = backoff_high })
+  Ok (record {
+    hang = hang;
+    maximum = maximum;
+    ahoy_wait = ahoy_wait;
+    ahoy_tries = ahoy_tries;
+    grant_copies = grant_copies;
+    clear_copies = clear_copies;
+    backoff_low = backoff_low;
+    backoff_high = backoff_high;
+  })
 
 -- how the site is served
 unfoldable pub serving_of : Members → Result ServingSection PlanFault
@@ -56,7 +72,13 @@ serving_of ms = do
   term_entries ← number_at_key ms key.TermEntries
   link_version ← number_at_key ms key.LinkVersion
   address ← address_of ms
-  Ok (record { tick_ms = tick_ms; silence = silence; term_entries = term_entries; link_version = link_version; address = address })
+  Ok (record {
+    tick_ms = tick_ms;
+    silence = silence;
+    term_entries = term_entries;
+    link_version = link_version;
+    address = address;
+  })
 
 -- the console's port and the lists; the control carrier is one of the carriers
 unfoldable pub lists_of : Members → Result ListSection PlanFault
@@ -67,7 +89,13 @@ lists_of ms = do
   carriers ← carriers_of ms
   control ← number_at_key ms key.Control
   if has_number_in carriers control
-      then Ok (record { console_port = console_port; radios = radios; groups = groups; carriers = carriers; control = control })
+      then Ok (record {
+        console_port = console_port;
+        radios = radios;
+        groups = groups;
+        carriers = carriers;
+        control = control;
+      })
       else Err (OutOfRange key.Control)
 
 -- ---- what each section satisfies. Only contracts of internal functions name these
@@ -94,7 +122,8 @@ pub record IsCallSection (s : CallSection) : Type 0 where
   pub grant_copies : IsNumberOf key.GrantCopies s.grant_copies
   pub clear_copies : IsNumberOf key.ClearCopies s.clear_copies
   pub backoff_low : IsNumberOf key.BackoffLow s.backoff_low
-  pub backoff_high : (s.backoff_low ≤ s.backoff_high) × (s.backoff_high ≤ (limits_of key.BackoffHigh).range.most)
+  pub backoff_high : (s.backoff_low ≤ s.backoff_high)
+      × (s.backoff_high ≤ (limits_of key.BackoffHigh).range.most)
 
 -- each key of serving is within its range
 pub record IsServingSection (s : ServingSection) : Type 0 where

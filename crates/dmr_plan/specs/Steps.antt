@@ -5,7 +5,8 @@ use Rattle.dmr_plan.specs.declared.fault.PlanFault.TheVariants.{NotToml, OutOfMe
 
 -- the next step, unless this one is a fault
 infixl 10 ◌>>=◌
-abbrev pub ◌>>=◌ : {A B : Type 0} → Result A PlanFault → (A → Result B PlanFault) → Result B PlanFault
+abbrev pub ◌>>=◌ : {A B : Type 0} → Result A PlanFault → (A → Result B PlanFault)
+    → Result B PlanFault
 (Ok x) >>= f = f x
 (Err e) >>= f = Err e
 

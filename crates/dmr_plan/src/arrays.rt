@@ -6,7 +6,8 @@ ghost use Rattle.toml.specs.Data.{get_member};
 ghost use Rattle.toml.specs.View.{view, items_view, array_view, table_view};
 ghost use Rattle.dmr_plan.specs.Keys.{limits_of};
 ghost use Rattle.dmr_plan.specs.Steps.{IsOfKey, Returns};
-ghost use Rattle.dmr_plan.specs.Arrays.{is_item, is_pair, two_of, all_items, array_of, array_in, count_of, is_count};
+ghost use Rattle.dmr_plan.specs.Arrays.{is_item, is_pair, two_of, all_items, array_of, array_in};
+ghost use Rattle.dmr_plan.specs.Arrays.{count_of, is_count};
 
 use crate::fault::PlanFault;
 use crate::key::{Content, Key};
@@ -43,7 +44,8 @@ fn admits_pair(value: &Value) -> bool
 
 /// Returns the two values, or `None` if there are more or fewer.
 pub fn pair_in(values: &[Value]) -> Option<(&Value, &Value)>
-    ensures { option_map (λ p. (view p.0.now, view p.1.now)) result ≡ two_of (items_view values.now) }
+    ensures { option_map (λ p. (view p.0.now, view p.1.now)) result
+        ≡ two_of (items_view values.now) }
 {
     if values.len() != 2 {
         return None;

@@ -6,7 +6,9 @@ ghost use Rattle.toml.specs.View.{view, items_view, table_view};
 ghost use Rattle.dmr_plan.specs.Steps.{IsOfKey};
 ghost use Rattle.dmr_plan.specs.Numbers.{number_at_key};
 ghost use Rattle.dmr_plan.specs.Arrays.{in_turn};
-ghost use Rattle.dmr_plan.specs.Carriers.{row_with, has_number_in, has_lpcn_in, has_port_in, carrier_of_table, carrier_of_item, carriers_of, carriers_of_items};
+ghost use Rattle.dmr_plan.specs.Carriers.{row_with, has_number_in, has_lpcn_in, has_port_in};
+ghost use Rattle.dmr_plan.specs.Carriers.{carrier_of_table, carrier_of_item, carriers_of};
+ghost use Rattle.dmr_plan.specs.Carriers.{carriers_of_items};
 ghost use Rattle.dmr_plan.specs.Kept.{IsCarrierRow, AreApart, AreCarriers};
 
 use crate::arrays::{array_at, has_count};
@@ -160,7 +162,8 @@ fn carriers_from(
 #[tactic(auto, unfolding(crate::specs::Carriers::carriers_of))]
 pub fn carriers_in(table: &Table) -> Result<BoundedList<CarrierRow, MOST_CARRIERS>, PlanFault>
     ensures gives { result ≡ carriers_of (table_view table.now) }
-    ensures limits { (port : ℕ) → Ok port ≡ number_at_key (table_view table.now) Key.ConsolePort → IfOk result (AreCarriers port) }
+    ensures limits { (port : ℕ) → Ok port ≡ number_at_key (table_view table.now) Key.ConsolePort
+        → IfOk result (AreCarriers port) }
     ensures of_key { IfErr result IsOfKey }
 {
     let console_port = number_at(table, Key::ConsolePort)? as u16;

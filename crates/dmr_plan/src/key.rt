@@ -2,7 +2,8 @@
 //! project's profile. The fields that they fill are those of TS 102 361-4.
 
 ghost use Rattle.std.specs.Prelude.{◌≡◌};
-ghost use Rattle.dmr_plan.specs.Keys.{name_of, limits_of, number_limits, array_limits, FallbackIsWithin};
+ghost use Rattle.dmr_plan.specs.Keys.{name_of, limits_of, number_limits, array_limits};
+ghost use Rattle.dmr_plan.specs.Keys.{FallbackIsWithin};
 
 use std::fmt;
 

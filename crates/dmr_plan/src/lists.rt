@@ -6,7 +6,9 @@ ghost use Rattle.toml.specs.View.{view, items_view, table_view};
 ghost use Rattle.dmr_plan.specs.Steps.{IsOfKey};
 ghost use Rattle.dmr_plan.specs.Numbers.{number as number_of};
 ghost use Rattle.dmr_plan.specs.Arrays.{in_turn};
-ghost use Rattle.dmr_plan.specs.Lists.{has_repeat as repeats, address_of, address_of_items, address_if_missing, range_of, is_within, radios_of, radios_of_items, distinct, groups_of, groups_of_items};
+ghost use Rattle.dmr_plan.specs.Lists.{has_repeat as repeats, address_of, address_of_items};
+ghost use Rattle.dmr_plan.specs.Lists.{address_if_missing, range_of, is_within, radios_of};
+ghost use Rattle.dmr_plan.specs.Lists.{radios_of_items, distinct, groups_of, groups_of_items};
 ghost use Rattle.dmr_plan.specs.Kept.{IsAddress, IsRange, AreRadios, AreGroups};
 ghost use Rattle.dmr_plan.specs.Keys.{IsNumberOf};
 

@@ -1,11 +1,14 @@
 //! The keys that have one whole number.
 
-ghost use Rattle.std.specs.Prelude.{◌≡◌, ◌≢◌, ◌<◌, ◌≤◌, ◌^◌, ℕ, option_map, IfOk, IfErr, IfSome, None};
+ghost use Rattle.std.specs.Prelude.{◌≡◌, ◌≢◌, ◌<◌, ◌≤◌, ◌^◌, ℕ, option_map, IfOk, IfErr, IfSome};
+ghost use Rattle.std.specs.Prelude.{None};
 ghost use Rattle.toml.specs.Data.{get_member};
 ghost use Rattle.toml.specs.View.{view, table_view};
 ghost use Rattle.dmr_plan.specs.Keys.{name_of, limits_of, IsNumberOf};
 ghost use Rattle.dmr_plan.specs.Steps.{IsOfKey};
-ghost use Rattle.dmr_plan.specs.Numbers.{number_within, number_at_key, number_if_missing, bit_in, optional_in, optional_if_missing, number_from_in, number_unlike_in};
+ghost use Rattle.dmr_plan.specs.Numbers.{number_within, number_at_key, number_if_missing, bit_in};
+ghost use Rattle.dmr_plan.specs.Numbers.{optional_in, optional_if_missing, number_from_in};
+ghost use Rattle.dmr_plan.specs.Numbers.{number_unlike_in};
 
 use crate::fault::PlanFault;
 use crate::key::{Fallback, Key};
@@ -14,7 +17,8 @@ use toml::{Table, Value};
 
 /// Returns the value at a key, if there is one.
 pub fn member(table: &Table, key: Key) -> Option<&Value>
-    ensures { option_map (λ v. view v.now) result ≡ get_member (name_of key) (table_view table.now) }
+    ensures { option_map (λ v. view v.now) result
+        ≡ get_member (name_of key) (table_view table.now) }
 {
     table.get(key.name())
 }
@@ -123,7 +127,8 @@ pub fn address_unlike(table: &Table, key: Key, other: Key) -> Result<Address, Pl
     requires { (limits_of key).range.most < 2 ^ 24 }
     ensures gives { result ≡ number_unlike_in (table_view table.now) key other }
     ensures within { IfOk result (IsNumberOf key) }
-    ensures unlike { (m : ℕ) → Ok m ≡ number_at_key (table_view table.now) other → IfOk result (λ n. n ≢ m) }
+    ensures unlike { (m : ℕ) → Ok m ≡ number_at_key (table_view table.now) other
+        → IfOk result (λ n. n ≢ m) }
     ensures of_key { IfErr result IsOfKey }
 {
     let found = number(table, key)?;
@@ -137,7 +142,8 @@ pub fn address_unlike(table: &Table, key: Key, other: Key) -> Result<Address, Pl
 #[tactic(auto, unfolding(crate::specs::Numbers::number_from_in))]
 pub fn number_from(table: &Table, key: Key, other: Key) -> Result<u32, PlanFault>
     ensures gives { result ≡ number_from_in (table_view table.now) key other }
-    ensures low { (m : ℕ) → Ok m ≡ number_at_key (table_view table.now) other → IfOk result (λ n. m ≤ n) }
+    ensures low { (m : ℕ) → Ok m ≡ number_at_key (table_view table.now) other
+        → IfOk result (λ n. m ≤ n) }
     ensures high { IfOk result (λ n. n ≤ (limits_of key).range.most) }
     ensures of_key { IfErr result IsOfKey }
 {

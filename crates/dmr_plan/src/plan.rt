@@ -1,6 +1,7 @@
 //! The plan of a site file.
 
-ghost use Rattle.std.specs.Prelude.{◌≡◌, ◌⊎◌, ◌↔◌, ◌≤◌, length, IsTrue, Err, None, IfSome, IsSome, is_some};
+ghost use Rattle.std.specs.Prelude.{◌≡◌, ◌⊎◌, ◌↔◌, ◌≤◌, length, IsTrue, Err, None, IfSome, IsSome};
+ghost use Rattle.std.specs.Prelude.{is_some};
 ghost use Rattle.std.specs.List.{Any, Contains};
 ghost use Rattle.toml.specs.Errors.{IsBlank};
 ghost use Rattle.toml.specs.Parse.{parse_document};
@@ -290,7 +291,8 @@ impl Plan {
     /// Returns whether a radio may register: whether one of the ranges has it.
     pub fn lists_radio(&self, radio: Address) -> bool
         ensures gives { result ≡ lists_radio self.now radio }
-        ensures member { IsTrue result ↔ Any (λ range. (range.first ≤ radio) × (radio ≤ range.last)) self.now.radios }
+        ensures member { IsTrue result
+            ↔ Any (λ range. (range.first ≤ radio) × (radio ≤ range.last)) self.now.radios }
     {
         self.radios().iter().any(|range| range.contains(radio))
     }
@@ -306,7 +308,8 @@ impl Plan {
     /// Returns the carrier with this number, or `None` if no carrier has it.
     pub fn carrier_with(&self, number: CarrierNo) -> Option<CarrierRow>
         ensures gives { result ≡ row_with self.now.carriers number }
-        ensures row { IfSome result (λ row. (row.number ≡ number) × Contains self.now.carriers row) }
+        ensures row { IfSome result (λ row. (row.number ≡ number)
+            × Contains self.now.carriers row) }
         ensures found { is_some result ≡ has_number_in self.now.carriers number }
         // The control carrier is one of the carriers.
         ensures control { number ≡ self.now.control → IsSome result }

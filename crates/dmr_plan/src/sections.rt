@@ -1,11 +1,14 @@
-//! The sections of a site file: groups of keys, in the order of the keys. Each is read up to its first fault. A plan is made of all of them.
+//! The sections of a site file: groups of keys, in the order of the keys. Each is read up to its first fault. A plan is
+//! made of all of them.
 
 ghost use Rattle.std.specs.Prelude.{◌≡◌, IfOk, IfErr, IfSome};
 ghost use Rattle.toml.specs.View.{table_view};
 ghost use Rattle.dmr_plan.specs.Keys.{IsNumberOf};
 ghost use Rattle.dmr_plan.specs.Steps.{IsOfKey};
 ghost use Rattle.dmr_plan.specs.Numbers.{optional_in};
-ghost use Rattle.dmr_plan.specs.Sections.{system_of, aloha_of, calls_of, serving_of, lists_of, IsSystemSection, IsAlohaSection, IsCallSection, IsServingSection, IsListSection};
+ghost use Rattle.dmr_plan.specs.Sections.{system_of, aloha_of, calls_of, serving_of, lists_of};
+ghost use Rattle.dmr_plan.specs.Sections.{IsSystemSection, IsAlohaSection, IsCallSection};
+ghost use Rattle.dmr_plan.specs.Sections.{IsServingSection, IsListSection};
 
 use crate::carriers::{CarrierRow, carriers_in, has_number};
 use crate::fault::PlanFault;

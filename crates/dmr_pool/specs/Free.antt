@@ -1,5 +1,6 @@
 -- The slots that are free for a call.
-use Rattle.std.specs.Prelude.{◌≡◌, ℕ, ◌<◌, List, [], ◌∷◌, map, Bool, true, false, not, ◌==◌, ◌&&◌, Option}
+use Rattle.std.specs.Prelude.{◌≡◌, ℕ, ◌<◌, List, [], ◌∷◌, map, Bool, true, false, not, ◌==◌, ◌&&◌}
+use Rattle.std.specs.Prelude.{Option}
 use Rattle.std.specs.List.{list_any, find, range_with_len}
 use Rattle.std.specs.Option.{option_map_or}
 use Rattle.dmr_pdu.specs.declared.slots.Slot.{Slot}
@@ -33,10 +34,12 @@ names lpcn number _ = false
 -- a grant that names the slot, by its carrier's channel, waits for the control slot
 abbrev pub is_granted : Settings → List (List Pdu) → Slot → Bool
 is_granted plan outboxes slot =
-    option_map_or (λ (row : CarrierRow). list_any (names row.lpcn slot.slot) (box outboxes (control_slot plan))) (row_with plan.carriers slot.carrier) false
+    option_map_or
+    (λ (row : CarrierRow). list_any (names row.lpcn slot.slot) (box outboxes (control_slot plan)))
+    (row_with plan.carriers slot.carrier) false
 
--- the carrier is in the plan and up, the slot is not the control slot, no call holds it, no PDU waits for it, and no grant of it
--- waits
+-- the carrier is in the plan and up, the slot is not the control slot, no call holds it, no PDU waits for it, and no
+-- grant of it waits
 abbrev pub is_free_by : Settings → List Bool → List (List Pdu) → (Slot → Bool) → Slot → Bool
 is_free_by plan up outboxes holds slot =
     has_number_in plan.carriers slot.carrier && is_up up slot.carrier && not (is_control plan slot)
@@ -66,4 +69,5 @@ HasNoFreeSlot slots = (slot : Slot) → IsSlot slot → is_free slots slot ≡ f
 pub record IsLowestFree (slots : Slots) (slot : Slot) : Type 0 where
   pub within : IsSlot slot
   pub free : is_free slots slot ≡ true
-  pub lowest : (other : Slot) → IsSlot other → place other < place slot → is_free slots other ≡ false
+  pub lowest : (other : Slot) → IsSlot other → place other < place slot
+      → is_free slots other ≡ false

@@ -1,5 +1,6 @@
 -- The numbers of waiting grants of each slot: an invariant of the pool. No crate above uses these definitions.
-use Rattle.std.specs.Prelude.{◌≡◌, ℕ, ◌<◌, ◌≤◌, List, length, ◌==◌, if◌then◌else◌, Option, None, option_map, slice_index_or}
+use Rattle.std.specs.Prelude.{◌≡◌, ℕ, ◌<◌, ◌≤◌, List, length, ◌==◌, if◌then◌else◌, Option, None}
+use Rattle.std.specs.Prelude.{option_map, slice_index_or}
 use Rattle.std.specs.List.{All, count_by, find}
 use Rattle.std.specs.Option.{option_map_or}
 use Rattle.dmr_pdu.specs.declared.slots.Slot.{Slot}
@@ -21,7 +22,9 @@ pub record WaitingPdus : Type 0 where
 -- the number of grants of a slot that wait for the control slot
 abbrev pub grants_of : Settings → List (List Pdu) → Slot → ℕ
 grants_of plan outboxes slot =
-    option_map_or (λ (row : CarrierRow). count_by (names row.lpcn slot.slot) (box outboxes (control_slot plan))) (row_with plan.carriers slot.carrier) 0
+    option_map_or
+    (λ (row : CarrierRow). count_by (names row.lpcn slot.slot) (box outboxes (control_slot plan)))
+    (row_with plan.carriers slot.carrier) 0
 
 -- there are 32 outboxes, and at most 64 PDUs wait in each
 pub record AreOutboxes (outboxes : List (List Pdu)) : Type 0 where
@@ -30,12 +33,15 @@ pub record AreOutboxes (outboxes : List (List Pdu)) : Type 0 where
 
 -- each count is that of the slot at its place
 abbrev pub AreCounted : Settings → List (List Pdu) → List ℕ → Type 0
-AreCounted plan outboxes counts = (place : ℕ) → place < slots_of_site → slice_index_or counts place 0 ≡ grants_of plan outboxes (slot_at place)
+AreCounted plan outboxes counts =
+    (place : ℕ) → place < slots_of_site
+    → slice_index_or counts place 0 ≡ grants_of plan outboxes (slot_at place)
 
 -- the slot with this number on the plan's carrier with this channel
 abbrev pub slot_on_channel : Settings → ℕ → ℕ → Option Slot
 slot_on_channel plan channel number =
-    option_map (λ (row : CarrierRow). record { carrier = row.number; slot = number }) (find (λ (row : CarrierRow). channel == row.lpcn) plan.carriers)
+    option_map (λ (row : CarrierRow). record { carrier = row.number; slot = number })
+    (find (λ (row : CarrierRow). channel == row.lpcn) plan.carriers)
 
 -- the slot that a PDU grants, if it is a grant of a slot of the site
 abbrev pub slot_granted : Settings → Pdu → Option Slot

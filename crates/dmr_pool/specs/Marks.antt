@@ -23,8 +23,10 @@ pub record IsLowestBit (bits : ℕ) (slot : Slot) : Type 0 where
 -- the bit of a place has this value, and the others are unchanged
 pub record IsSet (before after at : ℕ) (set : Bool) : Type 0 where
   pub there : has_bit after at ≡ set
-  pub others : (place : ℕ) → place < slots_of_site → place ≢ at → has_bit after place ≡ has_bit before place
+  pub others : (place : ℕ) → place < slots_of_site → place ≢ at
+      → has_bit after place ≡ has_bit before place
 
 -- exactly the bits of the free slots are set
 abbrev pub AreMarked : ℕ → Slots → Type 0
-AreMarked bits slots = (place : ℕ) → place < slots_of_site → has_bit bits place ≡ is_free slots (slot_at place)
+AreMarked bits slots =
+    (place : ℕ) → place < slots_of_site → has_bit bits place ≡ is_free slots (slot_at place)

@@ -8,7 +8,8 @@ use Rattle.std.proofs.lemmas.Bool.Decides.{Decides-and}
 use Rattle.dmr_pdu.specs.declared.pdu.Pdu.{Pdu}
 use Rattle.dmr_pdu.specs.contracts.pdu.PduPartialEq.TheImpl as pdu_eq
 use Rattle.dmr_pdu.proofs.Laws.{pdu_eq-Decides}
-use Rattle.dmr_plan.specs.Same.{are_same as are_same_plans, are_same-Decides as are_same_plans-Decides}
+use Rattle.dmr_plan.specs.Same.{are_same as are_same_plans}
+use Rattle.dmr_plan.specs.Same.{are_same-Decides as are_same_plans-Decides}
 use Rattle.dmr_pool.specs.Slots.{Slots}
 
 -- the PDUs are the same, one by one
@@ -37,11 +38,14 @@ are_alike a b = pointwise beq a.up b.up && pointwise are_same_pdus a.outboxes b.
 -- the plans are the same, and so are carriers up, held slots and waiting PDUs
 abbrev pub are_same : Slots → Slots → Bool
 are_same a b =
-    are_same_plans a.plan b.plan && pointwise beq a.up b.up && pointwise beq a.held b.held && pointwise are_same_pdus a.outboxes b.outboxes
+    are_same_plans a.plan b.plan && pointwise beq a.up b.up && pointwise beq a.held b.held
+    && pointwise are_same_pdus a.outboxes b.outboxes
 
 -- two values are the same if their fields are
-same_parts : (a b : Slots) → a.plan ≡ b.plan → a.up ≡ b.up → a.held ≡ b.held → a.outboxes ≡ b.outboxes → a ≡ b
-same_parts a b plan up held outboxes = λ i. record { plan = plan i; up = up i; held = held i; outboxes = outboxes i }
+same_parts : (a b : Slots) → a.plan ≡ b.plan → a.up ≡ b.up → a.held ≡ b.held
+    → a.outboxes ≡ b.outboxes → a ≡ b
+same_parts a b plan up held outboxes =
+    λ i. record { plan = plan i; up = up i; held = held i; outboxes = outboxes i }
 
 -- the test decides equality
 pub are_same-Decides : (a b : Slots) → Decides (are_same a b) (a ≡ b)
@@ -52,7 +56,10 @@ are_same-Decides a b =
     let outboxes = pointwise_decides are_same_pdus-Decides a.outboxes b.outboxes in
     let d = Decides-and _ _ (Decides-and _ _ (Decides-and _ _ plan up) held) outboxes in (
       λ h. let e = d.0 h in same_parts a b e.0.0.0 e.0.0.1 e.0.1 e.1,
-      λ e. d.1 (((ap (λ (s : Slots). s.plan) e, ap (λ (s : Slots). s.up) e), ap (λ (s : Slots). s.held) e), ap (λ (s : Slots). s.outboxes) e),
+      λ e. d.1 (
+        ((ap (λ (s : Slots). s.plan) e, ap (λ (s : Slots). s.up) e), ap (λ (s : Slots). s.held) e),
+        ap (λ (s : Slots). s.outboxes) e,
+      ),
     )
 
 -- the test is an equivalence

@@ -1,5 +1,6 @@
 -- The slots of a site, and each change to them.
-use Rattle.std.specs.Prelude.{ℕ, ◌+◌, ◌*◌, List, [], ◌∷◌, ◌++◌, Bool, false, drop, replicate, slice_set, slice_index_or}
+use Rattle.std.specs.Prelude.{ℕ, ◌+◌, ◌*◌, List, [], ◌∷◌, ◌++◌, Bool, false, drop, replicate}
+use Rattle.std.specs.Prelude.{slice_set, slice_index_or}
 pub use Rattle.dmr_pdu.specs.Slots.{IsSlot, place, slot_at}
 use Rattle.dmr_pdu.specs.declared.slots.Slot.{Slot}
 use Rattle.dmr_pdu.specs.declared.pdu.Pdu.{Pdu}
@@ -27,11 +28,13 @@ box boxes slot = slice_index_or boxes (place slot) []
 
 -- the held slots after a carrier's are released
 abbrev pub held_without_carrier : List Bool → ℕ → List Bool
-held_without_carrier held carrier = slice_set (slice_set held (2 * carrier) false) (2 * carrier + 1) false
+held_without_carrier held carrier =
+    slice_set (slice_set held (2 * carrier) false) (2 * carrier + 1) false
 
 -- the outboxes after a carrier's are emptied
 abbrev pub outboxes_without_carrier : List (List Pdu) → ℕ → List (List Pdu)
-outboxes_without_carrier boxes carrier = slice_set (slice_set boxes (2 * carrier) []) (2 * carrier + 1) []
+outboxes_without_carrier boxes carrier =
+    slice_set (slice_set boxes (2 * carrier) []) (2 * carrier + 1) []
 
 -- the outboxes after a PDU is added to a slot's, after those that wait
 abbrev pub outboxes_with_pdu : List (List Pdu) → Slot → Pdu → List (List Pdu)
@@ -43,4 +46,9 @@ outboxes_after_send boxes slot = slice_set boxes (place slot) (drop 1 (box boxes
 
 -- no carrier up, no slot held, no PDU waiting
 abbrev pub nothing_on : Settings → Slots
-nothing_on plan = record { plan = plan; up = replicate carriers_of_site false; held = replicate slots_of_site false; outboxes = replicate slots_of_site [] }
+nothing_on plan = record {
+  plan = plan;
+  up = replicate carriers_of_site false;
+  held = replicate slots_of_site false;
+  outboxes = replicate slots_of_site [];
+}

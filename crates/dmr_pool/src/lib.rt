@@ -1,7 +1,8 @@
-//! The slots of a trunked site: which carriers are up, which slots calls hold, which PDUs wait, and which slots are free.
+//! The slots of a trunked site: which carriers are up, which slots calls hold, which PDUs wait, and which slots are
+//! free.
 //!
-//! A carrier has two slots (TS 102 361-1, clause 4.2). Slot 0 of the plan's control carrier is the control slot; each other slot
-//! can carry a call. By this project's profile, a slot is free for a call if all of these hold:
+//! A carrier has two slots (TS 102 361-1, clause 4.2). Slot 0 of the plan's control carrier is the control slot; each
+//! other slot can carry a call. By this project's profile, a slot is free for a call if all of these hold:
 //!
 //! - its carrier is in the plan and up;
 //! - it is not the control slot;

@@ -1,6 +1,7 @@
 //! The outbox of a slot: the PDUs that wait for it.
 
-ghost use Rattle.std.specs.Prelude.{◌≡◌, ◌≤◌, ◌<◌, ◌+◌, ◌∷◌, ◌++◌, ◌&&◌, [], length, drop, slice_get, IfOk};
+ghost use Rattle.std.specs.Prelude.{◌≡◌, ◌≤◌, ◌<◌, ◌+◌, ◌∷◌, ◌++◌, ◌&&◌, [], length, drop};
+ghost use Rattle.std.specs.Prelude.{slice_get, IfOk};
 ghost use Rattle.dmr_pool.specs.declared.outbox.TheConstants.{MOST_PDUS_OF_A_SLOT};
 ghost use Rattle.dmr_pool.specs.Same.{are_same_pdus};
 
@@ -27,7 +28,8 @@ impl Model for Outbox {
 
     ghost view = { λ outbox. outbox.waiting.items };
 
-    ghost invariant = { λ outbox. (outbox.waiting.capacity ≡ MOST_PDUS_OF_A_SLOT) × (length outbox.waiting.items ≤ MOST_PDUS_OF_A_SLOT) };
+    ghost invariant = { λ outbox. (outbox.waiting.capacity ≡ MOST_PDUS_OF_A_SLOT)
+        × (length outbox.waiting.items ≤ MOST_PDUS_OF_A_SLOT) };
 }
 
 impl Outbox {
@@ -70,7 +72,8 @@ impl Outbox {
     fn is_same_at(&self, other: &Outbox, index: usize) -> bool
         requires own { index < length self.now }
         requires other { index < length other.now }
-        ensures { are_same_pdus (drop index self.now) (drop index other.now) ≡ (result && are_same_pdus (drop (index + 1) self.now) (drop (index + 1) other.now)) }
+        ensures { are_same_pdus (drop index self.now) (drop index other.now)
+            ≡ (result && are_same_pdus (drop (index + 1) self.now) (drop (index + 1) other.now)) }
     {
         match (self.waiting.get(index), other.waiting.get(index)) {
             (Some(pdu), Some(its)) => pdu == its,

@@ -4,7 +4,8 @@ ghost use Rattle.std.specs.Prelude.{◌≡◌, ◌<◌, [], ◌≤◌, length, r
 ghost use Rattle.std.specs.Cmp.Lexicographic.{pointwise};
 ghost use Rattle.dmr_plan.specs.IsPlan.{IsPlan};
 ghost use Rattle.dmr_pool.specs.declared.outbox.TheConstants.{MOST_PDUS_OF_A_SLOT};
-ghost use Rattle.dmr_pool.specs.Slots.{box, outboxes_without_carrier, outboxes_with_pdu, outboxes_after_send};
+ghost use Rattle.dmr_pool.specs.Slots.{box, outboxes_without_carrier, outboxes_with_pdu};
+ghost use Rattle.dmr_pool.specs.Slots.{outboxes_after_send};
 ghost use Rattle.dmr_pool.specs.Free.{control_slot, is_control, is_granted};
 ghost use Rattle.dmr_pool.specs.Grants.{AreOutboxes, slot_counted, slot_granted, slot_on_channel};
 ghost use Rattle.dmr_pool.specs.Same.{are_same_pdus};
@@ -35,7 +36,8 @@ impl Model for Outboxes {
 
     ghost view = { λ o. record { plan = o.plan; outboxes = o.outboxes.items } };
 
-    ghost invariant = { λ o. AreOutboxes o.outboxes.items × AreCounted o.plan o.outboxes.items o.grants };
+    ghost invariant = { λ o. AreOutboxes o.outboxes.items
+        × AreCounted o.plan o.outboxes.items o.grants };
 }
 
 /// Makes empty outboxes. Returns `OutOfMemory` if they cannot be allocated.
@@ -132,8 +134,8 @@ impl Outboxes {
         }
     }
 
-    /// The slot whose grant count changes when a PDU is added to a slot's outbox or removed from it. Only grants that wait for the
-    /// control slot count.
+    /// The slot whose grant count changes when a PDU is added to a slot's outbox or removed from it. Only grants that
+    /// wait for the control slot count.
     pub fn slot_counted(&self, slot: &Slot, pdu: &Pdu) -> Option<Slot>
         ensures { result ≡ slot_counted self.now.plan slot.now pdu.now }
     {
@@ -147,7 +149,10 @@ impl Outboxes {
     /// Adds a PDU after those that wait for a slot. There must be a place for it.
     pub fn push(&mut self, slot: &Slot, pdu: &Pdu)
         requires { length (box self.old.outboxes slot.now) < MOST_PDUS_OF_A_SLOT }
-        ensures { self.new ≡ record { plan = self.old.plan; outboxes = outboxes_with_pdu self.old.outboxes slot.now pdu.now } }
+        ensures { self.new ≡ record {
+          plan = self.old.plan;
+          outboxes = outboxes_with_pdu self.old.outboxes slot.now pdu.now;
+        } }
     {
         let granted = self.slot_counted(slot, pdu);
         self.plan.use_invariant();
@@ -160,7 +165,10 @@ impl Outboxes {
     /// Removes the PDU that has waited longest for a slot, which must be `pdu`.
     pub fn take(&mut self, slot: &Slot, pdu: &Pdu)
         requires { slice_get (box self.old.outboxes slot.now) 0 ≡ Some pdu.now }
-        ensures { self.new ≡ record { plan = self.old.plan; outboxes = outboxes_after_send self.old.outboxes slot.now } }
+        ensures { self.new ≡ record {
+          plan = self.old.plan;
+          outboxes = outboxes_after_send self.old.outboxes slot.now;
+        } }
     {
         let granted = self.slot_counted(slot, pdu);
         self.plan.use_invariant();
@@ -172,7 +180,10 @@ impl Outboxes {
 
     /// Removes all PDUs that wait for the slots of a carrier.
     pub fn clear(&mut self, carrier: CarrierNo)
-        ensures { self.new ≡ record { plan = self.old.plan; outboxes = outboxes_without_carrier self.old.outboxes carrier } }
+        ensures { self.new ≡ record {
+          plan = self.old.plan;
+          outboxes = outboxes_without_carrier self.old.outboxes carrier;
+        } }
     {
         let first = 2 * carrier.get() as usize;
         self.outboxes[first].clear();

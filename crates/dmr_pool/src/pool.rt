@@ -1,10 +1,13 @@
 //! The pool: carriers that are up, slots that calls hold, outboxes, and free slots.
 
-ghost use Rattle.std.specs.Prelude.{◌≡◌, ◌<◌, ◌≤◌, ◌↔◌, length, filter, slice_get, slice_set, true, false, IsTrue, IsErr, IfOk, OnOk, OnErr, MatchOption};
+ghost use Rattle.std.specs.Prelude.{◌≡◌, ◌<◌, ◌≤◌, ◌↔◌, length, filter, slice_get, slice_set, true};
+ghost use Rattle.std.specs.Prelude.{false, IsTrue, IsErr, IfOk, OnOk, OnErr, MatchOption};
 ghost use Rattle.dmr_plan.specs.Carriers.{has_number_in};
 ghost use Rattle.dmr_pool.specs.declared.outbox.TheConstants.{MOST_PDUS_OF_A_SLOT};
-ghost use Rattle.dmr_pool.specs.Slots.{box, is_up, outboxes_without_carrier, held_without_carrier, outboxes_with_pdu, outboxes_after_send, place, nothing_on};
-ghost use Rattle.dmr_pool.specs.Free.{control_slot, is_control, is_free, lowest_free, HasNoFreeSlot, IsLowestFree};
+ghost use Rattle.dmr_pool.specs.Slots.{box, is_up, outboxes_without_carrier, held_without_carrier};
+ghost use Rattle.dmr_pool.specs.Slots.{outboxes_with_pdu, outboxes_after_send, place, nothing_on};
+ghost use Rattle.dmr_pool.specs.Free.{control_slot, is_control, is_free, lowest_free};
+ghost use Rattle.dmr_pool.specs.Free.{HasNoFreeSlot, IsLowestFree};
 ghost use Rattle.dmr_pool.specs.Marks.{AreMarked};
 ghost use Rattle.dmr_pool.specs.Kept.{AreSlotsOfSite};
 ghost use Rattle.dmr_pool.specs.Same.{are_alike, are_same};
@@ -23,8 +26,8 @@ pub struct Full;
 
 /// The slots of a plan's site.
 ///
-/// Contracts see the plan, the carriers that are up, the slots that calls hold, and the PDUs that wait for each slot. Their
-/// invariant is `AreSlotsOfSite`; a proof gets it from [`Pool::use_invariant`].
+/// Contracts see the plan, the carriers that are up, the slots that calls hold, and the PDUs that wait for each slot.
+/// Their invariant is `AreSlotsOfSite`; a proof gets it from [`Pool::use_invariant`].
 #[derive(Drop)]
 pub struct Pool {
     up: [bool; 16],
@@ -64,7 +67,12 @@ fn are_sized(up: &[bool; 16], held: &[bool; 32])
 
 /// Reports whether a slot is free for a call: the test that [`Pool::is_free`] describes.
 fn is_free(outboxes: &Outboxes, up: &[bool; 16], held: &[bool; 32], slot: &Slot) -> bool
-    ensures { result ≡ is_free (record { plan = outboxes.now.plan; up = up.now; held = held.now; outboxes = outboxes.now.outboxes }) slot.now }
+    ensures { result ≡ is_free (record {
+      plan = outboxes.now.plan;
+      up = up.now;
+      held = held.now;
+      outboxes = outboxes.now.outboxes;
+    }) slot.now }
 {
     let carrier = slot.carrier.get() as usize;
     outboxes.plan().carrier_with(slot.carrier).is_some()
@@ -77,7 +85,12 @@ fn is_free(outboxes: &Outboxes, up: &[bool; 16], held: &[bool; 32], slot: &Slot)
 
 /// The set of the free slots.
 fn all_free(outboxes: &Outboxes, up: &[bool; 16], held: &[bool; 32]) -> Marks
-    ensures { AreMarked result.bits (record { plan = outboxes.now.plan; up = up.now; held = held.now; outboxes = outboxes.now.outboxes }) }
+    ensures { AreMarked result.bits (record {
+      plan = outboxes.now.plan;
+      up = up.now;
+      held = held.now;
+      outboxes = outboxes.now.outboxes;
+    }) }
 {
     let mut free = Marks::none();
     for place in 0..32usize {
@@ -190,8 +203,8 @@ impl Pool {
 
     /// Reports whether a slot is free for a call.
     ///
-    /// The slot's carrier must be in the plan and up, and the slot must not be the control slot. No call holds it, no PDU waits for
-    /// it, and no grant of it waits for the control slot.
+    /// The slot's carrier must be in the plan and up, and the slot must not be the control slot. No call holds it, no
+    /// PDU waits for it, and no grant of it waits for the control slot.
     pub fn is_free(&self, slot: Slot) -> bool
         ensures { result ≡ is_free self.now slot }
     {
@@ -236,7 +249,8 @@ impl Pool {
     pub fn push(&mut self, slot: Slot, pdu: Pdu) -> Result<(), Full>
         requires { IsTrue (is_up self.old.up slot.carrier) }
         ensures full { IsErr result ↔ (length (box self.old.outboxes slot) ≡ MOST_PDUS_OF_A_SLOT) }
-        ensures ok { OnOk result (self.new ≡ record self.old { outboxes = outboxes_with_pdu self.old.outboxes slot pdu }) }
+        ensures ok { OnOk result (self.new
+            ≡ record self.old { outboxes = outboxes_with_pdu self.old.outboxes slot pdu }) }
         ensures err { OnErr result (self.new ≡ self.old) }
     {
         if self.waiting(slot) >= MOST_PDUS_OF_A_SLOT {
@@ -249,7 +263,8 @@ impl Pool {
     /// Adds a PDU after those that wait for a slot. There must be a place for it.
     pub fn add_pdu(&mut self, slot: &Slot, pdu: &Pdu)
         requires { length (box self.old.outboxes slot.now) < MOST_PDUS_OF_A_SLOT }
-        ensures { self.new ≡ record self.old { outboxes = outboxes_with_pdu self.old.outboxes slot.now pdu.now } }
+        ensures { self.new
+            ≡ record self.old { outboxes = outboxes_with_pdu self.old.outboxes slot.now pdu.now } }
     {
         self.outboxes.use_invariant();
         self.outboxes.push(slot, pdu);
@@ -262,7 +277,8 @@ impl Pool {
     /// Removes the PDU that has waited longest for a slot, if there is one, and returns it.
     pub fn take(&mut self, slot: Slot) -> Option<Pdu>
         ensures first { result ≡ slice_get (box self.old.outboxes slot) 0 }
-        ensures rest { self.new ≡ record self.old { outboxes = outboxes_after_send self.old.outboxes slot } }
+        ensures rest { self.new
+            ≡ record self.old { outboxes = outboxes_after_send self.old.outboxes slot } }
     {
         let pdu = self.first(slot)?;
         self.take_first(&slot, &pdu);
@@ -272,7 +288,8 @@ impl Pool {
     /// Removes the PDU that has waited longest for a slot, which must be `pdu`.
     pub fn take_first(&mut self, slot: &Slot, pdu: &Pdu)
         requires { slice_get (box self.old.outboxes slot.now) 0 ≡ Some pdu.now }
-        ensures { self.new ≡ record self.old { outboxes = outboxes_after_send self.old.outboxes slot.now } }
+        ensures { self.new
+            ≡ record self.old { outboxes = outboxes_after_send self.old.outboxes slot.now } }
     {
         self.outboxes.use_invariant();
         self.outboxes.take(slot, pdu);
@@ -325,8 +342,8 @@ impl Pool {
     }
 }
 
-/// Two pools are equal if they have the same plan, the same carriers up, the same slots held, and the same PDUs waiting for each
-/// slot in the same order.
+/// Two pools are equal if they have the same plan, the same carriers up, the same slots held, and the same PDUs waiting
+/// for each slot in the same order.
 impl PartialEq for Pool {
     ghost use Rattle.std.specs.Cmp.{partial_equiv_from_equiv};
     ghost use Rattle.dmr_pool.specs.Same.{are_same, are_same-equivalence};

@@ -3,7 +3,8 @@ use Rattle.dmr_port.specs.declared.cause.EndCause.{EndCause}
 use Rattle.dmr_port.specs.declared.cause.EndCause.TheVariants as cause
 use Rattle.dmr_port.specs.declared.whose.Whose.{Whose}
 use Rattle.dmr_wire.specs.declared.closing.Closing.{Closing}
-use Rattle.dmr_wire.specs.declared.closing.Closing.TheVariants.{Over, Bye, ReadFailed, WriteFailed, Bad, Refused}
+use Rattle.dmr_wire.specs.declared.closing.Closing.TheVariants.{Over, Bye, ReadFailed, WriteFailed}
+use Rattle.dmr_wire.specs.declared.closing.Closing.TheVariants.{Bad, Refused}
 
 -- the cause of a closing on the port of this owner
 abbrev pub cause_of_closing : Closing → Whose → EndCause

@@ -1,5 +1,6 @@
 -- What the first octets of a connection say about the peer.
-use Rattle.std.specs.Prelude.{◌≡◌, ℕ, ◌<◌, ◌==◌, ◌&&◌, Bool, true, false, List, [], ◌∷◌, codes, Option, Some, None, IsSome, is_some, nat_eq}
+use Rattle.std.specs.Prelude.{◌≡◌, ℕ, ◌<◌, ◌==◌, ◌&&◌, Bool, true, false, List, [], ◌∷◌, codes}
+use Rattle.std.specs.Prelude.{Option, Some, None, IsSome, is_some, nat_eq}
 use Rattle.std.specs.List.{list_any, starts_with}
 use Rattle.dmr_frames.specs.declared.frame.FrameIn.{FrameIn}
 use Rattle.dmr_frames.specs.declared.frame.FrameIn.TheVariants.{Hello}
@@ -39,8 +40,8 @@ is_frame_for greatest number channel None = false
 -- the methods of HTTP, each with a space
 abbrev pub http_methods : List (List ℕ)
 http_methods =
-    codes "GET " ∷ codes "HEAD " ∷ codes "POST " ∷ codes "PUT " ∷ codes "DELETE " ∷ codes "CONNECT " ∷ codes "OPTIONS " ∷ codes "TRACE "
-    ∷ codes "PATCH " ∷ []
+    codes "GET " ∷ codes "HEAD " ∷ codes "POST " ∷ codes "PUT " ∷ codes "DELETE " ∷ codes "CONNECT "
+    ∷ codes "OPTIONS " ∷ codes "TRACE " ∷ codes "PATCH " ∷ []
 
 -- whether octets begin with a request of HTTP: one of its methods and a space
 abbrev pub begins_http : List ℕ → Bool

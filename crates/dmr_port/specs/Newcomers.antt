@@ -12,8 +12,10 @@ HasSent settings octets newcomer None = ⊥
 HasSent settings octets newcomer (Some known) =
     (known.from ≡ newcomer.from) × (IsTrue known.has_hello ↔ IsClaim settings octets)
 
--- it is known by its first octets; nothing new is known if there are none; and nobody is there if its connection has ended
+-- it is known by its first octets; nothing new is known if there are none; and nobody is there if its connection has
+-- ended
 abbrev pub IsKnownAs : PortSettings → Newcomer → Peeked → List ℕ → Option Newcomer → Type 0
-IsKnownAs settings newcomer (peeked.Octets n) octets known = HasSent settings (take n octets) newcomer known
+IsKnownAs settings newcomer (peeked.Octets n) octets known =
+    HasSent settings (take n octets) newcomer known
 IsKnownAs settings newcomer peeked.Nothing octets known = known ≡ Some newcomer
 IsKnownAs settings newcomer peeked.Ended octets known = known ≡ None

@@ -16,7 +16,8 @@ is_in_minute now limit = nat_lt (now - limit.minute_began) 60_000
 abbrev pub has_note_left : NoteLimit → Bool
 has_note_left limit = nat_lt limit.written 20
 
--- what is done with a note: 20 notes a minute are written, and the first of the next minute after the number of those that were not
+-- what is done with a note: 20 notes a minute are written, and the first of the next minute after the number of those
+-- that were not
 abbrev pub verdict_on_note : ℕ → NoteLimit → Verdict
 verdict_on_note now limit =
     if is_in_minute now limit then (if has_note_left limit then Write else Drop)
@@ -26,5 +27,6 @@ verdict_on_note now limit =
 abbrev pub limit_after : ℕ → NoteLimit → NoteLimit
 limit_after now limit =
     if is_in_minute now limit
-    then (if has_note_left limit then record limit { written = limit.written + 1 } else record limit { dropped = min (limit.dropped + 1) (2 ^ 32 - 1) })
+    then (if has_note_left limit then record limit { written = limit.written + 1 }
+    else record limit { dropped = min (limit.dropped + 1) (2 ^ 32 - 1) })
     else record { minute_began = now; written = 1; dropped = 0 }

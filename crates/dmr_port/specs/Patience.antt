@@ -1,5 +1,7 @@
 -- How long a port waits for a connection, and when the connection is given up. All times are in milliseconds.
-use Rattle.std.specs.Prelude.{ℕ, ◌+◌, ◌-◌, ◌*◌, ◌^◌, ◌==◌, min, nat_le, Bool, false, not, ◌&&◌, ◌||◌, if◌then◌else◌, List, length, slice_index, Option, Some, None, option_map}
+use Rattle.std.specs.Prelude.{ℕ, ◌+◌, ◌-◌, ◌*◌, ◌^◌, ◌==◌, min, nat_le, Bool, false, not, ◌&&◌}
+use Rattle.std.specs.Prelude.{◌||◌, if◌then◌else◌, List, length, slice_index, Option, Some, None}
+use Rattle.std.specs.Prelude.{option_map}
 use Rattle.std.specs.Option.{is_some, unwrap_or}
 use Rattle.std.specs.List.{list_any}
 use Rattle.dmr_port.specs.declared.cause.EndCause.{EndCause}
@@ -17,7 +19,8 @@ has_lasted_if milliseconds (Some time) = nat_le milliseconds time
 
 -- the patience with a new connection, from which a HELLO is expected or not
 abbrev pub new_patience : Bool → Patience
-new_patience expects_hello = record { quiet = 0; unread = 0; hello = if expects_hello then Some 0 else None; line = None }
+new_patience expects_hello =
+    record { quiet = 0; unread = 0; hello = if expects_hello then Some 0 else None; line = None }
 
 -- after a wait. While octets are kept, nothing is read, so a line does not get older
 abbrev pub patience_after_wait : ℕ → Bool → Patience → Patience
@@ -32,8 +35,8 @@ patience_after_wait ms keeps p = record {
 abbrev pub ends_line : List ℕ → Bool
 ends_line octets = slice_index octets (length octets - 1) == 10
 
--- how long the line that has not ended has lasted, after octets. There is none if they end with a line feed. It is new if they have a line
--- feed elsewhere, or if no line had begun
+-- how long the line that has not ended has lasted, after octets. There is none if they end with a line feed. It is new
+-- if they have a line feed elsewhere, or if no line had begun
 abbrev pub line_after : Option ℕ → List ℕ → Option ℕ
 line_after line octets =
     if ends_line octets then None
@@ -53,8 +56,8 @@ patience_after_octets octets has_hello by_lines p = record {
 abbrev pub is_displaceable : Patience → Bool
 is_displaceable p = is_some p.hello || nat_le 1000 p.quiet
 
--- why a connection is given up after a wait. Silence: nothing is kept, and nothing came for `silence` waits of 100 ms. No HELLO came, or a
--- line did not end, for as long. Kept octets were not taken for 50 waits
+-- why a connection is given up after a wait. Silence: nothing is kept, and nothing came for `silence` waits of 100 ms.
+-- No HELLO came, or a line did not end, for as long. Kept octets were not taken for 50 waits
 abbrev pub cause_after_wait : ℕ → Bool → Bool → Patience → Option EndCause
 cause_after_wait silence keeps ready p =
     if not keeps && not ready && nat_le (100 * silence) p.quiet then Some Silence

@@ -1,5 +1,7 @@
 -- A port, as its callers see it.
-use Rattle.std.specs.Prelude.{◌≡◌, ◌↔◌, ◌⊎◌, ℕ, ◌≤◌, ◌++◌, ◌==◌, ◌||◌, if◌then◌else◌, Bool, true, false, not, List, [], length, take, Option, Some, None, IsTrue, nat_eq}
+use Rattle.std.specs.Prelude.{◌≡◌, ◌↔◌, ◌⊎◌, ℕ, ◌≤◌, ◌++◌, ◌==◌, ◌||◌, if◌then◌else◌, Bool, true}
+use Rattle.std.specs.Prelude.{false, not, List, [], length, take, Option, Some, None, IsTrue}
+use Rattle.std.specs.Prelude.{nat_eq}
 use Rattle.std.specs.Option.{option_or}
 use Rattle.dmr_wire.specs.declared.wire.Got.{Got}
 use Rattle.dmr_wire.specs.declared.wire.Got.TheVariants as got
@@ -8,7 +10,8 @@ use Rattle.dmr_wire.specs.declared.port.Waited.TheVariants.{Again, Silent}
 use Rattle.dmr_wire.specs.declared.wire.Put.{Put}
 use Rattle.dmr_wire.specs.declared.wire.Put.TheVariants as put
 use Rattle.dmr_port.specs.declared.cause.EndCause.{EndCause}
-use Rattle.dmr_port.specs.declared.cause.EndCause.TheVariants.{EndOfInput, Http, NotRead, ReadFault, WriteFault}
+use Rattle.dmr_port.specs.declared.cause.EndCause.TheVariants.{EndOfInput, Http, NotRead, ReadFault}
+use Rattle.dmr_port.specs.declared.cause.EndCause.TheVariants.{WriteFault}
 use Rattle.dmr_port.specs.declared.patience.Patience.{Patience}
 use Rattle.dmr_port.specs.declared.served.Served.{Served}
 use Rattle.dmr_port.specs.declared.settings.PortSettings.{PortSettings}
@@ -20,7 +23,8 @@ use Rattle.dmr_port.specs.Settings.{is_carrier}
 use Rattle.dmr_port.specs.Sockets.{HasTakenNone}
 use Rattle.dmr_port.specs.Unsent.{PassesOctets}
 
--- the connection that is served: how long the port has waited for it, its first eight octets, and why it ended, if that is known
+-- the connection that is served: how long the port has waited for it, its first eight octets, and why it ended, if that
+-- is known
 pub record Connection : Type 0 where
   pub patience : Patience
   pub first : List ℕ
@@ -38,8 +42,8 @@ unread_of c = c.patience.unread
 abbrev pub new_connection : Bool → Connection
 new_connection is_carrier = record { patience = new_patience is_carrier; first = []; ended = None }
 
--- a port: its settings, its connection, if there is one, the octets that are kept for the connection, and those that it took, if they are
--- known. Also the number of newcomers, and the octets that were given in the window
+-- a port: its settings, its connection, if there is one, the octets that are kept for the connection, and those that it
+-- took, if they are known. Also the number of newcomers, and the octets that were given in the window
 pub record PortState : Type 0 where
   pub settings : PortSettings
   pub connection : Option Connection
@@ -51,7 +55,14 @@ pub record PortState : Type 0 where
 -- a port that has done nothing
 abbrev pub empty_port : PortSettings → Option (List ℕ) → PortState
 empty_port settings taken =
-    record { settings = settings; connection = None; unsent = []; taken = taken; waiting = 0; window = fresh_window 0 }
+    record {
+      settings = settings;
+      connection = None;
+      unsent = [];
+      taken = taken;
+      waiting = 0;
+      window = fresh_window 0;
+    }
 
 -- a port whose connection has just begun: nothing came, nothing is kept, and nothing was taken
 pub record IsFresh (port : PortState) : Type 0 where
@@ -68,14 +79,16 @@ abbrev pub count_of : Got → ℕ
 count_of (got.Octets n) = n
 count_of other = 0
 
--- octets came. The connection is no longer waited for with a HELLO if its first six octets are one. If octets were kept, they have been sent. On
--- the operators' port the octets do not complete a request of HTTP
-pub record HasReadOctets (is_carrier : Bool) (old : Connection) (octets : List ℕ) (new : Connection) : Type 0 where
+-- octets came. The connection is no longer waited for with a HELLO if its first six octets are one. If octets were
+-- kept, they have been sent. On the operators' port the octets do not complete a request of HTTP
+pub record HasReadOctets (is_carrier : Bool) (old : Connection) (octets : List ℕ)
+    (new : Connection) : Type 0 where
   pub first : new.first ≡ take 8 (old.first ++ octets)
   pub unread : ℕ
   pub has_hello : Bool
   pub hello : IsTrue has_hello ↔ IsHello (take 6 new.first)
-  pub patience : new.patience ≡ patience_after_octets octets has_hello (not is_carrier) (record old.patience { unread = unread })
+  pub patience : new.patience ≡ patience_after_octets octets has_hello (not is_carrier)
+      (record old.patience { unread = unread })
   pub admitted : is_carrier || not (begins_http new.first) ≡ true
   pub ended : new.ended ≡ old.ended
 
@@ -86,19 +99,23 @@ pub record HasReadNothing (old new : Connection) : Type 0 where
   pub patience : new.patience ≡ record old.patience { unread = unread }
   pub ended : new.ended ≡ old.ended
 
--- the connection after a read, which left these octets in the slice. The input has ended, or a request of HTTP ended the connection to the
--- operators' port. A fault is that of a read, or of a write of kept octets
+-- the connection after a read, which left these octets in the slice. The input has ended, or a request of HTTP ended
+-- the connection to the operators' port. A fault is that of a read, or of a write of kept octets
 abbrev pub HasReadFrom : Bool → Connection → Got → List ℕ → Connection → Type 0
-HasReadFrom is_carrier old (got.Octets n) octets new = HasReadOctets is_carrier old (take n octets) new
+HasReadFrom is_carrier old (got.Octets n) octets new =
+    HasReadOctets is_carrier old (take n octets) new
 HasReadFrom is_carrier old got.End octets new =
-    (new.ended ≡ Some EndOfInput) ⊎ ((is_carrier ≡ false) × (begins_http new.first ≡ true) × (new.ended ≡ Some Http))
-HasReadFrom is_carrier old got.Fault octets new = (new.ended ≡ Some ReadFault) ⊎ (new.ended ≡ Some WriteFault)
+    (new.ended ≡ Some EndOfInput)
+    ⊎ ((is_carrier ≡ false) × (begins_http new.first ≡ true) × (new.ended ≡ Some Http))
+HasReadFrom is_carrier old got.Fault octets new =
+    (new.ended ≡ Some ReadFault) ⊎ (new.ended ≡ Some WriteFault)
 HasReadFrom is_carrier old other octets new = HasReadNothing old new
 
 -- a read of a port. Without a connection it fails
 abbrev pub HasRead : Bool → Option Connection → Got → List ℕ → Option Connection → Type 0
 HasRead is_carrier None result octets None = result ≡ got.Fault
-HasRead is_carrier (Some old) result octets (Some new) = HasReadFrom is_carrier old result octets new
+HasRead is_carrier (Some old) result octets (Some new) =
+    HasReadFrom is_carrier old result octets new
 HasRead is_carrier old result octets new = ⊥
 
 -- the link's answer to a write: it would block if there was no room for an octet
@@ -121,9 +138,10 @@ abbrev pub waited_by : Option EndCause → Waited
 waited_by None = Again
 waited_by (Some cause) = Silent
 
--- a wait of at most 25 ms with a connection, after which it is given up by the rules, or goes on. `ready`: it could then be read, or written if
--- octets are kept. `is_claimed`: a newcomer has sent a HELLO for this carrier
-pub record HasWaitedFor (silence : ℕ) (keeps : Bool) (old new : Connection) (result : Waited) : Type 0 where
+-- a wait of at most 25 ms with a connection, after which it is given up by the rules, or goes on. `ready`: it could
+-- then be read, or written if octets are kept. `is_claimed`: a newcomer has sent a HELLO for this carrier
+pub record HasWaitedFor (silence : ℕ) (keeps : Bool) (old new : Connection)
+    (result : Waited) : Type 0 where
   pub milliseconds : ℕ
   pub within : milliseconds ≤ 25
   pub ready : Bool
@@ -131,7 +149,8 @@ pub record HasWaitedFor (silence : ℕ) (keeps : Bool) (old new : Connection) (r
   pub patience : new.patience ≡ patience_after_wait milliseconds keeps old.patience
   pub first : new.first ≡ old.first
   pub waited : result ≡ waited_by (cause_of_served silence keeps ready is_claimed new.patience)
-  pub ended : new.ended ≡ option_or (cause_of_served silence keeps ready is_claimed new.patience) old.ended
+  pub ended : new.ended
+      ≡ option_or (cause_of_served silence keeps ready is_claimed new.patience) old.ended
 
 -- a wait: without a connection it is silent
 abbrev pub HasWaited : ℕ → Bool → Option Connection → Option Connection → Waited → Type 0

@@ -1,5 +1,6 @@
 -- Which of the newcomers is served next, and which is closed when there are too many.
-use Rattle.std.specs.Prelude.{ℕ, ◌-◌, Bool, not, List, [], ◌∷◌, length, Option, Some, None, position, if◌then◌else◌}
+use Rattle.std.specs.Prelude.{ℕ, ◌-◌, Bool, not, List, [], ◌∷◌, length, Option, Some, None}
+use Rattle.std.specs.Prelude.{position, if◌then◌else◌}
 use Rattle.std.specs.Option.{option_or, unwrap_or}
 use Rattle.dmr_port.specs.declared.waiting_room.Newcomer.{Newcomer}
 
@@ -24,8 +25,8 @@ place_of_stranger newcomers = position (λ (n : Newcomer). not n.has_hello) newc
 abbrev pub place_of_next : List Newcomer → Option ℕ
 place_of_next newcomers = option_or (place_of_claimant newcomers) (place_of_oldest newcomers)
 
--- the place of the newcomer that is closed if there are too many: the first without a HELLO, or else the newest. If nobody sends a HELLO, it is
--- the newest
+-- the place of the newcomer that is closed if there are too many: the first without a HELLO, or else the newest. If
+-- nobody sends a HELLO, it is the newest
 abbrev pub place_of_refused : Bool → List Newcomer → ℕ
 place_of_refused by_hello newcomers =
     if by_hello then unwrap_or (place_of_stranger newcomers) (place_of_newest newcomers)

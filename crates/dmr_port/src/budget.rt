@@ -5,8 +5,8 @@ ghost use Rattle.dmr_port.specs.Budget.{fresh_window, window_at};
 
 use std::marker::Model;
 
-/// The most octets that a port returns to its link in a window (this project's profile). A base station that polls and sends two bursts in each
-/// TDMA frame of 60 ms needs 60 octets.
+/// The most octets that a port returns to its link in a window (this project's profile). A base station that polls and
+/// sends two bursts in each TDMA frame of 60 ms needs 60 octets.
 const OCTETS_OF_A_WINDOW: u16 = 512;
 
 /// The milliseconds of a window: a TDMA frame.

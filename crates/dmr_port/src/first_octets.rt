@@ -2,7 +2,8 @@
 
 ghost use Rattle.std.specs.Prelude.{◌≡◌, ◌↔◌, ◌≤◌, ◌++◌, [], IsTrue, length, take};
 ghost use Rattle.arrayvec.specs.ArrayVec.{array_vec_len};
-ghost use Rattle.dmr_port.specs.FirstOctets.{IsHello, IsHelloFor, begins_http, is_frame_for, is_hello_frame};
+ghost use Rattle.dmr_port.specs.FirstOctets.{IsHello, IsHelloFor, begins_http, is_frame_for};
+ghost use Rattle.dmr_port.specs.FirstOctets.{is_hello_frame};
 
 use arrayvec::ArrayVec;
 use dmr_frames::{FrameIn, Version, whole_frame};
@@ -70,8 +71,8 @@ fn begins_http(octets: &[u8]) -> bool
         || octets.starts_with(b"PATCH ")
 }
 
-/// Returns whether the octets are those of a HELLO, of any version, carrier and channel. A HELLO is the first frame of a connection, so its
-/// spelling is that of version 1 of the link.
+/// Returns whether the octets are those of a HELLO, of any version, carrier and channel. A HELLO is the first frame of
+/// a connection, so its spelling is that of version 1 of the link.
 #[tactic(auto, using(crate::proofs::FirstOctetsLemmas::hello_from_frame))]
 fn is_hello(octets: &[u8]) -> bool
     ensures { IsTrue result ↔ IsHello octets.now }
@@ -91,7 +92,8 @@ fn is_hello_frame(frame: &Option<FrameIn>) -> bool
     }
 }
 
-/// Returns whether the octets are those of a HELLO of a version that is served, up to `greatest`, with this carrier's number and channel.
+/// Returns whether the octets are those of a HELLO of a version that is served, up to `greatest`, with this carrier's
+/// number and channel.
 #[tactic(auto, using(crate::proofs::FirstOctetsLemmas::hello_for_from_frame))]
 pub fn is_hello_for(greatest: Version, number: CarrierNo, lpcn: Lpcn, octets: &[u8]) -> bool
     ensures { IsTrue result ↔ IsHelloFor greatest number lpcn octets.now }

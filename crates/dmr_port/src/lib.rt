@@ -1,8 +1,9 @@
 //! A port that nobody can hold: one connection at a time to its link, whatever other peers do.
 //!
-//! A [`ServingPort`] is a `dmr_wire::Port` over [`Sockets`]. It accepts newcomers while it serves a connection, and limits what a
-//! connection may send. It ends a connection that is silent, does not read, or is in the way of the base station. The rules are pure
-//! parts with exact contracts. The system is hidden by the trait [`Sockets`]. The port reports what happens to [`PortNotes`].
+//! A [`ServingPort`] is a `dmr_wire::Port` over [`Sockets`]. It accepts newcomers while it serves a connection, and
+//! limits what a connection may send. It ends a connection that is silent, does not read, or is in the way of the base
+//! station. The rules are pure parts with exact contracts. The system is hidden by the trait [`Sockets`]. The port
+//! reports what happens to [`PortNotes`].
 #![tactic(auto)]
 
 mod budget;

@@ -11,7 +11,8 @@ use crate::sockets::{Peeked, Sockets};
 use crate::waiting_room::{MOST_WAITING, Newcomer, WaitingRoom};
 use std::net::SocketAddr;
 
-/// Returns what is known of a newcomer without a HELLO after a look at its first octets, or `None` if its connection has ended.
+/// Returns what is known of a newcomer without a HELLO after a look at its first octets, or `None` if its connection
+/// has ended.
 fn newcomer_after(
     newcomer: Newcomer,
     peeked: Peeked,
@@ -32,8 +33,8 @@ fn newcomer_after(
     }
 }
 
-/// Looks at the newcomer at a place, unless it is known to have sent a HELLO for this carrier. Closes it if its connection has ended. Returns
-/// whether it still waits.
+/// Looks at the newcomer at a place, unless it is known to have sent a HELLO for this carrier. Closes it if its
+/// connection has ended. Returns whether it still waits.
 fn look_at<S: Sockets>(
     sockets: &mut S,
     room: &mut WaitingRoom,
@@ -43,8 +44,10 @@ fn look_at<S: Sockets>(
     requires place { place < array_vec_len room.old.newcomers }
     requires all { S.waiting sockets.old ≡ array_vec_len room.old.newcomers }
     ensures all { S.waiting sockets.new ≡ array_vec_len room.new.newcomers }
-    ensures stays { result ≡ true → array_vec_len room.new.newcomers ≡ array_vec_len room.old.newcomers }
-    ensures goes { result ≡ false → array_vec_len room.new.newcomers + 1 ≡ array_vec_len room.old.newcomers }
+    ensures stays { result ≡ true
+        → array_vec_len room.new.newcomers ≡ array_vec_len room.old.newcomers }
+    ensures goes { result ≡ false
+        → array_vec_len room.new.newcomers + 1 ≡ array_vec_len room.old.newcomers }
     ensures connection { S.is_open sockets.new ≡ S.is_open sockets.old }
     ensures taken { S.taken sockets.new ≡ S.taken sockets.old }
 {
@@ -67,7 +70,8 @@ fn look_at<S: Sockets>(
     }
 }
 
-/// Looks at all newcomers that are not known to have sent a HELLO for this carrier. Closes those whose connections have ended.
+/// Looks at all newcomers that are not known to have sent a HELLO for this carrier. Closes those whose connections have
+/// ended.
 pub fn look_at_all<S: Sockets>(sockets: &mut S, room: &mut WaitingRoom, settings: &PortSettings)
     requires { S.waiting sockets.old ≡ array_vec_len room.old.newcomers }
     ensures all { S.waiting sockets.new ≡ array_vec_len room.new.newcomers }

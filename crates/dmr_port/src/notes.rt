@@ -25,7 +25,8 @@ pub enum Note<'a> {
     Refused {
         from: SocketAddr,
     },
-    /// The connection yields its place to a newcomer that sent this carrier's HELLO. No octet came from it for `quiet` milliseconds.
+    /// The connection yields its place to a newcomer that sent this carrier's HELLO. No octet came from it for `quiet`
+    /// milliseconds.
     Displaced {
         from: SocketAddr,
         by: SocketAddr,

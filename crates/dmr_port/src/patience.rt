@@ -1,8 +1,11 @@
-//! How long a port waits for a connection: for octets, for a HELLO, for the end of a line, and until kept octets are taken.
+//! How long a port waits for a connection: for octets, for a HELLO, for the end of a line, and until kept octets are
+//! taken.
 
 ghost use Rattle.std.specs.Prelude.{◌≡◌, ◌<◌, ◌||◌, true, length, option_map};
 ghost use Rattle.std.specs.Option.{is_some};
-ghost use Rattle.dmr_port.specs.Patience.{cause_after_wait, has_lasted_if, is_displaceable, later, line_after, new_patience, patience_after_octets, patience_after_wait};
+ghost use Rattle.dmr_port.specs.Patience.{cause_after_wait, has_lasted_if, is_displaceable, later};
+ghost use Rattle.dmr_port.specs.Patience.{line_after, new_patience, patience_after_octets};
+ghost use Rattle.dmr_port.specs.Patience.{patience_after_wait};
 
 use crate::cause::EndCause;
 
@@ -12,12 +15,12 @@ const WAIT_MS: u32 = 100;
 /// The most waits until kept octets have been taken (this project's profile).
 const SEND_WAITS: u32 = 50;
 
-/// The milliseconds without an octet after which a connection yields its place to a newcomer that sent this carrier's HELLO (this
-/// project's profile). A base station polls once in each TDMA frame of 60 ms.
+/// The milliseconds without an octet after which a connection yields its place to a newcomer that sent this carrier's
+/// HELLO (this project's profile). A base station polls once in each TDMA frame of 60 ms.
 const QUIET_MS: u32 = 1000;
 
-/// How long a port has waited for a connection, in milliseconds. Between the ends of two waits at most 25 ms count. So a time in which the
-/// program was stopped does not count against the connection.
+/// How long a port has waited for a connection, in milliseconds. Between the ends of two waits at most 25 ms count. So
+/// a time in which the program was stopped does not count against the connection.
 #[derive(Clone, Copy, Debug, PartialEq, Eq)]
 pub struct Patience {
     /// Since the last octet came, or the connection began.
@@ -77,16 +80,16 @@ impl Patience {
         self.unread = 0;
     }
 
-    /// Returns whether the connection yields its place to a newcomer that sent this carrier's HELLO: it has sent no whole HELLO, or no octet for
-    /// 1 s.
+    /// Returns whether the connection yields its place to a newcomer that sent this carrier's HELLO: it has sent no
+    /// whole HELLO, or no octet for 1 s.
     pub fn is_displaceable(&self) -> bool
         ensures { result ≡ is_displaceable self.now }
     {
         self.hello.is_some() || self.quiet >= QUIET_MS
     }
 
-    /// Returns why the connection is given up after a wait, if it is. `keeps`: octets are kept. `ready`: the connection can now be read; or
-    /// if octets are kept, written.
+    /// Returns why the connection is given up after a wait, if it is. `keeps`: octets are kept. `ready`: the connection
+    /// can now be read; or if octets are kept, written.
     pub fn cause_after_wait(&self, silence: u16, keeps: bool, ready: bool) -> Option<EndCause>
         ensures { result ≡ cause_after_wait silence keeps ready self.now }
     {

@@ -3,8 +3,8 @@
 use crate::note_limit::{NoteLimit, Verdict};
 use crate::notes::{Note, NoteKind, PortNotes};
 
-/// Writes the notes of a port, at most 20 a minute of each kind. The first note of a kind after that minute follows the number of those that
-/// were not written.
+/// Writes the notes of a port, at most 20 a minute of each kind. The first note of a kind after that minute follows the
+/// number of those that were not written.
 #[derive(Drop)]
 pub struct PortLog<N> {
     notes: N,

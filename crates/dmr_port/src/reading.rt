@@ -17,9 +17,11 @@ use dmr_wire::Got;
 #[tactic(auto, using(crate::proofs::ReadingLemmas::read_nothing, crate::proofs::ReadingLemmas::read_after_sending, crate::proofs::UnsentLemmas::passes_nothing))]
 fn send_kept<S: Sockets>(sockets: &mut S, unsent: &mut Unsent, served: &mut Served) -> Sent
     requires { S.is_open sockets.old ≡ true }
-    ensures passes { PassesOctets (S.taken sockets.old) unsent.old [] (S.taken sockets.new) unsent.new }
+    ensures passes { PassesOctets (S.taken sockets.old) unsent.old
+        [] (S.taken sockets.new) unsent.new }
     ensures all { result ≡ Sent.All → unsent.new ≡ [] }
-    ensures goes { result ≢ Sent.Fault → HasReadNothing (connection_of served.old) (connection_of served.new) }
+    ensures goes { result ≢ Sent.Fault
+        → HasReadNothing (connection_of served.old) (connection_of served.new) }
     ensures fault { result ≡ Sent.Fault → served.new.ended ≡ Some EndCause.WriteFault }
     ensures unread { result ≢ Sent.All → served.new.patience.unread ≡ served.old.patience.unread }
     ensures connection { S.is_open sockets.new ≡ true }
@@ -41,8 +43,8 @@ fn send_kept<S: Sockets>(sockets: &mut S, unsent: &mut Unsent, served: &mut Serv
     }
 }
 
-/// Reads octets of the connection. The read would block if the window's octets have been returned, or if the system had no more at the last
-/// read and no wait has found any since.
+/// Reads octets of the connection. The read would block if the window's octets have been returned, or if the system had
+/// no more at the last read and no wait has found any since.
 #[tactic(auto, using(crate::proofs::ReadingLemmas::read_nothing, crate::proofs::ReadingLemmas::read_blocked, crate::proofs::ReadingLemmas::read_octets, crate::proofs::ReadingLemmas::read_http))]
 fn read_sockets<S: Sockets>(
     sockets: &mut S,
@@ -56,7 +58,8 @@ fn read_sockets<S: Sockets>(
     ensures within { GotWithin result (length octets.new) }
     ensures taken { S.taken sockets.new ≡ S.taken sockets.old }
     ensures budget { Gives budget.old (count_of result) budget.new }
-    ensures reads { HasReadFrom is_carrier (connection_of served.old) result octets.new (connection_of served.new) }
+    ensures reads { HasReadFrom is_carrier (connection_of served.old) result octets.new
+        (connection_of served.new) }
     ensures connection { S.is_open sockets.new ≡ true }
     ensures waiting { S.waiting sockets.new ≡ S.waiting sockets.old }
 {
@@ -96,10 +99,12 @@ pub fn read_connection<S: Sockets>(
     requires some { 0 < length octets.old }
     requires budget { budget.old.given ≤ 512 }
     ensures within { GotWithin result (length octets.new) }
-    ensures passes { PassesOctets (S.taken sockets.old) unsent.old [] (S.taken sockets.new) unsent.new }
+    ensures passes { PassesOctets (S.taken sockets.old) unsent.old
+        [] (S.taken sockets.new) unsent.new }
     ensures behind { (count : ℕ) → result ≡ Got.Octets count → unsent.new ≡ [] }
     ensures budget { Gives budget.old (count_of result) budget.new }
-    ensures reads { HasReadFrom is_carrier (connection_of served.old) result octets.new (connection_of served.new) }
+    ensures reads { HasReadFrom is_carrier (connection_of served.old) result octets.new
+        (connection_of served.new) }
     ensures unread { unsent.new ≢ [] → served.new.patience.unread ≡ served.old.patience.unread }
     ensures connection { S.is_open sockets.new ≡ true }
     ensures waiting { S.waiting sockets.new ≡ S.waiting sockets.old }

@@ -1,10 +1,12 @@
 //! The connection that a port serves.
 
-ghost use Rattle.std.specs.Prelude.{◌≡◌, ◌<◌, ◌≤◌, ◌++◌, ◌||◌, [], true, false, not, length, take, Some, None};
+ghost use Rattle.std.specs.Prelude.{◌≡◌, ◌<◌, ◌≤◌, ◌++◌, ◌||◌, [], true, false, not, length, take};
+ghost use Rattle.std.specs.Prelude.{Some, None};
 ghost use Rattle.std.specs.Option.{option_or};
 ghost use Rattle.dmr_port.specs.FirstOctets.{begins_http};
 ghost use Rattle.dmr_port.specs.Patience.{new_patience};
-ghost use Rattle.dmr_port.specs.PortState.{HasWaitedFor, answer_of_write, connection_after_write, connection_of, waited_by};
+ghost use Rattle.dmr_port.specs.PortState.{HasWaitedFor, answer_of_write, connection_after_write};
+ghost use Rattle.dmr_port.specs.PortState.{connection_of, waited_by};
 ghost use Rattle.dmr_port.specs.Served.{HearsOctets, after_read, after_wait, cause_of_served};
 
 use crate::cause::EndCause;
@@ -23,10 +25,11 @@ pub struct Served {
     pub patience: Patience,
     /// Its first octets.
     pub first: FirstOctets,
-    /// The system may have octets to read. It has none after a read of fewer octets than were asked for, until a wait finds the connection
-    /// ready.
+    /// The system may have octets to read. It has none after a read of fewer octets than were asked for, until a wait
+    /// finds the connection ready.
     pub may_read: bool,
-    /// The other side has ended its output. The system may not report that again, so reads ask it until they find the end.
+    /// The other side has ended its output. The system may not report that again, so reads ask it until they find the
+    /// end.
     pub input_closed: bool,
     /// Why the connection ended, once that is known.
     pub ended: Option<EndCause>,
@@ -77,11 +80,12 @@ impl Served {
         }
     }
 
-    /// Notes the answer to a write, and returns the link's answer: if there was no room for an octet, the write would block. That ends the
-    /// connection, as a fault does.
+    /// Notes the answer to a write, and returns the link's answer: if there was no room for an octet, the write would
+    /// block. That ends the connection, as a fault does.
     pub fn note_write(&mut self, put: Put) -> Put
         ensures answer { result ≡ answer_of_write put }
-        ensures connection { connection_of self.new ≡ connection_after_write result (connection_of self.old) }
+        ensures connection { connection_of self.new
+            ≡ connection_after_write result (connection_of self.old) }
     {
         match put {
             Put::Octets(0) | Put::Block => {
@@ -97,14 +101,16 @@ impl Served {
         }
     }
 
-    /// Notes octets that came. Returns whether the link may have them. It may not if the connection to the operators' port begins with a
-    /// request of HTTP; then the connection has ended.
+    /// Notes octets that came. Returns whether the link may have them. It may not if the connection to the operators'
+    /// port begins with a request of HTTP; then the connection has ended.
     pub fn note_octets(&mut self, octets: &[u8], is_carrier: bool) -> bool
         requires { 0 < length octets.now }
-        ensures first { self.new.first.octets.items ≡ take 8 (self.old.first.octets.items ++ octets.now) }
+        ensures first { self.new.first.octets.items
+            ≡ take 8 (self.old.first.octets.items ++ octets.now) }
         ensures given { result ≡ (is_carrier || not (begins_http self.new.first.octets.items)) }
         ensures heard { result ≡ true → HearsOctets octets.now is_carrier self.old self.new }
-        ensures http { result ≡ false → self.new ≡ record self.old { first = self.new.first; ended = Some EndCause.Http } }
+        ensures http { result ≡ false
+            → self.new ≡ record self.old { first = self.new.first; ended = Some EndCause.Http } }
     {
         self.first.add(octets);
         if !is_carrier && self.first.is_http() {
@@ -118,7 +124,10 @@ impl Served {
 
     /// Notes that no octet is kept any more. While octets were kept, the system did not report octets to read.
     pub fn note_all_sent(&mut self)
-        ensures { self.new ≡ record self.old { patience = record self.old.patience { unread = 0 }; may_read = true } }
+        ensures { self.new ≡ record self.old {
+          patience = record self.old.patience { unread = 0 };
+          may_read = true;
+        } }
     {
         self.patience.note_all_sent();
         self.may_read = true;
@@ -133,8 +142,8 @@ impl Served {
         self.input_closed = self.input_closed || ready.input_closed;
     }
 
-    /// Returns why the connection is given up after a wait, if it is. `keeps`: octets are kept. `ready`: the connection can now be read; or if
-    /// octets are kept, written. `is_claimed`: a newcomer has sent a HELLO for this carrier.
+    /// Returns why the connection is given up after a wait, if it is. `keeps`: octets are kept. `ready`: the connection
+    /// can now be read; or if octets are kept, written. `is_claimed`: a newcomer has sent a HELLO for this carrier.
     fn cause_after_wait(
         &self,
         silence: u16,
@@ -150,8 +159,8 @@ impl Served {
         self.patience.cause_after_wait(silence, keeps, ready)
     }
 
-    /// Notes what a wait of this many milliseconds found, and returns why the connection is given up, if it is. Then that is why it ended.
-    /// `keeps`: octets are kept. `is_claimed`: a newcomer has sent a HELLO for this carrier.
+    /// Notes what a wait of this many milliseconds found, and returns why the connection is given up, if it is. Then
+    /// that is why it ended. `keeps`: octets are kept. `is_claimed`: a newcomer has sent a HELLO for this carrier.
     #[tactic(auto, using(crate::proofs::ServedLemmas::goes_on, crate::proofs::ServedLemmas::is_given_up))]
     pub fn end_wait(
         &mut self,
@@ -162,7 +171,8 @@ impl Served {
         is_claimed: bool,
     ) -> Option<EndCause>
         requires { milliseconds ≤ 25 }
-        ensures { HasWaitedFor silence keeps (connection_of self.old) (connection_of self.new) (waited_by result) }
+        ensures { HasWaitedFor silence keeps (connection_of self.old) (connection_of self.new)
+            (waited_by result) }
     {
         self.note_wait(ready, milliseconds, keeps);
         let cause = self.cause_after_wait(silence, keeps, ready.connection, is_claimed);

@@ -1,11 +1,15 @@
 //! The port: a connection at a time for the link, over sockets.
 
-ghost use Rattle.std.specs.Prelude.{◌≡◌, ◌≢◌, ◌≤◌, ◌<◌, ◌+◌, ℕ, [], ◌∷◌, true, false, None, Some, length, option_map, IfOk, IfErr};
+ghost use Rattle.std.specs.Prelude.{◌≡◌, ◌≢◌, ◌≤◌, ◌<◌, ◌+◌, ℕ, [], ◌∷◌, true, false, None, Some};
+ghost use Rattle.std.specs.Prelude.{length, option_map, IfOk, IfErr};
 ghost use Rattle.std.specs.Option.{is_some};
-ghost use Rattle.dmr_wire.specs.Answers.{GotWithin, PutWithin, Reports, of_connect, of_read, of_wait, of_write};
+ghost use Rattle.dmr_wire.specs.Answers.{GotWithin, PutWithin, Reports, of_connect, of_read};
+ghost use Rattle.dmr_wire.specs.Answers.{of_wait, of_write};
 ghost use Rattle.dmr_port.specs.Budget.{Gives};
 ghost use Rattle.dmr_port.specs.Causes.{cause_of_closing};
-ghost use Rattle.dmr_port.specs.PortState.{HasRead, HasWaited, IsFresh, Passes, connection_after_write, count_of, empty_port, keeps_octets, unread_of, with_cause};
+ghost use Rattle.dmr_port.specs.PortState.{HasRead, HasWaited, IsFresh, Passes};
+ghost use Rattle.dmr_port.specs.PortState.{connection_after_write, count_of, empty_port};
+ghost use Rattle.dmr_port.specs.PortState.{keeps_octets, unread_of, with_cause};
 ghost use Rattle.dmr_port.specs.Settings.{is_carrier};
 ghost use Rattle.dmr_port.specs.Sockets.{taken_by};
 
@@ -27,8 +31,8 @@ use std::io;
 use std::marker::Model;
 use std::net::SocketAddr;
 
-/// The milliseconds of a part of a wait. After each part the worker asks whether its term is over. So at the end of a term the other workers
-/// do not wait long for the last one.
+/// The milliseconds of a part of a wait. After each part the worker asks whether its term is over. So at the end of a
+/// term the other workers do not wait long for the last one.
 const PART_MS: u64 = 25;
 
 /// The most connections that are accepted in one call.
@@ -37,14 +41,16 @@ const MOST_ACCEPTS: usize = 16;
 /// A port over sockets. It serves one connection at a time to its link.
 ///
 /// - In a window of 60 ms it returns at most 512 octets to the link; then a read would block.
-/// - A connection from which no octet came for `silence` waits of 100 ms is silent. So is, after as long, a carrier's connection without a
-///   whole HELLO, and an operator's connection with a line that did not end. Between the ends of two waits at most 25 ms count.
-/// - Octets that the connection does not take at once are kept, at most 65,536, and sent before anything more is read. A connection that
-///   does not take them within 50 waits is given up.
-/// - While a connection is served, at most 8 newcomers wait. When a ninth comes, the oldest that has sent no HELLO for this carrier is
-///   closed. On the operators' port it is the ninth itself.
+/// - A connection from which no octet came for `silence` waits of 100 ms is silent. So is, after as long, a carrier's
+///   connection without a whole HELLO, and an operator's connection with a line that did not end. Between the ends of
+///   two waits at most 25 ms count.
+/// - Octets that the connection does not take at once are kept, at most 65,536, and sent before anything more is read.
+///   A connection that does not take them within 50 waits is given up.
+/// - While a connection is served, at most 8 newcomers wait. When a ninth comes, the oldest that has sent no HELLO for
+///   this carrier is closed. On the operators' port it is the ninth itself.
 /// - The next connection is the first newcomer that has sent a HELLO for this carrier, and if none has, the oldest.
-/// - If the connection has sent no whole HELLO, or no octet for 1 s, a newcomer with a HELLO for this carrier takes its place.
+/// - If the connection has sent no whole HELLO, or no octet for 1 s, a newcomer with a HELLO for this carrier takes its
+///   place.
 /// - A connection to the operators' port that begins with a request of HTTP is ended.
 ///
 /// The numbers are this project's profile.
@@ -83,13 +89,15 @@ impl<S: Sockets + Drop, N: PortNotes + Drop> Model for ServingPort<S, N> {
       window = p.budget;
     } };
 
-    ghost invariant = { λ p. (S.is_open p.sockets ≡ is_some p.served) × (S.waiting p.sockets ≡ array_vec_len p.room.newcomers)
-        × (array_vec_len p.room.newcomers ≤ 8) × (is_some p.served ≡ false → p.unsent ≡ []) × (p.budget.given ≤ 512) };
+    ghost invariant = { λ p. (S.is_open p.sockets ≡ is_some p.served)
+        × (S.waiting p.sockets ≡ array_vec_len p.room.newcomers)
+        × (array_vec_len p.room.newcomers ≤ 8) × (is_some p.served ≡ false → p.unsent ≡ [])
+        × (p.budget.given ≤ 512) };
 }
 
 impl<S: Sockets + Drop, N: PortNotes + Drop> ServingPort<S, N> {
-    /// Makes a port over sockets that have no connection and no newcomer. On an error an allocation was refused; the error returns the
-    /// sockets and the notes.
+    /// Makes a port over sockets that have no connection and no newcomer. On an error an allocation was refused; the
+    /// error returns the sockets and the notes.
     pub fn new(
         alloc: Global,
         sockets: S,
@@ -123,8 +131,8 @@ impl<S: Sockets + Drop, N: PortNotes + Drop> ServingPort<S, N> {
         self.log.notes()
     }
 
-    /// Takes the port apart: returns the sockets, with the connection and the newcomers that they still have, and the notes. Kept octets are
-    /// lost.
+    /// Takes the port apart: returns the sockets, with the connection and the newcomers that they still have, and the
+    /// notes. Kept octets are lost.
     pub fn into_parts(self) -> (S, N)
         ensures { S.taken result.0 ≡ self.taken }
     {
@@ -141,7 +149,8 @@ impl<S: Sockets + Drop, N: PortNotes + Drop> ServingPort<S, N> {
 
     /// Closes the connection that is served, if there is one. Kept octets that it does not take at once are lost.
     fn let_go(&mut self)
-        ensures { self.new ≡ record self.old { connection = None; unsent = []; taken = self.new.taken } }
+        ensures { self.new
+            ≡ record self.old { connection = None; unsent = []; taken = self.new.taken } }
     {
         let Some(served) = self.served.take() else {
             return;
@@ -261,8 +270,9 @@ impl<S: Sockets + Drop, N: PortNotes + Drop> ServingPort<S, N> {
         self.has_news = more || self.refuses;
     }
 
-    /// Returns for how many milliseconds the next wait asks: for none if more connections may have come than were accepted. If the connection
-    /// has to be read and the window's octets have been given, the wait ends with the window.
+    /// Returns for how many milliseconds the next wait asks: for none if more connections may have come than were
+    /// accepted. If the connection has to be read and the window's octets have been given, the wait ends with the
+    /// window.
     fn milliseconds_to_wait(&self, now: u64) -> u64
         ensures { result ≤ 25 }
     {
@@ -278,8 +288,9 @@ impl<S: Sockets + Drop, N: PortNotes + Drop> ServingPort<S, N> {
         PART_MS
     }
 
-    /// Waits for a part of a wait, and accepts newcomers if there is news of some. Returns what the wait found, and how many milliseconds
-    /// passed since the end of the wait before, at most a part. Counted from there, waits that end at once add up.
+    /// Waits for a part of a wait, and accepts newcomers if there is news of some. Returns what the wait found, and how
+    /// many milliseconds passed since the end of the wait before, at most a part. Counted from there, waits that end at
+    /// once add up.
     fn wait_and_admit(&mut self, keeps: bool) -> (Ready, u32)
         ensures within { result.1 ≤ 25 }
         ensures port { self.new ≡ record self.old { waiting = self.new.waiting } }
@@ -309,10 +320,12 @@ impl<S: Sockets + Drop, N: PortNotes + Drop> ServingPort<S, N> {
         }
     }
 
-    /// Decides after a wait of this many milliseconds whether the connection goes on. `keeps`: octets were kept for it during the wait.
+    /// Decides after a wait of this many milliseconds whether the connection goes on. `keeps`: octets were kept for it
+    /// during the wait.
     fn judge(&mut self, ready: Ready, milliseconds: u32, keeps: bool) -> Waited
         requires { milliseconds ≤ 25 }
-        ensures judged { HasWaited self.old.settings.silence keeps self.old.connection self.new.connection result }
+        ensures judged { HasWaited self.old.settings.silence keeps self.old.connection
+            self.new.connection result }
         ensures port { self.new ≡ record self.old { connection = self.new.connection } }
         ensures few { self.new.waiting ≤ 8 }
     {
@@ -336,9 +349,9 @@ impl<S: Sockets + Drop, N: PortNotes + Drop> ServingPort<S, N> {
 impl<S: Sockets + Drop, N: PortNotes + Drop> Wire for ServingPort<S, N> {
     ghost reported = { λ port. None };
 
-    /// Reads octets of the connection, after sending those that are kept. The read would block if some of these are left, or if the window's
-    /// octets have been returned. It would also block if the system had no more at the last read, and no wait has found any since. Without a
-    /// connection it fails.
+    /// Reads octets of the connection, after sending those that are kept. The read would block if some of these are
+    /// left, or if the window's octets have been returned. It would also block if the system had no more at the last
+    /// read, and no wait has found any since. Without a connection it fails.
     fn read(&mut self, octets: &mut [u8]) -> Got
         requires { 0 < length octets.old }
         ensures within { GotWithin result (length octets.new) }
@@ -346,8 +359,10 @@ impl<S: Sockets + Drop, N: PortNotes + Drop> Wire for ServingPort<S, N> {
         ensures passes { Passes self.old [] self.new }
         ensures behind { (count : ℕ) → result ≡ Got.Octets count → self.new.unsent ≡ [] }
         ensures budget { Gives self.old.window (count_of result) self.new.window }
-        ensures unread { self.new.unsent ≢ [] → option_map unread_of self.new.connection ≡ option_map unread_of self.old.connection }
-        ensures connection { HasRead (is_carrier self.old.settings.whose) self.old.connection result octets.new self.new.connection }
+        ensures unread { self.new.unsent ≢ []
+            → option_map unread_of self.new.connection ≡ option_map unread_of self.old.connection }
+        ensures connection { HasRead (is_carrier self.old.settings.whose) self.old.connection result
+            octets.new self.new.connection }
         ensures settings { self.new.settings ≡ self.old.settings }
         ensures waiting { self.new.waiting ≡ self.old.waiting }
     {
@@ -365,14 +380,15 @@ impl<S: Sockets + Drop, N: PortNotes + Drop> Wire for ServingPort<S, N> {
         )
     }
 
-    /// Writes octets to the connection. Those that it does not take at once are kept, if there is room. Without room the write would block,
-    /// and without a connection it fails.
+    /// Writes octets to the connection. Those that it does not take at once are kept, if there is room. Without room
+    /// the write would block, and without a connection it fails.
     fn write(&mut self, octets: &[u8]) -> Put
         requires { 0 < length octets.now }
         ensures within { PutWithin result (length octets.now) }
         ensures reported { Reports None (of_write result octets.now ∷ []) None }
         ensures passes { Passes self.old (taken_by result octets.now) self.new }
-        ensures connection { self.new.connection ≡ option_map (connection_after_write result) self.old.connection }
+        ensures connection { self.new.connection
+            ≡ option_map (connection_after_write result) self.old.connection }
         ensures window { self.new.window ≡ self.old.window }
         ensures settings { self.new.settings ≡ self.old.settings }
         ensures waiting { self.new.waiting ≡ self.old.waiting }
@@ -386,7 +402,8 @@ impl<S: Sockets + Drop, N: PortNotes + Drop> Wire for ServingPort<S, N> {
 }
 
 impl<S: Sockets + Drop, N: PortNotes + Drop> Port for ServingPort<S, N> {
-    /// Closes the connection that is served, and serves the next newcomer. If nobody waits, it waits for a part of a wait.
+    /// Closes the connection that is served, and serves the next newcomer. If nobody waits, it waits for a part of a
+    /// wait.
     fn connect(&mut self) -> Connect
         ensures reported { Reports None (of_connect result ∷ []) None }
         ensures ready { result ≡ Connect.Ready → IsFresh self.new }
@@ -411,13 +428,15 @@ impl<S: Sockets + Drop, N: PortNotes + Drop> Port for ServingPort<S, N> {
         Connect::NotYet
     }
 
-    /// Waits until the connection can be read, or written if octets are kept, at most for a part of a wait. Accepts newcomers meanwhile.
-    /// `Silent`: the connection is given up, or there is none.
+    /// Waits until the connection can be read, or written if octets are kept, at most for a part of a wait. Accepts
+    /// newcomers meanwhile. `Silent`: the connection is given up, or there is none.
     fn wait(&mut self) -> Waited
         ensures reported { Reports None (of_wait result ∷ []) None }
-        ensures judged { HasWaited self.old.settings.silence (keeps_octets self.old.unsent) self.old.connection self.new.connection result }
+        ensures judged { HasWaited self.old.settings.silence
+            (keeps_octets self.old.unsent) self.old.connection self.new.connection result }
         ensures few { self.new.waiting ≤ 8 }
-        ensures port { self.new ≡ record self.old { connection = self.new.connection; waiting = self.new.waiting } }
+        ensures port { self.new
+            ≡ record self.old { connection = self.new.connection; waiting = self.new.waiting } }
     {
         let keeps = !self.unsent.is_empty();
         let (ready, milliseconds) = self.wait_and_admit(keeps);
@@ -426,7 +445,11 @@ impl<S: Sockets + Drop, N: PortNotes + Drop> Port for ServingPort<S, N> {
 
     /// Keeps why the link closed the connection, unless the port has already noted its end.
     fn closed(&mut self, closing: Closing)
-        ensures port { self.new ≡ record self.old { connection = option_map (with_cause (cause_of_closing closing self.old.settings.whose)) self.old.connection } }
+        ensures port { self.new ≡ record self.old {
+          connection =
+              option_map (with_cause (cause_of_closing closing self.old.settings.whose))
+              self.old.connection;
+        } }
     {
         let cause = EndCause::of_closing(closing, self.settings.whose);
         if let Some(served) = &mut self.served {

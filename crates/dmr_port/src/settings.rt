@@ -29,8 +29,8 @@ impl PortSettings {
         }
     }
 
-    /// Returns whether the octets are a HELLO for this port's carrier: of a version that is served, with the carrier's number and channel.
-    /// None is, on the operators' port.
+    /// Returns whether the octets are a HELLO for this port's carrier: of a version that is served, with the carrier's
+    /// number and channel. None is, on the operators' port.
     pub fn is_claim(&self, octets: &[u8]) -> bool
         ensures { IsTrue result ↔ IsClaim self.now octets.now }
     {

@@ -1,7 +1,8 @@
-//! What a port needs of the system: a listening socket, the connection that is served, the newcomers that wait, and a poll over all of
-//! them. No code here calls the system.
+//! What a port needs of the system: a listening socket, the connection that is served, the newcomers that wait, and a
+//! poll over all of them. No code here calls the system.
 
-ghost use Rattle.std.specs.Prelude.{◌≡◌, ℕ, ◌+◌, ◌<◌, Bool, true, false, List, Option, length, OnOk, OnErr};
+ghost use Rattle.std.specs.Prelude.{◌≡◌, ℕ, ◌+◌, ◌<◌, Bool, true, false, List, Option, length};
+ghost use Rattle.std.specs.Prelude.{OnOk, OnErr};
 ghost use Rattle.std.specs.Io.KnownBytes.{Appends};
 ghost use Rattle.dmr_wire.specs.Answers.{GotWithin, PutWithin};
 ghost use Rattle.dmr_port.specs.Sockets.{HasTakenNone, PeekedWithin, taken_by, waiting_after};
@@ -45,8 +46,8 @@ pub struct Ready {
     pub newcomers: bool,
 }
 
-/// A port's sockets: the listening one, the connection that is served, if there is one, and the newcomers. A newcomer is a connection that
-/// was accepted and is not yet served. Newcomers have places from 0 on, oldest first.
+/// A port's sockets: the listening one, the connection that is served, if there is one, and the newcomers. A newcomer
+/// is a connection that was accepted and is not yet served. Newcomers have places from 0 on, oldest first.
 ///
 /// They are one object, so that its answers have one order. No call except [`Sockets::wait`] waits.
 pub trait Sockets {
@@ -66,8 +67,8 @@ pub trait Sockets {
         ensures connection { is_open self.new ≡ is_open self.old }
         ensures taken { taken self.new ≡ taken self.old };
 
-    /// Looks at the first octets that a newcomer has sent, at most as many as the slice holds, and leaves them to be read. The rest of the
-    /// slice then holds anything.
+    /// Looks at the first octets that a newcomer has sent, at most as many as the slice holds, and leaves them to be
+    /// read. The rest of the slice then holds anything.
     fn peek(&mut self, place: usize, octets: &mut [u8]) -> Peeked
         requires place { place < waiting self.old }
         requires some { 0 < length octets.old }
@@ -83,8 +84,8 @@ pub trait Sockets {
         ensures connection { is_open self.new ≡ is_open self.old }
         ensures taken { taken self.new ≡ taken self.old };
 
-    /// Makes a newcomer the connection that is served. Those after it move one place to the front. On an error the newcomer cannot be
-    /// polled; it is then closed, and there is no connection.
+    /// Makes a newcomer the connection that is served. Those after it move one place to the front. On an error the
+    /// newcomer cannot be polled; it is then closed, and there is no connection.
     fn take(&mut self, place: usize) -> io::Result<()>
         requires place { place < waiting self.old }
         requires connection { is_open self.old ≡ false }
@@ -93,7 +94,8 @@ pub trait Sockets {
         ensures err { OnErr result (is_open self.new ≡ false) }
         ensures taken { HasTakenNone (taken self.new) };
 
-    /// Reads octets of the connection, at most as many as the slice holds, to its front. The rest of the slice then holds anything.
+    /// Reads octets of the connection, at most as many as the slice holds, to its front. The rest of the slice then
+    /// holds anything.
     fn read(&mut self, octets: &mut [u8]) -> Got
         requires connection { is_open self.old ≡ true }
         requires some { 0 < length octets.old }
@@ -111,8 +113,8 @@ pub trait Sockets {
         ensures connection { is_open self.new ≡ true }
         ensures taken { Appends (taken self.old) (taken self.new) (taken_by result octets.now) };
 
-    /// Closes the connection. Ends the output first, and reads the octets that came and were not read. A close with unread octets would reset
-    /// the connection, and the other side might then lose the last octets written to it.
+    /// Closes the connection. Ends the output first, and reads the octets that came and were not read. A close with
+    /// unread octets would reset the connection, and the other side might then lose the last octets written to it.
     fn close(&mut self)
         requires { is_open self.old ≡ true }
         ensures waiting { waiting self.new ≡ waiting self.old }
@@ -124,8 +126,9 @@ pub trait Sockets {
         ensures connection { is_open self.new ≡ is_open self.old }
         ensures taken { taken self.new ≡ taken self.old };
 
-    /// Waits until something is ready, at most this many milliseconds. If `sends`, the connection is ready when it can be written, and
-    /// otherwise when it can be read. If the system cannot wait, this returns at once with nothing ready.
+    /// Waits until something is ready, at most this many milliseconds. If `sends`, the connection is ready when it can
+    /// be written, and otherwise when it can be read. If the system cannot wait, this returns at once with nothing
+    /// ready.
     fn wait(&mut self, milliseconds: u64, sends: bool) -> Ready
         ensures waiting { waiting self.new ≡ waiting self.old }
         ensures connection { is_open self.new ≡ is_open self.old }

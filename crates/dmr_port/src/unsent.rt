@@ -1,6 +1,7 @@
 //! Octets that were written to a connection and are kept until its other side takes them.
 
-ghost use Rattle.std.specs.Prelude.{◌≡◌, ◌≢◌, ◌<◌, ◌≤◌, ◌+◌, ◌-◌, [], ◌++◌, List, ℕ, true, length, take, drop, min, IfOk, nat_eq};
+ghost use Rattle.std.specs.Prelude.{◌≡◌, ◌≢◌, ◌<◌, ◌≤◌, ◌+◌, ◌-◌, [], ◌++◌, List, ℕ, true, length};
+ghost use Rattle.std.specs.Prelude.{take, drop, min, IfOk, nat_eq};
 ghost use Rattle.dmr_wire.specs.Answers.{PutWithin};
 ghost use Rattle.dmr_port.specs.Sockets.{taken_by};
 ghost use Rattle.dmr_port.specs.Unsent.{PassesOctets, count_put};
@@ -12,8 +13,8 @@ use dmr_wire::Put;
 use std::alloc::Global;
 use std::marker::Model;
 
-/// The most octets that are kept. A link reads 64 octets at once, and the answer to each has at most 1,024 octets, so the answers to one
-/// read fit.
+/// The most octets that are kept. A link reads 64 octets at once, and the answer to each has at most 1,024 octets, so
+/// the answers to one read fit.
 const ROOM: usize = 65_536;
 
 /// What became of the kept octets when they were sent.
@@ -74,14 +75,15 @@ impl Unsent {
         self.octets.fill_from_slice(octets)
     }
 
-    /// Writes octets after the kept ones. If none were kept, it first tries to write them at once. Octets that the connection does not take
-    /// then are kept, as many as there is room for. `Octets` counts those that were taken or are now kept, the first of the slice. With any
-    /// other answer none was taken, and the kept octets are unchanged.
+    /// Writes octets after the kept ones. If none were kept, it first tries to write them at once. Octets that the
+    /// connection does not take then are kept, as many as there is room for. `Octets` counts those that were taken or
+    /// are now kept, the first of the slice. With any other answer none was taken, and the kept octets are unchanged.
     pub fn write<S: Sockets>(&mut self, sockets: &mut S, octets: &[u8]) -> Put
         requires connection { S.is_open sockets.old ≡ true }
         requires some { 0 < length octets.now }
         ensures within { PutWithin result (length octets.now) }
-        ensures passes { PassesOctets (S.taken sockets.old) self.old (taken_by result octets.now) (S.taken sockets.new) self.new }
+        ensures passes { PassesOctets (S.taken sockets.old) self.old (taken_by result octets.now)
+            (S.taken sockets.new) self.new }
         ensures connection { S.is_open sockets.new ≡ true }
         ensures waiting { S.waiting sockets.new ≡ S.waiting sockets.old }
     {
@@ -98,7 +100,8 @@ impl Unsent {
     #[tactic(auto, using(crate::proofs::UnsentLemmas::passes_nothing, crate::proofs::UnsentLemmas::passes_on))]
     pub fn send_all<S: Sockets>(&mut self, sockets: &mut S) -> Sent
         requires { S.is_open sockets.old ≡ true }
-        ensures passes { PassesOctets (S.taken sockets.old) self.old [] (S.taken sockets.new) self.new }
+        ensures passes { PassesOctets (S.taken sockets.old) self.old
+            [] (S.taken sockets.new) self.new }
         ensures all { result ≡ Sent.All → self.new ≡ [] }
         ensures part { result ≡ Sent.Part → self.new ≢ [] }
         ensures connection { S.is_open sockets.new ≡ true }
@@ -118,12 +121,14 @@ impl Unsent {
         Sent::All
     }
 
-    /// Writes kept octets once, from the oldest on. `Octets` counts those that the connection took. With any other answer it took none.
+    /// Writes kept octets once, from the oldest on. `Octets` counts those that the connection took. With any other
+    /// answer it took none.
     #[tactic(auto, using(crate::proofs::UnsentLemmas::passes_front, crate::proofs::UnsentLemmas::passes_none))]
     fn send_once<S: Sockets>(&mut self, sockets: &mut S) -> Put
         requires connection { S.is_open sockets.old ≡ true }
         requires some { self.old ≢ [] }
-        ensures passes { PassesOctets (S.taken sockets.old) self.old [] (S.taken sockets.new) self.new }
+        ensures passes { PassesOctets (S.taken sockets.old) self.old
+            [] (S.taken sockets.new) self.new }
         ensures left { length self.new + count_put result ≡ length self.old }
         ensures connection { S.is_open sockets.new ≡ true }
         ensures waiting { S.waiting sockets.new ≡ S.waiting sockets.old }

@@ -1,8 +1,10 @@
 //! The newcomers that wait while another connection is served.
 
-ghost use Rattle.std.specs.Prelude.{◌≡◌, ◌+◌, ◌<◌, ◌≤◌, ◌++◌, [], ◌∷◌, length, IfSome, position, remove, slice_index_or, slice_set};
+ghost use Rattle.std.specs.Prelude.{◌≡◌, ◌+◌, ◌<◌, ◌≤◌, ◌++◌, [], ◌∷◌, length, IfSome, position};
+ghost use Rattle.std.specs.Prelude.{remove, slice_index_or, slice_set};
 ghost use Rattle.arrayvec.specs.ArrayVec.{array_vec_len};
-ghost use Rattle.dmr_port.specs.WaitingRoom.{place_of_claimant, place_of_next, place_of_refused, place_of_stranger};
+ghost use Rattle.dmr_port.specs.WaitingRoom.{place_of_claimant, place_of_next, place_of_refused};
+ghost use Rattle.dmr_port.specs.WaitingRoom.{place_of_stranger};
 
 use arrayvec::ArrayVec;
 use std::net::{IpAddr, Ipv4Addr, SocketAddr};
@@ -74,7 +76,8 @@ impl WaitingRoom {
     /// Replaces what is known of the newcomer at a place.
     pub fn set(&mut self, place: usize, newcomer: Newcomer)
         requires { place < array_vec_len self.old.newcomers }
-        ensures newcomers { self.new.newcomers.items ≡ slice_set self.old.newcomers.items place newcomer }
+        ensures newcomers { self.new.newcomers.items
+            ≡ slice_set self.old.newcomers.items place newcomer }
         ensures len { array_vec_len self.new.newcomers ≡ array_vec_len self.old.newcomers }
     {
         self.newcomers.as_mut_slice()[place] = newcomer;
@@ -90,8 +93,9 @@ impl WaitingRoom {
         self.newcomers.remove(place)
     }
 
-    /// Returns the place of the newcomer that is closed when there are too many: the oldest that has sent no HELLO for this carrier. If all
-    /// have sent one, it is the newest. Nobody sends a HELLO to the operators' port, so there it is the newest: first come, first served.
+    /// Returns the place of the newcomer that is closed when there are too many: the oldest that has sent no HELLO for
+    /// this carrier. If all have sent one, it is the newest. Nobody sends a HELLO to the operators' port, so there it
+    /// is the newest: first come, first served.
     pub fn place_of_refused(&self, by_hello: bool) -> usize
         requires { 0 < array_vec_len self.now.newcomers }
         ensures refused { result ≡ place_of_refused by_hello self.now.newcomers.items }
@@ -123,8 +127,8 @@ impl WaitingRoom {
         self.newcomers.as_slice().iter().position(|n| n.has_hello)
     }
 
-    /// Returns the place of the newcomer that is served next: the oldest that has sent a HELLO for this carrier, and if none has, the oldest.
-    /// `None` if nobody waits.
+    /// Returns the place of the newcomer that is served next: the oldest that has sent a HELLO for this carrier, and if
+    /// none has, the oldest. `None` if nobody waits.
     pub fn place_of_next(&self) -> Option<usize>
         ensures next { result ≡ place_of_next self.now.newcomers.items }
         ensures within { IfSome result (λ place. place < array_vec_len self.now.newcomers) }

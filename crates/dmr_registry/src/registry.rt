@@ -1,9 +1,11 @@
 //! The set of registered radios, in the order in which they joined.
 
-ghost use Rattle.std.specs.Prelude.{◌≡◌, ℕ, ◌≤◌, ◌<◌, ◌↔◌, [], ◌∷◌, ◌++◌, length, false, IsTrue, IfOk, MatchOption, nat_eq};
+ghost use Rattle.std.specs.Prelude.{◌≡◌, ℕ, ◌≤◌, ◌<◌, ◌↔◌, [], ◌∷◌, ◌++◌, length, false, IsTrue};
+ghost use Rattle.std.specs.Prelude.{IfOk, MatchOption, nat_eq};
 ghost use Rattle.std.specs.List.{All, Contains};
 ghost use Rattle.dmr_registry.specs.declared.registry.TheConstants.{MOST_RADIOS};
-ghost use Rattle.dmr_registry.specs.Radios.{AreDistinct, is_registered_in, answer_to_join, radios_after_join, without};
+ghost use Rattle.dmr_registry.specs.Radios.{AreDistinct, is_registered_in, answer_to_join};
+ghost use Rattle.dmr_registry.specs.Radios.{radios_after_join, without};
 ghost use Rattle.dmr_registry.specs.Least.{held_from, least_from, AreLeast};
 
 use arrayvec::ArrayVec;
@@ -19,8 +21,8 @@ pub const MOST_RADIOS: usize = 4096;
 #[derive(Clone, Copy, Debug, PartialEq, Eq)]
 pub struct Full;
 
-/// The registered radios: at most `MOST_RADIOS`, none of them twice. Contracts see a list of addresses, in the order in which they
-/// joined.
+/// The registered radios: at most `MOST_RADIOS`, none of them twice. Contracts see a list of addresses, in the order in
+/// which they joined.
 #[derive(Drop)]
 pub struct Registry {
     radios: KeyedTable<Address, MOST_RADIOS>,
@@ -39,7 +41,8 @@ impl Model for Registry {
 }
 
 impl Registry {
-    /// Makes an empty registry, and allocates the memory for `MOST_RADIOS`. Returns `OutOfMemory` if the allocation fails.
+    /// Makes an empty registry, and allocates the memory for `MOST_RADIOS`. Returns `OutOfMemory` if the allocation
+    /// fails.
     pub fn new(alloc: Global) -> Result<Registry, OutOfMemory>
         ensures { IfOk result (λ registry. registry ≡ []) }
     {
@@ -91,8 +94,8 @@ impl Registry {
 
     /// Registers a radio, after those that are registered, and returns `Ok(true)`.
     ///
-    /// If the radio is registered already, it keeps its place, and the answer is `Ok(false)`. If it is not, and `MOST_RADIOS`
-    /// others are, returns `Full`. Only `Ok(true)` changes anything.
+    /// If the radio is registered already, it keeps its place, and the answer is `Ok(false)`. If it is not, and
+    /// `MOST_RADIOS` others are, returns `Full`. Only `Ok(true)` changes anything.
     pub fn join(&mut self, radio: Address) -> Result<bool, Full>
         ensures answer { result ≡ answer_to_join self.old radio }
         ensures radios { self.new ≡ radios_after_join self.old radio }
@@ -152,7 +155,9 @@ impl Registry {
 
     /// The least registered radio from a number on.
     fn lowest_from(&self, from: u32) -> Option<Address>
-        ensures { MatchOption result (length (held_from self.now from) ≡ 0) (λ least. Contains (held_from self.now from) least × All (λ radio. least ≤ radio) (held_from self.now from)) }
+        ensures { MatchOption result (length (held_from self.now from) ≡ 0)
+            (λ least. Contains (held_from self.now from) least
+            × All (λ radio. least ≤ radio) (held_from self.now from)) }
     {
         self.radios.least_from(from)
     }

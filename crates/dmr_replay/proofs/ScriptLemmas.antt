@@ -6,7 +6,8 @@ use Rattle.std.proofs.lemmas.List.FromFn.{length-enumerate_from, get_or-enumerat
 use Rattle.std.proofs.lemmas.List.{append-nil, drop_more, drop_all}
 use Rattle.dmr_replay.specs.Script.{RepeatedInput, numbered_input, input_of_line, is_faulty_line, is_skipped, unless_fault}
 
--- the result of a script of which these lines, from number n on, are not read yet, and the earlier ones have these inputs
+-- the result of a script of which these lines, from number n on, are not read yet, and the earlier ones have these
+-- inputs
 abbrev pub answer : List RepeatedInput → ℕ → List (List ℕ) → Result (List RepeatedInput) ℕ
 answer given n lines =
     unless_fault (find (λ line. is_faulty_line line.1) (enumerate_from n lines)) (given ++ filter_map numbered_input (enumerate_from n lines))

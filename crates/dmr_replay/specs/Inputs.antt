@@ -20,8 +20,10 @@ journal plan inputs = journal_of plan no_facts (reverse (events_in (meaning_of_i
 
 -- the octets written for a carrier: its session text
 unfoldable pub octets_written : Settings → List Input → ℕ → List ℕ
-octets_written plan inputs carrier = session_text None carrier (meaning_of_inputs plan inputs) (reverse (journal plan inputs))
+octets_written plan inputs carrier =
+    session_text None carrier (meaning_of_inputs plan inputs) (reverse (journal plan inputs))
 
 -- the octets written for operators: the console text
 unfoldable pub operators_text : Settings → List Input → List ℕ
-operators_text plan inputs = console_text (meaning_of_inputs plan inputs) (reverse (journal plan inputs))
+operators_text plan inputs =
+    console_text (meaning_of_inputs plan inputs) (reverse (journal plan inputs))

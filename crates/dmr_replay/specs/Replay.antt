@@ -1,5 +1,6 @@
 -- The text that a replay prints, or the reason why it prints nothing.
-use Rattle.std.specs.Prelude.{◌≡◌, ⊤, ℕ, Bool, true, false, List, [], ◌∷◌, ◌++◌, Option, Some, None, Result, Ok, Err, if◌then◌else◌, codes, flat_map}
+use Rattle.std.specs.Prelude.{◌≡◌, ⊤, ℕ, Bool, true, false, List, [], ◌∷◌, ◌++◌, Option, Some, None}
+use Rattle.std.specs.Prelude.{Result, Ok, Err, if◌then◌else◌, codes, flat_map}
 use Rattle.std.specs.List.{range_with_len}
 use Rattle.std.specs.Fmt.{decimal}
 use Rattle.std.specs.Io.KnownBytes.{Appends}
@@ -25,15 +26,18 @@ digits_or_dash (octet ∷ octets) = encode_upper (octet ∷ octets)
 
 -- the line of a carrier: its number, and the octets written for it
 abbrev pub carrier_line : ℕ → List ℕ → List ℕ
-carrier_line number octets = codes "carrier " ++ decimal number ++ codes " " ++ digits_or_dash octets ++ codes "\n"
+carrier_line number octets =
+    codes "carrier " ++ decimal number ++ codes " " ++ digits_or_dash octets ++ codes "\n"
 
 -- the line of a carrier of the plan; empty if the plan does not have the number
 abbrev pub line_of_number : Settings → (ℕ → List ℕ) → ℕ → List ℕ
-line_of_number plan octets_written number = if has_number_in plan.carriers number then carrier_line number (octets_written number) else []
+line_of_number plan octets_written number =
+    if has_number_in plan.carriers number then carrier_line number (octets_written number) else []
 
 -- a line for each carrier of the plan, by number
 abbrev pub lines_to : Settings → (ℕ → List ℕ) → ℕ → List ℕ
-lines_to plan octets_written numbers = flat_map (line_of_number plan octets_written) (range_with_len 0 numbers)
+lines_to plan octets_written numbers =
+    flat_map (line_of_number plan octets_written) (range_with_len 0 numbers)
 
 -- the whole text: the carriers' lines, and then the operators' text unchanged
 abbrev pub printed_text : Settings → (ℕ → List ℕ) → List ℕ → List ℕ
@@ -56,7 +60,9 @@ plan_in site = if is_utf8 site then plan_of_text site else Err NotToml
 -- the outcome for the lines of a script: the output for their inputs, or the number of the first line at fault
 abbrev pub of_lines : Settings → Result (List RepeatedInput) ℕ → Outcome
 of_lines plan (Err number) = NoLine number
-of_lines plan (Ok given) = Prints (printed_text plan (octets_written plan (inputs_of_script given)) (operators_text plan (inputs_of_script given)))
+of_lines plan (Ok given) =
+    Prints (printed_text plan (octets_written plan (inputs_of_script given))
+    (operators_text plan (inputs_of_script given)))
 
 -- the outcome for a script: a fault if it could not be read
 abbrev pub of_script : Settings → Option (List ℕ) → Outcome
@@ -85,8 +91,8 @@ abbrev pub IsPrinted : Outcome → Option (List ℕ) → Option (List ℕ) → T
 IsPrinted (Prints text) old new = Appends old new text
 IsPrinted other old new = ⊥
 
--- the reported fault is the first one, with the name of a file that could not be read; running out of memory may always be reported
--- instead
+-- the reported fault is the first one, with the name of a file that could not be read; running out of memory may always
+-- be reported instead
 abbrev pub ReportsFault : List ℕ → List ℕ → Outcome → ReplayFault → Type 0
 ReportsFault site script SiteNotRead (fault.CannotRead name) = name.now ≡ site
 ReportsFault site script ScriptNotRead (fault.CannotRead name) = name.now ≡ script

@@ -1,5 +1,7 @@
 -- Scripts: their lines, and the input of each line.
-use Rattle.std.specs.Prelude.{ℕ, ◌==◌, ◌&&◌, not, nat_lt, Bool, true, List, [], ◌∷◌, ◌++◌, length, take, drop, slice_index, Option, Some, None, is_none, option_map, Result, Ok, Err, if◌then◌else◌, codes, find, flat_map, replicate}
+use Rattle.std.specs.Prelude.{ℕ, ◌==◌, ◌&&◌, not, nat_lt, Bool, true, List, [], ◌∷◌, ◌++◌, length}
+use Rattle.std.specs.Prelude.{take, drop, slice_index, Option, Some, None, is_none, option_map}
+use Rattle.std.specs.Prelude.{Result, Ok, Err, if◌then◌else◌, codes, find, flat_map, replicate}
 use Rattle.std.specs.List.{slice_split, enumerate_from, filter_map}
 use Rattle.std.specs.Result.{result_ok}
 use Rattle.std.specs.Str.{bytes_eq}
@@ -28,7 +30,9 @@ is_skipped (octet ∷ octets) = octet == 35
 
 -- a number from `least` to `most` in decimal digits, without a leading zero
 abbrev pub number_of_word : ℕ → ℕ → List ℕ → Option ℕ
-number_of_word least most word = if nat_lt 1 (length word) && (slice_index word 0 == 48) then None else short_number_within least most word
+number_of_word least most word =
+    if nat_lt 1 (length word) && (slice_index word 0 == 48) then None
+    else short_number_within least most word
 
 -- the carrier's number of a word: 0 to 15
 abbrev pub carrier_of_word : List ℕ → Option ℕ
@@ -73,13 +77,15 @@ octets_from carrier octets = None
 
 -- the input of `bytes C HEX`, by the words after the first
 abbrev pub input_of_bytes : List (List ℕ) → Option RepeatedInput
-input_of_bytes (carrier ∷ digits ∷ []) = octets_from (carrier_of_word carrier) (octets_of_word digits)
+input_of_bytes (carrier ∷ digits ∷ []) =
+    octets_from (carrier_of_word carrier) (octets_of_word digits)
 input_of_bytes words = None
 
 -- the input of `tick` or `tick N`, by the words after the first
 abbrev pub input_of_tick : List (List ℕ) → Option RepeatedInput
 input_of_tick [] = Some (once Ticking)
-input_of_tick (times ∷ []) = option_map (λ n. record { input = Ticking; times = n }) (count_of_ticks times)
+input_of_tick (times ∷ []) =
+    option_map (λ n. record { input = Ticking; times = n }) (count_of_ticks times)
 input_of_tick words = None
 
 -- the input of `text HEX`, by the words after the first
@@ -135,7 +141,9 @@ unless_fault (Some line) given = Err line.0
 
 -- the inputs of a script's lines, in their order, or the number of the first line at fault
 abbrev pub script_of : List ℕ → Result (List RepeatedInput) ℕ
-script_of script = unless_fault (find (λ line. is_faulty_line line.1) (numbered_lines script)) (filter_map numbered_input (numbered_lines script))
+script_of script =
+    unless_fault (find (λ line. is_faulty_line line.1) (numbered_lines script))
+    (filter_map numbered_input (numbered_lines script))
 
 -- the inputs of a script, each repeated as often as its line says
 abbrev pub inputs_of_script : List RepeatedInput → List Input

@@ -1,11 +1,14 @@
 //! Replays a script over the site of a site file, and prints the octets written for carriers and operators.
 
-ghost use Rattle.std.specs.Prelude.{◌≡◌, ◌⊎◌, ℕ, [], IfErr, IfOk, IsErrAnd, MatchResult, Ok, OnOk, false, map, option_map, slice_index_or, string_bytes};
+ghost use Rattle.std.specs.Prelude.{◌≡◌, ◌⊎◌, ℕ, [], IfErr, IfOk, IsErrAnd, MatchResult, Ok, OnOk};
+ghost use Rattle.std.specs.Prelude.{false, map, option_map, slice_index_or, string_bytes};
 ghost use Rattle.std.specs.Io.KnownBytes.{Appends};
 ghost use Rattle.dmr_link.specs.Input.{input_of};
 ghost use Rattle.dmr_replay.specs.Inputs.{octets_written, operators_text};
 ghost use Rattle.dmr_replay.specs.Script.{repeated_input, inputs_of_script, script_of};
-ghost use Rattle.dmr_replay.specs.Replay.{IsPrinted, Prints, ReportsFault, carrier_line, digits_or_dash, is_printed, outcome, plan_in, printed_text, status_of};
+ghost use Rattle.dmr_replay.specs.Replay.{IsPrinted, Prints, ReportsFault, carrier_line};
+ghost use Rattle.dmr_replay.specs.Replay.{digits_or_dash, is_printed, outcome, plan_in};
+ghost use Rattle.dmr_replay.specs.Replay.{printed_text, status_of};
 
 use crate::script::{ScriptFault, ScriptInput, read_script};
 use crate::status::{FAULT, MEMORY, OK};
@@ -66,9 +69,15 @@ pub fn replay<'a, W: Write, E: Write>(
     err: &mut E,
 ) -> u8
     // If the status is 0, there is a text to print, and `out` received the whole of it.
-    ensures ok { result ≡ OK → IsPrinted (outcome (option_map (λ o. o.now) site.entry) (option_map (λ o. o.now) script.entry)) (W.contents out.old) (W.contents out.new) }
+    ensures ok { result ≡ OK
+        → IsPrinted
+        (outcome (option_map (λ o. o.now) site.entry) (option_map (λ o. o.now) script.entry))
+        (W.contents out.old) (W.contents out.new) }
     // If there is no text to print, `out` is unchanged, and by `ok` the status is not 0.
-    ensures quiet { is_printed (outcome (option_map (λ o. o.now) site.entry) (option_map (λ o. o.now) script.entry)) ≡ false → out.new ≡ out.old }
+    ensures quiet { is_printed
+        (outcome (option_map (λ o. o.now) site.entry) (option_map (λ o. o.now) script.entry))
+        ≡ false
+        → out.new ≡ out.old }
     // If memory runs out, `out` is unchanged. If the status is 0, no fault was written to `err`.
     ensures memory { result ≡ MEMORY → out.new ≡ out.old }
     ensures silent { result ≡ OK → err.new ≡ err.old }
@@ -108,8 +117,9 @@ fn text_of_replay<'a>(
     script: Option<&[u8]>,
 ) -> Result<Vec<u8>, ReplayFault<'a>>
     ensures { MatchResult result
-        (λ text. outcome (option_map (λ o. o.now) site.entry) (option_map (λ o. o.now) script.entry) ≡ Prints text.items)
-        (ReportsFault site_name.now script_name.now (outcome (option_map (λ o. o.now) site.entry) (option_map (λ o. o.now) script.entry))) }
+        (λ text. outcome (option_map (λ o. o.now) site.entry) (option_map (λ o. o.now) script.entry)
+        ≡ Prints text.items) (ReportsFault site_name.now script_name.now
+        (outcome (option_map (λ o. o.now) site.entry) (option_map (λ o. o.now) script.entry))) }
 {
     let plan = plan_of(alloc, site.ok_or(ReplayFault::CannotRead(site_name))?)?;
     let given = lines_by(alloc, script.ok_or(ReplayFault::CannotRead(script_name))?)?;
@@ -122,9 +132,9 @@ fn text_of_replay<'a>(
 /// Returns the plan of a site file. A file that is not UTF-8 is reported as `NotToml`.
 #[tactic(auto, using(crate::proofs::ReplayLemmas::plan_in_text, crate::proofs::ReplayLemmas::plan_in_no_text))]
 pub fn plan_of<'a>(alloc: Global, site: &[u8]) -> Result<Plan, ReplayFault<'a>>
-    ensures { MatchResult result
-        (λ plan. plan_in site.now ≡ Ok plan)
-        (λ fault. (fault ≡ ReplayFault.OutOfMemory) ⊎ IsErrAnd (plan_in site.now) (λ plan_fault. fault ≡ ReplayFault.SiteFile plan_fault)) }
+    ensures { MatchResult result (λ plan. plan_in site.now ≡ Ok plan)
+        (λ fault. (fault ≡ ReplayFault.OutOfMemory)
+        ⊎ IsErrAnd (plan_in site.now) (λ plan_fault. fault ≡ ReplayFault.SiteFile plan_fault)) }
 {
     let Ok(text) = str::from_utf8(site) else {
         return Err(ReplayFault::SiteFile(PlanFault::NotToml));
@@ -140,7 +150,8 @@ pub fn plan_of<'a>(alloc: Global, site: &[u8]) -> Result<Plan, ReplayFault<'a>>
 fn lines_by<'a>(alloc: Global, script: &[u8]) -> Result<Vec<ScriptInput>, ReplayFault<'a>>
     ensures { MatchResult result
         (λ given. script_of script.now ≡ Ok (map repeated_input given.items))
-        (λ fault. (fault ≡ ReplayFault.OutOfMemory) ⊎ IsErrAnd (script_of script.now) (λ line. fault ≡ ReplayFault.ScriptLine line)) }
+        (λ fault. (fault ≡ ReplayFault.OutOfMemory)
+        ⊎ IsErrAnd (script_of script.now) (λ line. fault ≡ ReplayFault.ScriptLine line)) }
 {
     match read_script(alloc, script) {
         Ok(given) => Ok(given),
@@ -161,7 +172,8 @@ fn inputs_in(given: &[ScriptInput]) -> Option<usize> {
 /// Returns the inputs of these lines. Their memory is allocated at once, so a script with more ticks than fit is
 /// refused before the first input is stored.
 fn inputs_of<'a>(alloc: Global, given: &'a [ScriptInput]) -> Result<Vec<Input<'a>>, OutOfMemory>
-    ensures { IfOk result (λ inputs. map input_of inputs.items ≡ inputs_of_script (map repeated_input given.entry.now)) }
+    ensures { IfOk result (λ inputs. map input_of inputs.items
+        ≡ inputs_of_script (map repeated_input given.entry.now)) }
 {
     let count = inputs_in(given).ok_or(OutOfMemory)?;
     let mut inputs = Vec::with_capacity(alloc, count)?;
@@ -178,8 +190,10 @@ fn inputs_of<'a>(alloc: Global, given: &'a [ScriptInput]) -> Result<Vec<Input<'a
 /// Returns the output for these inputs, from a new site without connections.
 #[tactic(auto, using(crate::proofs::EngineLemmas::run_text, crate::proofs::EngineLemmas::run_reported))]
 fn outputs_of(alloc: Global, plan: &Plan, inputs: &[Input<'_>]) -> Result<Outputs, OutOfMemory>
-    ensures carriers { IfOk result (λ outputs. (c : ℕ) → slice_index_or outputs.carriers c [] ≡ octets_written plan.now (map input_of inputs.now) c) }
-    ensures console { IfOk result (λ outputs. outputs.console ≡ operators_text plan.now (map input_of inputs.now)) }
+    ensures carriers { IfOk result (λ outputs. (c : ℕ) → slice_index_or outputs.carriers c []
+        ≡ octets_written plan.now (map input_of inputs.now) c) }
+    ensures console { IfOk result
+        (λ outputs. outputs.console ≡ operators_text plan.now (map input_of inputs.now)) }
 {
     one_legal_journal();
     let mut engine = Engine::new(alloc, *plan)?;
@@ -193,7 +207,9 @@ fn outputs_of(alloc: Global, plan: &Plan, inputs: &[Input<'_>]) -> Result<Output
 
 /// Returns the text that is printed for these lines.
 fn text_of_inputs(alloc: Global, plan: &Plan, given: &[ScriptInput]) -> Result<Vec<u8>, OutOfMemory>
-    ensures { IfOk result (λ text. text.items ≡ printed_text plan.now (octets_written plan.now (inputs_of_script (map repeated_input given.now))) (operators_text plan.now (inputs_of_script (map repeated_input given.now)))) }
+    ensures { IfOk result (λ text. text.items ≡ printed_text plan.now
+        (octets_written plan.now (inputs_of_script (map repeated_input given.now)))
+        (operators_text plan.now (inputs_of_script (map repeated_input given.now)))) }
 {
     let inputs = inputs_of(alloc, given)?;
     let outputs = outputs_of(alloc, plan, inputs.as_slice())?;
@@ -202,7 +218,8 @@ fn text_of_inputs(alloc: Global, plan: &Plan, given: &[ScriptInput]) -> Result<V
 
 /// Returns a line for each carrier of the plan, by number, and then the operators' text.
 fn outputs_text(alloc: Global, plan: &Plan, outputs: &Outputs) -> Result<Vec<u8>, OutOfMemory>
-    ensures { IfOk result (λ text. text.items ≡ printed_text plan.now (λ c. slice_index_or outputs.now.carriers c []) outputs.now.console) }
+    ensures { IfOk result (λ text. text.items ≡ printed_text plan.now
+        (λ c. slice_index_or outputs.now.carriers c []) outputs.now.console) }
 {
     let mut text = Vec::new(alloc);
     for number in 0..16u32 {

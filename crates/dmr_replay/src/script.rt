@@ -4,9 +4,14 @@
 //! begin with `#` are skipped. The words of a line are separated by one space. In a line that begins with `say `,
 //! everything after that space is the text.
 
-ghost use Rattle.std.specs.Prelude.{◌≡◌, ◌≤◌, ◌++◌, ◌∷◌, [], ℕ, Ok, Err, IfOk, IfSome, map, option_map};
+ghost use Rattle.std.specs.Prelude.{◌≡◌, ◌≤◌, ◌++◌, ◌∷◌, [], ℕ, Ok, Err, IfOk, IfSome, map};
+ghost use Rattle.std.specs.Prelude.{option_map};
 ghost use Rattle.dmr_link.specs.Input.{input_of};
-ghost use Rattle.dmr_replay.specs.Script.{input_of_bytes, carrier_of_word, input_of_cut, repeated_input, input_of_words, input_of_line, is_skipped, number_of_word, octets_of_word, input_of_open, script_of, input_of_text, input_of_tick, count_of_ticks as times_of_word, words_of_script_line};
+ghost use Rattle.dmr_replay.specs.Script.{input_of_bytes, carrier_of_word, input_of_cut};
+ghost use Rattle.dmr_replay.specs.Script.{repeated_input, input_of_words, input_of_line};
+ghost use Rattle.dmr_replay.specs.Script.{is_skipped, number_of_word, octets_of_word};
+ghost use Rattle.dmr_replay.specs.Script.{input_of_open, script_of, input_of_text, input_of_tick};
+ghost use Rattle.dmr_replay.specs.Script.{count_of_ticks as times_of_word, words_of_script_line};
 
 use dmr_console::number_in;
 use dmr_link::Input;
@@ -68,9 +73,11 @@ impl ScriptInput {
 /// Reads the lines of a script, in their order. The error is the number of the first line at fault, or `OutOfMemory`.
 pub fn read_script(alloc: Global, script: &[u8]) -> Result<Vec<ScriptInput>, ScriptFault>
     // The result is the inputs of all lines, and no line is at fault.
-    ensures lines { IfOk result (λ given. script_of script.now ≡ Ok (map repeated_input given.items)) }
+    ensures lines { IfOk result
+        (λ given. script_of script.now ≡ Ok (map repeated_input given.items)) }
     // If a line number is returned, it is that of the first line at fault.
-    ensures fault { (number : ℕ) → result ≡ Err (ScriptFault.Line number) → script_of script.now ≡ Err number }
+    ensures fault { (number : ℕ) → result ≡ Err (ScriptFault.Line number)
+        → script_of script.now ≡ Err number }
 {
     let mut given = Vec::new(alloc);
     for (index, line) in script.split(|octet| *octet == b'\n').enumerate() {
@@ -124,14 +131,16 @@ fn with_line_feed(alloc: Global, text: &[u8]) -> Result<Vec<u8>, OutOfMemory>
 
 /// Returns the words of a line.
 fn words_of(alloc: Global, line: &[u8]) -> Result<Vec<&[u8]>, OutOfMemory>
-    ensures { IfOk result (λ words. map (λ word. word.now) words.items ≡ words_of_script_line line.now) }
+    ensures { IfOk result
+        (λ words. map (λ word. word.now) words.items ≡ words_of_script_line line.now) }
 {
     line.split(|octet| *octet == b' ').collect(alloc)
 }
 
 /// Reads the words of a line. `None` if they are not those of a line of a script.
 fn parse_words(alloc: Global, words: &[&[u8]]) -> Result<Option<ScriptInput>, OutOfMemory>
-    ensures { IfOk result (λ input. option_map repeated_input input ≡ input_of_words (map (λ word. word.now) words.now)) }
+    ensures { IfOk result (λ input. option_map repeated_input input
+        ≡ input_of_words (map (λ word. word.now) words.now)) }
 {
     let [name, arguments @ ..] = words else {
         return Ok(None);
@@ -184,7 +193,8 @@ fn parse_tick(words: &[&[u8]]) -> Option<ScriptInput>
 
 /// Reads the words after `bytes`: two words, C and HEX.
 fn parse_bytes(alloc: Global, words: &[&[u8]]) -> Result<Option<ScriptInput>, OutOfMemory>
-    ensures { IfOk result (λ input. option_map repeated_input input ≡ input_of_bytes (map (λ word. word.now) words.now)) }
+    ensures { IfOk result (λ input. option_map repeated_input input
+        ≡ input_of_bytes (map (λ word. word.now) words.now)) }
 {
     let [carrier, digits] = words else {
         return Ok(None);
@@ -198,7 +208,8 @@ fn parse_bytes(alloc: Global, words: &[&[u8]]) -> Result<Option<ScriptInput>, Ou
 
 /// Reads the words after `text`: one word, HEX.
 fn parse_text(alloc: Global, words: &[&[u8]]) -> Result<Option<ScriptInput>, OutOfMemory>
-    ensures { IfOk result (λ input. option_map repeated_input input ≡ input_of_text (map (λ word. word.now) words.now)) }
+    ensures { IfOk result (λ input. option_map repeated_input input
+        ≡ input_of_text (map (λ word. word.now) words.now)) }
 {
     let [digits] = words else {
         return Ok(None);

@@ -6,8 +6,8 @@
 //!
 //! An answer is one of these:
 //!
-//! - what the method found, with `, ` between several: `call C.S R T`, `ask R T OPTIONS ATTEMPT` or `line R T`; a call that
-//!   is due has only its slot; nothing if the method found nothing
+//! - what the method found, with `, ` between several: `call C.S R T`, `ask R T OPTIONS ATTEMPT` or `line R T`; a call
+//!   that is due has only its slot; nothing if the method found nothing
 //! - `ok` or `full`
 //! - `yes` or `no`
 //! - the numbers of asks, lines and calls

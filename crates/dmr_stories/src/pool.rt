@@ -2,8 +2,8 @@
 //!
 //! All carriers are up when a story begins. An input is the name of a method of [`Pool`], followed by a carrier, a
 //! slot, or a slot and a PDU: `lost 1`, `hold 0.1` or `push 0.0 B1000020.91.1001`. `copy` replaces the copy by a copy
-//! of the slots. `same` asks whether the slots equal their copy, and `has_same_carriers_and_pdus` whether they equal it apart from the slots
-//! that calls hold.
+//! of the slots. `same` asks whether the slots equal their copy, and `has_same_carriers_and_pdus` whether they equal it
+//! apart from the slots that calls hold.
 //!
 //! An answer is a slot, a PDU, a number, `yes`, `no`, `ok` or `full`, or nothing if there is no such slot or PDU. An
 //! input that breaks a method's precondition, such as `hold` of a slot that is not free, is answered `?` without a call

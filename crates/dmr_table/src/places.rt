@@ -2,7 +2,8 @@
 
 ghost use Rattle.std.specs.Prelude.{◌≡◌, ◌*◌, MatchOption, length, map};
 ghost use Rattle.dmr_table.specs.Limits.{most_entries};
-ghost use Rattle.dmr_table.specs.Places.{AreAscending, IsGap, HasFirst, rank_of, place_after_removal as lowered_of};
+ghost use Rattle.dmr_table.specs.Places.{AreAscending, IsGap, HasFirst, rank_of};
+ghost use Rattle.dmr_table.specs.Places.{place_after_removal as lowered_of};
 
 /// An entry's key, and its place among the entries.
 #[derive(Clone, Copy, Debug)]
@@ -48,7 +49,8 @@ pub fn count_before(places: &[Place], place: Place) -> usize
 /// The first of the places from a key on; `None` if all keys are below it.
 pub fn first_from(places: &[Place], key: u32) -> Option<usize>
     requires { AreAscending places.now }
-    ensures { MatchOption result (IsGap places.now (key * most_entries) (length places.now)) (HasFirst places.now key) }
+    ensures { MatchOption result (IsGap places.now (key * most_entries) (length places.now))
+        (HasFirst places.now key) }
 {
     let before = count_before(places, Place { key, index: 0 });
     if before < places.len() {

@@ -1,6 +1,7 @@
 //! The table.
 
-ghost use Rattle.std.specs.Prelude.{◌≡◌, ◌<◌, ◌≤◌, ◌++◌, ◌∷◌, ◌↔◌, ◌==◌, [], length, not, find, filter, set, slice_index_or, IsTrue, IfOk, MatchOption};
+ghost use Rattle.std.specs.Prelude.{◌≡◌, ◌<◌, ◌≤◌, ◌++◌, ◌∷◌, ◌↔◌, ◌==◌, [], length, not, find};
+ghost use Rattle.std.specs.Prelude.{filter, set, slice_index_or, IsTrue, IfOk, MatchOption};
 ghost use Rattle.std.specs.List.{All, list_any};
 ghost use Rattle.dmr_table.specs.Limits.{most_entries};
 ghost use Rattle.dmr_table.specs.Entries.{without_first, IsLeastFrom};
@@ -26,11 +27,14 @@ impl<V: Keyed, const MOST: usize> Model for KeyedTable<V, MOST> {
 
     ghost view = { λ table. table.entries.items };
 
-    ghost invariant = { λ table. IsTable MOST (vec_len table.entries) (vec_capacity table.entries) (vec_len table.places) (vec_capacity table.places) V.key_of table.entries.items table.places.items };
+    ghost invariant = { λ table. IsTable MOST (vec_len table.entries) (vec_capacity table.entries)
+        (vec_len table.places)
+        (vec_capacity table.places) V.key_of table.entries.items table.places.items };
 }
 
 impl<V: Keyed, const MOST: usize> KeyedTable<V, MOST> {
-    /// Makes a table without entries, and allocates the memory for `MOST`. Returns `OutOfMemory` if the allocation fails.
+    /// Makes a table without entries, and allocates the memory for `MOST`. Returns `OutOfMemory` if the allocation
+    /// fails.
     pub fn new(alloc: Global) -> Result<Self, OutOfMemory>
         requires { MOST ≤ most_entries }
         ensures { IfOk result (λ table. table ≡ []) }
@@ -95,7 +99,8 @@ impl<V: Keyed, const MOST: usize> KeyedTable<V, MOST> {
 
     /// An entry with the least key from a number on; `None` if all keys are below the number.
     pub fn least_from(&self, key: u32) -> Option<V>
-        ensures { MatchOption result (All (λ v. V.key_of v < key) self.now) (IsLeastFrom V.key_of key self.now) }
+        ensures { MatchOption result (All (λ v. V.key_of v < key) self.now)
+            (IsLeastFrom V.key_of key self.now) }
     {
         let place = self.places[first_from(&self.places, key)?];
         Some(self.entries[usize::from(place.index)])

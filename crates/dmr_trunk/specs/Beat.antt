@@ -7,8 +7,9 @@ use Rattle.dmr_trunk.specs.declared.beat.Beat.TheVariants.{NotYet, Tick, Delayed
 abbrev pub most_late : ℕ
 most_late = 1000000000
 
--- what is due now, with the time from which the next tick counts, if there is one yet, and the length of a tick. Nothing is due until the tick
--- has lasted, and then the tick. If it is late by more than a second, the clock was delayed
+-- what is due now, with the time from which the next tick counts, if there is one yet, and the length of a tick.
+-- Nothing is due until the tick has lasted, and then the tick. If it is late by more than a second, the clock was
+-- delayed
 abbrev pub beat_due : Option ℕ → ℕ → ℕ → Beat
 beat_due None now tick = NotYet tick
 beat_due (Some from) now tick =
@@ -16,7 +17,8 @@ beat_due (Some from) now tick =
     if nat_lt most_late ((now - from) - tick) then Delayed ((now - from) - tick) else
     Tick
 
--- the time from which the next tick counts, after that: the time at which this tick was due, or now if the clock was delayed
+-- the time from which the next tick counts, after that: the time at which this tick was due, or now if the clock was
+-- delayed
 abbrev pub start_after : Option ℕ → ℕ → ℕ → ℕ
 start_after None now tick = now
 start_after (Some from) now tick =

@@ -29,7 +29,8 @@ pub struct Ticks {
     pub from: Option<u64>,
 }
 
-/// Returns what is due now, and the time from which the next tick counts after that, if the next one counted from `from`.
+/// Returns what is due now, and the time from which the next tick counts after that, if the next one counted from
+/// `from`.
 fn beat_from(from: u64, now: u64, tick: u64) -> (Beat, u64)
     ensures beat { result.0 ≡ beat_due (Some from) now tick }
     ensures start { result.1 ≡ start_after (Some from) now tick }
@@ -57,11 +58,13 @@ impl Ticks {
         }
     }
 
-    /// Returns what is due now. No tick comes early, and each is due one tick after the one before it was due. If a tick is more than a
-    /// second late, those that were missed after it are dropped, and the next one is due one tick from now.
+    /// Returns what is due now. No tick comes early, and each is due one tick after the one before it was due. If a
+    /// tick is more than a second late, those that were missed after it are dropped, and the next one is due one tick
+    /// from now.
     pub fn ask(&mut self, now: u64) -> Beat
         ensures beat { result ≡ beat_due self.old.from now self.old.tick }
-        ensures after { self.new ≡ record self.old { from = Some (start_after self.old.from now self.old.tick) } }
+        ensures after { self.new
+            ≡ record self.old { from = Some (start_after self.old.from now self.old.tick) } }
     {
         let Some(from) = self.from else {
             self.from = Some(now);

@@ -18,7 +18,8 @@ const PLAIN: [EndCause; 11] = [
     EndCause::Controller,
 ];
 
-/// The connections of one port or of several: how many were served, how many were refused, and how many ended for which cause.
+/// The connections of one port or of several: how many were served, how many were refused, and how many ended for which
+/// cause.
 #[derive(Clone, Copy, Debug)]
 pub struct Connections {
     /// Connections that were served.

@@ -1,12 +1,13 @@
 //! The site controller of a DMR Tier III trunked radio site.
 //!
-//! `dmr_trunk --site FILE --script FILE` replays a script over the site of a site file, and prints the octets written for each carrier.
-//! `dmr_trunk --site FILE --serve` serves the site over TCP.
+//! `dmr_trunk --site FILE --script FILE` replays a script over the site of a site file, and prints the octets written
+//! for each carrier. `dmr_trunk --site FILE --serve` serves the site over TCP.
 //!
-//! `dmr_command` reads the words, and `files` reads the files. `dmr_replay` runs a script's inputs through the engine of `dmr_link`.
-//! `serve` opens a port of `dmr_port` for each carrier and for operators, over `mio_sockets`. It has a `pacer` for the ticks: `beat` decides
-//! when one is due, and `clock` reads the time. It runs terms of `dmr_desk` over them. `notes` writes the log: `port_watch` has the notes of a
-//! port, and `term_log` those of terms. `tally` counts what a journal shows, and `ends` what happens at the ports.
+//! `dmr_command` reads the words, and `files` reads the files. `dmr_replay` runs a script's inputs through the engine
+//! of `dmr_link`. `serve` opens a port of `dmr_port` for each carrier and for operators, over `mio_sockets`. It has a
+//! `pacer` for the ticks: `beat` decides when one is due, and `clock` reads the time. It runs terms of `dmr_desk` over
+//! them. `notes` writes the log: `port_watch` has the notes of a port, and `term_log` those of terms. `tally` counts
+//! what a journal shows, and `ends` what happens at the ports.
 #![tactic(auto)]
 
 mod beat;
@@ -23,7 +24,8 @@ mod tally;
 mod term_log;
 
 ghost use Rattle.std.specs.Prelude.{◌≡◌, IfOk, map, string_bytes};
-ghost use Rattle.dmr_trunk.specs.Replay.{AreReplayed, HasPlan, IsJobDone, IsReplayed, IsReplayedBySome, IsStatus};
+ghost use Rattle.dmr_trunk.specs.Replay.{AreReplayed, HasPlan, IsJobDone, IsReplayed};
+ghost use Rattle.dmr_trunk.specs.Replay.{IsReplayedBySome, IsStatus};
 
 use crate::files::{FileSource, SystemFiles, slice_of};
 use crate::serving::serve_file;
@@ -43,7 +45,8 @@ use std::{env, io};
 
 /// The words as texts.
 fn texts_of(alloc: Global, words: &[String]) -> Result<Vec<&str>, OutOfMemory>
-    ensures { IfOk result (λ texts. map (λ text. text.now) texts.items ≡ map string_bytes words.now) }
+    ensures { IfOk result
+        (λ texts. map (λ text. text.now) texts.items ≡ map string_bytes words.now) }
 {
     let mut texts = Vec::new(alloc);
     for word in words {
@@ -63,7 +66,9 @@ fn replay_files<S: FileSource, W: Write, E: Write>(
 ) -> Result<u8, OutOfMemory>
     ensures status { IfOk result IsStatus }
     // At status 0 the files that the source gave for the two paths yield a text, and `out` received all of it.
-    ensures ok { IfOk result (λ status. status ≡ 0 → AreReplayed (S.gave files.now) site.now script.now (W.contents out.old) (W.contents out.new)) }
+    ensures ok { IfOk result (λ status. status ≡ 0
+        → AreReplayed (S.gave files.now) site.now script.now (W.contents out.old)
+        (W.contents out.new)) }
 {
     let site_octets = files.octets_of(site)?;
     let script_octets = files.octets_of(script)?;
@@ -105,7 +110,8 @@ fn do_job<R: Net + Log + Clock + Wait + Threads + Sync, S: FileSource, W: Write,
     err: &mut E,
 ) -> Result<u8, OutOfMemory>
     ensures status { IfOk result IsStatus }
-    ensures ok { IfOk result (λ status. status ≡ 0 → IsJobDone (S.gave files.now) job.entry (W.contents out.old) (W.contents out.new)) }
+    ensures ok { IfOk result (λ status. status ≡ 0
+        → IsJobDone (S.gave files.now) job.entry (W.contents out.old) (W.contents out.new)) }
 {
     match job {
         Job::Script { site, script } => replay_files(alloc, files, site, script, out, err),
@@ -124,7 +130,9 @@ fn run_words<R: Net + Log + Clock + Wait + Threads + Sync, S: FileSource, W: Wri
 ) -> Result<u8, OutOfMemory>
     ensures status { IfOk result IsStatus }
     // At status 0 the words ask for a job, and that job was done.
-    ensures ok { IfOk result (λ status. status ≡ 0 → IsReplayed (S.gave files.now) (map string_bytes words.now) (W.contents out.old) (W.contents out.new)) }
+    ensures ok { IfOk result (λ status. status ≡ 0
+        → IsReplayed (S.gave files.now) (map string_bytes words.now) (W.contents out.old)
+        (W.contents out.new)) }
 {
     let texts = texts_of(alloc, words)?;
     match choose(alloc, texts.as_slice(), err) {
@@ -142,7 +150,8 @@ fn run_program<
 >(rt: &R, files: &S, out: &mut W, err: &mut E) -> u8
     ensures status { IsStatus result }
     // At status 0 there were words that ask for a job, and that job was done.
-    ensures ok { result ≡ 0 → IsReplayedBySome (S.gave files.now) (W.contents out.old) (W.contents out.new) }
+    ensures ok { result ≡ 0
+        → IsReplayedBySome (S.gave files.now) (W.contents out.old) (W.contents out.new) }
 {
     let words = match env::args(rt) {
         Ok(words) => words,

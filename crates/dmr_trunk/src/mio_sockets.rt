@@ -1,4 +1,5 @@
-//! The sockets of a port: TCP over the system's poll. Here are the calls of the system, and no rule of a port (`dmr_port` has those).
+//! The sockets of a port: TCP over the system's poll. Here are the calls of the system, and no rule of a port
+//! (`dmr_port` has those).
 
 ghost use Rattle.std.specs.Prelude.{◌≡◌, ◌<◌, ◌≤◌, ℕ, None, vec_len, vec_capacity, IfOk};
 ghost use Rattle.dmr_wire.specs.Answers.{GotWithin, PutWithin};
@@ -42,8 +43,8 @@ const ALL: Ready = Ready {
     newcomers: true,
 };
 
-/// Whether the listening socket has to be asked. The poll reports it once when a connection comes, and not again for those that came
-/// with it.
+/// Whether the listening socket has to be asked. The poll reports it once when a connection comes, and not again for
+/// those that came with it.
 #[derive(Clone, Copy, Debug, PartialEq, Eq)]
 enum Backlog {
     /// The last accept found no connection: the poll reports the next one.
@@ -67,9 +68,9 @@ pub enum ListenFault {
 
 /// A listening TCP socket, its newcomers and the connection that is served, all in one poll.
 ///
-/// The poll is edge-triggered: it reports a socket when something comes. The listening socket and the newcomers are polled for octets that
-/// come, the connection for these or, while octets are kept for it, for sending. A new registration makes the poll report what is
-/// ready then.
+/// The poll is edge-triggered: it reports a socket when something comes. The listening socket and the newcomers are
+/// polled for octets that come, the connection for these or, while octets are kept for it, for sending. A new
+/// registration makes the poll report what is ready then.
 #[derive(Drop)]
 pub struct MioSockets<'a, R> {
     /// The address at which it listens, if the system reports it.
@@ -88,8 +89,8 @@ pub struct MioSockets<'a, R> {
     now: u64,
 }
 
-/// Ends the output, and reads the octets that came and were not read. A close with unread octets resets the connection, and the other side
-/// may then lose the last octets written to it, such as a REFUSED.
+/// Ends the output, and reads the octets that came and were not read. A close with unread octets resets the connection,
+/// and the other side may then lose the last octets written to it, such as a REFUSED.
 fn finish(stream: &mut TcpStream) {
     if stream.shutdown(Shutdown::Write).is_err() {
         return;
@@ -193,7 +194,8 @@ impl<'a, R: Clock> MioSockets<'a, R> {
     ) -> Result<MioSockets<'a, R>, ListenFault>
     where
         R: Net,
-        ensures { IfOk result (λ sockets. (vec_len sockets.newcomers ≡ 0) × (sockets.connection ≡ None)) }
+        ensures { IfOk result (λ sockets. (vec_len sockets.newcomers ≡ 0)
+            × (sockets.connection ≡ None)) }
     {
         let Ok(events) = Events::with_capacity(alloc, NEWCOMERS + 2) else {
             return Err(ListenFault::OutOfMemory);
@@ -220,7 +222,8 @@ impl<'a, R: Clock> MioSockets<'a, R> {
     /// Keeps a connection as the newest newcomer. If it cannot be polled, it is dropped.
     fn admit(&mut self, mut stream: TcpStream, from: SocketAddr) -> Accepted
         requires { vec_len self.old.newcomers < 9 }
-        ensures newcomers { vec_len self.new.newcomers ≡ waiting_after (vec_len self.old.newcomers) result }
+        ensures newcomers { vec_len self.new.newcomers
+            ≡ waiting_after (vec_len self.old.newcomers) result }
         ensures connection { self.new.connection ≡ self.old.connection }
     {
         self.backlog = Backlog::Waiting;
@@ -259,7 +262,8 @@ impl<'a, R: Clock> MioSockets<'a, R> {
         }
     }
 
-    /// Polls the connection for sending, or otherwise for octets that come. Returns `false` if it cannot be polled for that.
+    /// Polls the connection for sending, or otherwise for octets that come. Returns `false` if it cannot be polled for
+    /// that.
     fn poll_connection(&mut self, sends: bool) -> bool
         ensures newcomers { vec_len self.new.newcomers ≡ vec_len self.old.newcomers }
         ensures connection { self.new.connection ≡ self.old.connection }

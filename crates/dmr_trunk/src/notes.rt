@@ -18,8 +18,8 @@ const STANDARD_ERROR: i32 = 2;
 /// The target of the notes in the log.
 const TARGET: &str = "dmr_trunk";
 
-/// Writes notes to standard error, by the runtime's log. A note is written only if standard error takes it at once; otherwise it is
-/// dropped. So a reader of notes that is slow, or does not read, does not delay the program.
+/// Writes notes to standard error, by the runtime's log. A note is written only if standard error takes it at once;
+/// otherwise it is dropped. So a reader of notes that is slow, or does not read, does not delay the program.
 #[derive(Drop)]
 pub struct Notes<'a, R> {
     rt: &'a R,

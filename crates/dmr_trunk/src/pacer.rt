@@ -14,8 +14,8 @@ use std::time::{Clock, Duration};
 /// The most nanoseconds that the clock sleeps at once, so that a term's end does not wait much longer for it.
 const NAP: u64 = 25 * MILLISECOND;
 
-/// Reports a tick each time that the time of one has passed, by the system's monotonic clock ([`Ticks::ask`]). If the clock was delayed, for
-/// example because the process was stopped, it notes for how long.
+/// Reports a tick each time that the time of one has passed, by the system's monotonic clock ([`Ticks::ask`]). If the
+/// clock was delayed, for example because the process was stopped, it notes for how long.
 #[derive(Drop)]
 pub struct ClockPacer<'a, R> {
     rt: &'a R,

@@ -281,9 +281,9 @@ fn serve_term<'a, R: Log + Clock + Wait + Threads + Sync>(
     }
 }
 
-/// Serves the site of a plan over TCP. Listens at each carrier's port, by number, and at the console's, and runs `terms` terms, one after
-/// another; 0 means forever. Each term has at most the plan's number of entries. Links, connections and the site continue from term to
-/// term. Each term's journal is audited, then dropped.
+/// Serves the site of a plan over TCP. Listens at each carrier's port, by number, and at the console's, and runs
+/// `terms` terms, one after another; 0 means forever. Each term has at most the plan's number of entries. Links,
+/// connections and the site continue from term to term. Each term's journal is audited, then dropped.
 pub fn serve<R: Net + Log + Clock + Wait + Threads + Sync>(
     rt: &R,
     alloc: Global,

@@ -26,7 +26,8 @@ fn plan_in<'a>(
     plan_of(alloc, site.ok_or(ReplayFault::CannotRead(site_name))?)
 }
 
-/// Notes which version of the program serves which site file. These notes are opened for this one; `serve` opens its own.
+/// Notes which version of the program serves which site file. These notes are opened for this one; `serve` opens its
+/// own.
 fn note_start<R: Net + Log>(
     rt: &R,
     alloc: Global,
@@ -76,8 +77,9 @@ where
     }
 }
 
-/// Serves the site of a site file, and returns the exit status. `site` has the file's octets, or `None` if the file could not be read;
-/// `site_name` is its name in a fault's text. A fault is written to `err` as one line; an error of `err` is ignored.
+/// Serves the site of a site file, and returns the exit status. `site` has the file's octets, or `None` if the file
+/// could not be read; `site_name` is its name in a fault's text. A fault is written to `err` as one line; an error of
+/// `err` is ignored.
 pub fn serve_file<R, E>(
     rt: &R,
     alloc: Global,

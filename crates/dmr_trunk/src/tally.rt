@@ -1,10 +1,12 @@
 //! The journal of a term, in numbers.
 //!
-//! A journal has each event and its answer. It has no wrong bits of bursts, since these are corrected before a burst is an event.
+//! A journal has each event and its answer. It has no wrong bits of bursts, since these are corrected before a burst is
+//! an event.
 
 ghost use Rattle.std.specs.Prelude.{◌≡◌, ◌+◌, ◌^◌, ◌<◌, ◌/◌, ◌==◌, if◌then◌else◌};
 ghost use Rattle.std.specs.List.{list_any};
-ghost use Rattle.dmr_trunk.specs.Tally.{is_burst, is_noise, is_poll, is_refusal as refuses, is_registration as registers, tally_of as tally_in};
+ghost use Rattle.dmr_trunk.specs.Tally.{is_burst, is_noise, is_poll, is_refusal as refuses};
+ghost use Rattle.dmr_trunk.specs.Tally.{is_registration as registers, tally_of as tally_in};
 
 use dmr_core::{Act, Acts, Entry, Event};
 use dmr_pdu::Pdu;

@@ -77,7 +77,7 @@ fn wrong_checks(rt: HostRuntime) {
 }
 
 /// Ten octets and their burst, three of each kind of PDU, in hexadecimal digits. They were computed apart from this
-/// code. The fields of a PDU precede it, behind `#`.
+/// code. Each line has the fields of a PDU first, after `#`.
 const BURSTS: &str = "\
 # Rand options=1 flags=0 kind=14 target=16776902 source=1001
 9F00020EFFFEC60003E9 => 0EB49CDF34F2749CECBA5CB3B7C40E88138C9A38F96248E180

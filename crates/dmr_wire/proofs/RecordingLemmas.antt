@@ -27,7 +27,8 @@ answer_of-take (entry.Read (got.Octets n)) octets = ap Came (take-take n n octet
 answer_of-take (entry.Write (put.Octets n)) octets = ap Took (take-take n n octets (omega arith))
 answer_of-take other octets = refl
 
--- In the lemmas below the cases of a connect and of a wait are named so that the last line is one for each of the others.
+-- In the lemmas below the cases of a connect and of a wait are named so that the last line is one for each of the
+-- others.
 
 -- the entry of its answer is the entry itself
 entry_of_answer-answer_of : (e : RecordEntry) (c t : List ℕ) → came_with e ≤ length c → taken_with e ≤ length t → entry_of_answer (answer_of e c t) ≡ e

@@ -62,7 +62,9 @@ abbrev pub PutWithin : Put → ℕ → Type 0
 PutWithin (put.Octets n) len = n ≤ len
 PutWithin other len = Unit {0}
 
--- the port gave these answers between two moments: if it reports a record at the second, that is the record of the first with these answers
--- appended
-pub record Reports (before : Option (List Answer)) (answers : List Answer) (after : Option (List Answer)) : Type 0 where
-  pub follows : (whole : List Answer) → after ≡ Some whole → (begun : List Answer) × (before ≡ Some begun) × (whole ≡ begun ++ answers)
+-- the port gave these answers between two moments: if it reports a record at the second, that is the record of the
+-- first with these answers appended
+pub record Reports (before : Option (List Answer)) (answers : List Answer)
+    (after : Option (List Answer)) : Type 0 where
+  pub follows : (whole : List Answer) → after ≡ Some whole
+      → (begun : List Answer) × (before ≡ Some begun) × (whole ≡ begun ++ answers)

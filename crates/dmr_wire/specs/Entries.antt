@@ -6,7 +6,10 @@ use Rattle.dmr_wire.specs.declared.port.Connect.TheVariants as connect
 use Rattle.dmr_wire.specs.declared.port.Waited.TheVariants as waited
 use Rattle.dmr_wire.specs.declared.recording.RecordEntry.{RecordEntry}
 use Rattle.dmr_wire.specs.declared.recording.RecordEntry.TheVariants as entry
-use Rattle.dmr_wire.specs.Answers.{Answer, Opened, NotYet, Finished, Came, InputEnded, ReadInterrupted, ReadBlocked, ReadFailed, Took, WriteInterrupted, WriteBlocked, WriteFailed, Again, Silent, of_read, of_write, of_connect, of_wait}
+use Rattle.dmr_wire.specs.Answers.{Answer, Opened, NotYet, Finished, Came, InputEnded}
+use Rattle.dmr_wire.specs.Answers.{ReadInterrupted, ReadBlocked, ReadFailed, Took, WriteInterrupted}
+use Rattle.dmr_wire.specs.Answers.{WriteBlocked, WriteFailed, Again, Silent, of_read, of_write}
+use Rattle.dmr_wire.specs.Answers.{of_connect, of_wait}
 
 -- the entry of an answer: it has the number of the answer's octets instead of the octets
 abbrev pub entry_of_answer : Answer → RecordEntry
@@ -45,7 +48,9 @@ answer_of (entry.Wait answer) came taken = of_wait answer
 -- the answers of entries, each with its octets
 abbrev pub answers_of_entries : List RecordEntry → List ℕ → List ℕ → List Answer
 answers_of_entries [] came taken = []
-answers_of_entries (e ∷ entries) came taken = answer_of e came taken ∷ answers_of_entries entries (drop (came_with e) came) (drop (taken_with e) taken)
+answers_of_entries (e ∷ entries) came taken =
+    answer_of e came taken
+    ∷ answers_of_entries entries (drop (came_with e) came) (drop (taken_with e) taken)
 
 -- the octets are exactly those of the entries
 pub record IsStored (entries : List RecordEntry) (came taken : List ℕ) : Type 0 where

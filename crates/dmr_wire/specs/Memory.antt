@@ -34,7 +34,8 @@ next_octets (Says answer ∷ rest) len = []
 -- the items that remain for the next reads: of a feed, the octets that did not fit
 abbrev pub reads_left : List Reading → ℕ → List Reading
 reads_left [] len = []
-reads_left (Feed octets ∷ rest) len = if nat_lt len (length octets) then Feed (drop len octets) ∷ rest else rest
+reads_left (Feed octets ∷ rest) len =
+    if nat_lt len (length octets) then Feed (drop len octets) ∷ rest else rest
 reads_left (Says answer ∷ rest) len = rest
 
 -- the answer to a write of this many octets

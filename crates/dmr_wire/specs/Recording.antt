@@ -1,5 +1,6 @@
 -- A record that is kept as long as there is room for its answers and for their octets.
-use Rattle.std.specs.Prelude.{ℕ, ◌+◌, List, [], ◌∷◌, ◌++◌, Bool, false, true, not, ◌&&◌, if◌then◌else◌, nat_lt, nat_le, Option, Some, None, length, sum_by}
+use Rattle.std.specs.Prelude.{ℕ, ◌+◌, List, [], ◌∷◌, ◌++◌, Bool, false, true, not, ◌&&◌}
+use Rattle.std.specs.Prelude.{if◌then◌else◌, nat_lt, nat_le, Option, Some, None, length, sum_by}
 use Rattle.std.specs.List.{flat_map}
 use Rattle.dmr_wire.specs.Answers.{Answer, Came, Took}
 
@@ -38,7 +39,9 @@ reported_by recording = if recording.is_over then None else Some recording.answe
 
 -- whether there is room for one more answer, with this many octets
 abbrev pub has_room_for : Recording → ℕ → Bool
-has_room_for recording count = nat_lt (length recording.answers) recording.room && nat_le (count_in recording.answers + count) recording.room
+has_room_for recording count =
+    nat_lt (length recording.answers) recording.room
+    && nat_le (count_in recording.answers + count) recording.room
 
 -- the record after one more answer
 abbrev pub recording_with : Recording → Answer → Recording

@@ -1,7 +1,9 @@
 //! A port in memory.
 
-ghost use Rattle.std.specs.Prelude.{◌≡◌, ◌+◌, ◌<◌, ◌≤◌, ◌++◌, ◌∷◌, [], length, drop, map, option_map, slice_index_or, IfOk, IfErr};
-ghost use Rattle.dmr_wire.specs.Answers.{Reports, GotWithin, PutWithin, of_read, of_write, of_connect, of_wait};
+ghost use Rattle.std.specs.Prelude.{◌≡◌, ◌+◌, ◌<◌, ◌≤◌, ◌++◌, ◌∷◌, [], length, drop, map};
+ghost use Rattle.std.specs.Prelude.{option_map, slice_index_or, IfOk, IfErr};
+ghost use Rattle.dmr_wire.specs.Answers.{Reports, GotWithin, PutWithin, of_read, of_write};
+ghost use Rattle.dmr_wire.specs.Answers.{of_connect, of_wait};
 ghost use Rattle.dmr_wire.specs.Recording.{empty_recording, recording_with, reported_by, taken_in};
 ghost use Rattle.dmr_wire.specs.Entries.{entry_of_answer};
 ghost use Rattle.dmr_wire.specs.Memory.{next_got, next_octets, reads_left, next_put};
@@ -17,13 +19,13 @@ use dmr_pdu::OutOfMemory;
 use std::alloc::Global;
 use std::marker::Model;
 
-/// A port that answers by steps, each for the next call of its kind. If no step of the kind is left, a connect answers `Finished`, a read
-/// `End`, a write takes all octets, and a wait answers `Silent`. Steps belong to no connection: the next connection uses those that one
-/// leaves.
+/// A port that answers by steps, each for the next call of its kind. If no step of the kind is left, a connect answers
+/// `Finished`, a read `End`, a write takes all octets, and a wait answers `Silent`. Steps belong to no connection: the
+/// next connection uses those that one leaves.
 ///
-/// The port reports its record while that has at most `room` answers and at most `room` octets, those that came and those that were taken
-/// together. After the first answer that exceeds either limit it reports none, but still answers. Contracts see the remaining steps, by
-/// kind, and the record.
+/// The port reports its record while that has at most `room` answers and at most `room` octets, those that came and
+/// those that were taken together. After the first answer that exceeds either limit it reports none, but still answers.
+/// Contracts see the remaining steps, by kind, and the record.
 #[derive(Debug, Drop)]
 pub struct MemoryPort {
     script: Script,
@@ -47,8 +49,8 @@ impl Model for MemoryPort {
 }
 
 impl MemoryPort {
-    /// Makes a port of these steps, with room for a record of `room` answers and `room` octets. No later call allocates memory. On an error
-    /// an allocation was refused; the error returns the steps unchanged.
+    /// Makes a port of these steps, with room for a record of `room` answers and `room` octets. No later call allocates
+    /// memory. On an error an allocation was refused; the error returns the steps unchanged.
     pub fn new(
         alloc: Global,
         steps: Vec<Step>,
@@ -73,10 +75,11 @@ impl MemoryPort {
         self.recording.taken()
     }
 
-    /// The entries of the record, oldest first: each call and its answer, without its octets. `None` if the port no longer reports a
-    /// record.
+    /// The entries of the record, oldest first: each call and its answer, without its octets. `None` if the port no
+    /// longer reports a record.
     pub fn entries(&self) -> Option<&[RecordEntry]>
-        ensures { option_map (λ entries. entries.now) result ≡ option_map (map entry_of_answer) (reported_by self.now.recording) }
+        ensures { option_map (λ entries. entries.now) result
+            ≡ option_map (map entry_of_answer) (reported_by self.now.recording) }
     {
         self.recording.entries()
     }
@@ -89,10 +92,15 @@ impl Wire for MemoryPort {
     fn read(&mut self, octets: &mut [u8]) -> Got
         requires { 0 < length octets.old }
         ensures within { GotWithin result (length octets.new) }
-        ensures reported { Reports (reported_by self.old.recording) (of_read result octets.new ∷ []) (reported_by self.new.recording) }
+        ensures reported { Reports (reported_by self.old.recording) (of_read result octets.new ∷ [])
+            (reported_by self.new.recording) }
         ensures got { result ≡ next_got self.old.reads (length octets.old) }
-        ensures octets { let given = next_octets self.old.reads (length octets.old) in octets.new ≡ given ++ drop (length given) octets.old }
-        ensures port { self.new ≡ record self.old { reads = reads_left self.old.reads (length octets.old); recording = recording_with self.old.recording (of_read result octets.new) } }
+        ensures octets { let given = next_octets self.old.reads (length octets.old) in
+            octets.new ≡ given ++ drop (length given) octets.old }
+        ensures port { self.new ≡ record self.old {
+          reads = reads_left self.old.reads (length octets.old);
+          recording = recording_with self.old.recording (of_read result octets.new);
+        } }
     {
         let got = read_next(&mut self.script.reads, octets);
         self.recording.add_answer(RecordEntry::Read(got), octets);
@@ -103,9 +111,13 @@ impl Wire for MemoryPort {
     fn write(&mut self, octets: &[u8]) -> Put
         requires { 0 < length octets.now }
         ensures within { PutWithin result (length octets.now) }
-        ensures reported { Reports (reported_by self.old.recording) (of_write result octets.now ∷ []) (reported_by self.new.recording) }
+        ensures reported { Reports (reported_by self.old.recording)
+            (of_write result octets.now ∷ []) (reported_by self.new.recording) }
         ensures put { result ≡ next_put self.old.writes (length octets.now) }
-        ensures port { self.new ≡ record self.old { writes = drop 1 self.old.writes; recording = recording_with self.old.recording (of_write result octets.now) } }
+        ensures port { self.new ≡ record self.old {
+          writes = drop 1 self.old.writes;
+          recording = recording_with self.old.recording (of_write result octets.now);
+        } }
     {
         let put = match self.script.writes.pop_front() {
             None => Put::Octets(octets.len()),
@@ -120,9 +132,13 @@ impl Wire for MemoryPort {
 impl Port for MemoryPort {
     /// Answers by the next step for connects.
     fn connect(&mut self) -> Connect
-        ensures reported { Reports (reported_by self.old.recording) (of_connect result ∷ []) (reported_by self.new.recording) }
+        ensures reported { Reports (reported_by self.old.recording) (of_connect result ∷ [])
+            (reported_by self.new.recording) }
         ensures connect { result ≡ slice_index_or self.old.connects 0 Connect.Finished }
-        ensures port { self.new ≡ record self.old { connects = drop 1 self.old.connects; recording = recording_with self.old.recording (of_connect result) } }
+        ensures port { self.new ≡ record self.old {
+          connects = drop 1 self.old.connects;
+          recording = recording_with self.old.recording (of_connect result);
+        } }
     {
         let connects = &mut self.script.connects;
         let connect = connects.pop_front().unwrap_or(Connect::Finished);
@@ -133,9 +149,13 @@ impl Port for MemoryPort {
 
     /// Answers by the next step for waits.
     fn wait(&mut self) -> Waited
-        ensures reported { Reports (reported_by self.old.recording) (of_wait result ∷ []) (reported_by self.new.recording) }
+        ensures reported { Reports (reported_by self.old.recording) (of_wait result ∷ [])
+            (reported_by self.new.recording) }
         ensures waited { result ≡ slice_index_or self.old.waits 0 Waited.Silent }
-        ensures port { self.new ≡ record self.old { waits = drop 1 self.old.waits; recording = recording_with self.old.recording (of_wait result) } }
+        ensures port { self.new ≡ record self.old {
+          waits = drop 1 self.old.waits;
+          recording = recording_with self.old.recording (of_wait result);
+        } }
     {
         let waits = &mut self.script.waits;
         let waited = waits.pop_front().unwrap_or(Waited::Silent);
@@ -144,7 +164,8 @@ impl Port for MemoryPort {
     }
 }
 
-/// Allocates room for `steps` steps, and for a record of `room` answers and `room` octets. On an error an allocation was refused.
+/// Allocates room for `steps` steps, and for a record of `room` answers and `room` octets. On an error an allocation
+/// was refused.
 fn room_for(alloc: Global, steps: usize, room: usize) -> Result<(Script, Recording), OutOfMemory>
     ensures room { IfOk result (λ made. HasRoom made.0 steps) }
     ensures none { IfOk result (λ made. IsEmpty made.0) }

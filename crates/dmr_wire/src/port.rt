@@ -30,13 +30,15 @@ pub enum Waited {
 pub trait Port: Wire {
     /// Asks for the next connection. The port drops a connection that it still has.
     fn connect(&mut self) -> Connect
-        ensures { Reports (Self.reported self.old) (of_connect result ∷ []) (Self.reported self.new) };
+        ensures { Reports (Self.reported self.old) (of_connect result ∷ [])
+            (Self.reported self.new) };
 
     /// Waits until there is something to read, or the other side has been silent for too long.
     fn wait(&mut self) -> Waited
         ensures { Reports (Self.reported self.old) (of_wait result ∷ []) (Self.reported self.new) };
 
-    /// Receives how the connection was closed, before the next one is asked for. It reads and writes nothing. By default it does nothing.
+    /// Receives how the connection was closed, before the next one is asked for. It reads and writes nothing. By
+    /// default it does nothing.
     fn closed(&mut self, closing: Closing)
         ensures { Self.reported self.new ≡ Self.reported self.old }
     {

@@ -1,7 +1,8 @@
 //! The record of a port in memory, in room that is allocated when the record is made.
 
 ghost use Rattle.std.specs.Prelude.{◌≡◌, ◌+◌, ◌≤◌, length, map, option_map, IfOk};
-ghost use Rattle.dmr_wire.specs.Recording.{empty_recording, has_room_for, recording_with, reported_by, taken_in};
+ghost use Rattle.dmr_wire.specs.Recording.{empty_recording, has_room_for, recording_with};
+ghost use Rattle.dmr_wire.specs.Recording.{reported_by, taken_in};
 ghost use Rattle.dmr_wire.specs.Entries.{answer_of, entry_of_answer, came_with, taken_with};
 
 use crate::port::{Connect, Waited};
@@ -10,7 +11,8 @@ use dmr_pdu::OutOfMemory;
 use std::alloc::Global;
 use std::marker::Model;
 
-/// An entry of a port's record: a call and its answer. It has the number of octets that came or were taken, but not the octets.
+/// An entry of a port's record: a call and its answer. It has the number of octets that came or were taken, but not the
+/// octets.
 #[derive(Clone, Copy, Debug, PartialEq, Eq)]
 pub enum RecordEntry {
     /// A connect and its answer.
@@ -45,9 +47,9 @@ impl RecordEntry {
     }
 }
 
-/// The answers of a port, as long as there is room for them and for their octets. The first answer without room ends the record, which then
-/// keeps the answers before it. Contracts see the list of those answers with their octets, oldest first, the room, and whether the record
-/// is over.
+/// The answers of a port, as long as there is room for them and for their octets. The first answer without room ends
+/// the record, which then keeps the answers before it. Contracts see the list of those answers with their octets,
+/// oldest first, the room, and whether the record is over.
 #[derive(Debug, Drop)]
 pub struct Recording {
     room: usize,
@@ -64,15 +66,21 @@ impl Model for Recording {
 
     ghost Value = { Recording };
 
-    ghost view = { λ r. record { room = r.room; answers = answers_of_entries r.entries.items r.came.items r.taken.items; is_over = r.is_over } };
+    ghost view = { λ r. record {
+      room = r.room;
+      answers = answers_of_entries r.entries.items r.came.items r.taken.items;
+      is_over = r.is_over;
+    } };
 
     ghost invariant = { λ r. IsStored r.entries.items r.came.items r.taken.items
         × (vec_len r.entries ≤ r.room) × (vec_len r.came + vec_len r.taken ≤ r.room)
-        × (r.room ≤ vec_capacity r.entries) × (r.room ≤ vec_capacity r.came) × (r.room ≤ vec_capacity r.taken) };
+        × (r.room ≤ vec_capacity r.entries) × (r.room ≤ vec_capacity r.came)
+        × (r.room ≤ vec_capacity r.taken) };
 }
 
 impl Recording {
-    /// Makes an empty record, with room for `room` answers and for `room` of their octets. On an error an allocation was refused.
+    /// Makes an empty record, with room for `room` answers and for `room` of their octets. On an error an allocation
+    /// was refused.
     pub fn new(alloc: Global, room: usize) -> Result<Recording, OutOfMemory>
         ensures { IfOk result (λ recording. recording ≡ empty_recording room) }
     {
@@ -117,7 +125,8 @@ impl Recording {
 
     /// The entries of the answers, oldest first; `None` if the record is over.
     pub fn entries(&self) -> Option<&[RecordEntry]>
-        ensures { option_map (λ entries. entries.now) result ≡ option_map (map entry_of_answer) (reported_by self.now) }
+        ensures { option_map (λ entries. entries.now) result
+            ≡ option_map (map entry_of_answer) (reported_by self.now) }
     {
         if self.is_over {
             return None;

@@ -1,6 +1,7 @@
 //! The steps of a port in memory, sorted by kind of call.
 
-ghost use Rattle.std.specs.Prelude.{◌≡◌, ◌==◌, ◌+◌, ◌≤◌, ◌∷◌, ◌++◌, [], length, take, drop, min, vec_len, IfOk};
+ghost use Rattle.std.specs.Prelude.{◌≡◌, ◌==◌, ◌+◌, ◌≤◌, ◌∷◌, ◌++◌, [], length, take, drop, min};
+ghost use Rattle.std.specs.Prelude.{vec_len, IfOk};
 ghost use Rattle.std.specs.VecDeque.{deque_len, deque_capacity};
 ghost use Rattle.dmr_wire.specs.Memory.{next_got, next_octets, reads_left};
 ghost use Rattle.dmr_wire.specs.Sorting.{HasRoom, IsEmpty, Follows};
@@ -125,7 +126,8 @@ impl Script {
 /// Answers a read by the next item for reads: writes its octets to the front of the slice, or answers without octets.
 pub fn read_next(reads: &mut VecDeque<Reading>, into: &mut [u8]) -> Got
     ensures got { result ≡ next_got reads.old.items (length into.old) }
-    ensures octets { let given = next_octets reads.old.items (length into.old) in into.new ≡ given ++ drop (length given) into.old }
+    ensures octets { let given = next_octets reads.old.items (length into.old) in
+        into.new ≡ given ++ drop (length given) into.old }
     ensures left { reads.new.items ≡ reads_left reads.old.items (length into.old) }
 {
     match reads.pop_front() {

@@ -3,8 +3,8 @@
 use crate::port::{Connect, Waited};
 use crate::wire::{Got, Put};
 
-/// The answer of a port in memory to the next call of one kind. The steps of a kind answer the calls of that kind in order, whatever calls
-/// of other kinds come in between.
+/// The answer of a port in memory to the next call of one kind. The steps of a kind answer the calls of that kind in
+/// order, whatever calls of other kinds come in between.
 #[derive(Debug, Drop, PartialEq, Eq)]
 pub enum Step {
     /// The next connect answers this.

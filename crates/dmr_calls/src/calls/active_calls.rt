@@ -2,7 +2,9 @@
 
 ghost use Rattle.std.specs.Prelude.{◌≡◌, ◌<◌, [], ◌∷◌, ◌++◌, nat_le, length, map, is_err};
 ghost use Rattle.dmr_calls.specs.declared.calls.TheConstants.{MOST_CALLS};
-ghost use Rattle.dmr_calls.specs.Calls.{just_begun, with_activity, with_call, on_other_slots, on_other_carriers, call_on, group_call, own_group_call, own_call};
+ghost use Rattle.dmr_calls.specs.Calls.{just_begun, with_activity, with_call, on_other_slots};
+ghost use Rattle.dmr_calls.specs.Calls.{on_other_carriers, call_on, group_call, own_group_call};
+ghost use Rattle.dmr_calls.specs.Calls.{own_call};
 ghost use Rattle.dmr_calls.specs.Engaged.{call_of};
 ghost use Rattle.dmr_calls.specs.Due.{due_call};
 
@@ -14,7 +16,8 @@ use crate::ticks::mark_active;
 use dmr_pdu::{Address, CarrierNo, Slot};
 
 impl Calls {
-    /// Begins a call: adds it after the others, with 0 ticks. If `MOST_CALLS` calls are active, returns `Full` and changes nothing.
+    /// Begins a call: adds it after the others, with 0 ticks. If `MOST_CALLS` calls are active, returns `Full` and
+    /// changes nothing.
     pub fn begin(&mut self, call: Call) -> Result<(), Full>
         ensures full { is_err result ≡ nat_le MOST_CALLS (length self.old.calls) }
         ensures calls { self.new ≡ record self.old { calls = with_call self.old.calls call } }

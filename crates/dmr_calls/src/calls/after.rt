@@ -3,7 +3,8 @@
 ghost use Rattle.std.specs.Prelude.{◌≡◌, ◌<◌, ◌≤◌, IfSome, MatchOption};
 ghost use Rattle.std.specs.Option.{option_or};
 ghost use Rattle.dmr_pdu.specs.Slots.{IsSlot};
-ghost use Rattle.dmr_calls.specs.After.{group_after, group_place, is_group_at, place_after, HasNoGroupCall, IsNextGroupCall};
+ghost use Rattle.dmr_calls.specs.After.{group_after, group_place, is_group_at, place_after};
+ghost use Rattle.dmr_calls.specs.After.{HasNoGroupCall, IsNextGroupCall};
 
 use super::Calls;
 use crate::call::Call;
@@ -27,12 +28,14 @@ fn place_after(last: Option<Slot>) -> usize
 impl Calls {
     /// The talkgroup call on the least slot above the last one, by carrier, then by slot number.
     ///
-    /// If there is none above, or no slot is given, it is the one on the least slot of all. Returns `None` if no talkgroup call is
-    /// active. A caller that passes the slot of each answer in the next question gets all talkgroup calls in turn.
+    /// If there is none above, or no slot is given, it is the one on the least slot of all. Returns `None` if no
+    /// talkgroup call is active. A caller that passes the slot of each answer in the next question gets all talkgroup
+    /// calls in turn.
     #[tactic(auto, unfolding(crate::specs::After::group_after))]
     pub fn group_after(&self, last: Option<Slot>) -> Option<Call>
         ensures value { result ≡ group_after self.now.calls last }
-        ensures next { MatchOption result (HasNoGroupCall self.now.calls) (IsNextGroupCall self.now.calls last) }
+        ensures next { MatchOption result (HasNoGroupCall self.now.calls)
+            (IsNextGroupCall self.now.calls last) }
     {
         let place = self.group_place_after(place_after(last))?;
         self.call_on(Slot::at(place))
@@ -42,7 +45,8 @@ impl Calls {
     #[tactic(auto, using(crate::proofs::AfterLemmas::no_place))]
     fn group_place_after(&self, behind: usize) -> Option<usize>
         requires { behind ≤ 32 }
-        ensures value { result ≡ option_or (group_place self.now.calls behind) (group_place self.now.calls 0) }
+        ensures value { result
+            ≡ option_or (group_place self.now.calls behind) (group_place self.now.calls 0) }
         ensures within { IfSome result (λ place. place < 32) }
     {
         // Without calls, the two searches would look at 64 places for nothing.

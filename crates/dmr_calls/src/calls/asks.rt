@@ -2,7 +2,8 @@
 
 ghost use Rattle.std.specs.Prelude.{◌≡◌, ◌<◌, [], ◌∷◌, ◌++◌, length, is_err};
 ghost use Rattle.dmr_calls.specs.declared.calls.TheConstants.{MOST_ASKS};
-ghost use Rattle.dmr_calls.specs.Asks.{new_active_ask, others_than, has_no_place, with_ask, ask_of, ask_to, has_own_ask, without_ask_to};
+ghost use Rattle.dmr_calls.specs.Asks.{new_active_ask, others_than, has_no_place, with_ask, ask_of};
+ghost use Rattle.dmr_calls.specs.Asks.{ask_to, has_own_ask, without_ask_to};
 ghost use Rattle.dmr_calls.specs.Engaged.{ask_with};
 ghost use Rattle.dmr_calls.specs.Due.{due_ask};
 
@@ -13,7 +14,8 @@ use crate::party::is_party;
 use dmr_pdu::Address;
 
 impl Calls {
-    /// Adds an ask whose C_AHOY was sent now, after the others. It replaces the ask of the same source, if there is one.
+    /// Adds an ask whose C_AHOY was sent now, after the others. It replaces the ask of the same source, if there is
+    /// one.
     ///
     /// If `MOST_ASKS` asks of other sources are active, returns `Full` and changes nothing.
     pub fn ask(&mut self, ask: Ask) -> Result<(), Full>
@@ -27,12 +29,15 @@ impl Calls {
         Ok(())
     }
 
-    /// Adds an ask whose C_AHOY was sent now, after the others. It replaces the ask of the same source, if there is one.
+    /// Adds an ask whose C_AHOY was sent now, after the others. It replaces the ask of the same source, if there is
+    /// one.
     ///
     /// There must be a place for it: fewer than `MOST_ASKS` asks of other sources are active.
     pub fn add_ask(&mut self, ask: &Ask)
         requires { length (others_than ask.now.source self.old.asks) < MOST_ASKS }
-        ensures { self.new ≡ record self.old { asks = others_than ask.now.source self.old.asks ++ new_active_ask ask.now ∷ [] } }
+        ensures { self.new ≡ record self.old {
+          asks = others_than ask.now.source self.old.asks ++ new_active_ask ask.now ∷ [];
+        } }
     {
         self.ask_over(ask.source);
         self.asks.push(ActiveAsk {
@@ -48,7 +53,8 @@ impl Calls {
         self.asks.remove(source.get());
     }
 
-    /// Removes the first ask to a radio that answered, and returns it. If there is none, returns `None` and changes nothing.
+    /// Removes the first ask to a radio that answered, and returns it. If there is none, returns `None` and changes
+    /// nothing.
     pub fn answer(&mut self, target: Address) -> Option<Ask>
         ensures ask { result ≡ ask_to self.old.asks target }
         ensures asks { self.new ≡ record self.old { asks = without_ask_to self.old.asks target } }

@@ -2,7 +2,9 @@
 
 ghost use Rattle.std.specs.Prelude.{◌≡◌, ◌≤◌, ◌<◌, [], ◌∷◌, ◌++◌, nat_le, length, is_err};
 ghost use Rattle.dmr_calls.specs.declared.calls.TheConstants.{MOST_LINES};
-ghost use Rattle.dmr_calls.specs.Lines.{with_line, without_line, first_line, page_of_lines, has_lines, line_of, line_to, has_group_line, has_own_group_line, has_own_line};
+ghost use Rattle.dmr_calls.specs.Lines.{with_line, without_line, first_line, page_of_lines};
+ghost use Rattle.dmr_calls.specs.Lines.{has_lines, line_of, line_to, has_group_line};
+ghost use Rattle.dmr_calls.specs.Lines.{has_own_group_line, has_own_line};
 ghost use Rattle.dmr_calls.specs.Engaged.{line_with};
 
 use super::{Calls, MOST_LINES};

@@ -2,10 +2,12 @@
 
 ghost use Rattle.std.specs.Prelude.{◌≡◌, ◌≤◌, ◌<◌, ◌+◌, ◌++◌, length, filter, if◌then◌else◌};
 ghost use Rattle.dmr_core.specs.declared.reply.Reply.TheVariants.{Calls, NoCarrier, Status};
-ghost use Rattle.dmr_core.specs.Rules.{acts_and_done, answer_to_command, drop_radio, end_call, reply_alone};
+ghost use Rattle.dmr_core.specs.Rules.{acts_and_done, answer_to_command, drop_radio, end_call};
+ghost use Rattle.dmr_core.specs.Rules.{reply_alone};
 ghost use Rattle.dmr_calls.specs.Calls.{call_on};
 ghost use Rattle.dmr_core.specs.Facts.{has_carrier};
-ghost use Rattle.dmr_core.specs.Displays.{all_slot_states, at_most_one, calls_on_carrier, slot_states, state_of};
+ghost use Rattle.dmr_core.specs.Displays.{all_slot_states, at_most_one, calls_on_carrier};
+ghost use Rattle.dmr_core.specs.Displays.{slot_states, state_of};
 
 use super::Machine;
 use crate::act::{Act, ActList, Acts};
@@ -63,8 +65,8 @@ impl Machine {
         }
     }
 
-    /// The answer to `drop`. If the radio is registered and there is room, the call, ask or line that engages it ends, and it is no
-    /// longer registered.
+    /// The answer to `drop`. If the radio is registered and there is room, the call, ask or line that engages it ends,
+    /// and it is no longer registered.
     fn answer_drop(&self, radio: Address) -> Acts
         ensures { result ≡ drop_radio self.now.plan self.now.facts radio }
     {
@@ -97,7 +99,8 @@ impl Machine {
 
     /// The calls on a carrier; `NoCarrier` if the plan has none of this number.
     fn calls_or_no_carrier(&self, carrier: CarrierNo) -> Reply
-        ensures { result ≡ (if has_carrier self.now.plan carrier then Calls (calls_on_carrier self.now.facts.calls carrier) else NoCarrier) }
+        ensures { result ≡ (if has_carrier self.now.plan carrier
+            then Calls (calls_on_carrier self.now.facts.calls carrier) else NoCarrier) }
     {
         if self.plan.carrier_with(carrier).is_some() {
             Reply::Calls(self.calls_on_carrier(carrier))
@@ -108,7 +111,9 @@ impl Machine {
 
     /// The answer to `status`.
     fn status_reply(&self) -> Reply
-        ensures { result ≡ Status (length (filter (λ up. up) self.now.facts.up)) (length self.now.facts.registered) (length self.now.facts.asks) (length self.now.facts.lines) (length self.now.facts.calls) self.now.facts.moving }
+        ensures { result ≡ Status (length (filter (λ up. up) self.now.facts.up))
+            (length self.now.facts.registered) (length self.now.facts.asks)
+            (length self.now.facts.lines) (length self.now.facts.calls) self.now.facts.moving }
     {
         let counts = self.calls.counts();
         Reply::Status {
@@ -134,7 +139,9 @@ impl Machine {
     /// Adds the call on a slot, if one is active there.
     fn add_call(&self, calls: &mut BoundedList<Call, 2>, carrier: CarrierNo, slot: SlotNo)
         requires { length calls.old < 2 }
-        ensures calls { calls.new ≡ calls.old ++ at_most_one (call_on self.now.facts.calls (record { carrier = carrier; slot = slot })) }
+        ensures calls { calls.new ≡ calls.old
+            ++ at_most_one
+            (call_on self.now.facts.calls (record { carrier = carrier; slot = slot })) }
         ensures few { length calls.new ≤ length calls.old + 1 }
     {
         if let Some(call) = self.calls.call_on(Slot::new(carrier, slot)) {

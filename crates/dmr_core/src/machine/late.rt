@@ -12,8 +12,8 @@ use dmr_calls::Call;
 use dmr_pdu::{CarrierNo, Lpcn, Pdu, Slot};
 
 impl Machine {
-    /// The late entry of the next Fill. If one is due and the control channel is not to be moved, it is the grant of the next
-    /// talkgroup call, if there is one.
+    /// The late entry of the next Fill. If one is due and the control channel is not to be moved, it is the grant of
+    /// the next talkgroup call, if there is one.
     #[tactic(auto, unfolding(crate::specs::Rules::late_entry))]
     pub(super) fn late_entry(&self) -> Option<Pdu>
         ensures { result ≡ late_entry self.now.plan self.now.facts }
@@ -55,7 +55,10 @@ impl Machine {
 
     /// Applies a Fill of the control slot: counts it and, if it is a late entry, remembers the slot that it names.
     pub(super) fn apply_fill(&mut self, slot: &Slot, pdu: &Pdu)
-        ensures { self.new ≡ record { plan = self.old.plan; facts = facts_after_act self.old.facts (Fill slot.now pdu.now) } }
+        ensures { self.new ≡ record {
+          plan = self.old.plan;
+          facts = facts_after_act self.old.facts (Fill slot.now pdu.now);
+        } }
     {
         let _ = slot;
         self.access.count_fill();

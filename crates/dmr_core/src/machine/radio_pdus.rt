@@ -2,7 +2,10 @@
 
 ghost use Rattle.std.specs.Prelude.{◌≡◌, ◌≤◌, ◌+◌, ◌++◌, length};
 ghost use Rattle.dmr_core.specs.Words.{is_engaged};
-ghost use Rattle.dmr_core.specs.Rules.{acts_for_called_radio, acts_for_cancel, acts_for_pdu, acts_for_individual_request, is_leaving, acts_for_leaving, acts_for_new_call, option_bit, acts_for_registration, acts_for_request, acts_for_talkgroup_request};
+ghost use Rattle.dmr_core.specs.Rules.{acts_for_called_radio, acts_for_cancel, acts_for_pdu};
+ghost use Rattle.dmr_core.specs.Rules.{acts_for_individual_request, is_leaving, acts_for_leaving};
+ghost use Rattle.dmr_core.specs.Rules.{acts_for_new_call, option_bit, acts_for_registration};
+ghost use Rattle.dmr_core.specs.Rules.{acts_for_request, acts_for_talkgroup_request};
 
 use super::Machine;
 use crate::act::{Act, ActList};
@@ -57,7 +60,8 @@ impl Machine {
     #[tactic(auto, unfolding(crate::specs::Rules::acts_for_request))]
     fn answer_request(&self, acts: &mut ActList, asked: &Request, flags: Number<5>, kind: Kind)
         requires { length acts.old + 7 ≤ 16 }
-        ensures { acts.new ≡ acts.old ++ acts_for_request self.now.plan self.now.facts asked.now flags kind }
+        ensures { acts.new
+            ≡ acts.old ++ acts_for_request self.now.plan self.now.facts asked.now flags kind }
     {
         if flags.get() != 0 {
             self.add_ack(acts, asked.source, asked.target, Reason::NOT_SUPPORTED);
@@ -111,7 +115,8 @@ impl Machine {
     #[tactic(auto, unfolding(crate::specs::Rules::acts_for_registration))]
     fn answer_registration(&self, acts: &mut ActList, request: &Request)
         requires { length acts.old + 7 ≤ 16 }
-        ensures { acts.new ≡ acts.old ++ acts_for_registration self.now.plan self.now.facts request.now }
+        ensures { acts.new
+            ≡ acts.old ++ acts_for_registration self.now.plan self.now.facts request.now }
     {
         if self.is_leaving(request.options) {
             self.answer_leaving(acts, request);
@@ -134,12 +139,13 @@ impl Machine {
         self.calls.engaged(radio).is_some()
     }
 
-    /// Begins a call if a slot is free and there is no line. Otherwise adds the line, or refuses it if there are `MOST_LINES`
-    /// lines.
+    /// Begins a call if a slot is free and there is no line. Otherwise adds the line, or refuses it if there are
+    /// `MOST_LINES` lines.
     #[tactic(auto, unfolding(crate::specs::Rules::acts_for_new_call))]
     fn add_new_call(&self, acts: &mut ActList, line: &Line)
         requires { length acts.old + 5 ≤ 16 }
-        ensures acts { acts.new ≡ acts.old ++ acts_for_new_call self.now.plan self.now.facts line.now }
+        ensures acts { acts.new
+            ≡ acts.old ++ acts_for_new_call self.now.plan self.now.facts line.now }
     {
         if let Some(slot) = self.slot_for_new_call() {
             self.add_begin(acts, &line.to_call(slot));
@@ -155,7 +161,8 @@ impl Machine {
     #[tactic(auto, unfolding(crate::specs::Rules::acts_for_talkgroup_request))]
     fn answer_talkgroup_request(&self, acts: &mut ActList, asked: &Request)
         requires { length acts.old + 7 ≤ 16 }
-        ensures { acts.new ≡ acts.old ++ acts_for_talkgroup_request self.now.plan self.now.facts asked.now }
+        ensures { acts.new
+            ≡ acts.old ++ acts_for_talkgroup_request self.now.plan self.now.facts asked.now }
     {
         let group = asked.target;
         if !self.plan.lists_group(group) {
@@ -186,7 +193,8 @@ impl Machine {
     #[tactic(auto, unfolding(crate::specs::Rules::acts_for_individual_request))]
     fn answer_individual_request(&self, acts: &mut ActList, asked: &Request)
         requires { length acts.old + 7 ≤ 16 }
-        ensures { acts.new ≡ acts.old ++ acts_for_individual_request self.now.plan self.now.facts asked.now }
+        ensures { acts.new
+            ≡ acts.old ++ acts_for_individual_request self.now.plan self.now.facts asked.now }
     {
         let source = asked.source;
         let target = asked.target;
@@ -223,7 +231,8 @@ impl Machine {
     #[tactic(auto, unfolding(crate::specs::Rules::acts_for_called_radio))]
     fn answer_called_radio(&self, acts: &mut ActList, reason: Reason, called: Address)
         requires { length acts.old + 7 ≤ 16 }
-        ensures { acts.new ≡ acts.old ++ acts_for_called_radio self.now.plan self.now.facts reason called }
+        ensures { acts.new
+            ≡ acts.old ++ acts_for_called_radio self.now.plan self.now.facts reason called }
     {
         if let Some(ask) = self.calls.ask_to(called) {
             acts.push(Act::AskOver(ask.source));

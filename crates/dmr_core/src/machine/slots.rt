@@ -1,13 +1,16 @@
-//! Questions about slots: which is the control slot, which carriers are up, whether there is room, which slots are free.
+//! Questions about slots: which is the control slot, which carriers are up, whether there is room, which slots are
+//! free.
 
 ghost use Rattle.std.specs.Prelude.{◌≡◌};
 ghost use Rattle.dmr_pool.specs.Free.{control_slot, is_control};
-ghost use Rattle.dmr_core.specs.Words.{has_room, is_free, is_up, lowest_free, lpcn_of, slot_for_new_call, has_call_on};
+ghost use Rattle.dmr_core.specs.Words.{has_room, is_free, is_up, lowest_free, lpcn_of};
+ghost use Rattle.dmr_core.specs.Words.{slot_for_new_call, has_call_on};
 
 use super::{Machine, slot_is_in_range};
 use dmr_pdu::{CarrierNo, Lpcn, Slot};
 
-/// The most PDUs in the control slot's outbox with which there is room for another answer: 56, by this project's profile.
+/// The most PDUs in the control slot's outbox with which there is room for another answer: 56, by this project's
+/// profile.
 pub const MOST_WITH_ROOM: usize = 56;
 
 impl Machine {

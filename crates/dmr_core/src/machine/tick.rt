@@ -3,7 +3,8 @@
 ghost use Rattle.std.specs.Prelude.{◌≡◌, ◌≤◌, ◌+◌, ◌++◌, length};
 ghost use Rattle.dmr_calls.specs.Due.{due_of};
 ghost use Rattle.dmr_core.specs.Words.{active_lists};
-ghost use Rattle.dmr_core.specs.Rules.{acts_for_due_call, acts_for_due_ask, acts_for_first_line, acts_for_tick};
+ghost use Rattle.dmr_core.specs.Rules.{acts_for_due_call, acts_for_due_ask, acts_for_first_line};
+ghost use Rattle.dmr_core.specs.Rules.{acts_for_tick};
 
 use super::Machine;
 use crate::act::{Act, ActList};
@@ -28,7 +29,8 @@ impl Machine {
 
     /// The call, ask and line that are due by the plan's times.
     fn due(&self) -> Due
-        ensures { result ≡ due_of (active_lists self.now.facts) self.now.plan.hang self.now.plan.maximum self.now.plan.ahoy_wait }
+        ensures { result ≡ due_of (active_lists self.now.facts) self.now.plan.hang
+            self.now.plan.maximum self.now.plan.ahoy_wait }
     {
         let plan = &self.plan;
         self.calls

@@ -1,7 +1,7 @@
 //! Scripts: what peers do, and when.
 //!
-//! A line has a time in milliseconds, a peer, and what the peer does: `100 2 sends abc`. A range of peers, as `1000..4999`, does it one after
-//! the other.
+//! A line has a time in milliseconds, a peer, and what the peer does: `100 2 sends abc`. A range of peers, as
+//! `1000..4999`, does it one after the other.
 
 use dmr_pdu::OutOfMemory;
 use std::alloc::Global;

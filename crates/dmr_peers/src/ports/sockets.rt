@@ -45,8 +45,8 @@ impl Peer {
     }
 }
 
-/// A listening socket, its connections, and a clock that goes on in waits, up to `until`. As with edge-triggered sockets of the system, a
-/// wait reports a change once.
+/// A listening socket, its connections, and a clock that goes on in waits, up to `until`. As with edge-triggered
+/// sockets of the system, a wait reports a change once.
 #[derive(Debug, Drop)]
 pub struct MemorySockets {
     clock: u64,

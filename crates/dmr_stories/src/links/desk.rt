@@ -1,6 +1,7 @@
 //! A desk that keeps a list of the events that it took.
 
-ghost use Rattle.std.specs.Prelude.{◌≡◌, ◌<◌, [], ◌∷◌, ◌++◌, length, vec_len, vec_capacity, IfOk, IfErr};
+ghost use Rattle.std.specs.Prelude.{◌≡◌, ◌<◌, [], ◌∷◌, ◌++◌, length, vec_len, vec_capacity, IfOk};
+ghost use Rattle.std.specs.Prelude.{IfErr};
 
 use dmr_core::{Acts, Event, Site};
 use dmr_link::{Deposit, Desk, TermOver};
@@ -49,7 +50,8 @@ impl ListDesk {
 
     /// Begins another term, of `limit` events, with no event in it. The site remains as it is.
     pub fn begin_term(&mut self, alloc: Global, limit: usize) -> Result<(), OutOfMemory>
-        ensures { IfOk result (λ _. self.new ≡ record { actor = self.old.actor; calls = []; limit = limit }) }
+        ensures { IfOk result
+            (λ _. self.new ≡ record { actor = self.old.actor; calls = []; limit = limit }) }
     {
         self.calls = Vec::with_capacity(alloc, limit)?;
         self.limit = limit;
@@ -58,8 +60,11 @@ impl ListDesk {
 
     /// Applies an event to the site and keeps it with the answer. If the term is over, it changes nothing.
     fn take(&mut self, event: &Event) -> Result<Acts, TermOver>
-        ensures ok { IfOk result (λ acts. self.new ≡ record self.old { calls = self.old.calls ++ record { event = event.now; acts = acts } ∷ [] }) }
-        ensures err { IfErr result (λ over. (self.new ≡ self.old) × (length self.old.calls ≡ self.old.limit) × (over.entries ≡ self.old.limit)) }
+        ensures ok { IfOk result (λ acts. self.new ≡ record self.old {
+          calls = self.old.calls ++ record { event = event.now; acts = acts } ∷ [];
+        }) }
+        ensures err { IfErr result (λ over. (self.new ≡ self.old)
+            × (length self.old.calls ≡ self.old.limit) × (over.entries ≡ self.old.limit)) }
     {
         let entries = self.calls.len();
         if entries >= self.limit {
@@ -84,7 +89,8 @@ impl Desk for ListDesk {
 
     ghost calls = { λ d. d.calls };
 
-    ghost refuses = { λ d event over f. (f ≡ d) × (length d.calls ≡ d.limit) × (over.entries ≡ d.limit) };
+    ghost refuses = { λ d event over f. (f ≡ d) × (length d.calls ≡ d.limit)
+        × (over.entries ≡ d.limit) };
 
     ghost ends = { λ d f. (f ≡ d) × (length d.calls ≡ d.limit) };
 

@@ -2,12 +2,13 @@
 //!
 //! Inputs:
 //!
-//! - `begin` and steps: replaces the link by a new one and opens it, with a port of these steps and the desk of a new site. The
-//!   term has room for all events of the story.
+//! - `begin` and steps: replaces the link by a new one and opens it, with a port of these steps and the desk of a new
+//!   site. The term has room for all events of the story.
 //! - `port` and steps: replaces the port.
 //! - `term N`: begins another term of the same site, with room for N events.
 //! - `open`, `live`, `serve` and `cut`: calls of the link.
-//! - `serve N`: serves the link with a gate that is shut at the Nth entry, or never if N is 0. `serve` alone uses an open gate.
+//! - `serve N`: serves the link with a gate that is shut at the Nth entry, or never if N is 0. `serve` alone uses an
+//!   open gate.
 //! - `again`: as `serve`, but answers `same` if it ends as the last serve did.
 //! - `reads` and `writes`: ask how many reads and writes the port has answered.
 //!

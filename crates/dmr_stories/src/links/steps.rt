@@ -2,8 +2,8 @@
 //!
 //! `; ` separates the steps, and a number before a step is the count of its repetitions. Steps with octets:
 //!
-//! - `octets` and octets: one read returns them all. `single` and octets: one read for each. An octet is its decimal number, or
-//!   the name of a frame or line, which means all its octets.
+//! - `octets` and octets: one read returns them all. `single` and octets: one read for each. An octet is its decimal
+//!   number, or the name of a frame or line, which means all its octets.
 //! - `first N`: the first N octets of the story's input. `behind N`: the octets after them.
 //! - `line` and a line: one read returns the line and its LF. `text` and a text: the same without LF.
 //!

@@ -6,8 +6,8 @@
 //! - `other` and changes of the site file replace the copy by a new site of that file, with no carrier up.
 //! - `swap` exchanges the site and the copy.
 //! - `same` asks whether the site and the copy are equal.
-//! - `alone` and an event make a further copy, and apply the event to that copy only. The answer is `yes` if the further copy
-//!   equals the site before the event and differs from it afterwards.
+//! - `alone` and an event make a further copy, and apply the event to that copy only. The answer is `yes` if the
+//!   further copy equals the site before the event and differs from it afterwards.
 //! - `control` asks for the carrier of the control channel.
 
 use super::acts::write_acts;

@@ -1,23 +1,21 @@
 -- A journal's list for an actor, entry by entry.
-use Rattle.std.proofs.Common.{◌≡◌, ◌≢◌, ℕ, ◌+◌, ◌-◌, ◌<◌, ◌≤◌, Bool, true, cond, List, [], ◌∷◌, length, drop, map, sym, ap, ◌∙◌, arith, slice_index_or}
-use Rattle.std.specs.Prelude.{filter, ◌==◌}
-use Rattle.std.proofs.lemmas.Bool.{eq-eqb, ne_eqb, eqb-true}
-use Rattle.std.proofs.lemmas.List.{drop_all, drop_more, length-drop}
+use Rattle.std.proofs.Common.{◌≡◌, ◌≢◌, ℕ, ◌+◌, ◌-◌, ◌<◌, ◌≤◌, Bool, true, false, not, eqb, cond, List, [], ◌∷◌, length, drop, map, Option, Some, None, inl, inr, refl, sym, ap, ◌∙◌, subst, arith, slice_index_or, slice_set, replicate}
+use Rattle.std.specs.Prelude.{filter, slice_get, ◌==◌}
+use Rattle.std.specs.Option.{option_eq}
+use Rattle.std.proofs.lemmas.Bool.{eq-eqb, ne_eqb, eqb-true, cases_eq}
+use Rattle.std.proofs.lemmas.List.{drop_all, drop_more, length-drop, length-set, get_or-set_same, get_or-set_other, get_or-replicate}
+use Rattle.std.proofs.lemmas.Option.{none-some, same_Some, slice_get-get_or, slice_get_within, get_or_from_slice_get}
 use Rattle.dmr_core.specs.declared.entry.Entry.{Entry}
 use Rattle.dmr_link.specs.declared.desk.Deposit.{Deposit}
-use Rattle.dmr_desk.specs.Views.{deposit_in, view_of}
+use Rattle.dmr_desk.specs.Views.{deposit_in, view_of, IsRest, Follows}
+use Rattle.dmr_desk.specs.Audited.{AllFollow}
+use Rattle.dmr_desk.proofs.SeatLemmas.{at_place}
 
 pub view_here : (actor : ℕ) (e : Entry) (es : List Entry) → e.actor ≡ actor → view_of actor (e ∷ es) ≡ deposit_in e ∷ view_of actor es
 view_here actor e es same = ap (λ (b : Bool). map deposit_in (cond b (e ∷ filter (λ (x : Entry). x.actor == actor) es) (filter (λ (x : Entry). x.actor == actor) es))) (eq-eqb e.actor actor same)
 
 pub view_other : (actor : ℕ) (e : Entry) (es : List Entry) → e.actor ≢ actor → view_of actor (e ∷ es) ≡ view_of actor es
 view_other actor e es other = ap (λ (b : Bool). map deposit_in (cond b (e ∷ filter (λ (x : Entry). x.actor == actor) es) (filter (λ (x : Entry). x.actor == actor) es))) (ne_eqb e.actor actor other)
-
--- the deposits from the n-th on are the view of the entries from the i-th on, exactly if all deposits are the view of
--- all entries
-pub record IsRest (deposits : List Deposit) (actor : ℕ) (journal : List Entry) (n i : ℕ) : Type 0 where
-  pub down : deposits ≡ view_of actor journal → drop n deposits ≡ view_of actor (drop i journal)
-  pub up : drop n deposits ≡ view_of actor (drop i journal) → deposits ≡ view_of actor journal
 
 -- the first of the entries from the i-th on
 from_here : (journal : List Entry) (i : ℕ) (e : Entry) → i < length journal → e ≡ slice_index_or journal i e → drop i journal ≡ e ∷ drop (i + 1) journal
@@ -64,3 +62,104 @@ at_end deposits actor journal n i rest few end =
       λ reported. rest.up (drop_all n deposits (let e = eqb-true n (length deposits) reported in omega arith) ∙ sym none),
       λ all. let e : length deposits - n ≡ 0 = sym (length-drop n deposits) ∙ ap length (rest.down all ∙ none) in eq-eqb n (length deposits) (omega arith),
     )
+
+-- no entry has been compared
+pub begins : (deposits : List Deposit) (actor : ℕ) (journal : List Entry) → Follows deposits actor journal 0 (Some 0)
+begins deposits actor journal = (omega arith, record { down = λ all. all; up = λ all. all })
+
+-- the entry is another actor's
+pub passes : (deposits : List Deposit) (actor : ℕ) (journal : List Entry) (place : ℕ) (turn : Option ℕ) (e : Entry) → Follows deposits actor journal place turn → place < length journal → e ≡ slice_index_or journal place e → e.actor ≢ actor → Follows deposits actor journal (place + 1) turn
+passes deposits actor journal place None e differs within is other = differs
+passes deposits actor journal place (Some n) e follows within is other = (follows.0, skipped deposits actor journal n place e follows.1 within is other)
+
+-- all entries have been compared: the view is the journal's list exactly if all its deposits were confirmed
+pub ends_so : (deposits : List Deposit) (actor : ℕ) (journal : List Entry) (turn : Option ℕ) → Follows deposits actor journal (length journal) turn → turn ≡ Some (length deposits) → deposits ≡ view_of actor journal
+ends_so deposits actor journal None follows same = absurd (none-some (length deposits) same)
+ends_so deposits actor journal (Some n) follows same =
+    let n_is : n ≡ length deposits = same_Some n (length deposits) same in
+    (at_end deposits actor journal n (length journal) follows.1 follows.0 (omega arith)).0 (eq-eqb n (length deposits) n_is)
+
+pub ends_otherwise : (deposits : List Deposit) (actor : ℕ) (journal : List Entry) (turn : Option ℕ) → Follows deposits actor journal (length journal) turn → turn ≢ Some (length deposits) → deposits ≢ view_of actor journal
+ends_otherwise deposits actor journal None follows other all = follows all
+ends_otherwise deposits actor journal (Some n) follows other all =
+    let same = (at_end deposits actor journal n (length journal) follows.1 follows.0 (omega arith)).1 all in
+    other (ap (λ (k : ℕ). Some k) (eqb-true n (length deposits) same))
+
+-- ---- all actors
+
+at_written : (turns : List (Option ℕ)) (k : ℕ) (turn : Option ℕ) → k < length turns → slice_get (slice_set turns k turn) k ≡ Some turn
+at_written turns k turn within = slice_get-get_or (slice_set turns k turn) k turn (let e = length-set turns k turn in omega arith) ∙ ap (λ (t : Option ℕ). Some t) (get_or-set_same turns k turn turn within)
+
+at_another : (turns : List (Option ℕ)) (k j : ℕ) (turn t : Option ℕ) → j ≢ k → slice_get turns j ≡ Some t → slice_get (slice_set turns k turn) j ≡ Some t
+at_another turns k j turn t other has =
+    let within = slice_get_within turns j t has in
+    slice_get-get_or (slice_set turns k turn) j t (let e = length-set turns k turn in omega arith) ∙ ap (λ (x : Option ℕ). Some x) (get_or-set_other turns k j turn t other ∙ get_or_from_slice_get turns j t t has)
+
+-- no entry has been compared
+pub all_begin : (views : List (List Deposit)) (journal : List Entry) → length views ≤ 18 → AllFollow views journal 0 (replicate 18 (Some 0))
+all_begin views journal few actor view has =
+    let within = slice_get_within views actor view has in
+    let long : length (replicate {A = Option ℕ} 18 (Some 0)) ≡ 18 = refl in (
+      Some 0,
+      slice_get-get_or (replicate 18 (Some 0)) actor None (omega arith) ∙ ap (λ (t : Option ℕ). Some t) (get_or-replicate 18 actor (Some 0) None (omega arith)),
+      begins view actor journal,
+    )
+
+-- an entry was compared with the view of its actor, which is k
+pub all_follow_one : (views : List (List Deposit)) (journal : List Entry) (place : ℕ) (turns : List (Option ℕ)) (e : Entry) (k : ℕ) (view : List Deposit) (d turn : Option ℕ) → AllFollow views journal place turns → place < length journal → e ≡ slice_index_or journal place e → k ≡ e.actor → slice_get views k ≡ Some view → (Follows view e.actor journal place (slice_index_or turns k d) → Follows view e.actor journal (place + 1) turn) → AllFollow views journal (place + 1) (slice_set turns k turn)
+all_follow_one views journal place turns e k view d turn all within is of here step actor view' has =
+    elim (cases_eq actor k) [
+      | inl same ↦
+          let found = all k view here in
+          let read : slice_index_or turns k d ≡ found.0 = get_or_from_slice_get turns k found.0 d found.1 in
+          let at_k : Follows view k journal place (slice_index_or turns k d) = subst (λ (t : Option ℕ). Follows view k journal place t) (sym read) found.2 in
+          let before : Follows view e.actor journal place (slice_index_or turns k d) = subst (λ (n : ℕ). Follows view n journal place (slice_index_or turns k d)) of at_k in
+          let own : view ≡ view' = same_Some view view' (sym here ∙ ap (λ (n : ℕ). slice_get views n) (sym same) ∙ has) in
+          let after : Follows view' e.actor journal (place + 1) turn = subst (λ (v : List Deposit). Follows v e.actor journal (place + 1) turn) own (step before) in (
+            turn,
+            ap (λ (n : ℕ). slice_get (slice_set turns k turn) n) same ∙ at_written turns k turn (slice_get_within turns k found.0 found.1),
+            subst (λ (n : ℕ). Follows view' n journal (place + 1) turn) (sym (same ∙ of)) after,
+          )
+      | inr other ↦
+          let found = all actor view' has in
+          (found.0, at_another turns k actor turn found.0 other found.1, passes view' actor journal place found.0 e found.2 within is (λ own. other (sym own ∙ sym of)))
+    ]
+
+-- no view is that of the entry's actor
+pub all_pass : (views : List (List Deposit)) (journal : List Entry) (place : ℕ) (turns : List (Option ℕ)) (e : Entry) → AllFollow views journal place turns → place < length journal → e ≡ slice_index_or journal place e → length views ≤ e.actor → AllFollow views journal (place + 1) turns
+all_pass views journal place turns e all within is none actor view has =
+    let found = all actor view has in
+    let below = slice_get_within views actor view has in
+    (found.0, found.1, passes view actor journal place found.0 e found.2 within is (λ own. omega arith))
+
+-- the view that is read at a place
+pub view_at : (views read : List (List Deposit)) (k : ℕ) (view deposits : List Deposit) → read ≡ views → k < length views → view ≡ slice_index_or read k view → deposits ≡ view → slice_get views k ≡ Some deposits
+view_at views read k view deposits same within is seen =
+    at_place views k view within (is ∙ ap (λ (vs : List (List Deposit)). slice_index_or vs k view) same) ∙ ap (λ (v : List Deposit). Some v) (sym seen)
+
+-- the comparison with the number of a view's deposits
+positive : (b : Bool) → false ≡ not b → b ≡ true
+positive true e = refl
+positive false e = e
+
+turn_is : (turn : Option ℕ) (n : ℕ) → false ≡ not (option_eq eqb turn (Some n)) → turn ≡ Some n
+turn_is None n e = absurd (let no : false ≡ true = e in cc)
+turn_is (Some k) n e = ap (λ (x : ℕ). Some x) (eqb-true k n (positive (eqb k n) e))
+
+turn_differs : (turn : Option ℕ) (n : ℕ) → true ≡ not (option_eq eqb turn (Some n)) → turn ≢ Some n
+turn_differs turn n e is =
+    let same : not (option_eq eqb turn (Some n)) ≡ false = ap (λ (t : Option ℕ). not (option_eq eqb t (Some n))) is ∙ ap not (eq-eqb n n refl) in
+    let no : true ≡ false = e ∙ same in cc
+
+-- all entries have been compared
+pub same_at : (views : List (List Deposit)) (journal : List Entry) (turns : List (Option ℕ)) (actor : ℕ) (view : List Deposit) (d : Option ℕ) → AllFollow views journal (length journal) turns → slice_get views actor ≡ Some view → false ≡ not (option_eq eqb (slice_index_or turns actor d) (Some (length view))) → slice_get views actor ≡ Some (view_of actor journal)
+same_at views journal turns actor view d all here equal =
+    let found = all actor view here in
+    let read = get_or_from_slice_get turns actor found.0 d found.1 in
+    here ∙ ap (λ (v : List Deposit). Some v) (ends_so view actor journal found.0 found.2 (sym read ∙ turn_is (slice_index_or turns actor d) (length view) equal))
+
+pub differs_at : (views : List (List Deposit)) (journal : List Entry) (turns : List (Option ℕ)) (actor : ℕ) (view : List Deposit) (d : Option ℕ) → AllFollow views journal (length journal) turns → slice_get views actor ≡ Some view → true ≡ not (option_eq eqb (slice_index_or turns actor d) (Some (length view))) → slice_get views actor ≢ Some (view_of actor journal)
+differs_at views journal turns actor view d all here unequal same =
+    let found = all actor view here in
+    let read = get_or_from_slice_get turns actor found.0 d found.1 in
+    ends_otherwise view actor journal found.0 found.2 (λ is. turn_differs (slice_index_or turns actor d) (length view) unequal (read ∙ is)) (same_Some view (view_of actor journal) (sym here ∙ same))

@@ -1,6 +1,6 @@
 -- The result of closing a desk: its report, or why there is none.
 use Rattle.std.specs.Prelude.{◌≡◌, ◌≢◌, ◌⊎◌, ◌<◌, ◌≤◌, ◌+◌, ℕ, List, [], ◌∷◌, length, reverse}
-use Rattle.std.specs.Prelude.{slice_get, Some, Contains, All}
+use Rattle.std.specs.Prelude.{slice_get, Option, Some, Contains, All}
 use Rattle.dmr_core.specs.declared.entry.Entry.{Entry}
 use Rattle.dmr_core.specs.Journal.{IsLegal}
 use Rattle.dmr_core.specs.State.{SiteState}
@@ -11,7 +11,7 @@ use Rattle.dmr_desk.specs.declared.fault.CloseFault.{CloseFault}
 use Rattle.dmr_desk.specs.declared.fault.CloseFault.TheVariants.{SeatMissing, Differs}
 use Rattle.dmr_desk.specs.BookState.{IsSoundBook, site_after_entries}
 use Rattle.dmr_desk.specs.Seats.{SeatState, Opened, HasSeat, NoneMissing}
-use Rattle.dmr_desk.specs.Views.{view_of}
+use Rattle.dmr_desk.specs.Views.{view_of, Follows}
 
 -- seats and views are equally many; each actor that has a view has a seat, and each seat's deposits are its actor's
 -- view
@@ -104,3 +104,10 @@ pub record IsOutOf (seats : List SeatState) (seat : SeatState)
   pub keeps : (other : SeatState) → Contains left other → Contains seats other
   pub others : (other : SeatState) → Contains seats other → (other ≡ seat) ⊎ Contains left other
   pub counted : deposits_of_seats left + length seat.deposits ≡ deposits_of_seats seats
+
+-- each actor's view follows the first entries of the journal, this many
+abbrev pub AllFollow : List (List Deposit) → List Entry → ℕ → List (Option ℕ) → Type 0
+AllFollow views journal place turns =
+    (actor : ℕ) (view : List Deposit) → slice_get views actor ≡ Some view
+    → (turn : Option ℕ) × (slice_get turns actor ≡ Some turn)
+    × Follows view actor journal place turn

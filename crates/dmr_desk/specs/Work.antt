@@ -183,7 +183,7 @@ pub record Steps (m : WorkState) (n : WorkState) (doings : List Step) : Type 0 w
   pub who : n.at.link.who ≡ m.at.link.who
   -- the reports of port, desk and gate continue with exactly what happened
   pub happens : Happens (sides_at m.at m.calls) (happened_of doings) (sides_at n.at n.calls)
-  -- if connections agreed with the link's state before (`StandsFor`), they agree with it after these steps
+  -- if connections agreed with the link's state before (`HasPast`), they agree with it after these steps
   pub stands : (past : List Session) → HasPast m.at.link past
       → HasPast n.at.link (past_after past doings)
   -- the desk's deposits in these steps, in one list, are those of these connections since

@@ -9,7 +9,6 @@ ghost use Rattle.dmr_desk.specs.Work.{station_state};
 
 use crate::fault::{TermFault, TermsFault};
 use crate::pace::Pacer;
-use crate::report::Report;
 use crate::run::run_term;
 use crate::station::{ConsoleStation, Station};
 use crate::term::Term;
@@ -20,15 +19,15 @@ use std::alloc::Global;
 use std::sync::Wait;
 use std::thread::Threads;
 
-/// Sees the report of each term, in their order.
-pub trait Observer {
+/// Sees each term that has ended, in their order. `S` are its stations, `T` is its pacer, and `C` its console.
+pub trait Observer<S, T, C> {
     /// If the observer reports it: the journals that it saw, oldest first. It may stop reporting at any call, and then
     /// never reports again.
     ghost seen: { Self → Option (List (List AnEntry)) };
 
-    /// Sees the report of a term that has ended. The journal is dropped afterwards.
-    fn ended(&mut self, report: &Report)
-        ensures { Sees (seen self.old) (report.now.journal ∷ []) (seen self.new) };
+    /// Sees a term that has ended. The journal is dropped afterwards.
+    fn ended(&mut self, term: &Term<S, T, C>)
+        ensures { Sees (seen self.old) (term.now.report.journal ∷ []) (seen self.new) };
 }
 
 /// The state that continues from term to term.
@@ -44,7 +43,7 @@ pub struct Service<P, G, T, C> {
     pub console: ConsoleStation<C>,
 }
 
-/// Has the observer see the report of a term. Returns the state that the term left; its journal is dropped.
+/// Has the observer see a term. Returns the state that the term left; its journal is dropped.
 fn leave_term<P, G, T, C, O>(
     term: Term<Station<P, G>, T, ConsoleStation<C>>,
     observer: &mut O,
@@ -54,14 +53,14 @@ where
     G: Gate + Drop,
     T: Pacer + Drop,
     C: Port + Drop,
-    O: Observer,
+    O: Observer<Station<P, G>, T, ConsoleStation<C>>,
     ensures site { result.site ≡ term.report.site }
     ensures stations { result.stations ≡ term.stations }
     ensures pacer { result.pacer ≡ term.pacer }
     ensures console { result.console ≡ term.console }
     ensures seen { Sees (O.seen observer.old) (term.report.journal ∷ []) (O.seen observer.new) }
 {
-    observer.ended(&term.report);
+    observer.ended(&term);
     let Term {
         report,
         stations,
@@ -77,7 +76,7 @@ where
     }
 }
 
-/// Runs one term, and has the observer see its report. On an error the observer saw nothing.
+/// Runs one term, and has the observer see it. On an error the observer saw nothing.
 fn run_next<P, G, T, C, O, R>(
     rt: &R,
     alloc: Global,
@@ -90,7 +89,7 @@ where
     G: Gate + Send + Drop,
     T: Pacer + Send + Drop,
     C: Port + Send + Drop,
-    O: Observer,
+    O: Observer<Station<P, G>, T, ConsoleStation<C>>,
     R: Wait + Threads + Sync,
     ensures run { IfOk result (λ next. HaveRun (start_of_term service.site limit
         (map (λ s. station_state s.link (P.reported s.port) (G.passed s.gate))
@@ -119,8 +118,8 @@ where
 }
 
 /// Runs `terms` terms in a row, as [`run_term`] does. The first begins with `service`, each other with the state that
-/// the one before it left. Each journal may have `limit` entries (1 to 100,000). The observer sees the report of each
-/// term once it was audited. Returns the state that the last term left; if `terms` is 0, that is `service`. The call
+/// the one before it left. Each journal may have `limit` entries (1 to 100,000). The observer sees each term
+/// once it was audited. Returns the state that the last term left; if `terms` is 0, that is `service`. The call
 /// stops at the first term that fails.
 ///
 /// A program without end calls this again and again. By [`terms_go_on`](crate::terms_go_on), n terms followed by m
@@ -139,7 +138,7 @@ where
     G: Gate + Send + Drop,
     T: Pacer + Send + Drop,
     C: Port + Send + Drop,
-    O: Observer,
+    O: Observer<Station<P, G>, T, ConsoleStation<C>>,
     R: Wait + Threads + Sync,
     ensures run { IfOk result (λ next. HaveRun (start_of_term service.site limit
         (map (λ s. station_state s.link (P.reported s.port) (G.passed s.gate))

@@ -1,7 +1,7 @@
 //! The events of one actor and their answers.
 
-ghost use Rattle.std.specs.Prelude.{◌≡◌, ◌↔◌, IsTrue};
-ghost use Rattle.dmr_desk.specs.Views.{deposit_in, view_of};
+ghost use Rattle.std.specs.Prelude.{◌≡◌, ◌↔◌, ◌+◌, ◌<◌, ℕ, IsTrue, length, slice_index_or};
+ghost use Rattle.dmr_desk.specs.Views.{deposit_in, Follows};
 
 use dmr_core::{Acts, Entry, Event};
 use dmr_link::Deposit;
@@ -26,20 +26,21 @@ fn is_of(deposit: &Deposit, entry: &Entry) -> bool
     deposit.event.equals(&entry.event) && deposit.acts.equals(&entry.acts)
 }
 
-/// Whether these deposits are the journal's list for an actor, in its order.
-pub fn is_view(deposits: &[Deposit], actor: u8, journal: &[Entry]) -> bool
-    ensures { IsTrue result ↔ (deposits.now ≡ view_of actor journal.now) }
+/// Compares an entry with the deposit at its turn in the view of the entry's actor. `turn` is the number of deposits
+/// that the entries before have confirmed; `None` if the view differs from the journal's list. Returns the same after
+/// this entry.
+pub fn follow(deposits: &[Deposit], turn: Option<usize>, entry: &Entry) -> Option<usize>
+    ensures { (journal : _) (place : ℕ) → place < length journal
+        → entry.now ≡ slice_index_or journal place entry.now
+        → Follows deposits.now entry.now.actor journal place turn
+        → Follows deposits.now entry.now.actor journal (place + 1) result }
 {
-    let mut next = 0;
-    for entry in journal {
-        if entry.actor == actor {
-            if next == deposits.len() || !is_of(&deposits[next], entry) {
-                return false;
-            }
-            next += 1;
-        }
+    let turn = turn?;
+    if turn < deposits.len() && is_of(&deposits[turn], entry) {
+        Some(turn + 1)
+    } else {
+        None
     }
-    next == deposits.len()
 }
 
 /// The events of one actor and their answers, in order. Contracts see the list of deposits.

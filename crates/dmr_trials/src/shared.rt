@@ -242,7 +242,7 @@ fn abandon_with_one_waiting<
     drop(report);
 }
 
-/// Calls `abandon_behind_one` with a ledger of its own.
+/// Calls `abandon_with_one_waiting` with a ledger of its own.
 fn abandon_one<R: Abort + AllocGlobal + Wait + Threads + Sync>(rt: &R, site: Site) {
     abandon_with_one_waiting::<Brand, R>(rt, Blank::new(PARTS), site)
 }

@@ -2,6 +2,8 @@
 use Rattle.std.specs.Prelude.{ℕ, ◌+◌, ◌-◌, Option, Some, None, nat_lt, if◌then◌else◌}
 use Rattle.dmr_trunk.specs.declared.beat.Beat.{Beat}
 use Rattle.dmr_trunk.specs.declared.beat.Beat.TheVariants.{NotYet, Tick, Delayed}
+use Rattle.dmr_desk.specs.declared.pace.Pace.{Pace}
+use Rattle.dmr_desk.specs.declared.pace.Pace.TheVariants as pace
 
 -- the time in which ticks are made up for: a second
 abbrev pub most_late : ℕ
@@ -25,3 +27,9 @@ start_after (Some from) now tick =
     if nat_lt (now - from) tick then from else
     if nat_lt most_late ((now - from) - tick) then now else
     from + tick
+
+-- what the pacer answers: a tick that is due, however late it is
+abbrev pub pace_of : Beat → Pace
+pace_of (NotYet left) = pace.NotYet
+pace_of Tick = pace.Tick
+pace_of (Delayed late) = pace.Tick

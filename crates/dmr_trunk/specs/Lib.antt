@@ -1,3 +1,4 @@
 pub mod Beat
 pub mod Replay
+pub mod Serving
 pub mod Tally

@@ -1,6 +1,7 @@
 //! The site's clock.
 
-ghost use Rattle.std.specs.Prelude.{◌≡◌, None};
+ghost use Rattle.std.specs.Prelude.{◌≡◌, ◌*◌, None, Some};
+ghost use Rattle.dmr_trunk.specs.Beat.{beat_due, pace_of, start_after};
 
 use crate::beat::{Beat, MILLISECOND, Ticks};
 use crate::clock::nanoseconds;
@@ -26,7 +27,9 @@ pub struct ClockPacer<'a, R> {
 
 impl<'a, R: Clock + Log> ClockPacer<'a, R> {
     /// Makes a pacer with ticks of `tick_ms` milliseconds. The first is due one tick after the first call.
-    pub fn new(rt: &'a R, tick_ms: u16, notes: Notes<'a, R>) -> ClockPacer<'a, R> {
+    pub fn new(rt: &'a R, tick_ms: u16, notes: Notes<'a, R>) -> ClockPacer<'a, R>
+        ensures { result.ticks ≡ record { tick = tick_ms * 1000000; from = None } }
+    {
         ClockPacer {
             rt,
             ticks: Ticks::new(tick_ms),
@@ -41,7 +44,9 @@ impl<'a, R: Clock + Log> ClockPacer<'a, R> {
     }
 
     /// Notes how late a tick is, in nanoseconds, unless there were too many such notes.
-    fn note_delay(&mut self, now: u64, late: u64) {
+    fn note_delay(&mut self, now: u64, late: u64)
+        ensures { self.new.ticks ≡ self.old.ticks }
+    {
         let milliseconds = late / MILLISECOND;
         match self.limit.count(now / MILLISECOND) {
             Verdict::Write => self.notes.clock_delayed(milliseconds),
@@ -54,7 +59,13 @@ impl<'a, R: Clock + Log> ClockPacer<'a, R> {
     }
 
     /// The pacer's answer at a time.
-    fn pace_at(&mut self, now: u64) -> Pace {
+    fn pace_at(&mut self, now: u64) -> Pace
+        ensures pace { result ≡ pace_of (beat_due self.old.ticks.from now self.old.ticks.tick) }
+        ensures ticks { self.new.ticks ≡ record {
+          tick = self.old.ticks.tick;
+          from = Some (start_after self.old.ticks.from now self.old.ticks.tick);
+        } }
+    {
         match self.ticks.ask(now) {
             Beat::NotYet(left) => {
                 self.sleep(left);
@@ -72,7 +83,9 @@ impl<'a, R: Clock + Log> ClockPacer<'a, R> {
 impl<R: Clock + Log> Pacer for ClockPacer<'_, R> {
     ghost paced = { λ pacer. None };
 
-    fn next(&mut self) -> Pace {
+    fn next(&mut self) -> Pace
+        ensures tick { self.new.ticks.tick ≡ self.old.ticks.tick }
+    {
         match nanoseconds(self.rt) {
             Some(now) => self.pace_at(now),
             // If the clock cannot be read, the pacer sleeps for the time of a tick.

@@ -1,6 +1,15 @@
 //! Serving: a site over TCP, term by term.
 
-ghost use Rattle.std.specs.Prelude.{◌≡◌, None, vec_len};
+ghost use Rattle.std.specs.Prelude.{◌≡◌, ◌≢◌, ◌*◌, IfErr, IfOk, None, map, vec_len};
+ghost use Rattle.dmr_core.specs.Facts.{no_facts};
+ghost use Rattle.dmr_command.specs.declared.fault.ServeFault.TheVariants.{Term as FaultOfTerm};
+ghost use Rattle.dmr_desk.specs.declared.fault.TermFault.{TermFault as ATermFault};
+ghost use Rattle.dmr_desk.specs.declared.fault.TermsFault.{TermsFault as ATermsFault};
+ghost use Rattle.dmr_desk.specs.Term.{start_of_term};
+ghost use Rattle.dmr_desk.specs.Terms.{HaveRun, HaveStopped};
+ghost use Rattle.dmr_link.specs.Identities.{greatest_of};
+ghost use Rattle.dmr_desk.specs.Work.{station_state};
+ghost use Rattle.dmr_trunk.specs.Serving.{HasStopped};
 
 use crate::ends::Connections;
 use crate::mio_sockets::{ListenFault, MioSockets};
@@ -11,7 +20,7 @@ use crate::tally::tally_of;
 use crate::term_log::TermLog;
 use dmr_command::{ServeFault, listen_address};
 use dmr_core::Site;
-use dmr_desk::{ConsoleStation, Station, Term, run_term};
+use dmr_desk::{ConsoleStation, Observer, Service, Station, Term, run_terms, terms_go_on};
 use dmr_link::{ConsoleLink, Link, OpenGate, greatest_version};
 use dmr_pdu::{CarrierNo, OutOfMemory};
 use dmr_plan::{CarrierRow, Plan};
@@ -33,14 +42,7 @@ type CarrierAt<'a, R> = Station<TcpPort<'a, R>, OpenGate>;
 type ConsoleAt<'a, R> = ConsoleStation<TcpPort<'a, R>>;
 
 /// The state that continues from term to term.
-#[derive(Drop)]
-struct Service<'a, R: Log + Clock> {
-    site: Site,
-    stations: Vec<CarrierAt<'a, R>>,
-    pacer: ClockPacer<'a, R>,
-    console: ConsoleAt<'a, R>,
-    log: TermLog<'a, R>,
-}
+type SiteService<'a, R> = Service<TcpPort<'a, R>, OpenGate, ClockPacer<'a, R>, TcpPort<'a, R>>;
 
 /// Notes why a port cannot listen, and returns the fault of serving that it is.
 fn fault_of_port<R: Log>(
@@ -74,6 +76,8 @@ fn make_port<'a, R: Net + Log + Clock>(
 ) -> Result<TcpPort<'a, R>, ServeFault>
     requires newcomers { vec_len sockets.newcomers ≡ 0 }
     requires connection { sockets.connection ≡ None }
+    ensures { IfOk result (λ opened. opened.settings
+        ≡ record { whose = whose; greatest = greatest_of plan.now; silence = plan.now.silence }) }
 {
     let settings = PortSettings {
         whose,
@@ -97,7 +101,10 @@ fn open_port<'a, R: Net + Log + Clock>(
     plan: &Plan,
     whose: Whose,
     port: u16,
-) -> Result<TcpPort<'a, R>, ServeFault> {
+) -> Result<TcpPort<'a, R>, ServeFault>
+    ensures { IfOk result (λ opened. opened.settings
+        ≡ record { whose = whose; greatest = greatest_of plan.now; silence = plan.now.silence }) }
+{
     let notes = open_notes(rt, alloc)?;
     let address = listen_address(plan, port);
     match MioSockets::listen(rt, alloc, address) {
@@ -158,7 +165,10 @@ fn open_pacer<'a, R: Net + Log + Clock>(
     rt: &'a R,
     alloc: Global,
     plan: &Plan,
-) -> Result<ClockPacer<'a, R>, ServeFault> {
+) -> Result<ClockPacer<'a, R>, ServeFault>
+    ensures { IfOk result
+        (λ pacer. pacer.ticks ≡ record { tick = plan.now.tick_ms * 1000000; from = None }) }
+{
     Ok(ClockPacer::new(rt, plan.tick_ms(), open_notes(rt, alloc)?))
 }
 
@@ -168,16 +178,19 @@ struct Opened<'a, R: Log + Clock> {
     stations: Vec<CarrierAt<'a, R>>,
     pacer: ClockPacer<'a, R>,
     console: ConsoleAt<'a, R>,
-    log: TermLog<'a, R>,
 }
 
-/// Opens the stations, the clock, the console and the notes for the first term. The ports have no connection.
+/// Opens the stations, the clock and the console for the first term. The ports have no connection.
 fn open_ports<'a, R: Net + Log + Clock>(
     rt: &'a R,
     alloc: Global,
     plan: &Plan,
-) -> Result<Opened<'a, R>, ServeFault> {
-    let log = TermLog::new(rt, open_notes(rt, alloc)?);
+) -> Result<Opened<'a, R>, ServeFault>
+    ensures ticks { IfOk result
+        (λ opened. opened.pacer.ticks ≡ record { tick = plan.now.tick_ms * 1000000; from = None }) }
+    ensures silence { IfOk result
+        (λ opened. opened.console.port.settings.silence ≡ plan.now.silence) }
+{
     let pacer = open_pacer(rt, alloc, plan)?;
     let stations = open_stations(rt, alloc, plan)?;
     let console = ConsoleStation {
@@ -188,16 +201,21 @@ fn open_ports<'a, R: Net + Log + Clock>(
         stations,
         pacer,
         console,
-        log,
     })
 }
 
 /// Makes the state for the first term: a site with nothing active, and ports without a connection.
-fn open_all<'a, R: Net + Log + Clock>(
+fn open_service<'a, R: Net + Log + Clock>(
     rt: &'a R,
     alloc: Global,
     plan: &Plan,
-) -> Result<Service<'a, R>, ServeFault> {
+) -> Result<SiteService<'a, R>, ServeFault>
+    ensures site { IfOk result
+        (λ service. service.site ≡ record { plan = plan.now; facts = no_facts }) }
+    ensures ticks { IfOk result
+        (λ service. service.pacer.ticks
+        ≡ record { tick = plan.now.tick_ms * 1000000; from = None }) }
+{
     let Ok(site) = Site::new(alloc, *plan) else {
         return Err(ServeFault::OutOfMemory);
     };
@@ -207,14 +225,12 @@ fn open_all<'a, R: Net + Log + Clock>(
                 stations,
                 pacer,
                 console,
-                log,
             } = opened;
             Ok(Service {
                 site,
                 stations,
                 pacer,
                 console,
-                log,
             })
         }
         Err(fault) => {
@@ -225,11 +241,11 @@ fn open_all<'a, R: Net + Log + Clock>(
 }
 
 /// Notes the addresses at which the ports listen.
-fn note_listening<R: Log + Clock>(standing: &mut Service<'_, R>) {
-    for station in standing.stations.iter() {
-        standing.log.note_listening(station.port.notes());
+fn note_listening<R: Log + Clock>(service: &SiteService<'_, R>, log: &mut TermLog<'_, R>) {
+    for station in service.stations.iter() {
+        log.note_listening(station.port.notes());
     }
-    standing.log.note_listening(standing.console.port.notes());
+    log.note_listening(service.console.port.notes());
 }
 
 /// Returns the connections of all ports so far.
@@ -244,63 +260,91 @@ fn connections_of<R: Log + Clock>(
     connections
 }
 
-/// Runs a term, and notes that it was audited. Its journal is dropped.
-fn serve_term<'a, R: Log + Clock + Wait + Threads + Sync>(
+/// The log notes each term that was audited. It reports no record.
+impl<'a, R: Log + Clock> Observer<CarrierAt<'a, R>, ClockPacer<'a, R>, ConsoleAt<'a, R>>
+    for TermLog<'a, R> {
+    ghost seen = { λ log. None };
+
+    fn ended(&mut self, term: &Term<CarrierAt<'a, R>, ClockPacer<'a, R>, ConsoleAt<'a, R>>) {
+        let tally = tally_of(term.report.journal.as_slice());
+        let connections = connections_of(term.stations.as_slice(), &term.console);
+        self.note_term(tally, &connections);
+    }
+}
+
+/// Runs `terms` terms in a row, and notes each. The ports, the gates, the clock and the log report no record.
+fn serve_terms<'a, R: Log + Clock + Wait + Threads + Sync>(
     rt: &R,
     alloc: Global,
     limit: usize,
-    standing: Service<'a, R>,
-) -> Result<Service<'a, R>, ServeFault> {
-    let Service {
-        site,
-        stations,
-        pacer,
-        console,
-        mut log,
-    } = standing;
-    match run_term(rt, alloc, site, limit, stations, pacer, console) {
-        Ok(term) => {
-            let Term {
-                report,
-                ends: _,
-                stations,
-                pacer,
-                console,
-            } = term;
-            let tally = tally_of(report.journal.as_slice());
-            log.note_term(tally, &connections_of(stations.as_slice(), &console));
-            Ok(Service {
-                site: report.site,
-                stations,
-                pacer,
-                console,
-                log,
-            })
-        }
-        Err(fault) => Err(ServeFault::Term(fault)),
+    service: SiteService<'a, R>,
+    log: &mut TermLog<'a, R>,
+    terms: u32,
+) -> Result<SiteService<'a, R>, ServeFault>
+    ensures run { IfOk result (λ next. HaveRun (start_of_term service.entry.site limit
+        (map (λ s. station_state s.link None None) service.entry.stations.items) None
+        (station_state service.entry.console.link None None))
+        terms (start_of_term next.site limit
+        (map (λ s. station_state s.link None None) next.stations.items) None
+        (station_state next.console.link None None)) None None) }
+    ensures fault { IfErr result (λ fault. (stopped : ATermsFault)
+        × (fault ≡ FaultOfTerm stopped.fault) × HaveStopped (start_of_term service.entry.site limit
+        (map (λ s. station_state s.link None None) service.entry.stations.items) None
+        (station_state service.entry.console.link None None)) terms stopped None None) }
+{
+    match run_terms(rt, alloc, limit, service, log, terms) {
+        Ok(next) => Ok(next),
+        Err(stopped) => Err(ServeFault::Term(stopped.fault)),
     }
+}
+
+/// Runs `terms` terms in a row from a service; 0 means forever. Each term has at most the plan's number of entries.
+/// What runs forever has run some number of terms in a row at each moment between two of them.
+fn serve_service<'a, R: Log + Clock + Wait + Threads + Sync>(
+    rt: &R,
+    alloc: Global,
+    mut service: SiteService<'a, R>,
+    log: &mut TermLog<'a, R>,
+    terms: u32,
+) -> Result<SiteService<'a, R>, ServeFault>
+    ensures run { IfOk result (λ next. terms ≢ 0
+        → HaveRun (start_of_term service.entry.site service.entry.site.plan.term_entries
+        (map (λ s. station_state s.link None None) service.entry.stations.items) None
+        (station_state service.entry.console.link None None))
+        terms (start_of_term next.site service.entry.site.plan.term_entries
+        (map (λ s. station_state s.link None None) next.stations.items) None
+        (station_state next.console.link None None)) None None) }
+    ensures fault { IfErr result (λ fault. (why : ATermFault) × (fault ≡ FaultOfTerm why)
+        × HasStopped (start_of_term service.entry.site service.entry.site.plan.term_entries
+        (map (λ s. station_state s.link None None) service.entry.stations.items) None
+        (station_state service.entry.console.link None None)) why) }
+{
+    let limit = service.site.plan().term_entries() as usize;
+    if terms == 0 {
+        for _ in rt.forever() {
+            terms_go_on();
+            service = match serve_terms(rt, alloc, limit, service, log, 1) {
+                Ok(next) => next,
+                Err(fault) => return Err(fault),
+            };
+        }
+        return Ok(service);
+    }
+    serve_terms(rt, alloc, limit, service, log, terms)
 }
 
 /// Serves the site of a plan over TCP. Listens at each carrier's port, by number, and at the console's, and runs
 /// `terms` terms, one after another; 0 means forever. Each term has at most the plan's number of entries. Links,
-/// connections and the site continue from term to term. Each term's journal is audited, then dropped.
+/// connections and the site continue from term to term ([`run_terms`]). Each term's journal is audited, then dropped.
 pub fn serve<R: Net + Log + Clock + Wait + Threads + Sync>(
     rt: &R,
     alloc: Global,
     plan: Plan,
     terms: u32,
 ) -> Result<(), ServeFault> {
-    let limit = plan.term_entries() as usize;
-    let mut standing = open_all(rt, alloc, &plan)?;
-    note_listening(&mut standing);
-    if terms == 0 {
-        for _ in rt.forever() {
-            standing = serve_term(rt, alloc, limit, standing)?;
-        }
-    }
-    for _ in 0..terms {
-        standing = serve_term(rt, alloc, limit, standing)?;
-    }
-    drop(standing);
+    let mut log = TermLog::new(rt, open_notes(rt, alloc)?);
+    let service = open_service(rt, alloc, &plan)?;
+    note_listening(&service, &mut log);
+    let _last = serve_service(rt, alloc, service, &mut log, terms)?;
     Ok(())
 }

@@ -12,7 +12,7 @@ use super::peers::number;
 use dmr_wire::{Connect, Got, Put, Step, Waited};
 use std::alloc::{AllocError, Global};
 
-/// Adds the steps that these words mean, with `told` as the peer's input. Returns whether the words are known.
+/// Adds the steps that these words mean, with `input` as the peer's input. Returns whether the words are known.
 pub fn add_steps(
     alloc: Global,
     steps: &mut Vec<Step>,

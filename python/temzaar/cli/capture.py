@@ -36,7 +36,7 @@ from contextlib import closing, contextmanager
 from dataclasses import dataclass, field
 from datetime import datetime
 
-from temzaar.cli.command import amount_above, count_of, print_note, run_command
+from temzaar.cli.command import amount_above, count_of, parse_words, print_note, run_command
 from temzaar.clock import begin_comment
 from temzaar.console import Console, Status
 from temzaar.journal import Journal, OutputFile, read_journal
@@ -219,7 +219,7 @@ def read_words(words: Sequence[str] | None) -> argparse.Namespace:
     which = parser.add_mutually_exclusive_group()
     which.add_argument("--pcap", metavar="FILE", help="read this packet capture, and listen to nothing")
     which.add_argument("--unfinished", metavar="FILE", help="read this script of a recording that was killed, and search for its ticks")
-    options = parser.parse_args(words)
+    options = parse_words(parser, words)
     if (options.pcap or options.unfinished) and (options.running or options.seconds != float("inf")):
         parser.error("--running and --seconds are for recording, and --pcap and --unfinished read a file")
     return options

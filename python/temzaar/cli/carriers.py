@@ -27,7 +27,7 @@ import argparse
 import sys
 from collections.abc import Sequence
 
-from temzaar.cli.command import amount_above, clean_up_on_signals, count_of, report_fault, run_command
+from temzaar.cli.command import amount_above, clean_up_on_signals, count_of, parse_words, report_fault, run_command
 from temzaar.faults import ToolFault
 from temzaar.frames import VERSIONS
 from temzaar.player import Play
@@ -53,7 +53,7 @@ def read_words(words: Sequence[str] | None) -> argparse.Namespace:
     parser.add_argument("--seed", type=int, default=1, help="of what radios do at random (1)")
     parser.add_argument("--faults", action="store_true", help="with --program: let things go wrong")
     parser.add_argument("--troubles", type=amount_above(0, 1000), default=2.0, help="with --faults: how many a second (2)")
-    options = parser.parse_args(words)
+    options = parse_words(parser, words)
     if options.faults and not options.program:
         parser.error("--faults needs --program")
     changes = {"term_entries": 5000} if options.faults else {}

@@ -24,7 +24,7 @@ import tempfile
 from collections.abc import Sequence
 from typing import BinaryIO
 
-from temzaar.cli.command import clean_up_on_signals, run_command
+from temzaar.cli.command import clean_up_on_signals, parse_words, run_command
 from temzaar.faults import ToolFault
 from temzaar.frames import VERSIONS
 from temzaar.sitefaults import find_faults
@@ -154,7 +154,7 @@ def read_words(words: Sequence[str] | None) -> argparse.Namespace:
     parser.add_argument("--link-version", type=int, choices=VERSIONS, help="the greatest version of the link that base stations use; warn if the site refuses it")
     parser.add_argument("--controller", metavar="PROGRAM", help="the controller that has the last word (dmr_trunk on the PATH)")
     parser.add_argument("--no-controller", action="store_true", help="do not ask a controller")
-    return parser.parse_args(words)
+    return parse_words(parser, words)
 
 
 def check_and_report(options: argparse.Namespace) -> int:

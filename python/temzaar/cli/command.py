@@ -5,7 +5,7 @@ import os
 import select
 import signal
 import sys
-from collections.abc import Callable
+from collections.abc import Callable, Sequence
 from typing import NoReturn
 
 from temzaar.faults import ToolFault
@@ -96,6 +96,22 @@ def run_command(name: str, action: Callable[[], int], fault_status: int = FAULT)
         return finish_after_fault(name, f"{fault.filename or 'standard output'}: {fault.strerror or fault}", fault_status)
     except MemoryError:
         return finish_after_fault(name, "out of memory", fault_status)
+
+
+def parse_words(parser: argparse.ArgumentParser, words: Sequence[str] | None) -> argparse.Namespace:
+    """The options that the words give. As argparse does, it ends the command after a help text, and after words that it refuses. If nobody reads
+    the help text, the command ends in the same way."""
+    try:
+        return parser.parse_args(words)
+    except (SystemExit, BrokenPipeError) as ended:
+        try:
+            if sys.stdout is not None:
+                sys.stdout.flush()
+        except OSError:
+            drop_standard_output()
+        if isinstance(ended, SystemExit):
+            raise
+        raise SystemExit(0) from None
 
 
 def finish_after_fault(name: str, text: str, status: int) -> int:

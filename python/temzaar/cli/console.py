@@ -15,7 +15,7 @@ import os
 import sys
 from collections.abc import Iterator, Sequence
 
-from temzaar.cli.command import address_of_words, amount_above, clean_up_on_signals, run_command
+from temzaar.cli.command import address_of_words, amount_above, clean_up_on_signals, parse_words, run_command
 from temzaar.console import Console
 from temzaar.faults import ToolFault
 from temzaar.hubconsole import Completions, HubConsole, HubPort, default_socket, has_ended
@@ -34,7 +34,7 @@ def read_words(words: Sequence[str] | None) -> argparse.Namespace:
     which.add_argument("--tcp", metavar="ADDRESS:PORT", type=address_of_words, help="the hub's TCP port, if it has one")
     parser.add_argument("--seconds", type=amount_above(0, 3600), default=5.0, help="how long an answer may take (5)")
     parser.add_argument("line", nargs="*", metavar="WORD", help="the words of a line to send")
-    return parser.parse_args(words)
+    return parse_words(parser, words)
 
 
 def connect(options: argparse.Namespace) -> Console:

@@ -13,7 +13,7 @@ import argparse
 import asyncio
 from collections.abc import Sequence
 
-from temzaar.cli.command import run_command
+from temzaar.cli.command import parse_words, run_command
 from temzaar.faults import ToolFault
 from temzaar.hub.config import DEFAULT_PATH, load_config
 from temzaar.hub.keys import ConfigFault
@@ -27,7 +27,7 @@ def read_words(words: Sequence[str] | None) -> argparse.Namespace:
     parser = argparse.ArgumentParser(description=__doc__, formatter_class=argparse.RawDescriptionHelpFormatter)
     parser.add_argument("--config", metavar="FILE", default=DEFAULT_PATH, help=f"the config file ({DEFAULT_PATH})")
     parser.add_argument("--check", action="store_true", help="check the config file, and end")
-    return parser.parse_args(words)
+    return parse_words(parser, words)
 
 
 def hold_console(options: argparse.Namespace) -> int:

@@ -22,7 +22,7 @@ import time
 import tty
 from collections.abc import Iterable, Iterator, Sequence
 
-from temzaar.cli.command import address_of_words, amount_above, clean_up_on_signals, run_command
+from temzaar.cli.command import address_of_words, amount_above, clean_up_on_signals, parse_words, run_command
 from temzaar.console import LONGEST_LINE, Console, ConsoleFault, SlotKey, Status
 from temzaar.hubconsole import ControllerAway, HubConsole, find_hub
 from temzaar.picture import Ages, Asked, Picture, take_picture
@@ -206,7 +206,7 @@ def read_words(words: Sequence[str] | None) -> argparse.Namespace:
     which.add_argument("--console", type=address_of_words, help="the console, as ADDRESS:PORT, without a hub")
     parser.add_argument("--once", action="store_true", help="print one picture as plain text, and end")
     parser.add_argument("--every", type=amount_above(0, 3600), default=0.25, help="seconds from one picture to the next (0.25)")
-    return parser.parse_args(words)
+    return parse_words(parser, words)
 
 
 def show_site(options: argparse.Namespace) -> int:

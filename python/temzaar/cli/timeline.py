@@ -31,7 +31,7 @@ from typing import Any
 
 from temzaar.calls import list_calls
 from temzaar.callsheet import ListFormat, calls_in, write_list
-from temzaar.cli.command import amount_above, run_command
+from temzaar.cli.command import amount_above, parse_words, run_command
 from temzaar.clock import Clock, Window, recorded_start
 from temzaar.drawing import Drawing, Session
 from temzaar.faults import read_text, write_text
@@ -113,7 +113,7 @@ def read_words(words: Sequence[str] | None) -> argparse.Namespace:
     parser.add_argument("--to", dest="last", metavar="TO", help="draw or list up to this tick, or clock time")
     parser.add_argument("--page", type=amount_above(0, 1e6), metavar="MINUTES", help="draw pages of so many minutes, each into a file of its own")
     parser.add_argument("--calls", nargs="?", const="text", choices=[it.value for it in ListFormat], help="list the calls, as text without a word after it, instead of drawing")
-    options = parser.parse_args(words)
+    options = parse_words(parser, words)
     if options.page and options.calls:
         parser.error("--page draws, and --calls lists: give one of them")
     if options.page and not options.out:

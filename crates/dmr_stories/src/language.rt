@@ -25,7 +25,7 @@ use std::process::Abort;
 
 /// The thing under test: takes the inputs of a story, one at a time, and writes its answers.
 pub trait Listener {
-    /// Applies the input `told` and writes the answer to `said`; writes `?` if the input is unknown.
+    /// Applies `input` and writes the answer to `said`; writes `?` if the input is unknown.
     fn answer_input(&mut self, input: &str, said: &mut String) -> Result<(), OutOfMemory>;
 }
 

@@ -33,7 +33,7 @@ pub static NAMED: [(&str, &[u8]); 12] = [
     ("stay", b"stay\n"),
 ];
 
-/// Returns the steps that these words mean, with `told` as the story's input. Returns `None` if a word is unknown.
+/// Returns the steps that these words mean, with `input` as the story's input. Returns `None` if a word is unknown.
 pub fn steps_of(alloc: Global, input: &[u8], words: &str) -> Result<Option<Vec<Step>>, AllocError> {
     let mut steps = Vec::new(alloc);
     for words in words.split("; ") {

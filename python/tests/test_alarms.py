@@ -1,4 +1,4 @@
-"""The rules for Prometheus and the dashboard for Grafana: they use the hub's metrics alone, and docs/ALARMS.md has each alarm."""
+"""The rules for Prometheus and the dashboard for Grafana: they use the metrics that a hub serves, and docs/ALARMS.md has each alarm."""
 import json
 import pathlib
 import re
@@ -9,6 +9,7 @@ import unittest
 from typing import Any
 
 from tests.support import TOP, read_document, table_rows
+from tests.test_hub_web import WebCase
 
 RULES = TOP / "deploy" / "prometheus" / "dmr_site.rules.yml"
 TESTS = TOP / "deploy" / "prometheus" / "dmr_site.test.yml"
@@ -18,11 +19,14 @@ ALARMS = read_document("ALARMS.md")
 LABELS = {row[0]: set(filter(None, row[2].split(", "))) for row in table_rows(read_document("HUB.md"), "| metric | type")}
 HISTOGRAMS = [row[0] for row in table_rows(read_document("HUB.md"), "| metric | type") if row[1] == "histogram"]
 METRICS = {**LABELS, "up": set(), **{f"{name}_bucket": {"le"} for name in HISTOGRAMS}}
-# Labels that each series has in Prometheus.
-OF_PROMETHEUS = {"job", "instance"}
+# Labels that each series has in Prometheus, the last one if the target has it (HUB.md, "Metrics").
+OF_PROMETHEUS = {"job", "instance", "site"}
 # The words of PromQL that the expressions use.
 WORDS = {"and", "or", "sum", "rate", "increase", "absent", "time", "histogram_quantile", "max_over_time"}
 CLAUSES = r"\b(?:by|without|ignoring)\s*\(([^)]*)\)"
+# The panels and units that the dashboard uses, of those that Grafana has since version 8 by itself.
+PANELS = {"stat", "timeseries", "state-timeline"}
+UNITS = {"none", "short", "s", "bytes", "percentunit"}
 # The lines of the part of YAML that the rules and their tests are written in.
 YAML_LINE = re.compile(r"( *)(- )?(?:([a-z_]+):(?: (.*))?|(.+))")
 
@@ -53,6 +57,11 @@ def expressions() -> dict[str, str]:
         for target in panel["targets"]:
             found[f"panel {panel['title']}, {target['refId']}"] = target["expr"]
     return found
+
+
+def values_in(expression: str) -> set[tuple[str, str]]:
+    """The labels with one value that an expression asks for, apart from those of Prometheus."""
+    return {(label, value) for label, value in re.findall(r'(\w+)="([^"]*)"', expression) if label not in OF_PROMETHEUS}
 
 
 def names_in(expression: str) -> tuple[set[str], set[str]]:
@@ -128,6 +137,26 @@ class Rules(unittest.TestCase):
             self.assertEqual(done.returncode, 0, done.stdout + done.stderr)
 
 
+class Scraped(WebCase):
+    """The expressions, compared with a scrape of a hub."""
+
+    async def test_a_hub_serves_each_metric(self) -> None:
+        await self.serve()
+        octets = (await self.get("/metrics")).body.decode("utf-8")
+        # a counter with labels has no sample before its first event
+        declared = set(re.findall(r"^# TYPE (\w+) \w+$", octets, re.M))
+        samples = set(re.findall(r"^(\w+)[{ ]", octets, re.M))
+        for place, expression in expressions().items():
+            with self.subTest(place):
+                self.assertEqual(names_in(expression)[0] - samples - declared - {"up"}, set())
+        for name in declared & {"dmr_site_info", "dmr_site_slots"}:
+            self.assertIn(name, samples)
+        # the values that are asked for: of gauges in the scrape, of counters in the hub's own text
+        sources = "".join(path.read_text(encoding="utf-8") for path in (TOP / "python" / "temzaar" / "hub").glob("*.py"))
+        for label, value in set().union(*map(values_in, expressions().values())):
+            self.assertTrue(f'{label}="{value}"' in octets or f'"{value}"' in sources, f"{label}={value}")
+
+
 class Dashboard(unittest.TestCase):
     """The panels."""
 
@@ -143,10 +172,36 @@ class Dashboard(unittest.TestCase):
             cells |= own
             self.assertTrue(panel["description"].endswith("."))
 
+    def test_what_grafana_knows(self) -> None:
+        """Kinds of panels, units, the letters of targets, thresholds that begin at no value, and one source of data."""
+        for panel in dashboard()["panels"]:
+            with self.subTest(panel["title"]):
+                defaults = panel["fieldConfig"]["defaults"]
+                self.assertIn(panel["type"], PANELS)
+                self.assertIn(defaults["unit"], UNITS)
+                self.assertEqual(panel["datasource"], {"type": "prometheus", "uid": "${datasource}"})
+                self.assertEqual([it["refId"] for it in panel["targets"]], ["A", "B", "C", "D"][:len(panel["targets"])])
+                steps = [it["value"] for it in defaults.get("thresholds", {"steps": [{"value": None}]})["steps"]]
+                self.assertTrue(steps[0] is None and steps[1:] == sorted(steps[1:]), steps)
+
+    def test_legends_name_labels_that_are_left(self) -> None:
+        for panel in dashboard()["panels"]:
+            for target in panel["targets"]:
+                with self.subTest(f"{panel['title']}, {target['refId']}"):
+                    expression, named = target["expr"], set(re.findall(r"\{\{(\w+)\}\}", target["legendFormat"]))
+                    left = set().union(*(METRICS[it] for it in names_in(expression)[0])) | OF_PROMETHEUS
+                    if kept := re.match(r"sum by \(([^)]*)\)", expression):
+                        left = set(re.split(r",\s*", kept[1]))
+                    self.assertEqual(named - left, set())
+                    self.assertLessEqual({"site", "instance"}, named)
+
     def test_variables(self) -> None:
-        self.assertEqual([it["name"] for it in dashboard()["templating"]["list"]], ["datasource", "instance"])
+        self.assertEqual([it["name"] for it in dashboard()["templating"]["list"]], ["datasource", "site", "instance"])
         used = set(re.findall(r"\$\{?(\w+)", DASHBOARD.read_text(encoding="utf-8")))
-        self.assertEqual(used, {"datasource", "instance", "__rate_interval", "__all"})
+        self.assertEqual(used, {"datasource", "site", "instance", "__rate_interval", "__all"})
+        for it in dashboard()["templating"]["list"][1:]:
+            metrics, labels = names_in(re.sub(r"^label_values\((.*), (\w+)\)$", r"sum by (\2) (\1)", it["query"]))
+            self.assertEqual((metrics, labels - OF_PROMETHEUS), ({"dmr_site_info"}, set()))
         for place, expression in expressions().items():
             if place.startswith("panel "):
                 self.assertEqual(expression.count('instance=~"$instance"'), expression.count("{"), place)

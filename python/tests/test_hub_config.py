@@ -18,6 +18,10 @@ class Keys(unittest.TestCase):
         self.assertEqual((config.poll.state_seconds, config.roles.full_users, config.roles.others, config.health.carriers), (2.0, ("root", 1000), "read", (0, 15)))
         self.assertEqual(read_config('[health]\ncarriers = "none"\n').health.carriers, "none")
 
+    def test_the_name_of_the_site(self) -> None:
+        for text, name in (("", "site"), ('site_file = "/etc/dmr_trunk/north.toml"\n', "north"), ('site_file = "/srv/a.b.toml"\nname = ""\n', "a.b"), ('name = "Büro 1"\n', "Büro 1")):
+            self.assertEqual(read_config(f"[controller]\n{text}").controller.site_name, name)
+
     def test_faults_name_the_key(self) -> None:
         for text, fault in (
             ("x =", "not TOML: "),
@@ -30,6 +34,9 @@ class Keys(unittest.TestCase):
             ('[http]\nport = "80"\n', "http.port: not a whole number: 0 to 65535"),
             ("[http]\nport = 65536\n", "http.port: out of range: 0 to 65535"),
             ("[http]\nhosts = [1]\n", "http.hosts: not a list of names"),
+            ("[controller]\nname = 1\n", "controller.name: not a text of at most 64 characters"),
+            (f'[controller]\nname = "{"x" * 65}"\n', "controller.name: not a text of at most 64 characters"),
+            ('[controller]\nname = "a\\nb"\n', "controller.name: not a text of at most 64 characters"),
             ('[line_port]\nsocket = "here"\n', "line_port.socket: not an absolute path"),
             ('[roles]\nothers = "full"\n', 'roles.others: not "none" or "read"'),
             ("[roles]\nothers = []\n", 'roles.others: not "none" or "read"'),

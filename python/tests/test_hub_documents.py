@@ -25,6 +25,8 @@ def default_text(value: object) -> str:
     """The value of a missing key, as the document writes it."""
     if value == ():
         return "none"
+    if value == "":
+        return '""'
     if isinstance(value, tuple):
         return "[" + ", ".join(f'"{it}"' for it in value) + "]"
     return f"{value:g}" if isinstance(value, float) else str(value)

@@ -106,7 +106,7 @@ class Shown(WebCase):
         answer = await self.get("/metrics")
         self.assertEqual((answer.status, answer.headers["content-type"]), (200, "text/plain; version=0.0.4; charset=utf-8"))
         lines = answer.body.decode().splitlines()
-        for line in ("dmr_site_controller_up 1", 'dmr_site_carrier_up{carrier="1"} 1', 'dmr_site_slots{state="call"} 2', 'dmr_site_slots{state="down"} 0', "dmr_site_registered_radios 40",
+        for line in ('dmr_site_info{site="site"} 1', "dmr_site_controller_up 1", 'dmr_site_carrier_up{carrier="1"} 1', 'dmr_site_slots{state="call"} 2', 'dmr_site_slots{state="down"} 0', "dmr_site_registered_radios 40",
                      "dmr_site_waiting_requests 1", "dmr_site_active_calls 2", "dmr_site_move_channel 0", "dmr_hub_console_connects_total 1", "dmr_hub_line_connections 1",
                      'dmr_hub_lines_total{kind="change"} 1', 'dmr_hub_changes_total{command="stay",outcome="answered"} 1', "dmr_hub_audit_records_total 2",
                      'dmr_hub_answer_duration_seconds_bucket{le="+Inf"} '):
@@ -118,6 +118,7 @@ class Shown(WebCase):
         await wait_until(lambda: not hub.link.state.is_up)
         lines = (await self.get("/metrics")).body.decode().splitlines()
         self.assertIn("dmr_site_controller_up 0", lines)
+        self.assertIn('dmr_site_info{site="site"} 1', lines)
         self.assertFalse([line for line in lines if line.startswith("dmr_site_active_calls")])
 
     async def test_promtool_finds_nothing(self) -> None:
@@ -234,9 +235,10 @@ class Harmless(WebCase):
     async def test_many_radios_delay_nobody(self) -> None:
         hub = await self.serve()
         hub.model.radios = RadioList(tuple(range(MOST_RADIOS)), False)
-        began = time.monotonic()
+        # the hub's own processor time: how long it takes depends on other work too
+        began = time.thread_time()
         hub.views.site_json()
-        self.assertLess(time.monotonic() - began, 1)
+        self.assertLess(time.thread_time() - began, 1)
 
     async def test_thousands_of_connections(self) -> None:
         hub = await self.serve(connections=8, request_seconds=1.0)

@@ -1,10 +1,11 @@
 """The hub's config file: its sections, with each key's range, default and meaning."""
 import dataclasses
+import pathlib
 import tomllib
 from typing import Any
 
 from temzaar.faults import ToolFault, read_text
-from temzaar.hub.keys import CarrierChoice, Choice, ConfigFault, FilePath, Names, Number, Whole, key, read_section
+from temzaar.hub.keys import CarrierChoice, Choice, ConfigFault, FilePath, Names, Number, Text, Whole, key, read_section
 
 DEFAULT_PATH = "/etc/dmr_trunk/hub.toml"
 # The most octets of a config file.
@@ -15,8 +16,14 @@ MOST_OCTETS = 1 << 20
 class ControllerKeys:
     """The controller whose console the hub holds."""
     site_file: str = key(FilePath(), "/etc/dmr_trunk/site.toml", "the site file, which names the console's address, port and silence")
+    name: str = key(Text(64), "", "the site's name in `dmr_site_info`; if it is empty, the name of the site file without `.toml`")
     answer_seconds: float = key(Number(0.05, 60), 1.0, "how long the controller has for an answer; then the hub closes the connection and opens another")
     reconnect_seconds: float = key(Number(0.1, 300), 5.0, "the longest time between two attempts to connect")
+
+    @property
+    def site_name(self) -> str:
+        """The site's name, as metrics have it."""
+        return self.name or pathlib.PurePath(self.site_file).stem
 
 
 @dataclasses.dataclass(frozen=True)

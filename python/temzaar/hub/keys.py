@@ -66,6 +66,19 @@ class FilePath:
         return value
 
 
+class Text:
+    """A text of at most `most` printable characters. It may be empty."""
+
+    def __init__(self, most: int) -> None:
+        self.most, self.says = most, f"a text of at most {most} characters"
+
+    def read(self, value: Any) -> str:
+        """The text."""
+        if not isinstance(value, str) or len(value) > self.most or not value.isprintable():
+            raise ValueError(f"not {self.says}")
+        return value
+
+
 class Choice:
     """One of some words."""
 

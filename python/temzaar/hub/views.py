@@ -90,7 +90,10 @@ class Views:
         return "".join(line for it in series for line in it.lines()).encode("utf-8")
 
     def _site_series(self) -> Iterator[Series]:
-        """Gauges of the site. While the controller is away there is only the one that says so."""
+        """Gauges of the site. While the controller is away there are only its name and the one that says so."""
+        name = Series("dmr_site_info", "The site's name, as a label; the value is always 1.")
+        name.set(1, site=self.config.controller.site_name)
+        yield name
         yield gauge("dmr_site_controller_up", "Whether the controller answers.", int(self.link.state.is_up))
         picture, seen = self.model.picture, self.model.seen
         if not self.link.state.is_up or picture is None or seen is None:

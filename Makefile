@@ -26,6 +26,7 @@ help: ## this list
 	@echo "tools/console        the console, through the hub"
 	@echo "trials/serve-hostile plays carriers and strangers that behave badly"
 	@echo "trials/long-replay   how long a long replay takes"
+	@echo "trials/watch-hour    whether a site's observers delay its carriers"
 	@echo "trials/refuse-memory refuses each allocation of the programs in turn"
 	@echo "trials/network-recipes tries firewall and tunnels, in network namespaces"
 	@echo "trials/page-pictures takes the pictures of the hub's page"

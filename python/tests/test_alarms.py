@@ -137,6 +137,22 @@ class Rules(unittest.TestCase):
             self.assertEqual(done.returncode, 0, done.stdout + done.stderr)
 
 
+class ScrapeConfigs(unittest.TestCase):
+    """The configurations of Prometheus in docs/HUB.md."""
+
+    def test_promtool_accepts_them(self) -> None:
+        found = [re.sub(r"^    ", "", it, flags=re.M) for it in re.findall(r"^    scrape_configs:\n(?:      .*\n)+", read_document("HUB.md"), re.M)]
+        self.assertEqual(["site: " in it for it in found], [False, True])
+        if not shutil.which("promtool"):
+            self.skipTest("there is no promtool: the package prometheus has it")
+        for text in found:
+            with tempfile.TemporaryDirectory() as folder:
+                path = pathlib.Path(folder, "prometheus.yml")
+                path.write_text(f'rule_files: ["{RULES}"]\n{text}', encoding="utf-8")
+                done = subprocess.run(["promtool", "check", "config", str(path)], capture_output=True, text=True, check=False)
+            self.assertEqual(done.returncode, 0, done.stdout + done.stderr)
+
+
 class Scraped(WebCase):
     """The expressions, compared with a scrape of a hub."""
 

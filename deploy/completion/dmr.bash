@@ -4,7 +4,7 @@
 _dmr_options() {
     case $1 in
         dmr_trunk) echo --site --script --serve --terms --version --help ;;
-        dmr_decode) echo --help ;;
+        dmr_decode) echo --site --help ;;
         dmr_siteview) echo --site --hub --console --once --every --help ;;
         dmr_timeline) echo --site --script --printed --program --out --start --from --to --page --calls --help ;;
         dmr_capture) echo --site --program --out --running --shift --seconds --pcap --unfinished --help ;;

@@ -1,5 +1,7 @@
-"""The expected output of `dmr_decode` for scripts, replays and PDUs, from docs/FORMATS.md alone."""
+"""The expected output of `dmr_decode` for scripts, replays and PDUs, from docs/FORMATS.md alone. The judged session of the stored run is written by hand."""
+import pathlib
 import random
+import re
 from typing import NamedTuple
 
 from temzaar import code, pdus
@@ -7,6 +9,9 @@ from temzaar.frames import FROM_CARRIER, REFUSALS, TO_CARRIER, Cutter, Frame, Fr
 from temzaar.script import split_connection
 
 MOST_FLIPS = 3
+# A session of the control carrier, each line with what docs/LINK.md and docs/SITE_MACHINE.md say of it.
+FRAME_LINE = re.compile(r" *\d+  (HELLO|RX|POLL|ACTIVE|BYE)(.*)$")
+JUDGED_SESSION = pathlib.Path(__file__).with_name("judged_session.txt")
 
 
 class Flipped(NamedTuple):
@@ -128,7 +133,37 @@ def make_traffic(draws: random.Random, each: int) -> Traffic:
     return Traffic("\n".join([*lines, "bytes 1 0500"]) + "\n", known)
 
 
+def judged_bystander(script: str, known: dict[bytes, Flipped]) -> str:
+    """The output for a script of carriers that are not the control carrier, without calls, judged by a site that has them."""
+    said: list[str] = []
+    newest = ""
+    for line in script_text(script, known).split("\n")[:-1]:
+        if line.startswith("open "):
+            newest = ""
+            line += " -> counted: a connection begins"
+        elif line.startswith("bytes "):
+            line += " -> read"
+        elif words := FRAME_LINE.match(line):
+            name, fields = words[1], words[2]
+            if name == "HELLO":
+                line += f" -> counted: carrier {fields.split('carrier=')[1].split(' ')[0]} is up"
+            elif name == "RX":
+                number = fields.partition(" slot=")[0]
+                line += " -> ignored: it has the number of the RX before it" if number and number == newest else " -> ignored: not the control slot"
+                newest = number
+            else:
+                line += {"POLL": " -> counted: nothing is to be sent", "ACTIVE": " -> ignored: no call is active on the slot", "BYE": " -> ended: BYE"}[name]
+        said.append(line)
+    return "\n".join(said) + "\n"
+
+
+def script_of(judged: str) -> str:
+    """The script of a judged session: its lines without the indented ones and the judgements."""
+    return "".join(line.partition(" -> ")[0] + "\n" for line in judged.split("\n")[:-1] if not line.startswith(" "))
+
+
 def stored_run() -> tuple[str, str]:
-    """The script of the stored run of `dmr_decode`, and what it prints: `crates/dmr_decode/stdin` and `stdout`."""
-    traffic = make_traffic(random.Random(1), 1)
-    return traffic.script, script_text(traffic.script, traffic.known)
+    """The stored run of `dmr_decode`, `crates/dmr_decode/stdin` and `stdout`: a script and its output, judged by the site in `data`, whose control carrier
+    is carrier 2. First the traffic of all PDUs on other carriers, then the judged session of the control carrier."""
+    traffic, session = make_traffic(random.Random(1), 1), JUDGED_SESSION.read_text(encoding="utf-8")
+    return traffic.script + script_of(session), judged_bystander(traffic.script, traffic.known) + session

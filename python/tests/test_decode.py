@@ -1,14 +1,22 @@
-"""The output of `dmr_decode`, compared with docs/FORMATS.md."""
+"""The output of `dmr_decode`, compared with docs/FORMATS.md; judged by a site file, with docs/LINK.md and with the controller's replay."""
+import os
+import pathlib
 import random
+import re
 import subprocess
+import tempfile
 import unittest
 
 from temzaar import code, pdus
-from temzaar.frames import FrameType, burst_frame, welcome
+from temzaar.frames import FrameType, burst_frame, hello, welcome
 from tests import decoded
-from tests.support import EXAMPLES, TOP, program
+from tests.support import EXAMPLES, TOP, TWO_CARRIERS, program
 
 EACH = 40
+CRATE = TOP / "crates" / "dmr_decode"
+# a PDU that is sent, as a judged session and as a decoded replay show it
+SENT = re.compile(r"      act: (?:send on|fill) carrier (\d+) slot (\d): (.*)")
+CARRIER, TX = re.compile(r"carrier (\d+)"), re.compile(r" *\d+  TX(?: number=\d+)? slot=(\d)")
 
 
 class Stored(unittest.TestCase):
@@ -16,9 +24,8 @@ class Stored(unittest.TestCase):
 
     def test_stored_run(self) -> None:
         script, printed = decoded.stored_run()
-        crate = TOP / "crates" / "dmr_decode"
-        self.assertEqual((crate / "stdin").read_text(encoding="utf-8"), script)
-        self.assertEqual((crate / "stdout").read_text(encoding="utf-8"), printed)
+        self.assertEqual((CRATE / "stdin").read_text(encoding="utf-8"), script)
+        self.assertEqual((CRATE / "stdout").read_text(encoding="utf-8"), printed)
 
 
 class Program(unittest.TestCase):
@@ -60,3 +67,140 @@ class Program(unittest.TestCase):
             wanted = f"octets {octets.hex().upper()}\ncheck {code.check_of(octets).hex().upper()}\nburst {code.burst_of(octets).hex().upper()}\n"
             self.expect(["write", *words.split(" ")], "", wanted)
             self.expect(["pdu", octets.hex()], "", f"      {words}\n")
+
+
+class Judged(unittest.TestCase):
+    """The program, asked what the controller of a site makes of its input."""
+
+    def setUp(self) -> None:
+        self.program, self.draws = program("dmr_decode"), random.Random(1)
+
+    def ask(self, *words: str, text: str = "", **options: object) -> subprocess.CompletedProcess[str]:
+        """The program's answer to these words and this input."""
+        return subprocess.run([self.program, *words], **{"input": text, "capture_output": True, "text": True, "check": False, **options})  # type: ignore[call-overload,no-any-return]
+
+    def judge(self, script: str, site: str = TWO_CARRIERS) -> str:
+        """The judged script."""
+        done = self.ask("script", "--site", site, text=script)
+        self.assertEqual((done.returncode, done.stderr), (0, ""))
+        return done.stdout
+
+    def judge_octets(self, octets: bytes) -> list[str]:
+        """The judged lines of a connection."""
+        done = self.ask("carrier", "--site", TWO_CARRIERS, octets.hex())
+        self.assertEqual((done.returncode, done.stderr), (0, ""))
+        return done.stdout.split("\n")[:-1]
+
+    def test_the_stored_run(self) -> None:
+        script, printed = decoded.stored_run()
+        self.assertEqual(self.judge(script, str(CRATE / "data" / "site.toml")).split("\n"), printed.split("\n"))
+
+    def test_a_connection(self) -> None:
+        begins = "port of carrier {} -> counted: a connection begins"
+        wrong = "ended: link fault: WrongCarrier, another carrier or channel than the port's (carrier {}, LPCN {} came; carrier {}, LPCN {} expected)"
+        rest = "   6  1 octets of a frame that isn't whole -> ignored: more octets must come"
+        self.assertEqual(
+            self.judge_octets(hello(1, 2, 1) + b"\3"),
+            [begins.format(1), "   0  HELLO version=1 carrier=1 lpcn=2 -> counted: carrier 1 is up", rest],
+        )
+        self.assertEqual(
+            self.judge_octets(hello(1, 1, 1)), [begins.format(1), "   0  HELLO version=1 carrier=1 lpcn=1 -> refused and " + wrong.format(1, 1, 1, 2)]
+        )
+        self.assertEqual(
+            self.judge_octets(hello(9, 1, 1) + b"\3\0"),
+            [
+                begins.format(0),
+                "   0  HELLO version=1 carrier=9 lpcn=1 -> refused and " + wrong.format(9, 1, 0, 1),
+                "   6  2 octets after the end -> ignored: no connection is open",
+            ],
+        )
+        self.assertEqual(
+            self.judge_octets(hello(0, 1, 2))[1],
+            "   0  HELLO version=2 carrier=0 lpcn=1 -> refused and ended: link fault: BadVersion, a version of the link that is not served (version 2 came)",
+        )
+
+    def test_what_is_sent(self) -> None:
+        """Judged scripts send the PDUs that the controller's replay sends, and have its replies."""
+        scripts = [path.read_text(encoding="utf-8") for path in sorted((EXAMPLES / "scripts").glob("*.txt"))]
+        for script in (*scripts, decoded.make_traffic(self.draws, EACH).script.partition("open 1")[0]):
+            judged = self.judge(script).split("\n")
+            sent: dict[str, list[tuple[str, str]]] = {"0": [], "1": []}
+            for match in filter(None, map(SENT.fullmatch, judged)):
+                sent[match[1]].append((match[2], match[3]))
+            with tempfile.TemporaryDirectory() as folder:
+                path = pathlib.Path(folder) / "script.txt"
+                path.write_text(script, encoding="utf-8")
+                replay = subprocess.run([program("dmr_trunk"), "--site", TWO_CARRIERS, "--script", path], capture_output=True, text=True, check=True).stdout
+            lines = self.ask("replay", text=replay).stdout.split("\n")
+            wanted: dict[str, list[tuple[str, str]]] = {}
+            of: list[tuple[str, str]] = []
+            for number, line in enumerate(lines):
+                if match := CARRIER.fullmatch(line):
+                    of = wanted.setdefault(match[1], [])
+                elif match := TX.fullmatch(line):
+                    of.append((match[1], lines[number + 1].strip()))
+            self.assertEqual(sent, wanted)
+            replies = [line.removeprefix("      reply: ") for line in judged if line.startswith("      reply: ")]
+            self.assertEqual(replies, [line for line in replay.split("\n")[2:] if line])
+
+    def test_no_room(self) -> None:
+        """With 57 PDUs that wait for the control slot, requests and answers are ignored."""
+        asks = pdus.write("C_RAND", kind=14, options=1, source=2001, target=0xFFFEC6)
+        answers = pdus.write("C_ACKU", reason=0x44, target=1001, additional=1002)
+        lines = [f"bytes 0 021A00{code.burst_of(octets).hex()}" for octets in (*[asks] * 58, answers)]
+        judged = self.judge("\n".join(["open 0", f"bytes 0 {hello(0, 1, 1).hex()}", *lines, ""]))
+        self.assertEqual(judged.count("RX slot=0 -> counted\n"), 57)
+        self.assertEqual(judged.count("RX slot=0 -> ignored: too many PDUs wait for the control slot\n"), 2)
+
+    def test_faulty_lines(self) -> None:
+        """The first line that is none ends the judgement, with the controller's message."""
+        for line in (b"tick x", b"tick\r", b"open 16", b" tick", b"bytes 0", b"say"):
+            with self.subTest(line):
+                words = [self.program, "script", "--site", TWO_CARRIERS]
+                done = subprocess.run(words, input=b"# a comment\n\n%s\nopen 77\n" % line, capture_output=True, check=False)
+                self.assertEqual((done.returncode, done.stderr), (1, b"dmr_decode: script line 3\n"))
+                self.assertEqual(done.stdout, b"# a comment\n\n%s -> fault: not a line of a script\n" % line)
+
+    def test_site_files(self) -> None:
+        """Faults of the site file are the controller's."""
+        with tempfile.TemporaryDirectory() as folder:
+            site, script = pathlib.Path(folder) / "site.toml", pathlib.Path(folder) / "script.txt"
+            script.write_text("", encoding="utf-8")
+            whole = pathlib.Path(TWO_CARRIERS).read_text(encoding="utf-8")
+            for text in (None, "", "[", "\xff", whole.replace("control = 0", "control = 5"), whole.replace("lpcn = 2", "lpcn = 5000")):
+                if text is not None:
+                    site.write_text(text, encoding="latin-1")
+                wanted = subprocess.run([program("dmr_trunk"), "--site", site, "--script", script], capture_output=True, text=True, check=False)
+                done = self.ask("script", "--site", str(site))
+                self.assertEqual((done.returncode, done.stdout, done.stderr), (1, "", wanted.stderr.replace("dmr_trunk:", "dmr_decode:")))
+                self.assertEqual(wanted.returncode, 1)
+
+    def test_words(self) -> None:
+        """A site is for two tasks, and has a path."""
+        for words in (["script", "--site"], ["word", "--site", TWO_CARRIERS, "00"], ["write", "--site", TWO_CARRIERS, "C_RAND"], ["--site", TWO_CARRIERS]):
+            with self.subTest(words):
+                done = self.ask(*words)
+                self.assertEqual((done.returncode, done.stdout), (2, ""))
+                self.assertIn("dmr_decode script --site site.toml", done.stderr)
+
+    @unittest.skipUnless(os.path.exists("/dev/full"), "there is no /dev/full")
+    def test_a_full_disk(self) -> None:
+        """If standard output does not take the text, that is a message."""
+        script = (EXAMPLES / "scripts" / "lost_carrier.txt").read_text(encoding="utf-8")
+        for words in (["--help"], ["script"], ["script", "--site", TWO_CARRIERS], ["carrier", "0300"], ["carrier", "--site", TWO_CARRIERS, "0300"], ["write", "C_RAND"]):
+            with self.subTest(words), open("/dev/full", "w", encoding="utf-8") as full:
+                done = self.ask(*words, text=script * 9 if words == ["script"] else script, capture_output=False, stdout=full, stderr=subprocess.PIPE)
+                self.assertEqual((done.returncode, done.stderr), (1, "dmr_decode: cannot write\n"))
+
+    def test_the_example_of_the_help(self) -> None:
+        """The PDU that help and manual page show registers a radio at a site with `leave_bit`."""
+        page = (TOP / "deploy" / "man" / "dmr_decode.1").read_text(encoding="utf-8").replace("\\-", "-")
+        for text in (self.ask("--help").stdout, page):
+            shown = re.search(r"^ +dmr_decode (write C_RAND .*)$", text, re.M)
+            assert shown
+            burst = self.ask(*shown[1].split(" ")).stdout.split("burst ")[1].strip()
+            self.assertIn("act: radio 1001 is registered\n", self.judge(f"open 0\nbytes 0 {hello(0, 1, 1).hex()}\nbytes 0 021A00{burst}\n"))
+
+
+if __name__ == "__main__":
+    unittest.main()

@@ -17,7 +17,7 @@ TOOLS = ("siteview", "timeline", "capture", "carriers", "check", "console", "hub
 PAGE_OF = {tool: f"dmr_{tool}.{8 if tool == 'hub' else 1}" for tool in TOOLS}
 WANTED = {"dmr_trunk.8", "dmr_trunk.5", "dmr_decode.1", *PAGE_OF.values()}
 # The order of sections; a page leaves out those that do not apply.
-ORDER = ("NAME", "SYNOPSIS", "DESCRIPTION", "COMMANDS", "OPTIONS", "CONSOLE", "SIGNALS", "EXIT STATUS", "DIAGNOSTICS", "ENVIRONMENT", "FILES", "SECURITY", "EXAMPLES", "SEE ALSO")
+ORDER = ("NAME", "SYNOPSIS", "DESCRIPTION", "COMMANDS", "OPTIONS", "JUDGEMENTS", "CONSOLE", "SIGNALS", "EXIT STATUS", "DIAGNOSTICS", "ENVIRONMENT", "FILES", "SECURITY", "EXAMPLES", "SEE ALSO")
 ALWAYS = {"NAME", "SYNOPSIS", "DESCRIPTION", "EXAMPLES", "SEE ALSO"}
 JOINED = ("BI", "BR", "IB", "IR", "RB", "RI")
 # A reader of an installed page has no source tree.

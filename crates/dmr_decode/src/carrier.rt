@@ -74,6 +74,11 @@ fn show_frame<W: Write>(
     out: &mut W,
 ) -> io::Result<()> {
     writeln!(out, "{begins:>4}  {frame}")?;
+    show_word_in(alloc, frame, out)
+}
+
+/// Prints the meaning of a frame's word, if it has one.
+pub fn show_word_in<W: Write>(alloc: Global, frame: &FrameIn, out: &mut W) -> io::Result<()> {
     match frame {
         FrameIn::Rx {
             number: _,

@@ -11,18 +11,37 @@
 //! `dmr_burst::read` reads the words, and `dmr_frames::Cutter` cuts the frames of carriers, so the output shows what
 //! the controller makes of the octets. `words_of_bursts` shows words, `carrier` and `site` show frames, `pdu_in_words`
 //! reads a PDU in words, and `tasks` connects them.
+//!
+//! With `--site FILE`, `carrier` and `script` also say what the controller of that site would count, ignore and answer,
+//! and which frame would end a connection. No rule is written here again: `judged_carrier` and `judge` have the links
+//! of `dmr_link`, which hand their events to the site of `dmr_core` at a `desk`. `verdict` names the outcome,
+//! `acts_in_words` shows the site's acts, and `judging` has the two tasks.
 #![tactic(auto)]
 
+mod acts_in_words;
 mod carrier;
+mod desk;
+mod judge;
+mod judged_carrier;
+mod judging;
+mod octet_wire;
 mod pdu_in_words;
 mod site;
 mod tasks;
+mod verdict;
 mod words_of_bursts;
 
+ghost use Rattle.std.specs.Prelude.{◌≤◌, IfOk};
+
+use crate::judging::judge;
 use crate::tasks::{TaskFault, run};
+use dmr_plan::Plan;
+use dmr_replay::{MEMORY, ReplayFault, plan_of};
+use std::alloc::Global;
 use std::io::{BufWriter, Eprint, Write};
 use std::process::ExitCode;
-use std::{env, io};
+use std::rt::{Env, Files};
+use std::{env, fs, io};
 
 /// The text of `--help`.
 const HELP: &str = "\
@@ -38,10 +57,59 @@ Says in words what the octets of a site are, as the controller reads them.
 
 Without HEX or a PDU they are read from standard input. HEX may have spaces anywhere.
 A PDU is written as it is printed, a field that is left out being 0:
-  dmr_decode write C_RAND kind=registration target=16776902 source=1001
+  dmr_decode write C_RAND kind=registration target=16776902 source=1001 options=1
 
-Status: 0 it was said; 1 the input is not what was named, or a file; 2 the words.
+With a site file, carrier and script also say what the controller of that site counts,
+ignores and answers, and which frame ends a connection:
+  dmr_decode carrier --site site.toml HEX..
+  dmr_decode script --site site.toml
+
+Status: 0 it was said; 1 the input is not what was named, or a file; 2 the words; 4 memory, with a site file.
 ";
+
+/// The exit status if the input, a file or the output is at fault.
+const FAULT: u8 = 1;
+
+/// The exit status if the words are at fault.
+const WORDS: u8 = 2;
+
+/// The words of the command line: a task, the path of a site file if one is given, and the task's input, if it is given
+/// in words.
+#[derive(Clone, Copy)]
+struct Words<'a> {
+    task: &'a str,
+    site: Option<&'a str>,
+    rest: &'a [String],
+}
+
+/// Returns whether a task can judge its input by a site.
+fn is_judged(task: &str) -> bool {
+    task == "carrier" || task == "script"
+}
+
+/// Reads the words of the command line. `None` if there is no task, no path after `--site`, or a site for a task that
+/// has no use for it.
+fn parse_words<'a>(words: &'a [String]) -> Option<Words<'a>> {
+    let [task, rest @ ..] = words else {
+        return None;
+    };
+    let task = task.as_str();
+    match rest {
+        [option, path, rest @ ..] if option.as_str() == "--site" && is_judged(task) => Some(
+            Words {
+                task,
+                site: Some(path.as_str()),
+                rest,
+            },
+        ),
+        [option, ..] if option.as_str() == "--site" => None,
+        _ => Some(Words {
+            task,
+            site: None,
+            rest,
+        }),
+    }
+}
 
 /// Returns the input of a task: the words after its name, or standard input if there are none.
 fn input_of<R: AllocGlobal + Input>(rt: &R, rest: &[String]) -> io::Result<String> {
@@ -56,34 +124,128 @@ fn input_of<R: AllocGlobal + Input>(rt: &R, rest: &[String]) -> io::Result<Strin
     Ok(text)
 }
 
-/// Runs the task with this name, prints its output, and returns the exit status.
-fn do_task<R: AllocGlobal + Print + Eprint>(rt: &R, task: &str, text: &str) -> io::Result<u8> {
-    let mut out = BufWriter::new(rt.alloc(), io::writer(rt))?;
-    let done = run(rt.alloc(), task, text, &mut out);
-    out.flush()?;
-    match done {
-        Ok(()) => Ok(0),
-        Err(TaskFault::NoSuchTask(_)) => {
-            rt.eprint(HELP)?;
-            Ok(2)
+/// Returns the plan of the site file at this path. The faults are the controller's.
+fn plan_at<'a, R: AllocGlobal + Files>(rt: &R, path: &'a str) -> Result<Plan, TaskFault<'a>> {
+    match fs::read(rt, path) {
+        Ok(octets) => Ok(plan_of(rt.alloc(), octets.as_slice())?),
+        Err(error) if error.kind() == io::ErrorKind::OutOfMemory => {
+            Err(TaskFault::Replay(ReplayFault::OutOfMemory))
         }
-        Err(fault) => {
-            eprintln!(rt; "dmr_decode: {fault}")?;
-            Ok(1)
-        }
+        Err(_) => Err(TaskFault::Replay(ReplayFault::CannotRead(path))),
     }
 }
 
-fn main(rt: HostRuntime) -> io::Result<ExitCode> {
-    let words = env::args(&rt)?.skip(1).collect::<Vec<String>>(rt.alloc())?;
-    let [task, rest @ ..] = words.as_slice() else {
-        rt.eprint(HELP)?;
-        return Ok(ExitCode::from(2));
-    };
-    if task.as_str() == "--help" {
-        rt.print(HELP)?;
-        return Ok(ExitCode::from(0));
+/// Runs a task over its input, with the site of a plan if one is given, and writes its output.
+fn run_task<'a, W: Write>(
+    alloc: Global,
+    task: &'a str,
+    plan: Option<&Plan>,
+    text: &'a str,
+    out: &mut W,
+) -> Result<(), TaskFault<'a>> {
+    match plan {
+        None => run(alloc, task, text, out),
+        Some(plan) => judge(alloc, plan, task, text, out),
     }
-    let text = input_of(&rt, rest)?;
-    Ok(ExitCode::from(do_task(&rt, task.as_str(), text.as_str())?))
+}
+
+/// Returns the exit status for a fault of a task. Only with a site file memory has a status of its own.
+fn status_of(fault: &TaskFault<'_>, has_site: bool) -> u8
+    ensures { result ≤ 4 }
+{
+    match fault {
+        TaskFault::NoSuchTask(_) => WORDS,
+        TaskFault::Replay(fault) => fault.status(),
+        TaskFault::Memory(_) if has_site => MEMORY,
+        TaskFault::Io(error) if has_site && error.kind() == io::ErrorKind::OutOfMemory => MEMORY,
+        _ => FAULT,
+    }
+}
+
+/// Writes why a task ended: its fault, or the help if there is no such task. Returns the exit status. A fault of
+/// standard error is ignored.
+fn report<R: Eprint>(rt: &R, fault: &TaskFault<'_>, has_site: bool) -> u8
+    ensures { result ≤ 4 }
+{
+    let _ = match fault {
+        TaskFault::NoSuchTask(_) => rt.eprint(HELP),
+        TaskFault::Io(error) if error.kind() == io::ErrorKind::OutOfMemory => {
+            eprintln!(rt; "dmr_decode: out of memory")
+        }
+        fault => eprintln!(rt; "dmr_decode: {fault}"),
+    };
+    status_of(fault, has_site)
+}
+
+/// Does a task over its input, with the site of a plan if one is given. Prints its output, and returns the exit status.
+fn do_task<R: AllocGlobal + Print + Eprint>(
+    rt: &R,
+    task: &str,
+    plan: Option<&Plan>,
+    text: &str,
+) -> io::Result<u8>
+    ensures { IfOk result (λ status. status ≤ 4) }
+{
+    let has_site = plan.is_some();
+    let mut out = BufWriter::new(rt.alloc(), io::writer(rt))?;
+    let done = run_task(rt.alloc(), task, plan, text, &mut out);
+    let written = out.flush();
+    match (done, written) {
+        (Err(fault), _) => Ok(report(rt, &fault, has_site)),
+        (Ok(()), Err(error)) => Ok(report(rt, &TaskFault::Io(error), has_site)),
+        (Ok(()), Ok(())) => Ok(0),
+    }
+}
+
+/// Does the task that the words name, and returns the exit status. A site file is read before the input.
+fn do_words<R: AllocGlobal + Input + Print + Eprint + Files>(
+    rt: &R,
+    words: Words<'_>,
+) -> io::Result<u8>
+    ensures { IfOk result (λ status. status ≤ 4) }
+{
+    let Some(path) = words.site else {
+        let text = input_of(rt, words.rest)?;
+        return do_task(rt, words.task, None, text.as_str());
+    };
+    match plan_at(rt, path) {
+        Ok(plan) => {
+            let text = input_of(rt, words.rest)?;
+            do_task(rt, words.task, Some(&plan), text.as_str())
+        }
+        Err(fault) => Ok(report(rt, &fault, true)),
+    }
+}
+
+/// Prints the help, and returns the exit status.
+fn print_help<R: Print + Eprint>(rt: &R) -> u8
+    ensures { result ≤ 4 }
+{
+    match rt.print(HELP) {
+        Ok(()) => 0,
+        Err(error) => report(rt, &TaskFault::Io(error), false),
+    }
+}
+
+/// Does what the words of the command line ask for, and returns the exit status. `Err`: the words or the input could
+/// not be read.
+fn run_program<R: AllocGlobal + Env + Input + Print + Eprint + Files>(rt: &R) -> io::Result<u8>
+    ensures { IfOk result (λ status. status ≤ 4) }
+{
+    let words = env::args(rt)?.skip(1).collect::<Vec<String>>(rt.alloc())?;
+    match parse_words(words.as_slice()) {
+        None => Ok(report(rt, &TaskFault::NoSuchTask(""), false)),
+        Some(words) if words.task == "--help" => Ok(print_help(rt)),
+        Some(words) => do_words(rt, words),
+    }
+}
+
+fn main(rt: HostRuntime) -> ExitCode {
+    match run_program(&rt) {
+        Ok(status) => ExitCode::from(status),
+        Err(error) => {
+            let _ = eprintln!(rt; "dmr_decode: {error}");
+            ExitCode::from(FAULT)
+        }
+    }
 }

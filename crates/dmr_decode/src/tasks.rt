@@ -6,6 +6,7 @@ use crate::site::show_site;
 use crate::words_of_bursts::{show_burst, show_word};
 use dmr_bits::Word196;
 use dmr_pdu::Pdu;
+use dmr_replay::ReplayFault;
 use std::alloc::{AllocError, Global};
 use std::io;
 use std::io::Write;
@@ -32,8 +33,11 @@ pub enum TaskFault<'a> {
     /// The input is not a PDU in words.
     #[error(transparent)]
     Words(#[from] WordFault<'a>),
-    /// The output could not be written in full.
+    /// The site file is at fault, or a line of the script of a judged session is.
     #[error(transparent)]
+    Replay(#[from] ReplayFault<'a>),
+    /// The output could not be written in full.
+    #[error("cannot write")]
     Io(#[from] io::Error),
     /// Memory ran out.
     #[error(transparent)]
@@ -60,7 +64,7 @@ pub fn run<'a, W: Write>(
 }
 
 /// Returns the octets of hexadecimal digits, with spaces anywhere.
-fn octets_of<'a>(alloc: Global, text: &str) -> Result<Vec<u8>, TaskFault<'a>> {
+pub fn octets_of<'a>(alloc: Global, text: &str) -> Result<Vec<u8>, TaskFault<'a>> {
     let mut digits = String::new(alloc);
     for part in text.split_whitespace() {
         digits.push_str(part)?;

@@ -1,0 +1,194 @@
+//! A judged site: the controller's links over a site of its own, which say what the controller makes of each input.
+
+use crate::acts_in_words::show_acts;
+use crate::desk::SiteDesk;
+use crate::judged_carrier::{JudgedCarrier, memory_error, show_newest};
+use crate::octet_wire::OctetWire;
+use dmr_core::Event;
+use dmr_link::{ConsoleLink, Desk};
+use dmr_pdu::{CarrierNo, OutOfMemory};
+use dmr_plan::{MOST_CARRIERS, Plan};
+use dmr_replay::ScriptInput;
+use std::alloc::Global;
+use std::io;
+use std::io::Write;
+
+/// A site on which nothing has happened at first, its carriers by number, and the operators' link.
+#[derive(Drop)]
+pub struct Judge {
+    desk: SiteDesk,
+    carriers: Vec<Option<JudgedCarrier>>,
+    console: ConsoleLink,
+}
+
+/// Returns the plan's carriers, by number, without connections. `Err`: out of memory.
+fn carriers_of(alloc: Global, plan: &Plan) -> Result<Vec<Option<JudgedCarrier>>, OutOfMemory> {
+    let mut carriers = Vec::new(alloc);
+    for number in 0..MOST_CARRIERS as u32 {
+        let judged = JudgedCarrier::new(alloc, plan, CarrierNo::new(number));
+        if carriers.push(judged).is_err() {
+            return Err(OutOfMemory);
+        }
+    }
+    Ok(carriers)
+}
+
+impl Judge {
+    /// Makes the judge of a plan's site. `Err`: out of memory.
+    pub fn new(alloc: Global, plan: &Plan) -> Result<Judge, OutOfMemory> {
+        let carriers = carriers_of(alloc, plan)?;
+        let Ok(desk) = SiteDesk::new(alloc, plan) else {
+            drop(carriers);
+            return Err(OutOfMemory);
+        };
+        let mut console = ConsoleLink::new();
+        let _ = console.open();
+        Ok(Judge {
+            desk,
+            carriers,
+            console,
+        })
+    }
+
+    /// Prints a line of a script with what the controller makes of it: the line's input.
+    pub fn show_input<W: Write>(
+        &mut self,
+        alloc: Global,
+        line: &str,
+        input: &ScriptInput,
+        out: &mut W,
+    ) -> io::Result<()> {
+        write!(out, "{line} -> ")?;
+        match input {
+            ScriptInput::Open(carrier) => self.open(*carrier, out),
+            ScriptInput::Bytes(carrier, octets) => {
+                self.read(alloc, *carrier, octets.as_slice(), out)
+            }
+            ScriptInput::Cut(carrier) => self.cut(*carrier, out),
+            ScriptInput::Tick(times) => self.tick(*times, out),
+            ScriptInput::Text(octets) => self.say(alloc, octets.as_slice(), out),
+        }
+    }
+
+    /// Begins a connection of a carrier, and prints what that means.
+    pub fn open<W: Write>(&mut self, carrier: CarrierNo, out: &mut W) -> io::Result<()> {
+        let Some(Some(judged)) = self.carriers.get_mut(carrier.get() as usize) else {
+            return show_missing(carrier, out);
+        };
+        let was_live = judged.is_live();
+        judged.open(&mut self.desk);
+        if was_live {
+            writeln!(
+                out,
+                "counted: the connection before it ends, and a connection begins"
+            )
+        } else {
+            writeln!(out, "counted: a connection begins")
+        }
+    }
+
+    /// Cuts a carrier's connection, and prints what that means.
+    fn cut<W: Write>(&mut self, carrier: CarrierNo, out: &mut W) -> io::Result<()> {
+        let Some(Some(judged)) = self.carriers.get_mut(carrier.get() as usize) else {
+            return show_missing(carrier, out);
+        };
+        if !judged.is_live() {
+            return show_closed(out);
+        }
+        judged.cut(&mut self.desk);
+        writeln!(out, "counted: the connection ends")
+    }
+
+    /// Processes octets of a carrier. Prints whether they are read, and what they mean.
+    fn read<W: Write>(
+        &mut self,
+        alloc: Global,
+        carrier: CarrierNo,
+        octets: &[u8],
+        out: &mut W,
+    ) -> io::Result<()> {
+        let Some(Some(judged)) = self.carriers.get_mut(carrier.get() as usize) else {
+            return show_missing(carrier, out);
+        };
+        if !judged.is_live() {
+            return show_closed(out);
+        }
+        writeln!(out, "read")?;
+        judged.receive(alloc, octets, &mut self.desk, out)
+    }
+
+    /// Processes octets of a carrier whose connection has just begun, and prints what they mean.
+    pub fn receive<W: Write>(
+        &mut self,
+        alloc: Global,
+        carrier: CarrierNo,
+        octets: &[u8],
+        out: &mut W,
+    ) -> io::Result<()> {
+        match self.carriers.get_mut(carrier.get() as usize) {
+            Some(Some(judged)) => judged.receive(alloc, octets, &mut self.desk, out),
+            _ => Ok(()),
+        }
+    }
+
+    /// Prints the number of octets of a carrier's incomplete frame.
+    pub fn show_rest<W: Write>(&self, carrier: CarrierNo, out: &mut W) -> io::Result<()> {
+        match self.carriers.get(carrier.get() as usize) {
+            Some(Some(judged)) => judged.show_rest(out),
+            _ => Ok(()),
+        }
+    }
+
+    /// Processes ticks. Prints the acts for each tick that has some, with the tick's number within the line.
+    fn tick<W: Write>(&mut self, times: u32, out: &mut W) -> io::Result<()> {
+        writeln!(out, "counted")?;
+        for number in 0..times {
+            self.desk.forget();
+            if let Ok(acts) = self.desk.deposit(Event::Tick) {
+                if !acts.list.is_empty() {
+                    let tick = number.saturating_add(1);
+                    writeln!(out, "      tick {tick}")?;
+                    show_acts(acts.list.as_slice(), out)?;
+                }
+            }
+        }
+        Ok(())
+    }
+
+    /// Processes octets of an operator. Prints the acts of the commands and then the replies.
+    fn say<W: Write>(&mut self, alloc: Global, octets: &[u8], out: &mut W) -> io::Result<()> {
+        writeln!(out, "read")?;
+        let mut wire = OctetWire::new(alloc, true);
+        for octet in octets {
+            self.desk.forget();
+            wire.offer(*octet);
+            let _ = self.console.serve(&mut wire, &mut self.desk);
+            show_newest(&self.desk, out)?;
+        }
+        if !self.console.live() {
+            return Err(memory_error(OutOfMemory));
+        }
+        show_replies(wire.written(), out)
+    }
+}
+
+/// Prints that the site has no carrier with this number.
+fn show_missing<W: Write>(carrier: CarrierNo, out: &mut W) -> io::Result<()> {
+    writeln!(out, "ignored: the site has no carrier {carrier}")
+}
+
+/// Prints that no connection is open.
+fn show_closed<W: Write>(out: &mut W) -> io::Result<()> {
+    writeln!(out, "ignored: no connection is open")
+}
+
+/// Prints what an operator receives, line by line.
+fn show_replies<W: Write>(octets: &[u8], out: &mut W) -> io::Result<()> {
+    let Ok(text) = str::from_utf8(octets) else {
+        return Ok(());
+    };
+    for line in text.lines() {
+        writeln!(out, "      reply: {line}")?;
+    }
+    Ok(())
+}

@@ -1,0 +1,148 @@
+//! The tasks of the program with the site of a site file: they show octets with what the site's controller makes of
+//! them.
+
+use crate::judge::Judge;
+use crate::tasks::{TaskFault, octets_of};
+use dmr_frames::{Cutter, FrameIn, Step};
+use dmr_link::greatest_version;
+use dmr_pdu::{CarrierNo, OutOfMemory};
+use dmr_plan::Plan;
+use dmr_replay::{ReplayFault, ScriptFault, read_script};
+use std::alloc::{AllocError, Global};
+use std::io;
+use std::io::Write;
+
+/// Runs the task with this name over a text, with the site of a plan, and writes its output.
+pub fn judge<'a, W: Write>(
+    alloc: Global,
+    plan: &Plan,
+    task: &'a str,
+    text: &'a str,
+    out: &mut W,
+) -> Result<(), TaskFault<'a>> {
+    match task {
+        "carrier" => {
+            let octets = octets_of(alloc, text)?;
+            judge_octets(alloc, plan, octets.as_slice(), out)
+        }
+        "script" => judge_script(alloc, plan, text, out),
+        _ => Err(TaskFault::NoSuchTask(task)),
+    }
+}
+
+/// Makes the judge of a plan's site.
+fn judge_of<'a>(alloc: Global, plan: &Plan) -> Result<Judge, TaskFault<'a>> {
+    match Judge::new(alloc, plan) {
+        Ok(judge) => Ok(judge),
+        Err(OutOfMemory) => Err(TaskFault::Memory(AllocError)),
+    }
+}
+
+/// Returns the carrier on whose port octets are judged: that which the HELLO names, if the plan has it, else the
+/// control carrier.
+fn carrier_of(plan: &Plan, octets: &[u8]) -> CarrierNo {
+    let mut cutter = Cutter::new(greatest_version(plan));
+    for octet in octets {
+        match cutter.feed_byte(*octet) {
+            Step::Need => {}
+            Step::Frame(FrameIn::Hello { carrier, .. }) => {
+                return match CarrierNo::try_new(u32::from(carrier)) {
+                    Some(named) if plan.carrier_with(named).is_some() => named,
+                    _ => plan.control(),
+                };
+            }
+            Step::Frame(_) | Step::Fault(_) => return plan.control(),
+        }
+    }
+    plan.control()
+}
+
+/// Shows the octets of a carrier's connection, judged on the port of a carrier of the plan.
+fn judge_octets<'a, W: Write>(
+    alloc: Global,
+    plan: &Plan,
+    octets: &[u8],
+    out: &mut W,
+) -> Result<(), TaskFault<'a>> {
+    let carrier = carrier_of(plan, octets);
+    let mut judge = judge_of(alloc, plan)?;
+    let shown = show_connection(alloc, &mut judge, carrier, octets, out);
+    drop(judge);
+    Ok(shown?)
+}
+
+/// Shows a connection of a carrier on which these octets come.
+fn show_connection<W: Write>(
+    alloc: Global,
+    judge: &mut Judge,
+    carrier: CarrierNo,
+    octets: &[u8],
+    out: &mut W,
+) -> io::Result<()> {
+    write!(out, "port of carrier {carrier} -> ")?;
+    judge.open(carrier, out)?;
+    judge.receive(alloc, carrier, octets, out)?;
+    judge.show_rest(carrier, out)
+}
+
+/// Shows the lines of a script, up to the first that is not a line of a script.
+fn judge_script<'a, W: Write>(
+    alloc: Global,
+    plan: &Plan,
+    text: &str,
+    out: &mut W,
+) -> Result<(), TaskFault<'a>> {
+    let mut judge = judge_of(alloc, plan)?;
+    let shown = judge_lines(alloc, &mut judge, text, out);
+    drop(judge);
+    shown
+}
+
+/// Shows the lines of a script, up to the first that is not a line of a script.
+fn judge_lines<'a, W: Write>(
+    alloc: Global,
+    judge: &mut Judge,
+    text: &str,
+    out: &mut W,
+) -> Result<(), TaskFault<'a>> {
+    let Some(text) = lines_in(text) else {
+        return Ok(());
+    };
+    for (index, line) in text.split('\n').enumerate() {
+        if !judge_line(alloc, judge, line, out)? {
+            return Err(TaskFault::Replay(ReplayFault::ScriptLine(index.saturating_add(1))));
+        }
+    }
+    Ok(())
+}
+
+/// Returns a text without the LF at its end. `None` if it has no line.
+fn lines_in(text: &str) -> Option<&str> {
+    if text.is_empty() {
+        return None;
+    }
+    Some(text.strip_suffix('\n').unwrap_or(text))
+}
+
+/// Shows a line of a script. Returns `false` if it is not a line of a script.
+fn judge_line<'a, W: Write>(
+    alloc: Global,
+    judge: &mut Judge,
+    line: &str,
+    out: &mut W,
+) -> Result<bool, TaskFault<'a>> {
+    match read_script(alloc, line.as_bytes()) {
+        Ok(given) => {
+            match given.as_slice() {
+                [input] => judge.show_input(alloc, line, input, out)?,
+                _ => writeln!(out, "{line}")?,
+            }
+            Ok(true)
+        }
+        Err(ScriptFault::Line(_)) => {
+            writeln!(out, "{line} -> fault: not a line of a script")?;
+            Ok(false)
+        }
+        Err(ScriptFault::OutOfMemory) => Err(TaskFault::Memory(AllocError)),
+    }
+}

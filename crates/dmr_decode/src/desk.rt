@@ -6,7 +6,7 @@ ghost use Rattle.dmr_core.specs.Facts.{facts_after, no_facts};
 ghost use Rattle.dmr_core.specs.Journal.{unattributed_entry};
 ghost use Rattle.dmr_core.specs.Rules.{acts_of};
 
-use dmr_core::{Acts, Command, Event, Reply, Site, State};
+use dmr_core::{Acts, Command, Event, Reply, Site, SlotState, State};
 use dmr_link::{Deposit, Desk, TermOver};
 use dmr_pdu::{OutOfMemory, Slot};
 use dmr_plan::Plan;
@@ -87,15 +87,10 @@ impl SiteDesk {
     /// Asks the site for the state of a slot, as an operator does. `None` if the plan does not have the slot.
     pub fn state_of(&mut self, slot: &Slot) -> Option<State> {
         let acts = self.site.apply(Event::Say(Command::Slots));
-        let Some(Reply::Slots(rows)) = acts.said else {
-            return None;
-        };
-        for row in rows.as_slice() {
-            if row.slot == *slot {
-                return Some(row.state);
-            }
+        match &acts.said {
+            Some(Reply::Slots(rows)) => state_in(rows.as_slice(), slot),
+            _ => None,
         }
-        None
     }
 
     /// Returns the site's answer to an event without applying the event. `Err`: out of memory.
@@ -127,6 +122,16 @@ impl Desk for SiteDesk {
     fn over(&mut self) -> bool {
         self.taken.len() >= MOST_TAKEN
     }
+}
+
+/// Returns the state of a slot in the site's reply, if the slot is in it.
+fn state_in(rows: &[SlotState], slot: &Slot) -> Option<State> {
+    for row in rows {
+        if row.slot == *slot {
+            return Some(row.state);
+        }
+    }
+    None
 }
 
 /// Returns an event that was taken, with its answer.

@@ -1,5 +1,5 @@
 -- Verdicts on frames.
-use Rattle.std.specs.Prelude.{◌≡◌, Bool, true, false, List, [], Option, Some, None}
+use Rattle.std.specs.Prelude.{Bool, true, false, List, [], Option, Some, None}
 use Rattle.dmr_core.specs.declared.act.Act.{Act}
 use Rattle.dmr_link.specs.declared.desk.Deposit.{Deposit}
 use Rattle.dmr_port.specs.Causes.{cause_of_closing}

@@ -58,7 +58,7 @@ impl<T: Pacer, L: Ledger> Promise<TickerWork<T, L>> for TickerPromise<T> {
     ghost kept_by = { λ p r. IsTicked p.1 (T.paced p.0.value) (T.paced r.pacer) r.seat r.ending };
 }
 
-/// Serves a station from a new seat.
+/// Serves a station from a new seat. If the term is over, the station's port receives that.
 pub fn work_from_seat<S: Serving, L: DeskLedger, R: Wait>(
     rt: &R,
     desk: &SharedDesk<L>,
@@ -73,6 +73,9 @@ pub fn work_from_seat<S: Serving, L: DeskLedger, R: Wait>(
     let mut station = station;
     let mut at = SeatAt::new(rt, desk, seat);
     let ending = work_station(rt, &mut station, &mut at);
+    if ending == Ending::TermOver {
+        station.report_term_over();
+    }
     LinkWork {
         station,
         seat: at.into_seat(),
@@ -80,7 +83,7 @@ pub fn work_from_seat<S: Serving, L: DeskLedger, R: Wait>(
     }
 }
 
-/// Deposits ticks from a new seat.
+/// Deposits ticks from a new seat. If the term is over, the pacer receives that.
 pub fn tick_from_seat<T: Pacer, L: DeskLedger, R: Wait>(
     rt: &R,
     desk: &SharedDesk<L>,
@@ -93,6 +96,9 @@ pub fn tick_from_seat<T: Pacer, L: DeskLedger, R: Wait>(
     let mut pacer = pacer;
     let mut at = SeatAt::new(rt, desk, seat);
     let ending = work_ticker(rt, &mut pacer, &mut at);
+    if ending == Ending::TermOver {
+        pacer.term_over();
+    }
     TickerWork {
         pacer,
         seat: at.into_seat(),

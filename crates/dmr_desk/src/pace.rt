@@ -30,6 +30,12 @@ pub trait Pacer {
     /// Waits for the next tick, as long as it decides to, and says whether the tick is due.
     fn next(&mut self) -> Pace
         ensures { FollowsPace (paced self.old) result (paced self.new) };
+
+    /// Receives that the term is over: the ticker has ended because of it, or is not started. Other workers of the term
+    /// may still wait, so a pacer that can wake them does so. By default it does nothing.
+    fn term_over(&mut self)
+        ensures { Self.paced self.new ≡ Self.paced self.old }
+    {}
 }
 
 /// Asks the pacer once, and deposits a tick if one is due. Returns `Some` if the work has ended.

@@ -83,6 +83,11 @@ pub trait Serving {
     /// Reports to the port how the link's connection was closed.
     fn report_closing(&mut self)
         ensures { state self.new ≡ state self.old };
+
+    /// Reports to the port that the term is over: the worker has ended because of it, or is not started.
+    fn report_term_over(&mut self)
+        ensures state { state self.new ≡ state self.old }
+        ensures shut { shut self.old → shut self.new };
 }
 
 impl<P: Port, G: Gate> Serving for Station<P, G> {
@@ -118,6 +123,10 @@ impl<P: Port, G: Gate> Serving for Station<P, G> {
 
     fn report_closing(&mut self) {
         self.port.closed(self.link.closing());
+    }
+
+    fn report_term_over(&mut self) {
+        self.port.term_over();
     }
 }
 
@@ -157,5 +166,9 @@ impl<P: Port> Serving for ConsoleStation<P> {
 
     fn report_closing(&mut self) {
         self.port.closed(self.link.closing());
+    }
+
+    fn report_term_over(&mut self) {
+        self.port.term_over();
     }
 }

@@ -80,7 +80,7 @@ where
 }
 
 /// Starts the ticker and the console's worker, and waits for both. If a thread cannot be started, abandons the desk, so
-/// that a started one ends, and returns `None`.
+/// that started ones end, and returns `None`. The console, if it is left, receives that the term is over.
 fn run_ticker_and_console<'s, E, S, T, C, L, R>(
     rt: &'s R,
     scope: &'s Scope<'s, E>,
@@ -134,13 +134,22 @@ where
         }
         Err(_) => {
             desk.abandon(rt);
+            let mut console = console;
+            console.report_term_over();
             None
         }
     }
 }
 
+/// Reports to the pacer that the term is over, although it was not started. A started worker that waits may be woken.
+fn report_to_pacer<T: Pacer + Drop, C: Drop, L: Ledger>(others: TickerAndConsole<T, C, L>) {
+    let mut others = others;
+    others.pacer.term_over();
+}
+
 /// Starts the last station's worker, runs the rest, and waits for the worker. If a thread could not be started, returns
-/// `None`; the desk was abandoned, and all started threads have ended.
+/// `None`; the desk was abandoned, and all started threads have ended. Unless the ticker had been started, the pacer or
+/// the console received that the term is over.
 fn run_stations<'s, E, S, T, C, L, R>(
     rt: &'s R,
     scope: &'s Scope<'s, E>,
@@ -205,6 +214,7 @@ where
         }
         Err(_) => {
             desk.abandon(rt);
+            report_to_pacer(others);
             None
         }
     }

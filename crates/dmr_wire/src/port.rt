@@ -44,4 +44,11 @@ pub trait Port: Wire {
     {
         let _ = closing;
     }
+
+    /// Receives that the term is over: the port's worker has ended because of it, or is not started. Other workers of
+    /// the term may still wait, so a port that can wake them does so. It reads and writes nothing. By default it does
+    /// nothing.
+    fn term_over(&mut self)
+        ensures { Self.reported self.new ≡ Self.reported self.old }
+    {}
 }

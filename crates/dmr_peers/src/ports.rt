@@ -1,14 +1,16 @@
 //! Tests of a serving port over sockets in memory: peers that hold, flood, stop, leave and wait, by scripts.
 
+mod answers;
 mod script;
 mod sockets;
 
+use self::answers::{Answers, Kept};
 use self::script::events_of;
 use self::sockets::MemorySockets;
 use dmr_frames::Version;
 use dmr_pdu::{CarrierNo, Lpcn, OutOfMemory};
-use dmr_port::{Note, PortNotes, PortSettings, ServingPort, Whose};
-use dmr_wire::{Closing, Connect, Got, Port, Put, Waited, Wire};
+use dmr_port::{Note, PortNotes, PortSettings, ServingPort, Whose, nothing_is_told};
+use dmr_wire::{Closing, Connect, Got, Port, Put, RecordEntry, Waited, Wire};
 use std::alloc::Global;
 use std::process::Abort;
 
@@ -634,6 +636,35 @@ impl Echo {
     }
 }
 
+/// What answers add up to.
+#[derive(Clone, Copy, Debug, PartialEq, Eq)]
+struct Sums {
+    /// The connections.
+    opened: usize,
+    /// The octets that came.
+    came: usize,
+    /// The octets that were taken.
+    taken: usize,
+}
+
+/// Adds up what was answered.
+fn sums_of(answers: &[Kept]) -> Sums {
+    let mut sums = Sums {
+        opened: 0,
+        came: 0,
+        taken: 0,
+    };
+    for answer in answers {
+        match answer.entry {
+            RecordEntry::Connect(Connect::Ready) => sums.opened = sums.opened.saturating_add(1),
+            RecordEntry::Read(Got::Octets(count)) => sums.came = sums.came.saturating_add(count),
+            RecordEntry::Write(Put::Octets(count)) => sums.taken = sums.taken.saturating_add(count),
+            _ => {}
+        }
+    }
+    sums
+}
+
 /// The port of carrier 0 with LPCN 1.
 fn carrier() -> Whose {
     Whose::Carrier {
@@ -655,9 +686,11 @@ fn play(rt: &(impl Abort + AllocGlobal), whose: Whose, row: &Row) -> Result<(), 
         greatest: Version::V2,
         silence: row.silence,
     };
-    let mut port = match ServingPort::new(alloc, sockets, pad, settings) {
+    nothing_is_told();
+    let answers = Answers::new(alloc);
+    let mut port = match ServingPort::with_witness(alloc, sockets, pad, settings, answers) {
         Ok(port) => port,
-        Err((refused, _, _)) => return Err(refused),
+        Err((refused, _, _, _)) => return Err(refused),
     };
     let mut echo = Echo {
         is_live: false,
@@ -666,13 +699,19 @@ fn play(rt: &(impl Abort + AllocGlobal), whose: Whose, row: &Row) -> Result<(), 
     for _ in 0..STEPS {
         echo.step(&mut port);
     }
+    let told = sums_of(port.witness().kept().unwrap_or(&[]));
     let (sockets, pad) = port.into_parts();
+    let logged = sums_of(sockets.log.kept().unwrap_or(&[]));
     let text = pad.text.as_str();
     match row.notes.strip_prefix("..") {
         Some(last) => assert!(rt; text.ends_with(last), "{}: {text}", row.name),
         None => assert_eq!(rt; text, row.notes, "{}", row.name),
     }
     assert_eq!(rt; echo.got, row.got, "{}", row.name);
+    assert_eq!(rt; told.opened, logged.opened, "{}", row.name);
+    assert_eq!(rt; told.came, row.got, "{}", row.name);
+    assert!(rt; told.came <= logged.came, "{}", row.name);
+    assert!(rt; logged.taken <= told.taken, "{}", row.name);
     if let Some(reads) = row.reads {
         assert_eq!(rt; sockets.asked.0, reads, "{}", row.name);
     }

@@ -1,4 +1,5 @@
 pub mod FirstOctetsLemmas
 pub mod ReadingLemmas
+pub mod RecordLemmas
 pub mod ServedLemmas
 pub mod UnsentLemmas

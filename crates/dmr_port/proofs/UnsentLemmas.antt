@@ -1,36 +1,69 @@
 -- Octets on their way to a connection: none is lost, repeated or out of order.
-use Rattle.std.proofs.Common.{◌≡◌, ◌≤◌, ℕ, List, [], ◌++◌, Option, Some, None, length, take, drop, sym, ap, ◌∙◌}
-use Rattle.std.specs.Io.KnownBytes.{Appends}
-use Rattle.std.proofs.lemmas.List.{append-nil, append_assoc, take-append-drop, take-append-le}
+use Rattle.std.proofs.Common.{◌≡◌, ◌≤◌, ◌==◌, ℕ, Bool, true, false, cond, List, [], ◌∷◌, ◌++◌, Option, length, take, drop, refl, sym, ap, ◌∙◌, append_assoc}
+use Rattle.std.proofs.lemmas.Bool.{eqb-true}
+use Rattle.std.proofs.lemmas.List.{append-nil, take-append-drop, take-append-le}
+use Rattle.dmr_wire.specs.declared.wire.Put.{Put}
+use Rattle.dmr_wire.specs.declared.wire.Put.TheVariants as put
+use Rattle.dmr_wire.specs.Answers.{Answer, Reports, of_write}
+use Rattle.dmr_port.specs.PortState.{answer_of_write}
+use Rattle.dmr_port.specs.Record.{Carries}
+use Rattle.dmr_port.specs.Sockets.{taken_by}
 use Rattle.dmr_port.specs.Unsent.{PassesOctets}
+use Rattle.dmr_port.proofs.RecordLemmas.{carries_nothing, carries_on, carries_write}
 
 -- if nothing happens
-pub passes_nothing : (taken : Option (List ℕ)) (waiting : List ℕ) → PassesOctets taken waiting [] taken waiting
-passes_nothing None waiting = tt
-passes_nothing (Some taken) waiting = sym (append-nil (taken ++ waiting))
+pub passes_nothing : (log : Option (List Answer)) (waiting : List ℕ) → PassesOctets log waiting [] log waiting
+passes_nothing log waiting = record { sent = []; carries = carries_nothing log; split = append-nil waiting }
 
 -- one step after another
-pub passes_on : (first second third : Option (List ℕ)) (one two three : List ℕ) → PassesOctets first one [] second two → PassesOctets second two [] third three → PassesOctets first one [] third three
-passes_on None second third one two three before after = tt
-passes_on (Some first) None third one two three before after = absurd before
-passes_on (Some first) (Some second) None one two three before after = absurd after
-passes_on (Some first) (Some second) (Some third) one two three before after = after ∙ append-nil (second ++ two) ∙ before
+pub passes_on : (first second third : Option (List Answer)) (one two three : List ℕ) → PassesOctets first one [] second two → PassesOctets second two [] third three → PassesOctets first one [] third three
+passes_on first second third one two three before after = record {
+  sent = before.sent ++ after.sent;
+  carries = carries_on first second third [] before.sent [] after.sent before.carries after.carries;
+  split =
+      before.split
+      ∙ ap (λ (xs : List ℕ). before.sent ++ xs) (sym (append-nil two) ∙ after.split)
+      ∙ sym (append_assoc before.sent after.sent three);
+}
 
 -- if a connection takes nothing
-pub passes_none : (taken taken' : Option (List ℕ)) (waiting : List ℕ) → Appends taken taken' [] → PassesOctets taken waiting [] taken' waiting
-passes_none None taken' waiting appends = tt
-passes_none (Some taken) None waiting appends = absurd appends
-passes_none (Some taken) (Some taken') waiting appends =
-    ap (λ octets. octets ++ waiting) (appends ∙ append-nil taken) ∙ sym (append-nil (taken ++ waiting))
+pub passes_none : (log log' : Option (List Answer)) (waiting : List ℕ) → Carries log [] [] log' → PassesOctets log waiting [] log' waiting
+passes_none log log' waiting carries = record { sent = []; carries = carries; split = append-nil waiting }
 
 -- if a connection takes the oldest kept octets, which are in one piece
-pub passes_front : (taken taken' : Option (List ℕ)) (items front rest : List ℕ) (count : ℕ) → front ++ rest ≡ items → count ≤ length front
-    → Appends taken taken' (take count front) → PassesOctets taken items [] taken' (drop count items)
-passes_front None taken' items front rest count whole within appends = tt
-passes_front (Some taken) None items front rest count whole within appends = absurd appends
-passes_front (Some taken) (Some taken') items front rest count whole within appends =
+pub passes_front : (log log' : Option (List Answer)) (items front rest : List ℕ) (count : ℕ) → front ++ rest ≡ items → count ≤ length front
+    → Reports log (of_write (put.Octets count) front ∷ []) log' → PassesOctets log items [] log' (drop count items)
+passes_front log log' items front rest count whole within logged =
     let same : take count front ≡ take count items = sym (take-append-le count front rest within) ∙ ap (take count) whole in
-    ap (λ octets. octets ++ drop count items) (appends ∙ ap (λ octets. taken ++ octets) same)
-    ∙ append_assoc taken (take count items) (drop count items)
-    ∙ ap (λ octets. taken ++ octets) (take-append-drop count items)
-    ∙ sym (append-nil (taken ++ items))
+    record {
+      sent = take count front;
+      carries = carries_write log log' (put.Octets count) front logged;
+      split =
+          append-nil items ∙ sym (take-append-drop count items) ∙ ap (λ (xs : List ℕ). xs ++ drop count items) (sym same);
+    }
+
+-- if a connection takes what is written at once
+pub passes_written : (log log' : Option (List Answer)) (waiting octets : List ℕ) (put : Put) → waiting ≡ [] → Reports log (of_write put octets ∷ []) log' → PassesOctets log waiting (taken_by put octets) log' waiting
+passes_written log log' waiting octets put none logged = record {
+  sent = taken_by put octets;
+  carries = carries_write log log' put octets logged;
+  split =
+      ap (λ (xs : List ℕ). xs ++ taken_by put octets) none
+      ∙ sym (append-nil (taken_by put octets))
+      ∙ ap (λ (xs : List ℕ). taken_by put octets ++ xs) (sym none);
+}
+
+-- if what is written is kept
+pub passes_kept : (log log' : Option (List Answer)) (waiting octets waiting' : List ℕ) → Carries log [] [] log' → waiting' ≡ waiting ++ octets → PassesOctets log waiting octets log' waiting'
+passes_kept log log' waiting octets waiting' carries kept = record { sent = []; carries = carries; split = sym kept }
+
+-- what the link's answer says was taken is what was taken
+pub answered_as_taken : (put : Put) (octets : List ℕ) → taken_by (answer_of_write put) octets ≡ taken_by put octets
+answered_as_taken (put.Octets n) octets = at_none (n == 0) (eqb-true n 0)
+  where
+    at_none : (b : Bool) → (b ≡ true → n ≡ 0) → taken_by (cond b put.Block (put.Octets n)) octets ≡ take n octets
+    at_none true none = sym (ap (λ (k : ℕ). take k octets) (none refl))
+    at_none false none = refl
+answered_as_taken put.Interrupted octets = refl
+answered_as_taken put.Block octets = refl
+answered_as_taken put.Fault octets = refl

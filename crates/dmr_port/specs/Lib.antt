@@ -3,6 +3,7 @@ pub mod Unsent
 pub mod Budget
 pub mod Causes
 pub mod FirstOctets
+pub mod Record
 pub mod Settings
 pub mod Patience
 pub mod WaitingRoom

@@ -1,6 +1,6 @@
 -- A port, as its callers see it.
 use Rattle.std.specs.Prelude.{◌≡◌, ◌↔◌, ◌⊎◌, ℕ, ◌≤◌, ◌++◌, ◌==◌, ◌||◌, if◌then◌else◌, Bool, true}
-use Rattle.std.specs.Prelude.{false, not, List, [], length, take, Option, Some, None, IsTrue}
+use Rattle.std.specs.Prelude.{false, not, List, [], ◌∷◌, length, take, Option, Some, None, IsTrue}
 use Rattle.std.specs.Prelude.{nat_eq}
 use Rattle.std.specs.Option.{option_or}
 use Rattle.dmr_wire.specs.declared.wire.Got.{Got}
@@ -9,6 +9,7 @@ use Rattle.dmr_wire.specs.declared.port.Waited.{Waited}
 use Rattle.dmr_wire.specs.declared.port.Waited.TheVariants.{Again, Silent}
 use Rattle.dmr_wire.specs.declared.wire.Put.{Put}
 use Rattle.dmr_wire.specs.declared.wire.Put.TheVariants as put
+use Rattle.dmr_wire.specs.Answers.{Answer}
 use Rattle.dmr_port.specs.declared.cause.EndCause.{EndCause}
 use Rattle.dmr_port.specs.declared.cause.EndCause.TheVariants.{EndOfInput, Http, NotRead, ReadFault}
 use Rattle.dmr_port.specs.declared.cause.EndCause.TheVariants.{WriteFault}
@@ -20,8 +21,8 @@ use Rattle.dmr_port.specs.FirstOctets.{IsHello, begins_http}
 use Rattle.dmr_port.specs.Patience.{new_patience, patience_after_octets, patience_after_wait}
 use Rattle.dmr_port.specs.Served.{cause_of_served}
 use Rattle.dmr_port.specs.Settings.{is_carrier}
-use Rattle.dmr_port.specs.Sockets.{HasTakenNone}
-use Rattle.dmr_port.specs.Unsent.{PassesOctets}
+use Rattle.dmr_port.specs.Record.{Tells, Traffic, no_traffic, traffic_of}
+use Rattle.dmr_port.specs.Unsent.{PassesOctets, ReadsAfterSending}
 
 -- the connection that is served: how long the port has waited for it, its first eight octets, and why it ended, if that
 -- is known
@@ -42,37 +43,67 @@ unread_of c = c.patience.unread
 abbrev pub new_connection : Bool → Connection
 new_connection is_carrier = record { patience = new_patience is_carrier; first = []; ended = None }
 
--- a port: its settings, its connection, if there is one, the octets that are kept for the connection, and those that it
--- took, if they are known. Also the number of newcomers, and the octets that were given in the window
-pub record PortState : Type 0 where
+-- the first octets of the connection; none without one
+abbrev pub first_of : Option Connection → List ℕ
+first_of None = []
+first_of (Some c) = c.first
+
+-- the first octets of the connection, if there is one
+abbrev pub first_if_served : Option Connection → Option (List ℕ)
+first_if_served None = None
+first_if_served (Some c) = Some c.first
+
+-- a port: its settings, its connection, if there is one, the octets that are kept for the connection, and what the sockets
+-- answered, if that is known. Also the number of newcomers, the octets that were given in the window, and who sees the
+-- port's answers
+pub record PortState (W : Type 0) : Type 0 where
   pub settings : PortSettings
   pub connection : Option Connection
   pub unsent : List ℕ
-  pub taken : Option (List ℕ)
+  pub log : Option (List Answer)
   pub waiting : ℕ
   pub window : Window
+  pub witness : W
 
 -- a port that has done nothing
-abbrev pub empty_port : PortSettings → Option (List ℕ) → PortState
-empty_port settings taken =
+abbrev pub empty_port : {W : Type 0} → PortSettings → Option (List Answer) → W → PortState W
+empty_port settings log witness =
     record {
       settings = settings;
       connection = None;
       unsent = [];
-      taken = taken;
+      log = log;
       waiting = 0;
       window = fresh_window 0;
+      witness = witness;
     }
 
+-- the port's record tells what its sockets answered
+abbrev pub PortTells : {W : Type 0} → (W → Option (List Answer)) → PortState W → Type 0
+PortTells told port =
+    Tells (is_carrier port.settings.whose) (first_if_served port.connection) port.unsent port.log
+    (told port.witness)
+
+-- the sockets' newest connection is one on which no octet came, and none was taken, if their log is known
+pub record HasBegun (log : Option (List Answer)) : Type 0 where
+  pub begun : (answers : List Answer) → log ≡ Some answers
+      → (earlier : List Traffic) × (traffic_of answers ≡ no_traffic ∷ earlier)
+
 -- a port whose connection has just begun: nothing came, nothing is kept, and nothing was taken
-pub record IsFresh (port : PortState) : Type 0 where
+pub record IsFresh {W : Type 0} (port : PortState W) : Type 0 where
   pub begun : port.connection ≡ Some (new_connection (is_carrier port.settings.whose))
   pub unsent : port.unsent ≡ []
-  pub taken : HasTakenNone port.taken
+  pub log : HasBegun port.log
 
 -- these octets pass in order, after those that are kept
-abbrev pub Passes : PortState → List ℕ → PortState → Type 0
-Passes old octets new = PassesOctets old.taken old.unsent octets new.taken new.unsent
+abbrev pub Passes : {W : Type 0} → PortState W → List ℕ → PortState W → Type 0
+Passes old octets new = PassesOctets old.log old.unsent octets new.log new.unsent
+
+-- those that are kept pass in order, and then a read returned what the sockets answered
+abbrev pub PassesThenReads : {W : Type 0} → PortState W → Got → List ℕ → PortState W → Type 0
+PassesThenReads old result octets new =
+    ReadsAfterSending (is_carrier old.settings.whose) (first_of old.connection) old.log old.unsent
+    result octets (first_of new.connection) new.log new.unsent
 
 -- the number of octets that came
 abbrev pub count_of : Got → ℕ

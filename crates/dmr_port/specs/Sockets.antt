@@ -1,5 +1,5 @@
 -- What the calls of a port's sockets do to the connection that is served and to the newcomers that wait.
-use Rattle.std.specs.Prelude.{◌≡◌, ℕ, ◌+◌, ◌≤◌, List, [], Option, Some, None, take, ⊤}
+use Rattle.std.specs.Prelude.{ℕ, ◌+◌, ◌≤◌, List, [], take}
 use Rattle.dmr_wire.specs.declared.wire.Put.{Put}
 use Rattle.dmr_wire.specs.declared.wire.Put.TheVariants as put
 use Rattle.dmr_port.specs.declared.sockets.Accepted.{Accepted}
@@ -21,8 +21,3 @@ PeekedWithin other len = Unit {0}
 abbrev pub taken_by : Put → List ℕ → List ℕ
 taken_by (put.Octets n) octets = take n octets
 taken_by other octets = []
-
--- a connection that is new has taken no octet, if it is known what it takes
-abbrev pub HasTakenNone : Option (List ℕ) → Type 0
-HasTakenNone None = ⊤
-HasTakenNone (Some octets) = octets ≡ []

@@ -49,7 +49,7 @@ fn look_at<S: Sockets>(
     ensures goes { result ≡ false
         → array_vec_len room.new.newcomers + 1 ≡ array_vec_len room.old.newcomers }
     ensures connection { S.is_open sockets.new ≡ S.is_open sockets.old }
-    ensures taken { S.taken sockets.new ≡ S.taken sockets.old }
+    ensures log { S.log sockets.new ≡ S.log sockets.old }
 {
     let newcomer = room.at(place);
     if newcomer.has_hello {
@@ -77,7 +77,7 @@ pub fn look_at_all<S: Sockets>(sockets: &mut S, room: &mut WaitingRoom, settings
     ensures all { S.waiting sockets.new ≡ array_vec_len room.new.newcomers }
     ensures few { array_vec_len room.new.newcomers ≤ array_vec_len room.old.newcomers }
     ensures connection { S.is_open sockets.new ≡ S.is_open sockets.old }
-    ensures taken { S.taken sockets.new ≡ S.taken sockets.old }
+    ensures log { S.log sockets.new ≡ S.log sockets.old }
 {
     let mut place = 0;
     while place < room.len() {
@@ -99,7 +99,7 @@ pub fn make_room<S: Sockets>(
     ensures all { S.waiting sockets.new ≡ array_vec_len room.new.newcomers }
     ensures few { array_vec_len room.new.newcomers ≤ 8 }
     ensures connection { S.is_open sockets.new ≡ S.is_open sockets.old }
-    ensures taken { S.taken sockets.new ≡ S.taken sockets.old }
+    ensures log { S.log sockets.new ≡ S.log sockets.old }
 {
     if room.len() <= MOST_WAITING {
         return None;

@@ -1,10 +1,11 @@
 //! Reading from the connection that is served.
 
-ghost use Rattle.std.specs.Prelude.{◌≡◌, ◌≢◌, ◌≤◌, ◌<◌, ℕ, [], true, Some, length};
-ghost use Rattle.dmr_wire.specs.Answers.{GotWithin};
+ghost use Rattle.std.specs.Prelude.{◌≡◌, ◌≢◌, ◌≤◌, ◌<◌, ℕ, [], ◌∷◌, true, Some, length};
+ghost use Rattle.dmr_wire.specs.Answers.{GotWithin, Reports, of_read};
 ghost use Rattle.dmr_port.specs.Budget.{Gives};
 ghost use Rattle.dmr_port.specs.PortState.{HasReadFrom, HasReadNothing, connection_of, count_of};
-ghost use Rattle.dmr_port.specs.Unsent.{PassesOctets};
+ghost use Rattle.dmr_port.specs.Record.{Reads};
+ghost use Rattle.dmr_port.specs.Unsent.{PassesOctets, ReadsAfterSending};
 
 use crate::budget::Budget;
 use crate::cause::EndCause;
@@ -17,13 +18,14 @@ use dmr_wire::Got;
 #[tactic(auto, using(crate::proofs::ReadingLemmas::read_nothing, crate::proofs::ReadingLemmas::read_after_sending, crate::proofs::UnsentLemmas::passes_nothing))]
 fn send_kept<S: Sockets>(sockets: &mut S, unsent: &mut Unsent, served: &mut Served) -> Sent
     requires { S.is_open sockets.old ≡ true }
-    ensures passes { PassesOctets (S.taken sockets.old) unsent.old
-        [] (S.taken sockets.new) unsent.new }
+    ensures passes { PassesOctets (S.log sockets.old) unsent.old
+        [] (S.log sockets.new) unsent.new }
     ensures all { result ≡ Sent.All → unsent.new ≡ [] }
     ensures goes { result ≢ Sent.Fault
         → HasReadNothing (connection_of served.old) (connection_of served.new) }
     ensures fault { result ≡ Sent.Fault → served.new.ended ≡ Some EndCause.WriteFault }
     ensures unread { result ≢ Sent.All → served.new.patience.unread ≡ served.old.patience.unread }
+    ensures first { served.new.first ≡ served.old.first }
     ensures connection { S.is_open sockets.new ≡ true }
     ensures waiting { S.waiting sockets.new ≡ S.waiting sockets.old }
 {
@@ -43,9 +45,23 @@ fn send_kept<S: Sockets>(sockets: &mut S, unsent: &mut Unsent, served: &mut Serv
     }
 }
 
+/// Reads octets of the connection, at most `asked`.
+fn ask<S: Sockets>(sockets: &mut S, octets: &mut [u8], asked: usize) -> Got
+    requires connection { S.is_open sockets.old ≡ true }
+    requires some { 0 < asked }
+    requires fits { asked ≤ length octets.old }
+    ensures within { GotWithin result asked }
+    ensures log { Reports (S.log sockets.old) (of_read result octets.new ∷ [])
+        (S.log sockets.new) }
+    ensures connection { S.is_open sockets.new ≡ true }
+    ensures waiting { S.waiting sockets.new ≡ S.waiting sockets.old }
+{
+    sockets.read(&mut octets[..asked])
+}
+
 /// Reads octets of the connection. The read would block if the window's octets have been returned, or if the system had
 /// no more at the last read and no wait has found any since.
-#[tactic(auto, using(crate::proofs::ReadingLemmas::read_nothing, crate::proofs::ReadingLemmas::read_blocked, crate::proofs::ReadingLemmas::read_octets, crate::proofs::ReadingLemmas::read_http))]
+#[tactic(auto, using(crate::proofs::ReadingLemmas::read_nothing, crate::proofs::ReadingLemmas::read_blocked, crate::proofs::ReadingLemmas::read_octets, crate::proofs::ReadingLemmas::read_http, crate::proofs::ReadingLemmas::reads_unasked, crate::proofs::ReadingLemmas::reads_answer))]
 fn read_sockets<S: Sockets>(
     sockets: &mut S,
     budget: &mut Budget,
@@ -56,7 +72,8 @@ fn read_sockets<S: Sockets>(
     requires connection { S.is_open sockets.old ≡ true }
     requires some { 0 < length octets.old }
     ensures within { GotWithin result (length octets.new) }
-    ensures taken { S.taken sockets.new ≡ S.taken sockets.old }
+    ensures log { Reads is_carrier served.old.first.octets.items (S.log sockets.old)
+        result octets.new served.new.first.octets.items (S.log sockets.new) }
     ensures budget { Gives budget.old (count_of result) budget.new }
     ensures reads { HasReadFrom is_carrier (connection_of served.old) result octets.new
         (connection_of served.new) }
@@ -68,7 +85,7 @@ fn read_sockets<S: Sockets>(
     if asked == 0 || !served.has_to_ask() {
         return Got::Block;
     }
-    let got = sockets.read(&mut octets[..asked]);
+    let got = ask(sockets, octets, asked);
     served.note_read(got, asked);
     match got {
         Got::Octets(count) => {
@@ -86,7 +103,7 @@ fn read_sockets<S: Sockets>(
 }
 
 /// Reads octets of the connection, after sending those that are kept. If some of these are left, the read would block.
-#[tactic(auto, using(crate::proofs::ReadingLemmas::read_later))]
+#[tactic(auto, using(crate::proofs::ReadingLemmas::read_later, crate::proofs::ReadingLemmas::reads_then, crate::proofs::ReadingLemmas::reads_nothing))]
 pub fn read_connection<S: Sockets>(
     sockets: &mut S,
     unsent: &mut Unsent,
@@ -99,8 +116,9 @@ pub fn read_connection<S: Sockets>(
     requires some { 0 < length octets.old }
     requires budget { budget.old.given ≤ 512 }
     ensures within { GotWithin result (length octets.new) }
-    ensures passes { PassesOctets (S.taken sockets.old) unsent.old
-        [] (S.taken sockets.new) unsent.new }
+    ensures passes { ReadsAfterSending is_carrier served.old.first.octets.items
+        (S.log sockets.old) unsent.old result octets.new served.new.first.octets.items
+        (S.log sockets.new) unsent.new }
     ensures behind { (count : ℕ) → result ≡ Got.Octets count → unsent.new ≡ [] }
     ensures budget { Gives budget.old (count_of result) budget.new }
     ensures reads { HasReadFrom is_carrier (connection_of served.old) result octets.new

@@ -3,13 +3,15 @@
 ghost use Rattle.std.specs.Prelude.{◌≡◌, ◌≢◌, ◌≤◌, ◌<◌, ◌+◌, ℕ, [], ◌∷◌, true, false, None, Some};
 ghost use Rattle.std.specs.Prelude.{length, option_map, IfOk, IfErr};
 ghost use Rattle.std.specs.Option.{is_some};
-ghost use Rattle.dmr_wire.specs.Answers.{GotWithin, PutWithin, Reports, of_connect, of_read};
+ghost use Rattle.dmr_wire.specs.Answers.{GotWithin, Opened, PutWithin, Reports, of_connect};
+ghost use Rattle.dmr_wire.specs.Answers.{of_read};
 ghost use Rattle.dmr_wire.specs.Answers.{of_wait, of_write};
 ghost use Rattle.dmr_port.specs.Budget.{Gives};
 ghost use Rattle.dmr_port.specs.Causes.{cause_of_closing};
-ghost use Rattle.dmr_port.specs.PortState.{HasRead, HasWaited, IsFresh, Passes};
-ghost use Rattle.dmr_port.specs.PortState.{connection_after_write, count_of, empty_port};
+ghost use Rattle.dmr_port.specs.PortState.{HasRead, HasWaited, IsFresh, Passes, PassesThenReads};
+ghost use Rattle.dmr_port.specs.PortState.{PortTells, connection_after_write, count_of, empty_port};
 ghost use Rattle.dmr_port.specs.PortState.{keeps_octets, unread_of, with_cause};
+ghost use Rattle.dmr_port.specs.Record.{Tells};
 ghost use Rattle.dmr_port.specs.Settings.{is_carrier};
 ghost use Rattle.dmr_port.specs.Sockets.{taken_by};
 
@@ -24,8 +26,9 @@ use crate::settings::PortSettings;
 use crate::sockets::{Accepted, Ready, Sockets};
 use crate::unsent::Unsent;
 use crate::waiting_room::{Newcomer, WaitingRoom};
+use crate::witness::{NoWitness, Witness};
 use dmr_pdu::OutOfMemory;
-use dmr_wire::{Closing, Connect, Got, Port, Put, Waited, Wire};
+use dmr_wire::{Closing, Connect, Got, Port, Put, RecordEntry, Waited, Wire};
 use std::alloc::Global;
 use std::io;
 use std::marker::Model;
@@ -54,8 +57,12 @@ const MOST_ACCEPTS: usize = 16;
 /// - A connection to the operators' port that begins with a request of HTTP is ended.
 ///
 /// The numbers are this project's profile.
+///
+/// A witness sees each answer, and the port's record is what it keeps. So if the sockets' log is known too, the record
+/// tells it, connection by connection: what came was given, and what was taken was sent, or is kept, or was dropped at
+/// the connection's end. The program's port has no witness.
 #[derive(Drop)]
-pub struct ServingPort<S: Sockets + Drop, N: PortNotes + Drop> {
+pub struct ServingPort<S: Sockets + Drop, N: PortNotes + Drop, W: Witness + Drop = NoWitness> {
     sockets: S,
     // What was written to the connection and is not yet sent, and what may still be read.
     unsent: Unsent,
@@ -70,34 +77,41 @@ pub struct ServingPort<S: Sockets + Drop, N: PortNotes + Drop> {
     refuses: bool,
     // The time up to which waits for the connection have been counted.
     counted: u64,
+    witness: W,
 }
 
-impl<S: Sockets + Drop, N: PortNotes + Drop> Model for ServingPort<S, N> {
+impl<S: Sockets + Drop, N: PortNotes + Drop, W: Witness + Drop> Model for ServingPort<S, N, W> {
     ghost use Rattle.std.specs.Prelude.{◌≡◌, ◌≤◌, [], false, option_map};
     ghost use Rattle.std.specs.Option.{is_some};
     ghost use Rattle.arrayvec.specs.ArrayVec.{array_vec_len};
-    ghost use Rattle.dmr_port.specs.PortState.{PortState, connection_of};
+    ghost use Rattle.dmr_port.specs.PortState.{PortState, connection_of, first_if_served};
+    ghost use Rattle.dmr_port.specs.Record.{Tells};
+    ghost use Rattle.dmr_port.specs.Settings.{is_carrier};
 
-    ghost Value = { PortState };
+    ghost Value = { PortState W };
 
     ghost view = { λ p. record {
       settings = p.settings;
       connection = option_map connection_of p.served;
       unsent = p.unsent;
-      taken = S.taken p.sockets;
+      log = S.log p.sockets;
       waiting = array_vec_len p.room.newcomers;
       window = p.budget;
+      witness = p.witness;
     } };
 
     ghost invariant = { λ p. (S.is_open p.sockets ≡ is_some p.served)
         × (S.waiting p.sockets ≡ array_vec_len p.room.newcomers)
         × (array_vec_len p.room.newcomers ≤ 8) × (is_some p.served ≡ false → p.unsent ≡ [])
-        × (p.budget.given ≤ 512) };
+        × (p.budget.given ≤ 512)
+        × Tells (is_carrier p.settings.whose) (first_if_served (option_map connection_of p.served))
+          p.unsent (S.log p.sockets) (W.told p.witness) };
 }
 
 impl<S: Sockets + Drop, N: PortNotes + Drop> ServingPort<S, N> {
-    /// Makes a port over sockets that have no connection and no newcomer. On an error an allocation was refused; the
-    /// error returns the sockets and the notes.
+    /// Makes a port over sockets that have no connection and no newcomer. It has no witness. On an error an allocation
+    /// was refused; the error returns the sockets and the notes.
+    #[tactic(auto, using(crate::proofs::RecordLemmas::tells_nothing))]
     pub fn new(
         alloc: Global,
         sockets: S,
@@ -106,8 +120,33 @@ impl<S: Sockets + Drop, N: PortNotes + Drop> ServingPort<S, N> {
     ) -> Result<ServingPort<S, N>, (OutOfMemory, S, N)>
         requires connection { S.is_open sockets ≡ false }
         requires newcomers { S.waiting sockets ≡ 0 }
-        ensures ok { IfOk result (λ port. port ≡ empty_port settings (S.taken sockets)) }
+        ensures ok { IfOk result (λ port. port ≡ empty_port settings (S.log sockets) (record {})) }
         ensures err { IfErr result (λ refused. (refused.1 ≡ sockets) × (refused.2 ≡ notes)) }
+    {
+        match ServingPort::with_witness(alloc, sockets, notes, settings, NoWitness) {
+            Ok(port) => Ok(port),
+            Err((refused, sockets, notes, _)) => Err((refused, sockets, notes)),
+        }
+    }
+}
+
+impl<S: Sockets + Drop, N: PortNotes + Drop, W: Witness + Drop> ServingPort<S, N, W> {
+    /// Makes a port over sockets that have no connection and no newcomer, for a witness. What the witness keeps of
+    /// connections before has to agree with the sockets' log. On an error an allocation was refused; the error returns
+    /// the sockets, the notes and the witness.
+    pub fn with_witness(
+        alloc: Global,
+        sockets: S,
+        notes: N,
+        settings: PortSettings,
+        witness: W,
+    ) -> Result<ServingPort<S, N, W>, (OutOfMemory, S, N, W)>
+        requires connection { S.is_open sockets ≡ false }
+        requires newcomers { S.waiting sockets ≡ 0 }
+        requires record { Tells (is_carrier settings.whose) None [] (S.log sockets) (W.told witness) }
+        ensures ok { IfOk result (λ port. port ≡ empty_port settings (S.log sockets) witness) }
+        ensures err { IfErr result (λ refused. (refused.1 ≡ sockets) × (refused.2 ≡ notes)
+            × (refused.3 ≡ witness)) }
     {
         match Unsent::new(alloc) {
             Ok(unsent) => Ok(ServingPort {
@@ -121,8 +160,9 @@ impl<S: Sockets + Drop, N: PortNotes + Drop> ServingPort<S, N> {
                 has_news: true,
                 refuses: false,
                 counted: 0,
+                witness,
             }),
-            Err(refused) => Err((refused, sockets, notes)),
+            Err(refused) => Err((refused, sockets, notes, witness)),
         }
     }
 
@@ -131,10 +171,25 @@ impl<S: Sockets + Drop, N: PortNotes + Drop> ServingPort<S, N> {
         self.log.notes()
     }
 
+    /// Returns who sees the port's answers.
+    pub fn witness(&self) -> &W
+        ensures { result.now ≡ self.now.witness }
+    {
+        &self.witness
+    }
+
+    /// Does nothing. A proof that calls it learns that the port's record tells what its sockets answered, if both are
+    /// known (`PortTells`).
+    pub fn use_invariant(&self)
+        ensures { PortTells W.told self.now }
+    {
+        let _ = &self.witness;
+    }
+
     /// Takes the port apart: returns the sockets, with the connection and the newcomers that they still have, and the
     /// notes. Kept octets are lost.
     pub fn into_parts(self) -> (S, N)
-        ensures { S.taken result.0 ≡ self.taken }
+        ensures { S.log result.0 ≡ self.log }
     {
         (self.sockets, self.log.into_notes())
     }
@@ -148,9 +203,10 @@ impl<S: Sockets + Drop, N: PortNotes + Drop> ServingPort<S, N> {
     }
 
     /// Closes the connection that is served, if there is one. Kept octets that it does not take at once are lost.
+    #[tactic(auto, using(crate::proofs::RecordLemmas::tells_closed))]
     fn let_go(&mut self)
         ensures { self.new
-            ≡ record self.old { connection = None; unsent = []; taken = self.new.taken } }
+            ≡ record self.old { connection = None; unsent = []; log = self.new.log } }
     {
         let Some(served) = self.served.take() else {
             return;
@@ -165,7 +221,9 @@ impl<S: Sockets + Drop, N: PortNotes + Drop> ServingPort<S, N> {
         });
     }
 
-    /// Serves the newcomer at a place. Returns `false` if it cannot be polled; it is then closed.
+    /// Serves the newcomer at a place, and answers so to the link. Returns `false` if it cannot be polled; it is then
+    /// closed, and nothing is answered.
+    #[tactic(auto, using(crate::proofs::RecordLemmas::tells_opened, crate::proofs::RecordLemmas::has_begun))]
     fn serve(&mut self, place: usize) -> bool
         requires place { place < self.old.waiting }
         requires connection { self.old.connection ≡ None }
@@ -174,12 +232,16 @@ impl<S: Sockets + Drop, N: PortNotes + Drop> ServingPort<S, N> {
         ensures waiting { self.new.waiting + 1 ≡ self.old.waiting }
         ensures settings { self.new.settings ≡ self.old.settings }
         ensures window { self.new.window ≡ self.old.window }
+        ensures answers { result ≡ true
+            → Reports (W.told self.old.witness) (Opened ∷ []) (W.told self.new.witness) }
+        ensures silent { result ≡ false → self.new.witness ≡ self.old.witness }
     {
         let from = self.room.remove(place).from;
         match self.sockets.take(place) {
             Ok(()) => {
                 self.served = Some(Served::new(from, self.settings.is_carrier()));
                 self.counted = self.sockets.now();
+                self.witness.see(RecordEntry::Connect(Connect::Ready), &[]);
                 self.note(&Note::Connected { from });
                 true
             }
@@ -193,6 +255,19 @@ impl<S: Sockets + Drop, N: PortNotes + Drop> ServingPort<S, N> {
                 false
             }
         }
+    }
+
+    /// Answers to the link that no connection has come yet.
+    fn answer_not_yet(&mut self) -> Connect
+        ensures answer { result ≡ Connect.NotYet }
+        ensures port { self.new ≡ record self.old { witness = self.new.witness } }
+        ensures few { self.new.waiting ≤ 8 }
+        ensures reported { Reports (W.told self.old.witness) (of_connect Connect.NotYet ∷ [])
+            (W.told self.new.witness) }
+    {
+        self.witness
+            .see(RecordEntry::Connect(Connect::NotYet), &[]);
+        Connect::NotYet
     }
 
     /// Notes that connections cannot be accepted, unless that has just been noted.
@@ -346,8 +421,8 @@ impl<S: Sockets + Drop, N: PortNotes + Drop> ServingPort<S, N> {
     }
 }
 
-impl<S: Sockets + Drop, N: PortNotes + Drop> Wire for ServingPort<S, N> {
-    ghost reported = { λ port. None };
+impl<S: Sockets + Drop, N: PortNotes + Drop, W: Witness + Drop> Wire for ServingPort<S, N, W> {
+    ghost reported = { λ port. W.told port.witness };
 
     /// Reads octets of the connection, after sending those that are kept. The read would block if some of these are
     /// left, or if the window's octets have been returned. It would also block if the system had no more at the last
@@ -355,8 +430,9 @@ impl<S: Sockets + Drop, N: PortNotes + Drop> Wire for ServingPort<S, N> {
     fn read(&mut self, octets: &mut [u8]) -> Got
         requires { 0 < length octets.old }
         ensures within { GotWithin result (length octets.new) }
-        ensures reported { Reports None (of_read result octets.new ∷ []) None }
-        ensures passes { Passes self.old [] self.new }
+        ensures reported { Reports (W.told self.old.witness) (of_read result octets.new ∷ [])
+            (W.told self.new.witness) }
+        ensures passes { PassesThenReads self.old result octets.new self.new }
         ensures behind { (count : ℕ) → result ≡ Got.Octets count → self.new.unsent ≡ [] }
         ensures budget { Gives self.old.window (count_of result) self.new.window }
         ensures unread { self.new.unsent ≢ []
@@ -367,17 +443,20 @@ impl<S: Sockets + Drop, N: PortNotes + Drop> Wire for ServingPort<S, N> {
         ensures waiting { self.new.waiting ≡ self.old.waiting }
     {
         let Some(served) = &mut self.served else {
+            self.witness.see(RecordEntry::Read(Got::Fault), octets);
             return Got::Fault;
         };
         let is_carrier = self.settings.is_carrier();
-        read_connection(
+        let got = read_connection(
             &mut self.sockets,
             &mut self.unsent,
             &mut self.budget,
             served,
             is_carrier,
             octets,
-        )
+        );
+        self.witness.see(RecordEntry::Read(got), octets);
+        got
     }
 
     /// Writes octets to the connection. Those that it does not take at once are kept, if there is room. Without room
@@ -385,7 +464,8 @@ impl<S: Sockets + Drop, N: PortNotes + Drop> Wire for ServingPort<S, N> {
     fn write(&mut self, octets: &[u8]) -> Put
         requires { 0 < length octets.now }
         ensures within { PutWithin result (length octets.now) }
-        ensures reported { Reports None (of_write result octets.now ∷ []) None }
+        ensures reported { Reports (W.told self.old.witness) (of_write result octets.now ∷ [])
+            (W.told self.new.witness) }
         ensures passes { Passes self.old (taken_by result octets.now) self.new }
         ensures connection { self.new.connection
             ≡ option_map (connection_after_write result) self.old.connection }
@@ -394,18 +474,22 @@ impl<S: Sockets + Drop, N: PortNotes + Drop> Wire for ServingPort<S, N> {
         ensures waiting { self.new.waiting ≡ self.old.waiting }
     {
         let Some(served) = &mut self.served else {
+            self.witness.see(RecordEntry::Write(Put::Fault), octets);
             return Put::Fault;
         };
         let put = self.unsent.write(&mut self.sockets, octets);
-        served.note_write(put)
+        let answer = served.note_write(put);
+        self.witness.see(RecordEntry::Write(answer), octets);
+        answer
     }
 }
 
-impl<S: Sockets + Drop, N: PortNotes + Drop> Port for ServingPort<S, N> {
+impl<S: Sockets + Drop, N: PortNotes + Drop, W: Witness + Drop> Port for ServingPort<S, N, W> {
     /// Closes the connection that is served, and serves the next newcomer. If nobody waits, it waits for a part of a
     /// wait.
     fn connect(&mut self) -> Connect
-        ensures reported { Reports None (of_connect result ∷ []) None }
+        ensures reported { Reports (W.told self.old.witness) (of_connect result ∷ [])
+            (W.told self.new.witness) }
         ensures ready { result ≡ Connect.Ready → IsFresh self.new }
         ensures none { result ≡ Connect.NotYet → self.new.connection ≡ None }
         ensures goes { result ≢ Connect.Finished }
@@ -420,27 +504,35 @@ impl<S: Sockets + Drop, N: PortNotes + Drop> Port for ServingPort<S, N> {
                 if self.serve(place) {
                     return Connect::Ready;
                 }
+                self.answer_not_yet()
             }
             None => {
                 let _ = self.sockets.wait(PART_MS, false);
+                self.answer_not_yet()
             }
         }
-        Connect::NotYet
     }
 
     /// Waits until the connection can be read, or written if octets are kept, at most for a part of a wait. Accepts
     /// newcomers meanwhile. `Silent`: the connection is given up, or there is none.
     fn wait(&mut self) -> Waited
-        ensures reported { Reports None (of_wait result ∷ []) None }
+        ensures reported { Reports (W.told self.old.witness) (of_wait result ∷ [])
+            (W.told self.new.witness) }
         ensures judged { HasWaited self.old.settings.silence
             (keeps_octets self.old.unsent) self.old.connection self.new.connection result }
         ensures few { self.new.waiting ≤ 8 }
         ensures port { self.new
-            ≡ record self.old { connection = self.new.connection; waiting = self.new.waiting } }
+            ≡ record self.old {
+              connection = self.new.connection;
+              waiting = self.new.waiting;
+              witness = self.new.witness;
+            } }
     {
         let keeps = !self.unsent.is_empty();
         let (ready, milliseconds) = self.wait_and_admit(keeps);
-        self.judge(ready, milliseconds, keeps)
+        let waited = self.judge(ready, milliseconds, keeps);
+        self.witness.see(RecordEntry::Wait(waited), &[]);
+        waited
     }
 
     /// Keeps why the link closed the connection, unless the port has already noted its end.

@@ -1,11 +1,11 @@
 //! What a port needs of the system: a listening socket, the connection that is served, the newcomers that wait, and a
 //! poll over all of them. No code here calls the system.
 
-ghost use Rattle.std.specs.Prelude.{◌≡◌, ℕ, ◌+◌, ◌<◌, Bool, true, false, List, Option, length};
-ghost use Rattle.std.specs.Prelude.{OnOk, OnErr};
-ghost use Rattle.std.specs.Io.KnownBytes.{Appends};
-ghost use Rattle.dmr_wire.specs.Answers.{GotWithin, PutWithin};
-ghost use Rattle.dmr_port.specs.Sockets.{HasTakenNone, PeekedWithin, taken_by, waiting_after};
+ghost use Rattle.std.specs.Prelude.{◌≡◌, ℕ, ◌+◌, ◌<◌, Bool, true, false, List, [], ◌∷◌, Option};
+ghost use Rattle.std.specs.Prelude.{length, OnOk, OnErr};
+ghost use Rattle.dmr_wire.specs.Answers.{Answer, GotWithin, Opened, PutWithin, Reports, of_read};
+ghost use Rattle.dmr_wire.specs.Answers.{of_write};
+ghost use Rattle.dmr_port.specs.Sockets.{PeekedWithin, waiting_after};
 
 use dmr_wire::{Got, Put};
 use std::io;
@@ -57,15 +57,16 @@ pub trait Sockets {
     /// The number of newcomers.
     ghost waiting: { Self → ℕ };
 
-    /// The octets that the connection took, oldest first, if they are known. Sockets of the system do not know them.
-    ghost taken: { Self → Option (List ℕ) };
+    /// The log, if it is known: each connection that was taken, and the answers to reads and writes, oldest first. It
+    /// may end at any call. Sockets of the system know none.
+    ghost log: { Self → Option (List Answer) };
 
     /// Accepts a connection, if one has come, as the newest newcomer.
     fn accept(&mut self) -> Accepted
         requires { waiting self.old < 9 }
         ensures waiting { waiting self.new ≡ waiting_after (waiting self.old) result }
         ensures connection { is_open self.new ≡ is_open self.old }
-        ensures taken { taken self.new ≡ taken self.old };
+        ensures log { log self.new ≡ log self.old };
 
     /// Looks at the first octets that a newcomer has sent, at most as many as the slice holds, and leaves them to be
     /// read. The rest of the slice then holds anything.
@@ -75,14 +76,14 @@ pub trait Sockets {
         ensures within { PeekedWithin result (length octets.new) }
         ensures waiting { waiting self.new ≡ waiting self.old }
         ensures connection { is_open self.new ≡ is_open self.old }
-        ensures taken { taken self.new ≡ taken self.old };
+        ensures log { log self.new ≡ log self.old };
 
     /// Closes a newcomer and forgets it. Those after it move one place to the front.
     fn refuse(&mut self, place: usize)
         requires { place < waiting self.old }
         ensures waiting { waiting self.new + 1 ≡ waiting self.old }
         ensures connection { is_open self.new ≡ is_open self.old }
-        ensures taken { taken self.new ≡ taken self.old };
+        ensures log { log self.new ≡ log self.old };
 
     /// Makes a newcomer the connection that is served. Those after it move one place to the front. On an error the
     /// newcomer cannot be polled; it is then closed, and there is no connection.
@@ -92,7 +93,8 @@ pub trait Sockets {
         ensures waiting { waiting self.new + 1 ≡ waiting self.old }
         ensures ok { OnOk result (is_open self.new ≡ true) }
         ensures err { OnErr result (is_open self.new ≡ false) }
-        ensures taken { HasTakenNone (taken self.new) };
+        ensures opened { OnOk result (Reports (log self.old) (Opened ∷ []) (log self.new)) }
+        ensures log { OnErr result (log self.new ≡ log self.old) };
 
     /// Reads octets of the connection, at most as many as the slice holds, to its front. The rest of the slice then
     /// holds anything.
@@ -102,7 +104,7 @@ pub trait Sockets {
         ensures within { GotWithin result (length octets.new) }
         ensures waiting { waiting self.new ≡ waiting self.old }
         ensures connection { is_open self.new ≡ true }
-        ensures taken { taken self.new ≡ taken self.old };
+        ensures log { Reports (log self.old) (of_read result octets.new ∷ []) (log self.new) };
 
     /// Writes octets to the connection, from the front of the slice on, as many as it takes at once.
     fn write(&mut self, octets: &[u8]) -> Put
@@ -111,20 +113,21 @@ pub trait Sockets {
         ensures within { PutWithin result (length octets.now) }
         ensures waiting { waiting self.new ≡ waiting self.old }
         ensures connection { is_open self.new ≡ true }
-        ensures taken { Appends (taken self.old) (taken self.new) (taken_by result octets.now) };
+        ensures log { Reports (log self.old) (of_write result octets.now ∷ []) (log self.new) };
 
     /// Closes the connection. Ends the output first, and reads the octets that came and were not read. A close with
     /// unread octets would reset the connection, and the other side might then lose the last octets written to it.
     fn close(&mut self)
         requires { is_open self.old ≡ true }
         ensures waiting { waiting self.new ≡ waiting self.old }
-        ensures connection { is_open self.new ≡ false };
+        ensures connection { is_open self.new ≡ false }
+        ensures log { log self.new ≡ log self.old };
 
     /// Returns the milliseconds of a clock that does not go back.
     fn now(&mut self) -> u64
         ensures waiting { waiting self.new ≡ waiting self.old }
         ensures connection { is_open self.new ≡ is_open self.old }
-        ensures taken { taken self.new ≡ taken self.old };
+        ensures log { log self.new ≡ log self.old };
 
     /// Waits until something is ready, at most this many milliseconds. If `sends`, the connection is ready when it can
     /// be written, and otherwise when it can be read. If the system cannot wait, this returns at once with nothing
@@ -132,5 +135,5 @@ pub trait Sockets {
     fn wait(&mut self, milliseconds: u64, sends: bool) -> Ready
         ensures waiting { waiting self.new ≡ waiting self.old }
         ensures connection { is_open self.new ≡ is_open self.old }
-        ensures taken { taken self.new ≡ taken self.old };
+        ensures log { log self.new ≡ log self.old };
 }

@@ -78,12 +78,13 @@ impl Unsent {
     /// Writes octets after the kept ones. If none were kept, it first tries to write them at once. Octets that the
     /// connection does not take then are kept, as many as there is room for. `Octets` counts those that were taken or
     /// are now kept, the first of the slice. With any other answer none was taken, and the kept octets are unchanged.
+    #[tactic(auto, using(crate::proofs::UnsentLemmas::passes_written, crate::proofs::UnsentLemmas::passes_kept))]
     pub fn write<S: Sockets>(&mut self, sockets: &mut S, octets: &[u8]) -> Put
         requires connection { S.is_open sockets.old ≡ true }
         requires some { 0 < length octets.now }
         ensures within { PutWithin result (length octets.now) }
-        ensures passes { PassesOctets (S.taken sockets.old) self.old (taken_by result octets.now)
-            (S.taken sockets.new) self.new }
+        ensures passes { PassesOctets (S.log sockets.old) self.old (taken_by result octets.now)
+            (S.log sockets.new) self.new }
         ensures connection { S.is_open sockets.new ≡ true }
         ensures waiting { S.waiting sockets.new ≡ S.waiting sockets.old }
     {
@@ -100,8 +101,7 @@ impl Unsent {
     #[tactic(auto, using(crate::proofs::UnsentLemmas::passes_nothing, crate::proofs::UnsentLemmas::passes_on))]
     pub fn send_all<S: Sockets>(&mut self, sockets: &mut S) -> Sent
         requires { S.is_open sockets.old ≡ true }
-        ensures passes { PassesOctets (S.taken sockets.old) self.old
-            [] (S.taken sockets.new) self.new }
+        ensures passes { PassesOctets (S.log sockets.old) self.old [] (S.log sockets.new) self.new }
         ensures all { result ≡ Sent.All → self.new ≡ [] }
         ensures part { result ≡ Sent.Part → self.new ≢ [] }
         ensures connection { S.is_open sockets.new ≡ true }
@@ -127,8 +127,7 @@ impl Unsent {
     fn send_once<S: Sockets>(&mut self, sockets: &mut S) -> Put
         requires connection { S.is_open sockets.old ≡ true }
         requires some { self.old ≢ [] }
-        ensures passes { PassesOctets (S.taken sockets.old) self.old
-            [] (S.taken sockets.new) self.new }
+        ensures passes { PassesOctets (S.log sockets.old) self.old [] (S.log sockets.new) self.new }
         ensures left { length self.new + count_put result ≡ length self.old }
         ensures connection { S.is_open sockets.new ≡ true }
         ensures waiting { S.waiting sockets.new ≡ S.waiting sockets.old }

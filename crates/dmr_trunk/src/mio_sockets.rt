@@ -311,7 +311,7 @@ impl<R: Clock> Sockets for MioSockets<'_, R> {
 
     ghost waiting = { λ s. vec_len s.newcomers };
 
-    ghost taken = { λ s. None };
+    ghost log = { λ s. None };
 
     fn accept(&mut self) -> Accepted {
         match self.listener.accept() {

@@ -1,14 +1,16 @@
 //! Sockets in memory: peers that do what a script says, when it says it.
 
-ghost use Rattle.std.specs.Prelude.{◌≡◌, ◌<◌, ◌≤◌, None, IfOk, length};
+ghost use Rattle.std.specs.Prelude.{◌≡◌, ◌<◌, ◌≤◌, [], None, Some, IfOk, length};
 ghost use Rattle.std.specs.Option.{is_some};
 ghost use Rattle.arrayvec.specs.ArrayVec.{array_vec_len};
+ghost use Rattle.dmr_wire.specs.Answers.{GotWithin, PutWithin};
 
+use super::answers::Answers;
 use super::script::{Deed, Event};
 use arrayvec::ArrayVec;
 use dmr_pdu::OutOfMemory;
 use dmr_port::{Accepted, Peeked, Ready, Sockets};
-use dmr_wire::{Got, Put};
+use dmr_wire::{Connect, Got, Put, RecordEntry};
 use std::alloc::Global;
 use std::collections::VecDeque;
 use std::io;
@@ -67,6 +69,8 @@ pub struct MemorySockets {
     storm: usize,
     /// The numbers of reads and of writes that the port asked for.
     pub asked: (usize, usize),
+    /// The connections that the port took, and the answers to its reads and writes.
+    pub log: Answers,
 }
 
 /// Nothing is ready.
@@ -86,6 +90,7 @@ impl MemorySockets {
     ) -> Result<MemorySockets, OutOfMemory>
         ensures closed { IfOk result (λ s. s.connection ≡ None) }
         ensures empty { IfOk result (λ s. array_vec_len s.newcomers ≡ 0) }
+        ensures log { IfOk result (λ s. s.log ≡ Some []) }
     {
         let mut peers = Vec::new(alloc);
         for _ in 0..count {
@@ -113,6 +118,7 @@ impl MemorySockets {
             interrupts: [false; 3],
             storm: 0,
             asked: (0, 0),
+            log: Answers::new(alloc),
         })
     }
 
@@ -121,6 +127,7 @@ impl MemorySockets {
         requires { kind < 3 }
         ensures connection { self.new.connection ≡ self.old.connection }
         ensures newcomers { self.new.newcomers ≡ self.old.newcomers }
+        ensures log { self.new.log ≡ self.old.log }
     {
         let interrupted = self.interrupts[kind];
         self.interrupts[kind] = false;
@@ -131,6 +138,7 @@ impl MemorySockets {
     fn note_change(&mut self, peer: usize, closes: bool)
         ensures connection { self.new.connection ≡ self.old.connection }
         ensures newcomers { self.new.newcomers ≡ self.old.newcomers }
+        ensures log { self.new.log ≡ self.old.log }
     {
         if self.connection == Some(peer) {
             self.reads.connection = true;
@@ -147,6 +155,7 @@ impl MemorySockets {
     fn send(&mut self, peer: usize, octets: &[u8])
         ensures connection { self.new.connection ≡ self.old.connection }
         ensures newcomers { self.new.newcomers ≡ self.old.newcomers }
+        ensures log { self.new.log ≡ self.old.log }
     {
         if let Some(peer) = self.peers.get_mut(peer) {
             let _ = peer.octets.extend_from_slice(octets);
@@ -158,6 +167,7 @@ impl MemorySockets {
     fn apply(&mut self, event: Event)
         ensures connection { self.new.connection ≡ self.old.connection }
         ensures newcomers { self.new.newcomers ≡ self.old.newcomers }
+        ensures log { self.new.log ≡ self.old.log }
     {
         let peer = event.peer;
         match event.deed {
@@ -205,6 +215,7 @@ impl MemorySockets {
     fn apply_due(&mut self)
         ensures connection { self.new.connection ≡ self.old.connection }
         ensures newcomers { self.new.newcomers ≡ self.old.newcomers }
+        ensures log { self.new.log ≡ self.old.log }
     {
         for _ in self.next..self.events.len() {
             let Some(event) = self.events.get(self.next).copied() else {
@@ -218,10 +229,69 @@ impl MemorySockets {
         }
     }
 
+    /// The answer to a read.
+    fn answer_read(&mut self, octets: &mut [u8]) -> Got
+        requires { 0 < length octets.old }
+        ensures within { GotWithin result (length octets.new) }
+        ensures connection { self.new.connection ≡ self.old.connection }
+        ensures newcomers { self.new.newcomers ≡ self.old.newcomers }
+        ensures log { self.new.log ≡ self.old.log }
+    {
+        self.asked.0 = self.asked.0.saturating_add(1);
+        if self.is_interrupted(1) {
+            return Got::Interrupted;
+        }
+        let Some(peer) = self.connection else {
+            return Got::Fault;
+        };
+        let Some(peer) = self.peers.get_mut(peer) else {
+            return Got::Fault;
+        };
+        if peer.has_reset {
+            return Got::Fault;
+        }
+        let unread = peer.unread();
+        if unread.is_empty() {
+            return if peer.has_ended { Got::End } else { Got::Block };
+        }
+        let count = copy_front(unread, octets);
+        peer.read = peer.read.saturating_add(count);
+        Got::Octets(count)
+    }
+
+    /// The answer to a write.
+    fn answer_write(&mut self, octets: &[u8]) -> Put
+        ensures within { PutWithin result (length octets.now) }
+        ensures connection { self.new.connection ≡ self.old.connection }
+        ensures newcomers { self.new.newcomers ≡ self.old.newcomers }
+        ensures log { self.new.log ≡ self.old.log }
+    {
+        self.asked.1 = self.asked.1.saturating_add(1);
+        if self.is_interrupted(2) {
+            return Put::Interrupted;
+        }
+        let Some(peer) = self.connection else {
+            return Put::Fault;
+        };
+        let Some(peer) = self.peers.get_mut(peer) else {
+            return Put::Fault;
+        };
+        if peer.has_reset {
+            return Put::Fault;
+        }
+        let count = octets.len().min(peer.room);
+        if count == 0 {
+            return Put::Block;
+        }
+        peer.room -= count;
+        Put::Octets(count)
+    }
+
     /// Takes what a wait reports.
     fn take_ready(&mut self) -> Ready
         ensures connection { self.new.connection ≡ self.old.connection }
         ensures newcomers { self.new.newcomers ≡ self.old.newcomers }
+        ensures log { self.new.log ≡ self.old.log }
     {
         let ready = Ready {
             connection: if self.sends {
@@ -267,7 +337,7 @@ impl Sockets for MemorySockets {
 
     ghost waiting = { λ s. array_vec_len s.newcomers };
 
-    ghost taken = { λ s. None };
+    ghost log = { λ s. s.log };
 
     fn accept(&mut self) -> Accepted {
         self.apply_due();
@@ -316,52 +386,20 @@ impl Sockets for MemorySockets {
         let peer = self.newcomers.remove(place);
         self.connection = Some(peer);
         self.note_change(peer, false);
+        self.log.add(RecordEntry::Connect(Connect::Ready), &[]);
         Ok(())
     }
 
     fn read(&mut self, octets: &mut [u8]) -> Got {
-        self.asked.0 = self.asked.0.saturating_add(1);
-        if self.is_interrupted(1) {
-            return Got::Interrupted;
-        }
-        let Some(peer) = self.connection else {
-            return Got::Fault;
-        };
-        let Some(peer) = self.peers.get_mut(peer) else {
-            return Got::Fault;
-        };
-        if peer.has_reset {
-            return Got::Fault;
-        }
-        let unread = peer.unread();
-        if unread.is_empty() {
-            return if peer.has_ended { Got::End } else { Got::Block };
-        }
-        let count = copy_front(unread, octets);
-        peer.read = peer.read.saturating_add(count);
-        Got::Octets(count)
+        let got = self.answer_read(octets);
+        self.log.add(RecordEntry::Read(got), octets);
+        got
     }
 
     fn write(&mut self, octets: &[u8]) -> Put {
-        self.asked.1 = self.asked.1.saturating_add(1);
-        if self.is_interrupted(2) {
-            return Put::Interrupted;
-        }
-        let Some(peer) = self.connection else {
-            return Put::Fault;
-        };
-        let Some(peer) = self.peers.get_mut(peer) else {
-            return Put::Fault;
-        };
-        if peer.has_reset {
-            return Put::Fault;
-        }
-        let count = octets.len().min(peer.room);
-        if count == 0 {
-            return Put::Block;
-        }
-        peer.room -= count;
-        Put::Octets(count)
+        let put = self.answer_write(octets);
+        self.log.add(RecordEntry::Write(put), octets);
+        put
     }
 
     fn close(&mut self) {

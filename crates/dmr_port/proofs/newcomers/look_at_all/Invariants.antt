@@ -7,7 +7,7 @@ invariant-loop-place g l = record {
   all : g.S.Sockets.waiting l.sockets ≡ array_vec_len l.room.newcomers;
   few : array_vec_len l.room.newcomers ≤ array_vec_len l.initial.room.newcomers;
   connection : g.S.Sockets.is_open l.sockets ≡ g.S.Sockets.is_open l.initial.sockets;
-  taken : g.S.Sockets.taken l.sockets ≡ g.S.Sockets.taken l.initial.sockets;
+  log : g.S.Sockets.log l.sockets ≡ g.S.Sockets.log l.initial.sockets;
 }
 
 abbrev pub decreases-loop-place : goal.decreases-loop-place

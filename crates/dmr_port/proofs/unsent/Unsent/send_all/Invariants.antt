@@ -4,7 +4,7 @@ use Rattle.dmr_port.proofs.unsent.Unsent.send_all.Given as goal
 
 abbrev pub invariant-loop-self : goal.invariant-loop-self
 invariant-loop-self g l = record {
-  passes : PassesOctets (g.S.Sockets.taken l.initial.sockets) l.initial.self [] (g.S.Sockets.taken l.sockets) l.self;
+  passes : PassesOctets (g.S.Sockets.log l.initial.sockets) l.initial.self [] (g.S.Sockets.log l.sockets) l.self;
   connection : g.S.Sockets.is_open l.sockets ≡ true;
   waiting : g.S.Sockets.waiting l.sockets ≡ g.S.Sockets.waiting l.initial.sockets;
 }

@@ -12,7 +12,7 @@ use Rattle.dmr_port.specs.declared.served.Served.{Served}
 use Rattle.dmr_port.specs.FirstOctets.{begins_http}
 use Rattle.dmr_port.specs.Patience.{patience_after_octets}
 use Rattle.dmr_port.specs.PortState.{Connection, HasReadFrom, HasReadNothing, HasReadOctets, connection_of}
-use Rattle.dmr_port.specs.Record.{Reads, IsReadFrom, first_after}
+use Rattle.dmr_port.specs.Record.{Reads, IsReadFrom}
 use Rattle.dmr_port.specs.Served.{HearsOctets, after_read}
 use Rattle.dmr_port.specs.Unsent.{PassesOctets, ReadsAfterSending}
 use Rattle.dmr_port.proofs.RecordLemmas.{reports_none}
@@ -155,6 +155,6 @@ reads_nothing is_carrier first second octets result log log' waiting waiting' pa
 }
 
 -- there is no connection
-pub reads_unserved : (is_carrier : Bool) (octets : List ℕ) (log : Option (List Answer)) (waiting : List ℕ) → ReadsAfterSending is_carrier [] log waiting got.Fault octets [] log waiting
-reads_unserved is_carrier octets log waiting =
-    reads_nothing is_carrier [] [] octets got.Fault log log waiting waiting (passes_nothing log waiting) refl (inl refl)
+pub reads_unserved : (is_carrier : Bool) (first octets : List ℕ) (log : Option (List Answer)) (waiting : List ℕ) → ReadsAfterSending is_carrier first log waiting got.Fault octets first log waiting
+reads_unserved is_carrier first octets log waiting =
+    reads_nothing is_carrier first first octets got.Fault log log waiting waiting (passes_nothing log waiting) refl (inl refl)

@@ -1,6 +1,6 @@
 -- The record of a port and the log of its sockets, answer by answer: each connection's octets agree.
-use Rattle.std.proofs.Common.{◌≡◌, ◌≢◌, ◌⊎◌, ℕ, zero, suc, ◌-◌, Bool, true, false, not, ◌||◌, ◌&&◌, List, [], ◌∷◌, ◌++◌, Option, Some, None, length, take, refl, sym, ap, subst, ◌∙◌, inl, inr, append_assoc}
-use Rattle.std.specs.Prelude.{nat_eq}
+use Rattle.std.proofs.Common.{◌≡◌, ◌≢◌, ℕ, zero, suc, Bool, true, false, not, ◌||◌, List, [], ◌∷◌, ◌++◌, Option, Some, None, take, refl, sym, ap, subst, ◌∙◌, inl, inr, append_assoc}
+use Rattle.std.specs.Prelude.{nat_eq, option_map}
 use Rattle.std.specs.List.{list_any, starts_with}
 use Rattle.std.proofs.lemmas.List.{append-nil}
 use Rattle.std.proofs.lemmas.Bool.{false≢true, and_from, and_parts}
@@ -8,10 +8,13 @@ use Rattle.dmr_wire.specs.declared.wire.Got.{Got}
 use Rattle.dmr_wire.specs.declared.wire.Got.TheVariants as got
 use Rattle.dmr_wire.specs.declared.wire.Put.{Put}
 use Rattle.dmr_wire.specs.declared.wire.Put.TheVariants as put
-use Rattle.dmr_wire.specs.Answers.{Answer, Opened, Came, InputEnded, ReadInterrupted, ReadBlocked, ReadFailed, Reports, of_read, of_write}
+use Rattle.dmr_wire.specs.declared.port.Waited.{Waited}
+use Rattle.dmr_wire.specs.declared.port.Waited.TheVariants as wait
+use Rattle.dmr_wire.specs.Answers.{Answer, Opened, Came, InputEnded, ReadInterrupted, ReadBlocked, ReadFailed, Reports, of_read, of_wait, of_write}
+use Rattle.dmr_port.specs.declared.served.Served.{Served}
 use Rattle.dmr_port.specs.FirstOctets.{begins_http, http_methods}
-use Rattle.dmr_port.specs.PortState.{HasBegun}
-use Rattle.dmr_port.specs.Record.{Traffic, no_traffic, with_octets, traffic_then, traffic_after, traffic_of, first_after, Carries, Reads, WereGiven, IsTelling, HasTold, HaveTold, AreTold, Tells}
+use Rattle.dmr_port.specs.PortState.{HasBegun, connection_of, first_if_served}
+use Rattle.dmr_port.specs.Record.{Traffic, with_octets, traffic_then, traffic_after, traffic_of, first_after, Carries, WereGiven, AreTold, Tells}
 use Rattle.dmr_port.specs.Sockets.{taken_by}
 use Rattle.dmr_port.specs.Unsent.{PassesOctets, ReadsAfterSending}
 
@@ -199,16 +202,18 @@ told_on : (is_carrier : Bool) (first first' unsent unsent' came sent given taken
 told_on is_carrier first first' unsent unsent' came sent given taken [] port gives split told = absurd told
 told_on is_carrier first first' unsent unsent' came sent given taken (s ∷ sockets) [] gives split told = absurd told
 told_on is_carrier first first' unsent unsent' came sent given taken (s ∷ sockets) (p ∷ port) gives split told =
-    let after = gives s.came p.came told.0.given told.0.begins in
-    (record {
-      given = after.0;
-      begins = after.1;
-      taken =
-          ap (λ (xs : List ℕ). xs ++ taken) told.0.taken
-          ∙ append_assoc s.taken unsent taken
-          ∙ ap (λ (xs : List ℕ). s.taken ++ xs) split
-          ∙ sym (append_assoc s.taken sent unsent');
-    }, told.1)
+    let after = gives s.came p.came told.0.given told.0.begins in (
+      record {
+        given = after.0;
+        begins = after.1;
+        taken =
+            ap (λ (xs : List ℕ). xs ++ taken) told.0.taken
+            ∙ append_assoc s.taken unsent taken
+            ∙ ap (λ (xs : List ℕ). s.taken ++ xs) split
+            ∙ sym (append_assoc s.taken sent unsent');
+      },
+      told.1,
+    )
 
 -- the connection ends, and what is kept is dropped
 told_ended : (is_carrier : Bool) (first unsent : List ℕ) (sockets port : List Traffic) → AreTold is_carrier (Some first) unsent sockets port → AreTold is_carrier None [] sockets port
@@ -243,10 +248,10 @@ tells_carried : (is_carrier : Bool) (first first' unsent unsent' came sent given
 tells_carried is_carrier first first' unsent unsent' came sent given taken log log' reported reported' answer gives split carries reports is =
     tells_on is_carrier (Some first) (Some first') unsent unsent' log log' reported reported' carries.answers (answer ∷ []) carries.log reports
     (λ sockets port told.
-        let P : List Traffic → List Traffic → Type 0 = λ s p. AreTold is_carrier (Some first') unsent' s p in
-        let Q : List Traffic → Type 0 = λ s. P s (traffic_then port answer) in
-        subst Q (sym (carries.carried sockets))
-        (subst (P (with_octets came sent sockets)) (sym (is port)) (told_on is_carrier first first' unsent unsent' came sent given taken sockets port gives split told)))
+    let P : List Traffic → List Traffic → Type 0 = λ s p. AreTold is_carrier (Some first') unsent' s p in
+    let Q : List Traffic → Type 0 = λ s. P s (traffic_then port answer) in
+    subst Q (sym (carries.carried sockets))
+    (subst (P (with_octets came sent sockets)) (sym (is port)) (told_on is_carrier first first' unsent unsent' came sent given taken sockets port gives split told)))
 
 -- an answer without octets
 pub tells_quiet : (is_carrier : Bool) (first : Option (List ℕ)) (unsent : List ℕ) (log reported reported' : Option (List Answer)) (answer : Answer)
@@ -255,8 +260,20 @@ pub tells_quiet : (is_carrier : Bool) (first : Option (List ℕ)) (unsent : List
 tells_quiet is_carrier first unsent log reported reported' answer is reports =
     tells_on is_carrier first first unsent unsent log log reported reported' [] (answer ∷ []) (reports_none log) reports
     (λ sockets port told.
-        let P : List Traffic → Type 0 = λ p. AreTold is_carrier first unsent sockets p in
-        subst P (sym (is port ∙ with_none port)) told)
+    let P : List Traffic → Type 0 = λ p. AreTold is_carrier first unsent sockets p in
+    subst P (sym (is port ∙ with_none port)) told)
+
+-- the end of a wait is an answer without octets
+pub waited_quietly : (waited : Waited) (traffic : List Traffic) → traffic_then traffic (of_wait waited) ≡ with_octets [] [] traffic
+waited_quietly wait.Again traffic = refl
+waited_quietly wait.Silent traffic = refl
+
+-- the first octets of the connection that is served
+pub tells_served : (is_carrier : Bool) (served : Option Served) (s : Served) (unsent : List ℕ) (log reported : Option (List Answer)) → served ≡ Some s
+    → Tells is_carrier (first_if_served (option_map connection_of served)) unsent log reported → Tells is_carrier (Some s.first.octets.items) unsent log reported
+tells_served is_carrier served s unsent log reported is tells =
+    let P : Option Served → Type 0 = λ (o : Option Served). Tells is_carrier (first_if_served (option_map connection_of o)) unsent log reported in
+    subst P is tells
 
 -- a write of the port
 pub tells_written : (is_carrier : Bool) (first unsent unsent' : List ℕ) (log log' reported reported' : Option (List Answer)) (put : Put) (octets : List ℕ)
@@ -344,12 +361,22 @@ pub tells_closed : (is_carrier : Bool) (first unsent unsent' : List ℕ) (log lo
 tells_closed is_carrier first unsent unsent' log log' reported passes =
     tells_on is_carrier (Some first) None unsent [] log log' reported reported passes.carries.answers [] passes.carries.log (reports_none reported)
     (λ sockets port told.
-        let P : List Traffic → List Traffic → Type 0 = λ s p. AreTold is_carrier (Some first) unsent' s p in
-        let Q : List Traffic → Type 0 = λ s. P s port in
-        told_ended is_carrier first unsent' (traffic_after sockets passes.carries.answers) port
-        (subst Q (sym (passes.carries.carried sockets))
-        (subst (P (with_octets [] passes.sent sockets)) (with_none port)
-        (told_on is_carrier first first unsent unsent' [] passes.sent [] [] sockets port (gives_nothing is_carrier first first refl) passes.split told))))
+    let P : List Traffic → List Traffic → Type 0 = λ s p. AreTold is_carrier (Some first) unsent' s p in
+    let Q : List Traffic → Type 0 = λ s. P s port in
+    told_ended is_carrier first unsent' (traffic_after sockets passes.carries.answers) port
+    (subst Q (sym (passes.carries.carried sockets))
+    (subst (P (with_octets [] passes.sent sockets)) (with_none port)
+    (told_on is_carrier first first unsent unsent' [] passes.sent [] [] sockets port (gives_nothing is_carrier first first refl) passes.split told))))
+
+pub tells_let_go : (is_carrier : Bool) (served served' : Option Served) (s : Served) (unsent unsent' none : List ℕ) (log log' log'' reported : Option (List Answer))
+    → served ≡ Some s → served' ≡ None → none ≡ [] → log'' ≡ log' → PassesOctets log unsent [] log' unsent'
+    → Tells is_carrier (first_if_served (option_map connection_of served)) unsent log reported → Tells is_carrier (first_if_served (option_map connection_of served')) none log'' reported
+tells_let_go is_carrier served served' s unsent unsent' none log log' log'' reported is gone cleared same passes tells =
+    let P : Option Served → Type 0 = λ (o : Option Served). Tells is_carrier (first_if_served (option_map connection_of o)) none log'' reported in
+    let Q : List ℕ → Type 0 = λ xs. Tells is_carrier None xs log'' reported in
+    let R : Option (List Answer) → Type 0 = λ l. Tells is_carrier None [] l reported in
+    subst P (sym gone) (subst Q (sym cleared) (subst R (sym same)
+    (tells_closed is_carrier s.first.octets.items unsent unsent' log log' reported passes (tells_served is_carrier served s unsent log reported is tells))))
 
 -- a connection begins
 pub tells_opened : (is_carrier : Bool) (unsent : List ℕ) (log log' reported reported' : Option (List Answer)) → Reports log (Opened ∷ []) log' → Reports reported (Opened ∷ []) reported'

@@ -1,11 +1,12 @@
 -- Octets on their way to a connection: none is lost, repeated or out of order.
-use Rattle.std.proofs.Common.{◌≡◌, ◌≤◌, ◌==◌, ℕ, Bool, true, false, cond, List, [], ◌∷◌, ◌++◌, Option, length, take, drop, refl, sym, ap, ◌∙◌, append_assoc}
+use Rattle.std.proofs.Common.{◌≡◌, ◌≤◌, ◌==◌, ℕ, Bool, true, false, cond, List, [], ◌∷◌, ◌++◌, Option, length, take, drop, arith, refl, sym, ap, ◌∙◌, append_assoc}
+use Rattle.std.specs.Prelude.{nat_eq}
 use Rattle.std.proofs.lemmas.Bool.{eqb-true}
 use Rattle.std.proofs.lemmas.List.{append-nil, take-append-drop, take-append-le}
 use Rattle.dmr_wire.specs.declared.wire.Put.{Put}
 use Rattle.dmr_wire.specs.declared.wire.Put.TheVariants as put
 use Rattle.dmr_wire.specs.Answers.{Answer, Reports, of_write}
-use Rattle.dmr_port.specs.PortState.{answer_of_write}
+use Rattle.dmr_port.specs.PortState.{Connection, answer_of_write, connection_after_write}
 use Rattle.dmr_port.specs.Record.{Carries}
 use Rattle.dmr_port.specs.Sockets.{taken_by}
 use Rattle.dmr_port.specs.Unsent.{PassesOctets}
@@ -53,9 +54,22 @@ passes_written log log' waiting octets put none logged = record {
       ∙ ap (λ (xs : List ℕ). taken_by put octets ++ xs) (sym none);
 }
 
+-- if none are kept
+pub none_kept : (waiting : List ℕ) (empty : Bool) → empty ≡ true → empty ≡ nat_eq (length waiting) 0 → waiting ≡ []
+none_kept [] empty holds is = refl
+none_kept (x ∷ waiting) empty holds is =
+    let none : length (x ∷ waiting) ≡ 0 = eqb-true (length (x ∷ waiting)) 0 (sym is ∙ holds) in absurd (omega (arith, none))
+
 -- if what is written is kept
 pub passes_kept : (log log' : Option (List Answer)) (waiting octets waiting' : List ℕ) → Carries log [] [] log' → waiting' ≡ waiting ++ octets → PassesOctets log waiting octets log' waiting'
 passes_kept log log' waiting octets waiting' carries kept = record { sent = []; carries = carries; split = sym kept }
+
+-- a write leaves the first octets that came as they are
+pub first_after_write : (put : Put) (old new : Connection) → new ≡ connection_after_write put old → new.first ≡ old.first
+first_after_write (put.Octets n) old new is = ap (λ (c : Connection). c.first) is
+first_after_write put.Interrupted old new is = ap (λ (c : Connection). c.first) is
+first_after_write put.Block old new is = ap (λ (c : Connection). c.first) is
+first_after_write put.Fault old new is = ap (λ (c : Connection). c.first) is
 
 -- what the link's answer says was taken is what was taken
 pub answered_as_taken : (put : Put) (octets : List ℕ) → taken_by (answer_of_write put) octets ≡ taken_by put octets

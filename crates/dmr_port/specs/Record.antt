@@ -66,7 +66,7 @@ IsReadFrom is_carrier first (got.Octets n) octets answers =
 IsReadFrom is_carrier first got.End octets answers =
     (answers ≡ InputEnded ∷ [])
     ⊎ ((withheld : List ℕ) × (answers ≡ Came withheld ∷ []) × (is_carrier ≡ false)
-      × (begins_http (take 8 (first ++ withheld)) ≡ true))
+    × (begins_http (take 8 (first ++ withheld)) ≡ true))
 IsReadFrom is_carrier first got.Interrupted octets answers = answers ≡ ReadInterrupted ∷ []
 IsReadFrom is_carrier first got.Block octets answers =
     (answers ≡ []) ⊎ (answers ≡ ReadBlocked ∷ [])

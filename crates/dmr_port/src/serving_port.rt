@@ -105,7 +105,7 @@ impl<S: Sockets + Drop, N: PortNotes + Drop, W: Witness + Drop> Model for Servin
         × (array_vec_len p.room.newcomers ≤ 8) × (is_some p.served ≡ false → p.unsent ≡ [])
         × (p.budget.given ≤ 512)
         × Tells (is_carrier p.settings.whose) (first_if_served (option_map connection_of p.served))
-          p.unsent (S.log p.sockets) (W.told p.witness) };
+        p.unsent (S.log p.sockets) (W.told p.witness) };
 }
 
 impl<S: Sockets + Drop, N: PortNotes + Drop> ServingPort<S, N> {
@@ -265,8 +265,7 @@ impl<S: Sockets + Drop, N: PortNotes + Drop, W: Witness + Drop> ServingPort<S, N
         ensures reported { Reports (W.told self.old.witness) (of_connect Connect.NotYet ∷ [])
             (W.told self.new.witness) }
     {
-        self.witness
-            .see(RecordEntry::Connect(Connect::NotYet), &[]);
+        self.witness.see(RecordEntry::Connect(Connect::NotYet), &[]);
         Connect::NotYet
     }
 

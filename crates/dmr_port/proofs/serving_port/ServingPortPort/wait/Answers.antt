@@ -1,0 +1,20 @@
+use Rattle.std.specs.Prelude.{option_map}
+use Rattle.dmr_wire.specs.Answers.{of_wait}
+use Rattle.dmr_port.specs.PortState.{connection_of, first_if_served}
+use Rattle.dmr_port.specs.Settings.{is_carrier}
+use Rattle.dmr_port.proofs.RecordLemmas.{tells_quiet, waited_quietly}
+use Rattle.dmr_port.proofs.serving_port.ServingPortPort.wait.Goals as goal
+
+pub invariant_of-self : goal.invariant_of-self
+invariant_of-self g c =
+    let p = c.self-2.inside in
+    let i = c.self-2.invariant in
+    let waited = c.judge-waited.result in (
+      i.0,
+      i.1,
+      i.2,
+      i.3,
+      i.4,
+      tells_quiet (is_carrier p.settings.whose) (first_if_served (option_map connection_of p.served)) p.unsent (g.S.Sockets.log p.sockets)
+          (g.W.Witness.told p.witness) (g.W.Witness.told c.see.new.self) (of_wait waited) (waited_quietly waited) c.see.ensures i.5,
+    )

@@ -9,7 +9,7 @@ use self::script::events_of;
 use self::sockets::MemorySockets;
 use dmr_frames::Version;
 use dmr_pdu::{CarrierNo, Lpcn, OutOfMemory};
-use dmr_port::{Note, PortNotes, PortSettings, ServingPort, Whose, nothing_is_told};
+use dmr_port::{Note, PortNotes, PortSettings, ServingPort, Whose, empty_records_agree};
 use dmr_wire::{Closing, Connect, Got, Port, Put, RecordEntry, Waited, Wire};
 use std::alloc::Global;
 use std::process::Abort;
@@ -686,7 +686,7 @@ fn play(rt: &(impl Abort + AllocGlobal), whose: Whose, row: &Row) -> Result<(), 
         greatest: Version::V2,
         silence: row.silence,
     };
-    nothing_is_told();
+    empty_records_agree();
     let answers = Answers::new(alloc);
     let mut port = match ServingPort::with_witness(alloc, sockets, pad, settings, answers) {
         Ok(port) => port,
@@ -699,7 +699,7 @@ fn play(rt: &(impl Abort + AllocGlobal), whose: Whose, row: &Row) -> Result<(), 
     for _ in 0..STEPS {
         echo.step(&mut port);
     }
-    let told = sums_of(port.witness().kept().unwrap_or(&[]));
+    let reported = sums_of(port.witness().kept().unwrap_or(&[]));
     let (sockets, pad) = port.into_parts();
     let logged = sums_of(sockets.log.kept().unwrap_or(&[]));
     let text = pad.text.as_str();
@@ -708,10 +708,10 @@ fn play(rt: &(impl Abort + AllocGlobal), whose: Whose, row: &Row) -> Result<(), 
         None => assert_eq!(rt; text, row.notes, "{}", row.name),
     }
     assert_eq!(rt; echo.got, row.got, "{}", row.name);
-    assert_eq!(rt; told.opened, logged.opened, "{}", row.name);
-    assert_eq!(rt; told.came, row.got, "{}", row.name);
-    assert!(rt; told.came <= logged.came, "{}", row.name);
-    assert!(rt; logged.taken <= told.taken, "{}", row.name);
+    assert_eq!(rt; reported.opened, logged.opened, "{}", row.name);
+    assert_eq!(rt; reported.came, row.got, "{}", row.name);
+    assert!(rt; reported.came <= logged.came, "{}", row.name);
+    assert!(rt; logged.taken <= reported.taken, "{}", row.name);
     if let Some(reads) = row.reads {
         assert_eq!(rt; sockets.asked.0, reads, "{}", row.name);
     }

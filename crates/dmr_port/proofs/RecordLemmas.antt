@@ -14,7 +14,7 @@ use Rattle.dmr_wire.specs.Answers.{Answer, Opened, Came, InputEnded, ReadInterru
 use Rattle.dmr_port.specs.declared.served.Served.{Served}
 use Rattle.dmr_port.specs.FirstOctets.{begins_http, http_methods}
 use Rattle.dmr_port.specs.PortState.{HasBegun, connection_of, first_if_served}
-use Rattle.dmr_port.specs.Record.{Traffic, with_octets, traffic_then, traffic_after, traffic_of, first_after, Carries, WereGiven, AreTold, Tells}
+use Rattle.dmr_port.specs.Record.{Traffic, with_octets, traffic_then, traffic_after, traffic_of, first_after, Carries, WereGiven, AreAlike, Agrees}
 use Rattle.dmr_port.specs.Sockets.{taken_by}
 use Rattle.dmr_port.specs.Unsent.{PassesOctets, ReadsAfterSending}
 
@@ -196,12 +196,12 @@ withholds_octets is_carrier first first' octets is off http = λ from into befor
     (withheld_more is_carrier from into octets before off (subst P more http), is ∙ more)
 
 -- the connection that is served, after more octets
-told_on : (is_carrier : Bool) (first first' unsent unsent' came sent given taken : List ℕ) (sockets port : List Traffic) → Gives is_carrier first first' came given
-    → unsent ++ taken ≡ sent ++ unsent' → AreTold is_carrier (Some first) unsent sockets port
-    → AreTold is_carrier (Some first') unsent' (with_octets came sent sockets) (with_octets given taken port)
-told_on is_carrier first first' unsent unsent' came sent given taken [] port gives split told = absurd told
-told_on is_carrier first first' unsent unsent' came sent given taken (s ∷ sockets) [] gives split told = absurd told
-told_on is_carrier first first' unsent unsent' came sent given taken (s ∷ sockets) (p ∷ port) gives split told =
+alike_on : (is_carrier : Bool) (first first' unsent unsent' came sent given taken : List ℕ) (sockets port : List Traffic) → Gives is_carrier first first' came given
+    → unsent ++ taken ≡ sent ++ unsent' → AreAlike is_carrier (Some first) unsent sockets port
+    → AreAlike is_carrier (Some first') unsent' (with_octets came sent sockets) (with_octets given taken port)
+alike_on is_carrier first first' unsent unsent' came sent given taken [] port gives split told = absurd told
+alike_on is_carrier first first' unsent unsent' came sent given taken (s ∷ sockets) [] gives split told = absurd told
+alike_on is_carrier first first' unsent unsent' came sent given taken (s ∷ sockets) (p ∷ port) gives split told =
     let after = gives s.came p.came told.0.given told.0.begins in (
       record {
         given = after.0;
@@ -216,51 +216,51 @@ told_on is_carrier first first' unsent unsent' came sent given taken (s ∷ sock
     )
 
 -- the connection ends, and what is kept is dropped
-told_ended : (is_carrier : Bool) (first unsent : List ℕ) (sockets port : List Traffic) → AreTold is_carrier (Some first) unsent sockets port → AreTold is_carrier None [] sockets port
-told_ended is_carrier first unsent [] port told = absurd told
-told_ended is_carrier first unsent (s ∷ sockets) [] told = absurd told
-told_ended is_carrier first unsent (s ∷ sockets) (p ∷ port) told =
+alike_ended : (is_carrier : Bool) (first unsent : List ℕ) (sockets port : List Traffic) → AreAlike is_carrier (Some first) unsent sockets port → AreAlike is_carrier None [] sockets port
+alike_ended is_carrier first unsent [] port told = absurd told
+alike_ended is_carrier first unsent (s ∷ sockets) [] told = absurd told
+alike_ended is_carrier first unsent (s ∷ sockets) (p ∷ port) told =
     (record { dropped = unsent; given = told.0.given; taken = told.0.taken }, told.1)
 
 -- some answers of the sockets, and some of the port
-tells_on : (is_carrier : Bool) (first first' : Option (List ℕ)) (unsent unsent' : List ℕ) (log log' reported reported' : Option (List Answer)) (answers told : List Answer)
+agrees_on : (is_carrier : Bool) (first first' : Option (List ℕ)) (unsent unsent' : List ℕ) (log log' reported reported' : Option (List Answer)) (answers told : List Answer)
     → Reports log answers log' → Reports reported told reported'
-    → ((sockets port : List Traffic) → AreTold is_carrier first unsent sockets port → AreTold is_carrier first' unsent' (traffic_after sockets answers) (traffic_after port told))
-    → Tells is_carrier first unsent log reported → Tells is_carrier first' unsent' log' reported'
-tells_on is_carrier first first' unsent unsent' log log' reported reported' answers told logged reports step tells = record {
-  tells = λ whole all is also.
+    → ((sockets port : List Traffic) → AreAlike is_carrier first unsent sockets port → AreAlike is_carrier first' unsent' (traffic_after sockets answers) (traffic_after port told))
+    → Agrees is_carrier first unsent log reported → Agrees is_carrier first' unsent' log' reported'
+agrees_on is_carrier first first' unsent unsent' log log' reported reported' answers told logged reports step agrees = record {
+  agrees = λ whole all is also.
       let before = logged.follows whole is in
       let earlier = reports.follows all also in
-      let old = tells.tells before.0 earlier.0 before.1 earlier.1 in
+      let old = agrees.agrees before.0 earlier.0 before.1 earlier.1 in
       let new = step (traffic_of before.0) (traffic_of earlier.0) old in
       let sockets : traffic_after (traffic_of before.0) answers ≡ traffic_of whole = sym (ap traffic_of before.2 ∙ after-append [] before.0 answers) in
       let port : traffic_after (traffic_of earlier.0) told ≡ traffic_of all = sym (ap traffic_of earlier.2 ∙ after-append [] earlier.0 told) in
-      let P : List Traffic → List Traffic → Type 0 = λ s p. AreTold is_carrier first' unsent' s p in
+      let P : List Traffic → List Traffic → Type 0 = λ s p. AreAlike is_carrier first' unsent' s p in
       let Q : List Traffic → Type 0 = λ s. P s (traffic_of all) in
       subst Q sockets (subst (P (traffic_after (traffic_of before.0) answers)) port new);
 }
 
 -- a call after which octets were carried, and one answer of the port
-tells_carried : (is_carrier : Bool) (first first' unsent unsent' came sent given taken : List ℕ) (log log' reported reported' : Option (List Answer)) (answer : Answer)
+agrees_carried : (is_carrier : Bool) (first first' unsent unsent' came sent given taken : List ℕ) (log log' reported reported' : Option (List Answer)) (answer : Answer)
     → Gives is_carrier first first' came given → unsent ++ taken ≡ sent ++ unsent' → Carries log came sent log' → Reports reported (answer ∷ []) reported'
     → ((traffic : List Traffic) → traffic_then traffic answer ≡ with_octets given taken traffic)
-    → Tells is_carrier (Some first) unsent log reported → Tells is_carrier (Some first') unsent' log' reported'
-tells_carried is_carrier first first' unsent unsent' came sent given taken log log' reported reported' answer gives split carries reports is =
-    tells_on is_carrier (Some first) (Some first') unsent unsent' log log' reported reported' carries.answers (answer ∷ []) carries.log reports
+    → Agrees is_carrier (Some first) unsent log reported → Agrees is_carrier (Some first') unsent' log' reported'
+agrees_carried is_carrier first first' unsent unsent' came sent given taken log log' reported reported' answer gives split carries reports is =
+    agrees_on is_carrier (Some first) (Some first') unsent unsent' log log' reported reported' carries.answers (answer ∷ []) carries.log reports
     (λ sockets port told.
-    let P : List Traffic → List Traffic → Type 0 = λ s p. AreTold is_carrier (Some first') unsent' s p in
+    let P : List Traffic → List Traffic → Type 0 = λ s p. AreAlike is_carrier (Some first') unsent' s p in
     let Q : List Traffic → Type 0 = λ s. P s (traffic_then port answer) in
     subst Q (sym (carries.carried sockets))
-    (subst (P (with_octets came sent sockets)) (sym (is port)) (told_on is_carrier first first' unsent unsent' came sent given taken sockets port gives split told)))
+    (subst (P (with_octets came sent sockets)) (sym (is port)) (alike_on is_carrier first first' unsent unsent' came sent given taken sockets port gives split told)))
 
 -- an answer without octets
-pub tells_quiet : (is_carrier : Bool) (first : Option (List ℕ)) (unsent : List ℕ) (log reported reported' : Option (List Answer)) (answer : Answer)
+pub agrees_quiet : (is_carrier : Bool) (first : Option (List ℕ)) (unsent : List ℕ) (log reported reported' : Option (List Answer)) (answer : Answer)
     → ((traffic : List Traffic) → traffic_then traffic answer ≡ with_octets [] [] traffic) → Reports reported (answer ∷ []) reported'
-    → Tells is_carrier first unsent log reported → Tells is_carrier first unsent log reported'
-tells_quiet is_carrier first unsent log reported reported' answer is reports =
-    tells_on is_carrier first first unsent unsent log log reported reported' [] (answer ∷ []) (reports_none log) reports
+    → Agrees is_carrier first unsent log reported → Agrees is_carrier first unsent log reported'
+agrees_quiet is_carrier first unsent log reported reported' answer is reports =
+    agrees_on is_carrier first first unsent unsent log log reported reported' [] (answer ∷ []) (reports_none log) reports
     (λ sockets port told.
-    let P : List Traffic → Type 0 = λ p. AreTold is_carrier first unsent sockets p in
+    let P : List Traffic → Type 0 = λ p. AreAlike is_carrier first unsent sockets p in
     subst P (sym (is port ∙ with_none port)) told)
 
 -- the end of a wait is an answer without octets
@@ -269,27 +269,27 @@ waited_quietly wait.Again traffic = refl
 waited_quietly wait.Silent traffic = refl
 
 -- the first octets of the connection that is served
-pub tells_served : (is_carrier : Bool) (served : Option Served) (s : Served) (unsent : List ℕ) (log reported : Option (List Answer)) → served ≡ Some s
-    → Tells is_carrier (first_if_served (option_map connection_of served)) unsent log reported → Tells is_carrier (Some s.first.octets.items) unsent log reported
-tells_served is_carrier served s unsent log reported is tells =
-    let P : Option Served → Type 0 = λ (o : Option Served). Tells is_carrier (first_if_served (option_map connection_of o)) unsent log reported in
-    subst P is tells
+pub agrees_served : (is_carrier : Bool) (served : Option Served) (s : Served) (unsent : List ℕ) (log reported : Option (List Answer)) → served ≡ Some s
+    → Agrees is_carrier (first_if_served (option_map connection_of served)) unsent log reported → Agrees is_carrier (Some s.first.octets.items) unsent log reported
+agrees_served is_carrier served s unsent log reported is agrees =
+    let P : Option Served → Type 0 = λ (o : Option Served). Agrees is_carrier (first_if_served (option_map connection_of o)) unsent log reported in
+    subst P is agrees
 
 -- a write of the port
-pub tells_written : (is_carrier : Bool) (first unsent unsent' : List ℕ) (log log' reported reported' : Option (List Answer)) (put : Put) (octets : List ℕ)
+pub agrees_written : (is_carrier : Bool) (first unsent unsent' : List ℕ) (log log' reported reported' : Option (List Answer)) (put : Put) (octets : List ℕ)
     → PassesOctets log unsent (taken_by put octets) log' unsent' → Reports reported (of_write put octets ∷ []) reported'
-    → Tells is_carrier (Some first) unsent log reported → Tells is_carrier (Some first) unsent' log' reported'
-tells_written is_carrier first unsent unsent' log log' reported reported' put octets passes reports =
-    tells_carried is_carrier first first unsent unsent' [] passes.sent [] (taken_by put octets) log log' reported reported' (of_write put octets)
+    → Agrees is_carrier (Some first) unsent log reported → Agrees is_carrier (Some first) unsent' log' reported'
+agrees_written is_carrier first unsent unsent' log log' reported reported' put octets passes reports =
+    agrees_carried is_carrier first first unsent unsent' [] passes.sent [] (taken_by put octets) log log' reported reported' (of_write put octets)
     (gives_nothing is_carrier first first refl) passes.split passes.carries reports (written put octets)
 
 -- a read of the port, of which this came, and this was given
-tells_came : (is_carrier : Bool) (first first' unsent unsent' came given : List ℕ) (log between log' reported reported' : Option (List Answer)) (answer : Answer)
+agrees_came : (is_carrier : Bool) (first first' unsent unsent' came given : List ℕ) (log between log' reported reported' : Option (List Answer)) (answer : Answer)
     → PassesOctets log unsent [] between unsent' → Carries between came [] log' → Gives is_carrier first first' came given
     → ((traffic : List Traffic) → traffic_then traffic answer ≡ with_octets given [] traffic) → Reports reported (answer ∷ []) reported'
-    → Tells is_carrier (Some first) unsent log reported → Tells is_carrier (Some first') unsent' log' reported'
-tells_came is_carrier first first' unsent unsent' came given log between log' reported reported' answer passes carries gives is reports =
-    tells_carried is_carrier first first' unsent unsent' came passes.sent given [] log log' reported reported' answer gives passes.split
+    → Agrees is_carrier (Some first) unsent log reported → Agrees is_carrier (Some first') unsent' log' reported'
+agrees_came is_carrier first first' unsent unsent' came given log between log' reported reported' answer passes carries gives is reports =
+    agrees_carried is_carrier first first' unsent unsent' came passes.sent given [] log log' reported reported' answer gives passes.split
     (carries_then_came log between log' passes.sent came passes.carries carries) reports is
 
 -- the answers to a read, of which no octet came
@@ -299,90 +299,90 @@ carries_quietly before after answers is log = record { answers = answers; log = 
 
 module _ (is_carrier : Bool) (first first' unsent unsent' octets : List ℕ) (log log' reported reported' : Option (List Answer)) where
   -- a read without octets, for which the sockets gave this answer
-  tells_read_answer : (result : Got) (answer : Answer) → ((traffic : List Traffic) → traffic_then traffic answer ≡ with_octets [] [] traffic) → first_after first (answer ∷ []) ≡ first
+  agrees_read_answer : (result : Got) (answer : Answer) → ((traffic : List Traffic) → traffic_then traffic answer ≡ with_octets [] [] traffic) → first_after first (answer ∷ []) ≡ first
       → ((traffic : List Traffic) → traffic_then traffic (of_read result octets) ≡ with_octets [] [] traffic)
       → (r : ReadsAfterSending is_carrier first log unsent result octets first' log' unsent') → r.reads.answers ≡ answer ∷ [] → Reports reported (of_read result octets ∷ []) reported'
-      → Tells is_carrier (Some first) unsent log reported → Tells is_carrier (Some first') unsent' log' reported'
-  tells_read_answer result answer quiet same is r was =
+      → Agrees is_carrier (Some first) unsent log reported → Agrees is_carrier (Some first') unsent' log' reported'
+  agrees_read_answer result answer quiet same is r was =
       let P : List Answer → Type 0 = λ answers. Reports r.between answers log' in
-      tells_came is_carrier first first' unsent unsent' [] [] log r.between log' reported reported' (of_read result octets) r.passes
+      agrees_came is_carrier first first' unsent unsent' [] [] log r.between log' reported reported' (of_read result octets) r.passes
       (carries_quietly r.between log' (answer ∷ []) quiet (subst P was r.reads.log))
       (gives_nothing is_carrier first first' (r.reads.begins ∙ ap (first_after first) was ∙ same)) is
 
   -- a read for which the sockets were not asked
-  tells_read_none : (result : Got) → ((traffic : List Traffic) → traffic_then traffic (of_read result octets) ≡ with_octets [] [] traffic)
+  agrees_read_none : (result : Got) → ((traffic : List Traffic) → traffic_then traffic (of_read result octets) ≡ with_octets [] [] traffic)
       → (r : ReadsAfterSending is_carrier first log unsent result octets first' log' unsent') → r.reads.answers ≡ [] → Reports reported (of_read result octets ∷ []) reported'
-      → Tells is_carrier (Some first) unsent log reported → Tells is_carrier (Some first') unsent' log' reported'
-  tells_read_none result is r was =
+      → Agrees is_carrier (Some first) unsent log reported → Agrees is_carrier (Some first') unsent' log' reported'
+  agrees_read_none result is r was =
       let P : List Answer → Type 0 = λ answers. Reports r.between answers log' in
-      tells_came is_carrier first first' unsent unsent' [] [] log r.between log' reported reported' (of_read result octets) r.passes
+      agrees_came is_carrier first first' unsent unsent' [] [] log r.between log' reported reported' (of_read result octets) r.passes
       (carries_quietly r.between log' [] (λ traffic. sym (with_none traffic)) (subst P was r.reads.log))
       (gives_nothing is_carrier first first' (r.reads.begins ∙ ap (first_after first) was)) is
 
   -- a read for which octets came
-  tells_read_came : (result : Got) (came given : List ℕ) → (r : ReadsAfterSending is_carrier first log unsent result octets first' log' unsent') → r.reads.answers ≡ Came came ∷ []
+  agrees_read_came : (result : Got) (came given : List ℕ) → (r : ReadsAfterSending is_carrier first log unsent result octets first' log' unsent') → r.reads.answers ≡ Came came ∷ []
       → Gives is_carrier first (take 8 (first ++ came)) came given → ((traffic : List Traffic) → traffic_then traffic (of_read result octets) ≡ with_octets given [] traffic)
-      → Reports reported (of_read result octets ∷ []) reported' → Tells is_carrier (Some first) unsent log reported → Tells is_carrier (Some first') unsent' log' reported'
-  tells_read_came result came given r was gives is =
+      → Reports reported (of_read result octets ∷ []) reported' → Agrees is_carrier (Some first) unsent log reported → Agrees is_carrier (Some first') unsent' log' reported'
+  agrees_read_came result came given r was gives is =
       let P : List Answer → Type 0 = λ answers. Reports r.between answers log' in
       let Q : List ℕ → Type 0 = λ begins. Gives is_carrier first begins came given in
-      tells_came is_carrier first first' unsent unsent' came given log r.between log' reported reported' (of_read result octets) r.passes
+      agrees_came is_carrier first first' unsent unsent' came given log r.between log' reported reported' (of_read result octets) r.passes
       (record { answers = Came came ∷ []; log = subst P was r.reads.log; carried = λ traffic. refl })
       (subst Q (sym (r.reads.begins ∙ ap (first_after first) was)) gives) is
 
   -- a read of the port
-  pub tells_read : (result : Got) → ReadsAfterSending is_carrier first log unsent result octets first' log' unsent' → Reports reported (of_read result octets ∷ []) reported'
-      → Tells is_carrier (Some first) unsent log reported → Tells is_carrier (Some first') unsent' log' reported'
-  tells_read (got.Octets n) r =
-      tells_read_came (got.Octets n) (take n octets) (take n octets) r r.reads.from.0
+  pub agrees_read : (result : Got) → ReadsAfterSending is_carrier first log unsent result octets first' log' unsent' → Reports reported (of_read result octets ∷ []) reported'
+      → Agrees is_carrier (Some first) unsent log reported → Agrees is_carrier (Some first') unsent' log' reported'
+  agrees_read (got.Octets n) r =
+      agrees_read_came (got.Octets n) (take n octets) (take n octets) r r.reads.from.0
       (gives_octets is_carrier first (take 8 (first ++ take n octets)) (take n octets) refl r.reads.from.1) (λ traffic. refl)
-  tells_read got.End r =
+  agrees_read got.End r =
       elim r.reads.from [
-        | inl ended ↦ tells_read_answer got.End InputEnded (λ traffic. refl) refl (λ traffic. refl) r ended
+        | inl ended ↦ agrees_read_answer got.End InputEnded (λ traffic. refl) refl (λ traffic. refl) r ended
         | inr http ↦
-            tells_read_came got.End http.0 [] r http.1
+            agrees_read_came got.End http.0 [] r http.1
             (withholds_octets is_carrier first (take 8 (first ++ http.0)) http.0 refl http.2 http.3) (λ traffic. refl)
       ]
-  tells_read got.Interrupted r = tells_read_answer got.Interrupted ReadInterrupted (λ traffic. refl) refl (λ traffic. refl) r r.reads.from
-  tells_read got.Block r =
+  agrees_read got.Interrupted r = agrees_read_answer got.Interrupted ReadInterrupted (λ traffic. refl) refl (λ traffic. refl) r r.reads.from
+  agrees_read got.Block r =
       elim r.reads.from [
-        | inl none ↦ tells_read_none got.Block (λ traffic. refl) r none
-        | inr blocked ↦ tells_read_answer got.Block ReadBlocked (λ traffic. refl) refl (λ traffic. refl) r blocked
+        | inl none ↦ agrees_read_none got.Block (λ traffic. refl) r none
+        | inr blocked ↦ agrees_read_answer got.Block ReadBlocked (λ traffic. refl) refl (λ traffic. refl) r blocked
       ]
-  tells_read got.Fault r =
+  agrees_read got.Fault r =
       elim r.reads.from [
-        | inl none ↦ tells_read_none got.Fault (λ traffic. refl) r none
-        | inr failed ↦ tells_read_answer got.Fault ReadFailed (λ traffic. refl) refl (λ traffic. refl) r failed
+        | inl none ↦ agrees_read_none got.Fault (λ traffic. refl) r none
+        | inr failed ↦ agrees_read_answer got.Fault ReadFailed (λ traffic. refl) refl (λ traffic. refl) r failed
       ]
 
 -- the port closes its connection, after it sent what the connection took
-pub tells_closed : (is_carrier : Bool) (first unsent unsent' : List ℕ) (log log' reported : Option (List Answer)) → PassesOctets log unsent [] log' unsent'
-    → Tells is_carrier (Some first) unsent log reported → Tells is_carrier None [] log' reported
-tells_closed is_carrier first unsent unsent' log log' reported passes =
-    tells_on is_carrier (Some first) None unsent [] log log' reported reported passes.carries.answers [] passes.carries.log (reports_none reported)
+pub agrees_closed : (is_carrier : Bool) (first unsent unsent' : List ℕ) (log log' reported : Option (List Answer)) → PassesOctets log unsent [] log' unsent'
+    → Agrees is_carrier (Some first) unsent log reported → Agrees is_carrier None [] log' reported
+agrees_closed is_carrier first unsent unsent' log log' reported passes =
+    agrees_on is_carrier (Some first) None unsent [] log log' reported reported passes.carries.answers [] passes.carries.log (reports_none reported)
     (λ sockets port told.
-    let P : List Traffic → List Traffic → Type 0 = λ s p. AreTold is_carrier (Some first) unsent' s p in
+    let P : List Traffic → List Traffic → Type 0 = λ s p. AreAlike is_carrier (Some first) unsent' s p in
     let Q : List Traffic → Type 0 = λ s. P s port in
-    told_ended is_carrier first unsent' (traffic_after sockets passes.carries.answers) port
+    alike_ended is_carrier first unsent' (traffic_after sockets passes.carries.answers) port
     (subst Q (sym (passes.carries.carried sockets))
     (subst (P (with_octets [] passes.sent sockets)) (with_none port)
-    (told_on is_carrier first first unsent unsent' [] passes.sent [] [] sockets port (gives_nothing is_carrier first first refl) passes.split told))))
+    (alike_on is_carrier first first unsent unsent' [] passes.sent [] [] sockets port (gives_nothing is_carrier first first refl) passes.split told))))
 
-pub tells_let_go : (is_carrier : Bool) (served served' : Option Served) (s : Served) (unsent unsent' none : List ℕ) (log log' log'' reported : Option (List Answer))
+pub agrees_let_go : (is_carrier : Bool) (served served' : Option Served) (s : Served) (unsent unsent' none : List ℕ) (log log' log'' reported : Option (List Answer))
     → served ≡ Some s → served' ≡ None → none ≡ [] → log'' ≡ log' → PassesOctets log unsent [] log' unsent'
-    → Tells is_carrier (first_if_served (option_map connection_of served)) unsent log reported → Tells is_carrier (first_if_served (option_map connection_of served')) none log'' reported
-tells_let_go is_carrier served served' s unsent unsent' none log log' log'' reported is gone cleared same passes tells =
-    let P : Option Served → Type 0 = λ (o : Option Served). Tells is_carrier (first_if_served (option_map connection_of o)) none log'' reported in
-    let Q : List ℕ → Type 0 = λ xs. Tells is_carrier None xs log'' reported in
-    let R : Option (List Answer) → Type 0 = λ l. Tells is_carrier None [] l reported in
+    → Agrees is_carrier (first_if_served (option_map connection_of served)) unsent log reported → Agrees is_carrier (first_if_served (option_map connection_of served')) none log'' reported
+agrees_let_go is_carrier served served' s unsent unsent' none log log' log'' reported is gone cleared same passes agrees =
+    let P : Option Served → Type 0 = λ (o : Option Served). Agrees is_carrier (first_if_served (option_map connection_of o)) none log'' reported in
+    let Q : List ℕ → Type 0 = λ xs. Agrees is_carrier None xs log'' reported in
+    let R : Option (List Answer) → Type 0 = λ l. Agrees is_carrier None [] l reported in
     subst P (sym gone) (subst Q (sym cleared) (subst R (sym same)
-    (tells_closed is_carrier s.first.octets.items unsent unsent' log log' reported passes (tells_served is_carrier served s unsent log reported is tells))))
+    (agrees_closed is_carrier s.first.octets.items unsent unsent' log log' reported passes (agrees_served is_carrier served s unsent log reported is agrees))))
 
 -- a connection begins
-pub tells_opened : (is_carrier : Bool) (unsent : List ℕ) (log log' reported reported' : Option (List Answer)) → Reports log (Opened ∷ []) log' → Reports reported (Opened ∷ []) reported'
-    → Tells is_carrier None unsent log reported → Tells is_carrier (Some []) [] log' reported'
-tells_opened is_carrier unsent log log' reported reported' logged reports =
-    tells_on is_carrier None (Some []) unsent [] log log' reported reported' (Opened ∷ []) (Opened ∷ []) logged reports
+pub agrees_opened : (is_carrier : Bool) (unsent : List ℕ) (log log' reported reported' : Option (List Answer)) → Reports log (Opened ∷ []) log' → Reports reported (Opened ∷ []) reported'
+    → Agrees is_carrier None unsent log reported → Agrees is_carrier (Some []) [] log' reported'
+agrees_opened is_carrier unsent log log' reported reported' logged reports =
+    agrees_on is_carrier None (Some []) unsent [] log log' reported reported' (Opened ∷ []) (Opened ∷ []) logged reports
     (λ sockets port told. (record { given = given_none is_carrier; begins = refl; taken = refl }, told))
   where
     given_none : (is_carrier : Bool) → WereGiven is_carrier [] []
@@ -397,5 +397,5 @@ has_begun log log' logged = record {
 }
 
 -- the witness keeps nothing
-pub tells_nothing : (is_carrier : Bool) (first : Option (List ℕ)) (unsent : List ℕ) (log : Option (List Answer)) → Tells is_carrier first unsent log None
-tells_nothing is_carrier first unsent log = record { tells = λ answers told is also. absurd (cc) }
+pub agrees_nothing : (is_carrier : Bool) (first : Option (List ℕ)) (unsent : List ℕ) (log : Option (List Answer)) → Agrees is_carrier first unsent log None
+agrees_nothing is_carrier first unsent log = record { agrees = λ answers told is also. absurd (cc) }

@@ -60,6 +60,12 @@ none_kept [] empty holds is = refl
 none_kept (x ∷ waiting) empty holds is =
     let none : length (x ∷ waiting) ≡ 0 = eqb-true (length (x ∷ waiting)) 0 (sym is ∙ holds) in absurd (omega (arith, none))
 
+-- the same, by the test that none are kept
+pub passes_at_once : (log log' : Option (List Answer)) (waiting octets : List ℕ) (put : Put) (empty : Bool) → empty ≡ true → empty ≡ nat_eq (length waiting) 0
+    → Reports log (of_write put octets ∷ []) log' → PassesOctets log waiting (taken_by put octets) log' waiting
+passes_at_once log log' waiting octets put empty holds is logged =
+    passes_written log log' waiting octets put (none_kept waiting empty holds is) logged
+
 -- if what is written is kept
 pub passes_kept : (log log' : Option (List Answer)) (waiting octets waiting' : List ℕ) → Carries log [] [] log' → waiting' ≡ waiting ++ octets → PassesOctets log waiting octets log' waiting'
 passes_kept log log' waiting octets waiting' carries kept = record { sent = []; carries = carries; split = sym kept }

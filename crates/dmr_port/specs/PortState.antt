@@ -21,7 +21,7 @@ use Rattle.dmr_port.specs.FirstOctets.{IsHello, begins_http}
 use Rattle.dmr_port.specs.Patience.{new_patience, patience_after_octets, patience_after_wait}
 use Rattle.dmr_port.specs.Served.{cause_of_served}
 use Rattle.dmr_port.specs.Settings.{is_carrier}
-use Rattle.dmr_port.specs.Record.{Tells, Traffic, no_traffic, traffic_of}
+use Rattle.dmr_port.specs.Record.{Agrees, Traffic, no_traffic, traffic_of}
 use Rattle.dmr_port.specs.Unsent.{PassesOctets, ReadsAfterSending}
 
 -- the connection that is served: how long the port has waited for it, its first eight octets, and why it ended, if that
@@ -53,9 +53,9 @@ abbrev pub first_if_served : Option Connection → Option (List ℕ)
 first_if_served None = None
 first_if_served (Some c) = Some c.first
 
--- a port: its settings, its connection, if there is one, the octets that are kept for the connection, and what the sockets
--- answered, if that is known. Also the number of newcomers, the octets that were given in the window, and who sees the
--- port's answers
+-- a port: its settings, its connection, if there is one, the octets that are kept for the connection, and what the
+-- sockets answered, if that is known. Also the number of newcomers, the octets that were given in the window, and who
+-- sees the port's answers
 pub record PortState (W : Type 0) : Type 0 where
   pub settings : PortSettings
   pub connection : Option Connection
@@ -78,11 +78,11 @@ empty_port settings log witness =
       witness = witness;
     }
 
--- the port's record tells what its sockets answered
-abbrev pub PortTells : {W : Type 0} → (W → Option (List Answer)) → PortState W → Type 0
-PortTells told port =
-    Tells (is_carrier port.settings.whose) (first_if_served port.connection) port.unsent port.log
-    (told port.witness)
+-- the port's record agrees with the log of its sockets
+abbrev pub PortAgrees : {W : Type 0} → (W → Option (List Answer)) → PortState W → Type 0
+PortAgrees reported port =
+    Agrees (is_carrier port.settings.whose) (first_if_served port.connection) port.unsent port.log
+    (reported port.witness)
 
 -- the sockets' newest connection is one on which no octet came, and none was taken, if their log is known
 pub record HasBegun (log : Option (List Answer)) : Type 0 where

@@ -1,5 +1,5 @@
--- What a port's record has to do with what its sockets answered: of each connection, the octets that came and those that
--- were taken.
+-- What a port's record has to do with what its sockets answered: of each connection, the octets that came and those
+-- that were taken.
 use Rattle.std.specs.Prelude.{◌≡◌, ◌≢◌, ◌⊎◌, ◌++◌, ◌||◌, Bool, true, false, not, ℕ, List, [], ◌∷◌}
 use Rattle.std.specs.Prelude.{Option, Some, None, take}
 use Rattle.dmr_wire.specs.declared.wire.Got.{Got}
@@ -90,36 +90,37 @@ pub record WereGiven (is_carrier : Bool) (came given : List ℕ) : Type 0 where
   pub http : withheld ≢ [] → (is_carrier ≡ false) × (begins_http (take 8 came) ≡ true)
   pub admitted : is_carrier || not (begins_http (take 8 given)) ≡ true
 
--- the connection that is served, as its sockets and as the port's record tell it: the sockets took what the port took,
--- except for what is kept
-pub record IsTelling (is_carrier : Bool) (first unsent : List ℕ)
+-- the connection that is served, as its sockets' log and as the port's record have it: the sockets took what the port
+-- took, except for what is kept
+pub record IsServedAlike (is_carrier : Bool) (first unsent : List ℕ)
     (sockets port : Traffic) : Type 0 where
   pub given : WereGiven is_carrier sockets.came port.came
   pub begins : first ≡ take 8 sockets.came
   pub taken : port.taken ≡ sockets.taken ++ unsent
 
 -- a connection that has ended: what was kept was dropped, and the sockets took no octet after it
-pub record HasTold (is_carrier : Bool) (sockets port : Traffic) : Type 0 where
+pub record HasEndedAlike (is_carrier : Bool) (sockets port : Traffic) : Type 0 where
   pub dropped : List ℕ
   pub given : WereGiven is_carrier sockets.came port.came
   pub taken : port.taken ≡ sockets.taken ++ dropped
 
--- connections that have ended, each as its sockets and as the port's record tell it
-abbrev pub HaveTold : Bool → List Traffic → List Traffic → Type 0
-HaveTold is_carrier [] [] = Unit {0}
-HaveTold is_carrier (s ∷ sockets) (p ∷ port) =
-    HasTold is_carrier s p × HaveTold is_carrier sockets port
-HaveTold is_carrier sockets port = ⊥
+-- connections that have ended, each as the log and as the record have it
+abbrev pub HaveEndedAlike : Bool → List Traffic → List Traffic → Type 0
+HaveEndedAlike is_carrier [] [] = Unit {0}
+HaveEndedAlike is_carrier (s ∷ sockets) (p ∷ port) =
+    HasEndedAlike is_carrier s p × HaveEndedAlike is_carrier sockets port
+HaveEndedAlike is_carrier sockets port = ⊥
 
--- all connections, the newest first. If one is served, with these first octets and these that are kept, it is the newest
-abbrev pub AreTold : Bool → Option (List ℕ) → List ℕ → List Traffic → List Traffic → Type 0
-AreTold is_carrier None unsent sockets port = HaveTold is_carrier sockets port
-AreTold is_carrier (Some first) unsent (s ∷ sockets) (p ∷ port) =
-    IsTelling is_carrier first unsent s p × HaveTold is_carrier sockets port
-AreTold is_carrier (Some first) unsent sockets port = ⊥
+-- all connections, the newest first. If one is served, with these first octets and these that are kept, it is the
+-- newest
+abbrev pub AreAlike : Bool → Option (List ℕ) → List ℕ → List Traffic → List Traffic → Type 0
+AreAlike is_carrier None unsent sockets port = HaveEndedAlike is_carrier sockets port
+AreAlike is_carrier (Some first) unsent (s ∷ sockets) (p ∷ port) =
+    IsServedAlike is_carrier first unsent s p × HaveEndedAlike is_carrier sockets port
+AreAlike is_carrier (Some first) unsent sockets port = ⊥
 
--- the port's record tells what its sockets answered, if both are known
-pub record Tells (is_carrier : Bool) (first : Option (List ℕ)) (unsent : List ℕ)
+-- the port's record agrees with the log of its sockets, if both are known
+pub record Agrees (is_carrier : Bool) (first : Option (List ℕ)) (unsent : List ℕ)
     (log reported : Option (List Answer)) : Type 0 where
-  pub tells : (answers told : List Answer) → log ≡ Some answers → reported ≡ Some told
-      → AreTold is_carrier first unsent (traffic_of answers) (traffic_of told)
+  pub agrees : (logged answered : List Answer) → log ≡ Some logged → reported ≡ Some answered
+      → AreAlike is_carrier first unsent (traffic_of logged) (traffic_of answered)

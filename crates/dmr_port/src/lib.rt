@@ -28,7 +28,7 @@ mod witness;
 pub use cause::EndCause;
 pub use note_limit::{NoteLimit, Verdict};
 pub use notes::{Note, NoteKind, PortNotes};
-pub use port_laws::nothing_is_told;
+pub use port_laws::empty_records_agree;
 pub use serving_port::ServingPort;
 pub use settings::PortSettings;
 pub use sockets::{Accepted, Peeked, Ready, Sockets};

@@ -9,9 +9,9 @@ ghost use Rattle.dmr_wire.specs.Answers.{of_wait, of_write};
 ghost use Rattle.dmr_port.specs.Budget.{Gives};
 ghost use Rattle.dmr_port.specs.Causes.{cause_of_closing};
 ghost use Rattle.dmr_port.specs.PortState.{HasRead, HasWaited, IsFresh, Passes, PassesThenReads};
-ghost use Rattle.dmr_port.specs.PortState.{PortTells, connection_after_write, count_of, empty_port};
+ghost use Rattle.dmr_port.specs.PortState.{PortAgrees, connection_after_write, count_of, empty_port};
 ghost use Rattle.dmr_port.specs.PortState.{keeps_octets, unread_of, with_cause};
-ghost use Rattle.dmr_port.specs.Record.{Tells};
+ghost use Rattle.dmr_port.specs.Record.{Agrees};
 ghost use Rattle.dmr_port.specs.Settings.{is_carrier};
 ghost use Rattle.dmr_port.specs.Sockets.{taken_by};
 
@@ -58,9 +58,9 @@ const MOST_ACCEPTS: usize = 16;
 ///
 /// The numbers are this project's profile.
 ///
-/// A witness sees each answer, and the port's record is what it keeps. So if the sockets' log is known too, the record
-/// tells it, connection by connection: what came was given, and what was taken was sent, or is kept, or was dropped at
-/// the connection's end. The program's port has no witness.
+/// A witness sees each answer, and the port's record is what it keeps. If the sockets' log is known too, the two agree,
+/// connection by connection. What came was given to the link. What was taken from it was sent, or is kept, or was
+/// dropped at the connection's end. The program's port has no witness.
 #[derive(Drop)]
 pub struct ServingPort<S: Sockets + Drop, N: PortNotes + Drop, W: Witness + Drop = NoWitness> {
     sockets: S,
@@ -85,7 +85,7 @@ impl<S: Sockets + Drop, N: PortNotes + Drop, W: Witness + Drop> Model for Servin
     ghost use Rattle.std.specs.Option.{is_some};
     ghost use Rattle.arrayvec.specs.ArrayVec.{array_vec_len};
     ghost use Rattle.dmr_port.specs.PortState.{PortState, connection_of, first_if_served};
-    ghost use Rattle.dmr_port.specs.Record.{Tells};
+    ghost use Rattle.dmr_port.specs.Record.{Agrees};
     ghost use Rattle.dmr_port.specs.Settings.{is_carrier};
 
     ghost Value = { PortState W };
@@ -104,14 +104,14 @@ impl<S: Sockets + Drop, N: PortNotes + Drop, W: Witness + Drop> Model for Servin
         × (S.waiting p.sockets ≡ array_vec_len p.room.newcomers)
         × (array_vec_len p.room.newcomers ≤ 8) × (is_some p.served ≡ false → p.unsent ≡ [])
         × (p.budget.given ≤ 512)
-        × Tells (is_carrier p.settings.whose) (first_if_served (option_map connection_of p.served))
-        p.unsent (S.log p.sockets) (W.told p.witness) };
+        × Agrees (is_carrier p.settings.whose) (first_if_served (option_map connection_of p.served))
+        p.unsent (S.log p.sockets) (W.reported p.witness) };
 }
 
 impl<S: Sockets + Drop, N: PortNotes + Drop> ServingPort<S, N> {
     /// Makes a port over sockets that have no connection and no newcomer. It has no witness. On an error an allocation
     /// was refused; the error returns the sockets and the notes.
-    #[tactic(auto, using(crate::proofs::RecordLemmas::tells_nothing))]
+    #[tactic(auto, using(crate::proofs::RecordLemmas::agrees_nothing))]
     pub fn new(
         alloc: Global,
         sockets: S,
@@ -143,7 +143,8 @@ impl<S: Sockets + Drop, N: PortNotes + Drop, W: Witness + Drop> ServingPort<S, N
     ) -> Result<ServingPort<S, N, W>, (OutOfMemory, S, N, W)>
         requires connection { S.is_open sockets ≡ false }
         requires newcomers { S.waiting sockets ≡ 0 }
-        requires record { Tells (is_carrier settings.whose) None [] (S.log sockets) (W.told witness) }
+        requires record { Agrees (is_carrier settings.whose) None []
+            (S.log sockets) (W.reported witness) }
         ensures ok { IfOk result (λ port. port ≡ empty_port settings (S.log sockets) witness) }
         ensures err { IfErr result (λ refused. (refused.1 ≡ sockets) × (refused.2 ≡ notes)
             × (refused.3 ≡ witness)) }
@@ -178,10 +179,10 @@ impl<S: Sockets + Drop, N: PortNotes + Drop, W: Witness + Drop> ServingPort<S, N
         &self.witness
     }
 
-    /// Does nothing. A proof that calls it learns that the port's record tells what its sockets answered, if both are
-    /// known (`PortTells`).
+    /// Does nothing. A proof that calls it learns that the port's record agrees with the log of its sockets, if both
+    /// are known (`PortAgrees`).
     pub fn use_invariant(&self)
-        ensures { PortTells W.told self.now }
+        ensures { PortAgrees W.reported self.now }
     {
         let _ = &self.witness;
     }
@@ -203,7 +204,6 @@ impl<S: Sockets + Drop, N: PortNotes + Drop, W: Witness + Drop> ServingPort<S, N
     }
 
     /// Closes the connection that is served, if there is one. Kept octets that it does not take at once are lost.
-    #[tactic(auto, using(crate::proofs::RecordLemmas::tells_closed))]
     fn let_go(&mut self)
         ensures { self.new
             ≡ record self.old { connection = None; unsent = []; log = self.new.log } }
@@ -223,7 +223,7 @@ impl<S: Sockets + Drop, N: PortNotes + Drop, W: Witness + Drop> ServingPort<S, N
 
     /// Serves the newcomer at a place, and answers so to the link. Returns `false` if it cannot be polled; it is then
     /// closed, and nothing is answered.
-    #[tactic(auto, using(crate::proofs::RecordLemmas::tells_opened, crate::proofs::RecordLemmas::has_begun))]
+    #[tactic(auto, using(crate::proofs::RecordLemmas::agrees_opened, crate::proofs::RecordLemmas::has_begun))]
     fn serve(&mut self, place: usize) -> bool
         requires place { place < self.old.waiting }
         requires connection { self.old.connection ≡ None }
@@ -233,7 +233,7 @@ impl<S: Sockets + Drop, N: PortNotes + Drop, W: Witness + Drop> ServingPort<S, N
         ensures settings { self.new.settings ≡ self.old.settings }
         ensures window { self.new.window ≡ self.old.window }
         ensures answers { result ≡ true
-            → Reports (W.told self.old.witness) (Opened ∷ []) (W.told self.new.witness) }
+            → Reports (W.reported self.old.witness) (Opened ∷ []) (W.reported self.new.witness) }
         ensures silent { result ≡ false → self.new.witness ≡ self.old.witness }
     {
         let from = self.room.remove(place).from;
@@ -262,8 +262,8 @@ impl<S: Sockets + Drop, N: PortNotes + Drop, W: Witness + Drop> ServingPort<S, N
         ensures answer { result ≡ Connect.NotYet }
         ensures port { self.new ≡ record self.old { witness = self.new.witness } }
         ensures few { self.new.waiting ≤ 8 }
-        ensures reported { Reports (W.told self.old.witness) (of_connect Connect.NotYet ∷ [])
-            (W.told self.new.witness) }
+        ensures reported { Reports (W.reported self.old.witness) (of_connect Connect.NotYet ∷ [])
+            (W.reported self.new.witness) }
     {
         self.witness.see(RecordEntry::Connect(Connect::NotYet), &[]);
         Connect::NotYet
@@ -421,7 +421,7 @@ impl<S: Sockets + Drop, N: PortNotes + Drop, W: Witness + Drop> ServingPort<S, N
 }
 
 impl<S: Sockets + Drop, N: PortNotes + Drop, W: Witness + Drop> Wire for ServingPort<S, N, W> {
-    ghost reported = { λ port. W.told port.witness };
+    ghost reported = { λ port. W.reported port.witness };
 
     /// Reads octets of the connection, after sending those that are kept. The read would block if some of these are
     /// left, or if the window's octets have been returned. It would also block if the system had no more at the last
@@ -429,8 +429,8 @@ impl<S: Sockets + Drop, N: PortNotes + Drop, W: Witness + Drop> Wire for Serving
     fn read(&mut self, octets: &mut [u8]) -> Got
         requires { 0 < length octets.old }
         ensures within { GotWithin result (length octets.new) }
-        ensures reported { Reports (W.told self.old.witness) (of_read result octets.new ∷ [])
-            (W.told self.new.witness) }
+        ensures reported { Reports (W.reported self.old.witness) (of_read result octets.new ∷ [])
+            (W.reported self.new.witness) }
         ensures passes { PassesThenReads self.old result octets.new self.new }
         ensures behind { (count : ℕ) → result ≡ Got.Octets count → self.new.unsent ≡ [] }
         ensures budget { Gives self.old.window (count_of result) self.new.window }
@@ -463,8 +463,8 @@ impl<S: Sockets + Drop, N: PortNotes + Drop, W: Witness + Drop> Wire for Serving
     fn write(&mut self, octets: &[u8]) -> Put
         requires { 0 < length octets.now }
         ensures within { PutWithin result (length octets.now) }
-        ensures reported { Reports (W.told self.old.witness) (of_write result octets.now ∷ [])
-            (W.told self.new.witness) }
+        ensures reported { Reports (W.reported self.old.witness) (of_write result octets.now ∷ [])
+            (W.reported self.new.witness) }
         ensures passes { Passes self.old (taken_by result octets.now) self.new }
         ensures connection { self.new.connection
             ≡ option_map (connection_after_write result) self.old.connection }
@@ -487,8 +487,8 @@ impl<S: Sockets + Drop, N: PortNotes + Drop, W: Witness + Drop> Port for Serving
     /// Closes the connection that is served, and serves the next newcomer. If nobody waits, it waits for a part of a
     /// wait.
     fn connect(&mut self) -> Connect
-        ensures reported { Reports (W.told self.old.witness) (of_connect result ∷ [])
-            (W.told self.new.witness) }
+        ensures reported { Reports (W.reported self.old.witness) (of_connect result ∷ [])
+            (W.reported self.new.witness) }
         ensures ready { result ≡ Connect.Ready → IsFresh self.new }
         ensures none { result ≡ Connect.NotYet → self.new.connection ≡ None }
         ensures goes { result ≢ Connect.Finished }
@@ -515,8 +515,8 @@ impl<S: Sockets + Drop, N: PortNotes + Drop, W: Witness + Drop> Port for Serving
     /// Waits until the connection can be read, or written if octets are kept, at most for a part of a wait. Accepts
     /// newcomers meanwhile. `Silent`: the connection is given up, or there is none.
     fn wait(&mut self) -> Waited
-        ensures reported { Reports (W.told self.old.witness) (of_wait result ∷ [])
-            (W.told self.new.witness) }
+        ensures reported { Reports (W.reported self.old.witness) (of_wait result ∷ [])
+            (W.reported self.new.witness) }
         ensures judged { HasWaited self.old.settings.silence
             (keeps_octets self.old.unsent) self.old.connection self.new.connection result }
         ensures few { self.new.waiting ≤ 8 }

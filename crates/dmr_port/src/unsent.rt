@@ -78,7 +78,7 @@ impl Unsent {
     /// Writes octets after the kept ones. If none were kept, it first tries to write them at once. Octets that the
     /// connection does not take then are kept, as many as there is room for. `Octets` counts those that were taken or
     /// are now kept, the first of the slice. With any other answer none was taken, and the kept octets are unchanged.
-    #[tactic(auto, using(crate::proofs::UnsentLemmas::passes_written, crate::proofs::UnsentLemmas::passes_kept))]
+    #[tactic(auto, using(crate::proofs::UnsentLemmas::passes_at_once, crate::proofs::UnsentLemmas::passes_kept))]
     pub fn write<S: Sockets>(&mut self, sockets: &mut S, octets: &[u8]) -> Put
         requires connection { S.is_open sockets.old ≡ true }
         requires some { 0 < length octets.now }

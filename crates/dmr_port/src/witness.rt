@@ -9,12 +9,12 @@ use dmr_wire::RecordEntry;
 /// Sees each answer of a port. A port's record is what its witness keeps of them.
 pub trait Witness {
     /// The answers that it has seen, oldest first, if it keeps them. It may stop keeping them at any call.
-    ghost told: { Self → Option (List Answer) };
+    ghost reported: { Self → Option (List Answer) };
 
     /// Sees an answer. Its octets, if it has any, are the first of the slice.
     fn see(&mut self, entry: RecordEntry, octets: &[u8])
-        ensures { Reports (told self.old) (answer_of entry octets.now octets.now ∷ [])
-            (told self.new) };
+        ensures { Reports (reported self.old) (answer_of entry octets.now octets.now ∷ [])
+            (reported self.new) };
 }
 
 /// A witness that keeps nothing.
@@ -24,7 +24,7 @@ pub struct NoWitness;
 impl Witness for NoWitness {
     ghost use Rattle.std.specs.Prelude.{None};
 
-    ghost told = { λ w. None };
+    ghost reported = { λ w. None };
 
     fn see(&mut self, entry: RecordEntry, octets: &[u8]) {
         let _ = entry;

@@ -18,7 +18,7 @@ pub struct Kept {
     pub octets: Vec<u8>,
 }
 
-/// All answers so far, oldest first. If an allocation is refused, none are told from then on.
+/// All answers so far, oldest first. If an allocation is refused, none are kept from then on.
 #[derive(Debug, Drop)]
 pub struct Answers {
     alloc: Global,
@@ -72,7 +72,7 @@ impl Answers {
 }
 
 impl Witness for Answers {
-    ghost told = { λ a. a };
+    ghost reported = { λ a. a };
 
     fn see(&mut self, entry: RecordEntry, octets: &[u8]) {
         self.add(entry, octets);

@@ -1,7 +1,7 @@
 use Rattle.std.proofs.Common.{◌≡◌, ◌∙◌, Some, ap, sym}
 use Rattle.std.specs.Option.{is_some}
 use Rattle.dmr_port.specs.Settings.{is_carrier}
-use Rattle.dmr_port.proofs.RecordLemmas.{tells_let_go}
+use Rattle.dmr_port.proofs.RecordLemmas.{agrees_let_go}
 use Rattle.dmr_port.proofs.serving_port.ServingPort.let_go.Goals as goal
 
 pub invariant_of-self-2 : goal.invariant_of-self-2
@@ -15,6 +15,6 @@ invariant_of-self-2 g c =
       i.2,
       λ none. c.clear.ensures,
       i.4,
-      tells_let_go (is_carrier p.settings.whose) p.served c.take.new.self c.in-Some.served p.unsent c.send_all.new.self c.clear.new.self (log p.sockets) (log c.send_all.new.sockets) (log c.close.new.self) (g.W.Witness.told p.witness)
+      agrees_let_go (is_carrier p.settings.whose) p.served c.take.new.self c.in-Some.served p.unsent c.send_all.new.self c.clear.new.self (log p.sockets) (log c.send_all.new.sockets) (log c.close.new.self) (g.W.Witness.reported p.witness)
           served c.take.ensures.after c.clear.ensures c.close.ensures.log c.send_all.ensures.passes i.5,
     )

@@ -2,7 +2,7 @@ use Rattle.std.specs.Prelude.{option_map}
 use Rattle.dmr_wire.specs.Answers.{of_wait}
 use Rattle.dmr_port.specs.PortState.{connection_of, first_if_served}
 use Rattle.dmr_port.specs.Settings.{is_carrier}
-use Rattle.dmr_port.proofs.RecordLemmas.{tells_quiet, waited_quietly}
+use Rattle.dmr_port.proofs.RecordLemmas.{agrees_quiet, waited_quietly}
 use Rattle.dmr_port.proofs.serving_port.ServingPortPort.wait.Goals as goal
 
 pub invariant_of-self : goal.invariant_of-self
@@ -15,6 +15,6 @@ invariant_of-self g c =
       i.2,
       i.3,
       i.4,
-      tells_quiet (is_carrier p.settings.whose) (first_if_served (option_map connection_of p.served)) p.unsent (g.S.Sockets.log p.sockets)
-          (g.W.Witness.told p.witness) (g.W.Witness.told c.see.new.self) (of_wait waited) (waited_quietly waited) c.see.ensures i.5,
+      agrees_quiet (is_carrier p.settings.whose) (first_if_served (option_map connection_of p.served)) p.unsent (g.S.Sockets.log p.sockets)
+          (g.W.Witness.reported p.witness) (g.W.Witness.reported c.see.new.self) (of_wait waited) (waited_quietly waited) c.see.ensures i.5,
     )

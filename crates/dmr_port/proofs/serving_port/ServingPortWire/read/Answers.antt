@@ -6,7 +6,7 @@ use Rattle.dmr_port.specs.PortState.{connection_of, first_if_served}
 use Rattle.dmr_port.specs.Settings.{is_carrier}
 use Rattle.dmr_port.specs.Unsent.{ReadsAfterSending}
 use Rattle.dmr_port.proofs.ReadingLemmas.{reads_unserved}
-use Rattle.dmr_port.proofs.RecordLemmas.{tells_quiet, tells_read, tells_served}
+use Rattle.dmr_port.proofs.RecordLemmas.{agrees_quiet, agrees_read, agrees_served}
 use Rattle.dmr_port.proofs.serving_port.ServingPortWire.read.Goals as goal
 
 pub invariant_of-self : goal.invariant_of-self
@@ -18,8 +18,8 @@ invariant_of-self g c =
       i.2,
       i.3,
       i.4,
-      tells_quiet (is_carrier p.settings.whose) (first_if_served (option_map connection_of p.served)) p.unsent (g.S.Sockets.log p.sockets)
-          (g.W.Witness.told p.witness) (g.W.Witness.told c.see.new.self) ReadFailed (λ traffic. refl) c.see.ensures i.5,
+      agrees_quiet (is_carrier p.settings.whose) (first_if_served (option_map connection_of p.served)) p.unsent (g.S.Sockets.log p.sockets)
+          (g.W.Witness.reported p.witness) (g.W.Witness.reported c.see.new.self) ReadFailed (λ traffic. refl) c.see.ensures i.5,
     )
 
 pub returns-in_default-clause-passes : goal.returns-in_default-clause-passes
@@ -32,7 +32,7 @@ invariant_of-self-2 g c =
     let r = c.read_connection-got in
     let s = c.in-Some.served in
     let log = g.S.Sockets.log in
-    let told = g.W.Witness.told in
+    let told = g.W.Witness.reported in
     let few : r.new.budget.given ≤ 512 = search rules in
     let P : Bool → Type 0 = λ carrier. ReadsAfterSending carrier s.first.octets.items (log p.sockets) p.unsent r.result r.new.octets r.new.served.first.octets.items (log r.new.sockets) r.new.unsent in (
       r.ensures.connection,
@@ -40,7 +40,7 @@ invariant_of-self-2 g c =
       i.2,
       λ off. absurd (false≢true (sym off)),
       few,
-      tells_read (is_carrier p.settings.whose) s.first.octets.items r.new.served.first.octets.items p.unsent r.new.unsent r.new.octets (log p.sockets) (log r.new.sockets)
+      agrees_read (is_carrier p.settings.whose) s.first.octets.items r.new.served.first.octets.items p.unsent r.new.unsent r.new.octets (log p.sockets) (log r.new.sockets)
           (told p.witness) (told c.see-2.new.self) r.result (subst P c.is_carrier-is_carrier.ensures r.ensures.passes) c.see-2.ensures
-          (tells_served (is_carrier p.settings.whose) p.served s p.unsent (log p.sockets) (told p.witness) c.in-Some.is i.5),
+          (agrees_served (is_carrier p.settings.whose) p.served s p.unsent (log p.sockets) (told p.witness) c.in-Some.is i.5),
     )

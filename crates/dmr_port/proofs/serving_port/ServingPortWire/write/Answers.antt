@@ -3,11 +3,11 @@ use Rattle.std.specs.Prelude.{option_map}
 use Rattle.std.proofs.lemmas.Bool.{false≢true}
 use Rattle.dmr_wire.specs.Answers.{WriteFailed}
 use Rattle.dmr_port.specs.PortState.{connection_of, first_if_served}
-use Rattle.dmr_port.specs.Record.{Tells}
+use Rattle.dmr_port.specs.Record.{Agrees}
 use Rattle.dmr_port.specs.Settings.{is_carrier}
 use Rattle.dmr_port.specs.Sockets.{taken_by}
 use Rattle.dmr_port.specs.Unsent.{PassesOctets}
-use Rattle.dmr_port.proofs.RecordLemmas.{tells_quiet, tells_served, tells_written}
+use Rattle.dmr_port.proofs.RecordLemmas.{agrees_quiet, agrees_served, agrees_written}
 use Rattle.dmr_port.proofs.UnsentLemmas.{answered_as_taken, first_after_write, passes_nothing}
 use Rattle.dmr_port.proofs.serving_port.ServingPortWire.write.Goals as goal
 
@@ -20,8 +20,8 @@ invariant_of-self g c =
       i.2,
       i.3,
       i.4,
-      tells_quiet (is_carrier p.settings.whose) (first_if_served (option_map connection_of p.served)) p.unsent (g.S.Sockets.log p.sockets)
-          (g.W.Witness.told p.witness) (g.W.Witness.told c.see.new.self) WriteFailed (λ traffic. refl) c.see.ensures i.5,
+      agrees_quiet (is_carrier p.settings.whose) (first_if_served (option_map connection_of p.served)) p.unsent (g.S.Sockets.log p.sockets)
+          (g.W.Witness.reported p.witness) (g.W.Witness.reported c.see.new.self) WriteFailed (λ traffic. refl) c.see.ensures i.5,
     )
 
 pub returns-in_default-clause-passes : goal.returns-in_default-clause-passes
@@ -37,9 +37,9 @@ invariant_of-self-2 g c =
     let octets = c.args.octets.now in
     let carrier = is_carrier p.settings.whose in
     let log = g.S.Sockets.log in
-    let told = g.W.Witness.told in
+    let told = g.W.Witness.reported in
     let P : List ℕ → Type 0 = λ taken. PassesOctets (log p.sockets) p.unsent taken (log w.new.sockets) w.new.self in
-    let Q : List ℕ → Type 0 = λ first. Tells carrier (Some first) w.new.self (log w.new.sockets) (told c.see-2.new.self) in
+    let Q : List ℕ → Type 0 = λ first. Agrees carrier (Some first) w.new.self (log w.new.sockets) (told c.see-2.new.self) in
     let taken : taken_by w.result octets ≡ taken_by a.result octets =
     sym (ap (λ put. taken_by put octets) a.ensures.answer ∙ answered_as_taken w.result octets) in
     let first = first_after_write a.result (connection_of s) (connection_of a.new.self) a.ensures.connection in (
@@ -49,6 +49,6 @@ invariant_of-self-2 g c =
       λ off. absurd (false≢true (sym off)),
       i.4,
       subst Q (sym first)
-          (tells_written carrier s.first.octets.items p.unsent w.new.self (log p.sockets) (log w.new.sockets) (told p.witness) (told c.see-2.new.self) a.result octets
-          (subst P taken w.ensures.passes) c.see-2.ensures (tells_served carrier p.served s p.unsent (log p.sockets) (told p.witness) c.in-Some.is i.5)),
+          (agrees_written carrier s.first.octets.items p.unsent w.new.self (log p.sockets) (log w.new.sockets) (told p.witness) (told c.see-2.new.self) a.result octets
+          (subst P taken w.ensures.passes) c.see-2.ensures (agrees_served carrier p.served s p.unsent (log p.sockets) (told p.witness) c.in-Some.is i.5)),
     )

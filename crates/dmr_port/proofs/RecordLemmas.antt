@@ -167,7 +167,7 @@ none_more is_carrier came given before =
     let Q : List ℕ → Type 0 = λ xs. P xs (given ++ []) in
     subst Q (sym (append-nil came)) (subst (P came) (sym (append-nil given)) before)
 
--- what the port gives of what comes, at any connection with these first octets
+-- what the link is given of what comes, at any connection with these first octets
 abbrev pub Gives : Bool → List ℕ → List ℕ → List ℕ → List ℕ → Type 0
 Gives is_carrier first first' came given =
     (from into : List ℕ) → WereGiven is_carrier from into → first ≡ take 8 from

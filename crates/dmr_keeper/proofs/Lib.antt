@@ -1,0 +1,5 @@
+pub mod LoopLemmas
+pub mod JoinLemmas
+pub mod SiteLemmas
+pub mod CountLemmas
+pub mod CauseLemmas

@@ -1,0 +1,103 @@
+-- What is carried is the site's.
+use Rattle.std.proofs.Common.{◌≡◌, ℕ, List, [], ◌∷◌, ◌++◌, Bool, true, false, length, map, refl, arith, ap, sym, ◌∙◌, reverse}
+use Rattle.std.specs.Prelude.{◌==◌, not, filter, fold, cond}
+use Rattle.std.proofs.lemmas.List.{length-map, map-append, reverse-append}
+use Rattle.dmr_plan.specs.declared.settings.Settings.{Settings}
+use Rattle.dmr_calls.specs.declared.line.Line.{Line}
+use Rattle.dmr_calls.specs.declared.call.ActiveCall.{ActiveCall}
+use Rattle.dmr_calls.specs.Calls.{is_slot, one_tick_older, with_activity}
+use Rattle.dmr_core.specs.declared.event.Event.{Event}
+use Rattle.dmr_core.specs.declared.event.Event.TheVariants.{Up, Lost, Active, Tick}
+use Rattle.dmr_core.specs.declared.act.Act.{Act}
+use Rattle.dmr_core.specs.declared.act.Act.TheVariants.{Began, Ended}
+use Rattle.dmr_core.specs.declared.entry.Entry.{Entry}
+use Rattle.dmr_core.specs.Facts.{Facts, calls_by_act, calls_by_event, facts_after, lines_by_act, lines_by_event, registered_by_act, same_as_before, since}
+use Rattle.dmr_core.specs.Sound.{IsSound}
+use Rattle.dmr_keeper.specs.declared.calls.OpenCall.{OpenCall}
+use Rattle.dmr_keeper.specs.Ticks.{tick_at}
+use Rattle.dmr_keeper.specs.Calls.{one_tick_on, open_after, open_after_entry, open_by_act, open_by_event, with_activity_on}
+use Rattle.dmr_keeper.specs.Carried.{Carry, carried_after}
+use Rattle.dmr_keeper.specs.Laws.{IsOfFacts, IsWithinLimits, standing_in}
+
+-- a fact, oldest entry first
+
+-- the fact after an entry
+abbrev after_one : {X : Type 0} → (X → Event → X) → (X → Act → X) → X → Entry → X
+after_one by_event by_act x entry = fold by_act (by_event x entry.event) entry.acts.list
+
+since-append : {X : Type 0} (by_event : X → Event → X) (by_act : X → Act → X) (x : X) (later earlier : List Entry) → since by_event by_act x (later ++ earlier) ≡ since by_event by_act (since by_event by_act x earlier) later
+since-append by_event by_act x [] earlier = refl
+since-append {X} by_event by_act x (entry ∷ later) earlier = ap (λ (y : X). after_one by_event by_act y entry) (since-append by_event by_act x later earlier)
+
+-- a journal, newest first, ends in its oldest entry
+newest_first : (entry : Entry) (later : List Entry) → reverse (entry ∷ later) ≡ reverse later ++ entry ∷ []
+newest_first entry later = reverse-append (entry ∷ []) later
+
+since-reversed : {X : Type 0} (by_event : X → Event → X) (by_act : X → Act → X) (x : X) (journal : List Entry) → since by_event by_act x (reverse journal) ≡ fold (after_one by_event by_act) x journal
+since-reversed by_event by_act x [] = refl
+since-reversed by_event by_act x (entry ∷ later) =
+    ap (λ (xs : List Entry). since by_event by_act x xs) (newest_first entry later)
+    ∙ since-append by_event by_act x (reverse later) (entry ∷ [])
+    ∙ since-reversed by_event by_act (after_one by_event by_act x entry) later
+
+-- calls
+
+abbrev standing_of : OpenCall → ActiveCall
+standing_of o = o.standing
+
+map-filter : {X Y : Type 0} (f : X → Y) (q : Y → Bool) (xs : List X) → map f (filter (λ x. q (f x)) xs) ≡ filter q (map f xs)
+map-filter f q [] = refl
+map-filter {X} {Y} f q (x ∷ xs) = either (q (f x)) (map-filter f q xs)
+  where
+    either : (b : Bool) → map f (filter (λ x. q (f x)) xs) ≡ filter q (map f xs) → map f (cond b (x ∷ filter (λ x. q (f x)) xs) (filter (λ x. q (f x)) xs)) ≡ cond b (f x ∷ filter q (map f xs)) (filter q (map f xs))
+    either true more = ap (λ (ys : List Y). f x ∷ ys) more
+    either false more = more
+
+map-both : {X Y : Type 0} (f : X → Y) (g : X → X) (h : Y → Y) → ((x : X) → f (g x) ≡ h (f x)) → (xs : List X) → map f (map g xs) ≡ map h (map f xs)
+map-both f g h same [] = refl
+map-both f g h same (x ∷ xs) = rw (same x, map-both f g h same xs) refl
+
+standing-event : (calls : List OpenCall) (event : Event) → standing_in (open_by_event calls event) ≡ calls_by_event (standing_in calls) event
+standing-event calls (Up carrier) = map-filter standing_of (λ s. not (s.call.slot.carrier == carrier)) calls
+standing-event calls (Lost carrier) = map-filter standing_of (λ s. not (s.call.slot.carrier == carrier)) calls
+standing-event calls (Active slot) = map-both standing_of (with_activity_on slot) (with_activity slot) (λ o. refl) calls
+standing-event calls Tick = map-both standing_of one_tick_on one_tick_older (λ o. refl) calls
+standing-event calls _ = refl
+
+standing-act : (tick : ℕ) (calls : List OpenCall) (act : Act) → standing_in (open_by_act tick calls act) ≡ calls_by_act (standing_in calls) act
+standing-act tick calls (Began call) = map-append standing_of calls _
+standing-act tick calls (Ended slot) = map-filter standing_of (λ s. not (is_slot s.call.slot slot)) calls
+standing-act tick calls _ = refl
+
+standing-acts : (tick : ℕ) (calls : List OpenCall) (acts : List Act) → standing_in (fold (open_by_act tick) calls acts) ≡ fold calls_by_act (standing_in calls) acts
+standing-acts tick calls [] = refl
+standing-acts tick calls (act ∷ acts) = standing-acts tick (open_by_act tick calls act) acts ∙ ap (λ (xs : List ActiveCall). fold calls_by_act xs acts) (standing-act tick calls act)
+
+standing-entry : (tick : ℕ) (calls : List OpenCall) (entry : Entry) → standing_in (open_after_entry tick calls entry) ≡ after_one calls_by_event calls_by_act (standing_in calls) entry
+standing-entry tick calls entry =
+    standing-acts tick (open_by_event calls entry.event) entry.acts.list ∙ ap (λ (xs : List ActiveCall). fold calls_by_act xs entry.acts.list) (standing-event calls entry.event)
+
+standing-journal : (ticks : ℕ) (calls : List OpenCall) (journal : List Entry) → standing_in (open_after ticks calls journal) ≡ fold (after_one calls_by_event calls_by_act) (standing_in calls) journal
+standing-journal ticks calls [] = refl
+standing-journal ticks calls (entry ∷ later) =
+    let tick = tick_at ticks entry.event in
+    standing-journal tick (open_after_entry tick calls entry) later ∙ ap (λ (xs : List ActiveCall). fold (after_one calls_by_event calls_by_act) xs later) (standing-entry tick calls entry)
+
+-- all of it
+
+pub stays_the_sites : (plan : Settings) (facts : Facts) (before : Carry) (journal : List Entry) → IsOfFacts before facts → IsOfFacts (carried_after plan before journal) (facts_after plan facts (reverse journal))
+stays_the_sites plan facts before journal is = record {
+  calls =
+      standing-journal before.ticks before.calls journal
+      ∙ ap (λ (xs : List ActiveCall). fold (after_one calls_by_event calls_by_act) xs journal) is.calls
+      ∙ sym (since-reversed calls_by_event calls_by_act facts.calls journal);
+  lines = ap (λ (xs : List Line). fold (after_one (lines_by_event plan) lines_by_act) xs journal) is.lines ∙ sym (since-reversed (lines_by_event plan) lines_by_act facts.lines journal);
+  registered = ap (λ (xs : List ℕ). fold (after_one same_as_before registered_by_act) xs journal) is.registered ∙ sym (since-reversed same_as_before registered_by_act facts.registered journal);
+}
+
+pub within_limits : (plan : Settings) (facts : Facts) (carry : Carry) → IsSound plan facts → IsOfFacts carry facts → IsWithinLimits carry
+within_limits plan facts carry sound is = record {
+  calls = omega (arith, length-map carry.calls standing_of, ap length is.calls, sound.few_calls);
+  lines = omega (arith, ap length is.lines, sound.few_lines);
+  registered = omega (arith, ap length is.registered, sound.few_radios);
+}

@@ -1,0 +1,14 @@
+use Rattle.std.proofs.Common.{rules, tests, ◌∙◌}
+use Rattle.std.specs.List.{list_any}
+use Rattle.std.proofs.lemmas.Iterator.{YieldsList-from_slice}
+use Rattle.std.proofs.lemmas.Iterator.Consumers.{YieldsList-at, YieldsList-from_filter, count_from_yields_List}
+use Rattle.std.proofs.lemmas.List.Sums.{length-filter}
+use Rattle.dmr_core.specs.declared.entry.Entry.{Entry}
+use Rattle.dmr_keeper.specs.Counts.{is_granting}
+use Rattle.dmr_keeper.proofs.counts.grants_in.Goals as goal
+
+pub returns : goal.returns
+returns c =
+    let all = YieldsList-at c.filter.ensures.source (YieldsList-from_slice c.args.journal.now c.iter.ensures.rest) in
+    count_from_yields_List c.filter.result _ c.count.ensures.ran (YieldsList-from_filter _ (λ (e : Entry). list_any is_granting e.acts.list) all c.filter.ensures.closure (λ x b q k. search (rules, tests)))
+    ∙ length-filter (λ (e : Entry). list_any is_granting e.acts.list) c.args.journal.now

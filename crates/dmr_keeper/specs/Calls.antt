@@ -1,0 +1,111 @@
+-- Calls that are open, and calls that ended, by the entries of a journal, oldest first.
+use Rattle.std.specs.Prelude.{ℕ, List, [], ◌∷◌, ◌++◌, Bool, not, ◌==◌, filter, fold, flat_map}
+use Rattle.std.specs.Prelude.{map}
+use Rattle.dmr_pdu.specs.declared.slots.Slot.{Slot}
+use Rattle.dmr_calls.specs.declared.call.Call.{Call}
+use Rattle.dmr_calls.specs.Calls.{is_slot, just_begun, one_tick_older, with_activity}
+use Rattle.dmr_core.specs.declared.event.Event.{Event}
+use Rattle.dmr_core.specs.declared.event.Event.TheVariants.{Up, Lost, Active, Tick}
+use Rattle.dmr_core.specs.declared.act.Act.{Act}
+use Rattle.dmr_core.specs.declared.act.Act.TheVariants.{Began, Ended}
+use Rattle.dmr_core.specs.declared.entry.Entry.{Entry}
+use Rattle.dmr_core.specs.Orders.{begun_by}
+use Rattle.dmr_keeper.specs.declared.calls.OpenCall.{OpenCall}
+use Rattle.dmr_keeper.specs.declared.calls.EndedCall.{EndedCall}
+use Rattle.dmr_keeper.specs.Causes.{cause_of}
+use Rattle.dmr_keeper.specs.Ticks.{tick_at}
+
+-- a call that begins at this tick
+abbrev pub begun_at : ℕ → Call → OpenCall
+begun_at tick call = record { standing = just_begun call; began = tick }
+
+-- an open call after one more tick
+abbrev pub one_tick_on : OpenCall → OpenCall
+one_tick_on o = record { standing = one_tick_older o.standing; began = o.began }
+
+-- an open call after activity on a slot
+abbrev pub with_activity_on : Slot → OpenCall → OpenCall
+with_activity_on slot o = record { standing = with_activity slot o.standing; began = o.began }
+
+-- the call is on the slot
+abbrev pub is_on : Slot → OpenCall → Bool
+is_on slot o = is_slot o.standing.call.slot slot
+
+-- the call is on a slot of the carrier
+abbrev pub is_of : ℕ → OpenCall → Bool
+is_of carrier o = o.standing.call.slot.carrier == carrier
+
+-- the record of a call that ends at this tick, in an entry with this event
+abbrev pub ended_at : ℕ → Event → ℕ → OpenCall → EndedCall
+ended_at hang event tick o = record {
+  call = o.standing.call;
+  began = o.began;
+  ended = tick;
+  cause = cause_of hang event o.standing;
+}
+
+-- open calls after an event: a carrier's Up and Lost close its calls; Active marks the calls on its slot; a Tick is
+-- counted
+abbrev pub open_by_event : List OpenCall → Event → List OpenCall
+open_by_event calls (Up carrier) = filter (λ o. not (is_of carrier o)) calls
+open_by_event calls (Lost carrier) = filter (λ o. not (is_of carrier o)) calls
+open_by_event calls (Active slot) = map (with_activity_on slot) calls
+open_by_event calls Tick = map one_tick_on calls
+open_by_event calls _ = calls
+
+-- the records of the calls that an event closes
+abbrev pub ended_by_event : ℕ → Event → ℕ → List OpenCall → List EndedCall
+ended_by_event hang (Up carrier) tick calls =
+    map (ended_at hang (Up carrier) tick) (filter (is_of carrier) calls)
+ended_by_event hang (Lost carrier) tick calls =
+    map (ended_at hang (Lost carrier) tick) (filter (is_of carrier) calls)
+ended_by_event hang _ tick calls = []
+
+-- open calls after an act: Began opens, Ended closes those on its slot
+abbrev pub open_by_act : ℕ → List OpenCall → Act → List OpenCall
+open_by_act tick calls (Began call) = calls ++ begun_at tick call ∷ []
+open_by_act tick calls (Ended slot) = filter (λ o. not (is_on slot o)) calls
+open_by_act tick calls _ = calls
+
+-- the records of the calls that an act closes
+abbrev pub ended_by_act : ℕ → Event → ℕ → List OpenCall → Act → List EndedCall
+ended_by_act hang event tick calls (Ended slot) =
+    map (ended_at hang event tick) (filter (is_on slot) calls)
+ended_by_act hang event tick calls _ = []
+
+-- the records of the calls that acts close, each with the calls that are open before it
+abbrev pub ended_by_acts : ℕ → Event → ℕ → List OpenCall → List Act → List EndedCall
+ended_by_acts hang event tick calls [] = []
+ended_by_acts hang event tick calls (act ∷ acts) =
+    ended_by_act hang event tick calls act
+    ++ ended_by_acts hang event tick (open_by_act tick calls act) acts
+
+-- the open calls after an entry, whose event is that of this tick or comes after it
+abbrev pub open_after_entry : ℕ → List OpenCall → Entry → List OpenCall
+open_after_entry tick calls entry =
+    fold (open_by_act tick) (open_by_event calls entry.event) entry.acts.list
+
+-- the records of the calls that an entry closes: those of its event, then those of its acts
+abbrev pub ended_in_entry : ℕ → ℕ → List OpenCall → Entry → List EndedCall
+ended_in_entry hang tick calls entry =
+    ended_by_event hang entry.event tick calls
+    ++ ended_by_acts hang entry.event tick (open_by_event calls entry.event) entry.acts.list
+
+-- the calls that are open after a journal, from the ticks and the open calls before it
+abbrev pub open_after : ℕ → List OpenCall → List Entry → List OpenCall
+open_after ticks calls [] = calls
+open_after ticks calls (entry ∷ later) =
+    open_after (tick_at ticks entry.event)
+    (open_after_entry (tick_at ticks entry.event) calls entry) later
+
+-- the records of the calls that ended in a journal
+abbrev pub ended_in : ℕ → ℕ → List OpenCall → List Entry → List EndedCall
+ended_in hang ticks calls [] = []
+ended_in hang ticks calls (entry ∷ later) =
+    ended_in_entry hang (tick_at ticks entry.event) calls entry
+    ++ ended_in hang (tick_at ticks entry.event)
+    (open_after_entry (tick_at ticks entry.event) calls entry) later
+
+-- the calls that began in a journal, by their slots
+abbrev pub begun_in : List Entry → List Slot
+begun_in journal = flat_map (λ (entry : Entry). flat_map begun_by entry.acts.list) journal

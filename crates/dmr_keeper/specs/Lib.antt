@@ -1,0 +1,13 @@
+pub mod Causes
+pub mod Ticks
+pub mod Calls
+pub mod Closing
+pub mod Changes
+pub mod Notes
+pub mod Counts
+pub mod Lines
+pub mod Registered
+pub mod Carried
+pub mod Records
+pub mod Laws
+pub mod Kept

@@ -1,0 +1,96 @@
+//! Calls that are open, and calls that ended.
+
+ghost use Rattle.std.specs.Prelude.{◌≡◌, map};
+ghost use Rattle.dmr_keeper.specs.Calls.{begun_at, with_activity_on, one_tick_on};
+
+use crate::cause::EndCause;
+use dmr_calls::{ActiveCall, Call};
+use dmr_pdu::Slot;
+
+/// A call that began and has not ended.
+#[derive(Clone, Copy, Debug, PartialEq, Eq)]
+pub struct OpenCall {
+    /// The call, with its age and its quiet time as the site counts them.
+    pub standing: ActiveCall,
+    /// The tick at which it began, counted over all terms.
+    pub began: u64,
+}
+
+/// A call that ended.
+#[derive(Clone, Copy, Debug, PartialEq, Eq)]
+pub struct EndedCall {
+    /// The call: its slot and its parties.
+    pub call: Call,
+    /// The tick at which it began, counted over all terms.
+    pub began: u64,
+    /// The tick at which it ended, counted over all terms.
+    pub ended: u64,
+    /// Why it ended.
+    pub cause: EndCause,
+}
+
+impl OpenCall {
+    /// The call when it begins at this tick.
+    pub(crate) fn begun(call: &Call, tick: u64) -> OpenCall
+        ensures { result ≡ begun_at tick call.now }
+    {
+        OpenCall {
+            standing: ActiveCall {
+                call: *call,
+                age: 0,
+                quiet: 0,
+            },
+            began: tick,
+        }
+    }
+
+    /// The call one tick later.
+    fn counted(&self) -> OpenCall
+        ensures { result ≡ one_tick_on self.now }
+    {
+        OpenCall {
+            standing: ActiveCall {
+                call: self.standing.call,
+                age: self.standing.age.saturating_add(1),
+                quiet: self.standing.quiet.saturating_add(1),
+            },
+            began: self.began,
+        }
+    }
+
+    /// The call after activity on a slot.
+    fn marked(&self, slot: &Slot) -> OpenCall
+        ensures { result ≡ with_activity_on slot.now self.now }
+    {
+        if self.standing.call.slot == *slot {
+            OpenCall {
+                standing: ActiveCall {
+                    call: self.standing.call,
+                    age: self.standing.age,
+                    quiet: 0,
+                },
+                began: self.began,
+            }
+        } else {
+            *self
+        }
+    }
+}
+
+/// Counts a tick for each call.
+pub fn count_tick(calls: &mut [OpenCall])
+    ensures { calls.new ≡ map one_tick_on calls.old }
+{
+    for call in calls.iter_mut() {
+        *call = call.counted();
+    }
+}
+
+/// Marks the calls on a slot as active: their quiet time is 0 again.
+pub fn mark_active(calls: &mut [OpenCall], slot: &Slot)
+    ensures { calls.new ≡ map (with_activity_on slot.now) calls.old }
+{
+    for call in calls.iter_mut() {
+        *call = call.marked(slot);
+    }
+}

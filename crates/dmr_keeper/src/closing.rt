@@ -1,0 +1,218 @@
+//! The open calls by the entries of a journal, and the records of those that end.
+
+ghost use Rattle.std.specs.Prelude.{◌≡◌, ◌+◌, ◌<◌, ◌^◌, ◌++◌, fold, filter, map, not, OnOk};
+ghost use Rattle.dmr_keeper.specs.Calls.{ended_at as ended_call_at, ended_by_act, ended_by_acts};
+ghost use Rattle.dmr_keeper.specs.Calls.{ended_by_event, ended_in, ended_in_entry, open_after};
+ghost use Rattle.dmr_keeper.specs.Calls.{open_after_entry, open_by_act, open_by_event};
+ghost use Rattle.dmr_keeper.specs.Closing.{is_covered};
+ghost use Rattle.dmr_keeper.specs.Ticks.{ticks_in};
+
+use crate::calls::{EndedCall, OpenCall, count_tick, mark_active};
+use crate::cause::cause_of;
+use crate::ticks::tick_with;
+use dmr_core::{Act, Entry, Event};
+use dmr_pdu::{CarrierNo, OutOfMemory, Slot};
+
+/// The calls that end together.
+#[derive(Clone, Copy, Debug)]
+pub enum Closing {
+    /// Those on a slot.
+    OnSlot(Slot),
+    /// Those on the slots of a carrier.
+    OfCarrier(CarrierNo),
+}
+
+impl Closing {
+    /// Reports whether the call is one of them.
+    fn covers(&self, call: &OpenCall) -> bool
+        ensures { result ≡ is_covered self.now call.now }
+    {
+        match self {
+            Closing::OnSlot(slot) => call.standing.call.slot == *slot,
+            Closing::OfCarrier(carrier) => call.standing.call.slot.carrier == *carrier,
+        }
+    }
+}
+
+/// The record of a call that ends at this tick, in an entry with this event.
+fn ended_at(hang: u16, event: &Event, tick: u64, call: &OpenCall) -> EndedCall
+    ensures { result ≡ ended_call_at hang event.now tick call.now }
+{
+    EndedCall {
+        call: call.standing.call,
+        began: call.began,
+        ended: tick,
+        cause: cause_of(hang, event, &call.standing),
+    }
+}
+
+/// Adds the records of the calls that end.
+fn add_ended(
+    hang: u16,
+    event: &Event,
+    tick: u64,
+    closing: &Closing,
+    calls: &[OpenCall],
+    ended: &mut Vec<EndedCall>,
+) -> Result<(), OutOfMemory>
+    ensures { OnOk result (ended.new.items ≡ ended.old.items
+        ++ map (ended_call_at hang event.now tick) (filter (is_covered closing.now) calls.now)) }
+{
+    for call in calls {
+        if closing.covers(call) {
+            ended.push(ended_at(hang, event, tick, call))?;
+        }
+    }
+    Ok(())
+}
+
+/// Removes the calls that end.
+fn remove_ended(closing: &Closing, calls: &mut Vec<OpenCall>)
+    ensures { calls.new.items ≡ filter (λ o. not (is_covered closing.now o)) calls.old.items }
+{
+    calls.retain(|call| !closing.covers(call));
+}
+
+/// Removes the calls that end, and adds their records.
+fn end_calls(
+    hang: u16,
+    event: &Event,
+    tick: u64,
+    closing: &Closing,
+    calls: &mut Vec<OpenCall>,
+    ended: &mut Vec<EndedCall>,
+) -> Result<(), OutOfMemory>
+    ensures calls { OnOk result
+        (calls.new.items ≡ filter (λ o. not (is_covered closing.now o)) calls.old.items) }
+    ensures ended { OnOk result (ended.new.items ≡ ended.old.items
+        ++ map (ended_call_at hang event.now tick)
+        (filter (is_covered closing.now) calls.old.items)) }
+{
+    add_ended(hang, event, tick, closing, calls.as_slice(), ended)?;
+    remove_ended(closing, calls);
+    Ok(())
+}
+
+/// Applies an event to the open calls, and adds the records of those that it ends.
+fn apply_event(
+    hang: u16,
+    event: &Event,
+    tick: u64,
+    calls: &mut Vec<OpenCall>,
+    ended: &mut Vec<EndedCall>,
+) -> Result<(), OutOfMemory>
+    ensures calls { OnOk result (calls.new.items ≡ open_by_event calls.old.items event.now) }
+    ensures ended { OnOk result
+        (ended.new.items ≡ ended.old.items ++ ended_by_event hang event.now tick calls.old.items) }
+{
+    match event {
+        Event::Up(carrier) | Event::Lost(carrier) => {
+            end_calls(
+                hang,
+                event,
+                tick,
+                &Closing::OfCarrier(*carrier),
+                calls,
+                ended,
+            )?;
+        }
+        Event::Active(slot) => mark_active(calls, slot),
+        Event::Tick => count_tick(calls),
+        Event::Heard(_, _) | Event::Noise(_) | Event::Poll(_) | Event::Say(_) => {}
+    }
+    Ok(())
+}
+
+/// Applies an act to the open calls, and adds the records of those that it ends.
+fn apply_act(
+    hang: u16,
+    event: &Event,
+    tick: u64,
+    act: &Act,
+    calls: &mut Vec<OpenCall>,
+    ended: &mut Vec<EndedCall>,
+) -> Result<(), OutOfMemory>
+    ensures calls { OnOk result (calls.new.items ≡ open_by_act tick calls.old.items act.now) }
+    ensures ended { OnOk result (ended.new.items
+        ≡ ended.old.items ++ ended_by_act hang event.now tick calls.old.items act.now) }
+{
+    match act {
+        Act::Began(call) => calls.push(OpenCall::begun(call, tick))?,
+        Act::Ended(slot) => end_calls(hang, event, tick, &Closing::OnSlot(*slot), calls, ended)?,
+        Act::Queue(_, _)
+        | Act::Send(_, _)
+        | Act::Fill(_, _)
+        | Act::Joined(_)
+        | Act::Left(_)
+        | Act::Asked(_)
+        | Act::AskOver(_)
+        | Act::Lined(_)
+        | Act::Unlined(_) => {}
+    }
+    Ok(())
+}
+
+/// Applies acts in their order.
+fn apply_acts(
+    hang: u16,
+    event: &Event,
+    tick: u64,
+    acts: &[Act],
+    calls: &mut Vec<OpenCall>,
+    ended: &mut Vec<EndedCall>,
+) -> Result<(), OutOfMemory>
+    ensures calls { OnOk result
+        (calls.new.items ≡ fold (open_by_act tick) calls.old.items acts.now) }
+    ensures ended { OnOk result (ended.new.items
+        ≡ ended.old.items ++ ended_by_acts hang event.now tick calls.old.items acts.now) }
+{
+    for act in acts {
+        apply_act(hang, event, tick, act, calls, ended)?;
+    }
+    Ok(())
+}
+
+/// Applies an entry, whose ticks with its event are `tick`.
+fn apply_entry(
+    hang: u16,
+    tick: u64,
+    entry: &Entry,
+    calls: &mut Vec<OpenCall>,
+    ended: &mut Vec<EndedCall>,
+) -> Result<(), OutOfMemory>
+    ensures calls { OnOk result
+        (calls.new.items ≡ open_after_entry tick calls.old.items entry.now) }
+    ensures ended { OnOk result
+        (ended.new.items ≡ ended.old.items ++ ended_in_entry hang tick calls.old.items entry.now) }
+{
+    apply_event(hang, &entry.event, tick, calls, ended)?;
+    apply_acts(
+        hang,
+        &entry.event,
+        tick,
+        entry.acts.list.as_slice(),
+        calls,
+        ended,
+    )
+}
+
+/// Applies the entries of a journal to the open calls, and adds the records of those that end.
+pub fn apply_to_calls(
+    hang: u16,
+    ticks: u64,
+    journal: &[Entry],
+    calls: &mut Vec<OpenCall>,
+    ended: &mut Vec<EndedCall>,
+) -> Result<(), OutOfMemory>
+    requires { ticks + ticks_in journal.now < 2 ^ 64 }
+    ensures calls { OnOk result (calls.new.items ≡ open_after ticks calls.old.items journal.now) }
+    ensures ended { OnOk result
+        (ended.new.items ≡ ended.old.items ++ ended_in hang ticks calls.old.items journal.now) }
+{
+    let mut tick = ticks;
+    for entry in journal {
+        tick = tick_with(tick, &entry.event);
+        apply_entry(hang, tick, entry, calls, ended)?;
+    }
+    Ok(())
+}

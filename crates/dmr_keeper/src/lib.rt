@@ -1,0 +1,46 @@
+//! Records of a site for its operator, from the site's journal: calls, registrations, notes and counts.
+//!
+//! [`records_of`] reads the journal of a term, as an audited report has it, and returns the [`Records`] of that term:
+//!
+//! - each call that ended, with the ticks at which it began and ended and the [`EndCause`];
+//! - each [`Change`] of a registration;
+//! - each [`Note`]: a carrier that came up or was lost, a refused request, an operator's command that changes the site;
+//! - the [`TermCounts`].
+//!
+//! The calls that are open at the end of a term are [`Carried`] to the next one. So a call that began in an earlier
+//! term is recorded once, when it ends.
+//!
+//! Terms follow each other over one site, and ticks are counted over all of them. [`records_join`] says that a term may
+//! end after any entry. [`carried_is_the_sites`] says that the open calls, the lines and the registered radios are
+//! those of the site. [`calls_are_counted_once`] says that no call is lost or recorded twice, and
+//! [`few_events_end_calls`] that the causes are all.
+//!
+//! A [`Keeper`] stores records. [`Forget`] keeps nothing, and [`InMemory`] keeps them for a test. A store on a disk is
+//! outside of this crate.
+#![tactic(auto)]
+
+mod calls;
+mod carried;
+mod cause;
+mod changes;
+mod closing;
+mod counts;
+mod keeper;
+mod laws;
+mod lines;
+mod memory;
+mod notes;
+mod records;
+mod registered;
+mod ticks;
+
+pub use calls::{EndedCall, OpenCall};
+pub use carried::Carried;
+pub use cause::EndCause;
+pub use changes::{Change, ChangeKind};
+pub use counts::TermCounts;
+pub use keeper::{Forget, KeepFault, Keeper};
+pub use laws::{calls_are_counted_once, carried_is_the_sites, few_events_end_calls, records_join};
+pub use memory::InMemory;
+pub use notes::{Note, Occurrence, Outcome};
+pub use records::{Records, RecordsFault, records_of};

@@ -1,0 +1,250 @@
+//! Notes: carriers that come up or are lost, refused requests, and operators' commands.
+
+ghost use Rattle.std.specs.Prelude.{◌≡◌, ◌+◌, ◌<◌, ◌^◌, ◌++◌, filter_map, IfOk, OnOk};
+ghost use Rattle.std.specs.Option.{option_to_list};
+ghost use Rattle.dmr_keeper.specs.Notes.{is_refusal as refuses, note_by_act, note_if, notes_in};
+ghost use Rattle.dmr_keeper.specs.Notes.{notes_in_entry, occurrence_by_act, occurrence_by_command};
+ghost use Rattle.dmr_keeper.specs.Notes.{occurrence_by_event, occurrence_of_command as commanded};
+ghost use Rattle.dmr_keeper.specs.Notes.{outcome_of as outcome_by_reply};
+ghost use Rattle.dmr_keeper.specs.Ticks.{ticks_in};
+
+use crate::ticks::tick_with;
+use dmr_core::{Act, Command, Entry, Event, Reply};
+use dmr_pdu::{Address, CarrierNo, Lpcn, OutOfMemory, Pdu, Reason, SlotNo};
+use std::alloc::Global;
+
+/// The result of an operator's command that changes the site.
+#[derive(Clone, Copy, Debug, PartialEq, Eq)]
+pub enum Outcome {
+    /// The command was done.
+    Done,
+    /// No radio of this number is registered.
+    NotRegistered,
+    /// The control slot's outbox had no room for the PDUs that the command would queue.
+    Busy,
+    /// No call was active on the slot.
+    NoCall,
+    /// The plan has no such carrier.
+    NoCarrier,
+}
+
+/// What happened.
+#[derive(Clone, Copy, Debug, PartialEq, Eq)]
+pub enum Occurrence {
+    /// A carrier came up.
+    CameUp(CarrierNo),
+    /// A carrier was lost.
+    WasLost(CarrierNo),
+    /// A request was refused.
+    Refused {
+        /// The radio that is answered.
+        source: Address,
+        /// The address that the answer is about, mostly the target of the request.
+        target: Address,
+        /// The reason code of the acknowledgement.
+        reason: Reason,
+    },
+    /// An operator sent `drop`, to end the registration of a radio and what engages it.
+    DropCommand {
+        /// The radio.
+        radio: Address,
+        /// The result.
+        outcome: Outcome,
+    },
+    /// An operator sent `end`, to end the call on a slot of a carrier.
+    EndCommand {
+        /// The carrier.
+        carrier: CarrierNo,
+        /// The slot of the carrier.
+        slot: SlotNo,
+        /// The result.
+        outcome: Outcome,
+    },
+    /// An operator sent `move`, to move the control channel.
+    MoveCommand {
+        /// The channel to move it to.
+        channel: Lpcn,
+        /// The result.
+        outcome: Outcome,
+    },
+    /// An operator sent `stay`, to end the move.
+    StayCommand {
+        /// The result.
+        outcome: Outcome,
+    },
+}
+
+/// What happened, and when.
+#[derive(Clone, Copy, Debug, PartialEq, Eq)]
+pub struct Note {
+    /// The tick, counted over all terms.
+    pub tick: u64,
+    /// What happened.
+    pub what: Occurrence,
+}
+
+/// What a command with this result is noted as. `None` if it is not one that changes the site.
+fn occurrence_of_command(command: &Command, outcome: Outcome) -> Option<Occurrence>
+    ensures { result ≡ commanded command.now outcome }
+{
+    match command {
+        Command::Drop(radio) => Some(Occurrence::DropCommand {
+            radio: *radio,
+            outcome,
+        }),
+        Command::End(carrier, slot) => Some(Occurrence::EndCommand {
+            carrier: *carrier,
+            slot: *slot,
+            outcome,
+        }),
+        Command::Move(channel) => Some(Occurrence::MoveCommand {
+            channel: *channel,
+            outcome,
+        }),
+        Command::Stay => Some(Occurrence::StayCommand { outcome }),
+        Command::Status
+        | Command::Radios(_)
+        | Command::Calls(_)
+        | Command::Lines(_)
+        | Command::Slots => None,
+    }
+}
+
+/// The result that a reply states. `None` if it is the reply to a command that asks.
+fn outcome_of(reply: &Reply) -> Option<Outcome>
+    ensures { result ≡ outcome_by_reply reply.now }
+{
+    match reply {
+        Reply::Done => Some(Outcome::Done),
+        Reply::NotRegistered => Some(Outcome::NotRegistered),
+        Reply::Busy => Some(Outcome::Busy),
+        Reply::NoCall => Some(Outcome::NoCall),
+        Reply::NoCarrier => Some(Outcome::NoCarrier),
+        Reply::Status { .. }
+        | Reply::Radios(_)
+        | Reply::Calls(_)
+        | Reply::Lines { .. }
+        | Reply::Slots(_) => None,
+    }
+}
+
+/// What a command and its reply are noted as.
+fn occurrence_of_say(command: &Command, said: &Option<Reply>) -> Option<Occurrence>
+    ensures { result ≡ occurrence_by_command command.now said.now }
+{
+    let Some(reply) = said else {
+        return None;
+    };
+    let Some(outcome) = outcome_of(reply) else {
+        return None;
+    };
+    occurrence_of_command(command, outcome)
+}
+
+/// What an event and the reply to it are noted as.
+fn occurrence_of_event(event: &Event, said: &Option<Reply>) -> Option<Occurrence>
+    ensures { result ≡ occurrence_by_event event.now said.now }
+{
+    match event {
+        Event::Up(carrier) => Some(Occurrence::CameUp(*carrier)),
+        Event::Lost(carrier) => Some(Occurrence::WasLost(*carrier)),
+        Event::Say(command) => occurrence_of_say(command, said),
+        Event::Heard(_, _) | Event::Noise(_) | Event::Active(_) | Event::Poll(_) | Event::Tick =>
+            None,
+    }
+}
+
+/// The reasons of acknowledgements that refuse a request.
+const REFUSALS: [Reason; 11] = [
+    Reason::NOT_SUPPORTED,
+    Reason::PERM_USER_REFUSED,
+    Reason::TRANSIENT_SYS_REFUSED,
+    Reason::NOREG_MS_AWAY,
+    Reason::SYSBUSY_REFUSED,
+    Reason::CALL_CANCEL_REFUSED,
+    Reason::REG_REFUSED,
+    Reason::REG_DENIED,
+    Reason::MS_NOT_REGISTERED,
+    Reason::CALLED_PARTY_BUSY,
+    Reason::GROUP_NOT_ALLOWED,
+];
+
+/// Reports whether an acknowledgement with this reason refuses a request.
+pub fn is_refusal(reason: &Reason) -> bool
+    ensures { result ≡ refuses reason.now }
+{
+    REFUSALS.iter().any(|refusal| *refusal == *reason)
+}
+
+/// What an act is noted as: a refusal is one that queues an acknowledgement with such a reason.
+pub fn occurrence_of_act(act: &Act) -> Option<Occurrence>
+    ensures { result ≡ occurrence_by_act act.now }
+{
+    let Act::Queue(
+        _,
+        Pdu::Ackd {
+            reason,
+            target,
+            additional,
+            ..
+        },
+    ) = act
+    else {
+        return None;
+    };
+    if is_refusal(reason) {
+        Some(Occurrence::Refused {
+            source: *target,
+            target: *additional,
+            reason: *reason,
+        })
+    } else {
+        None
+    }
+}
+
+/// Adds the note of an occurrence, if there is one.
+///
+/// Its callers hand it an [`Occurrence`], and not a [`Note`]: the check of a function with a `Vec<Note>` needs one at hand.
+fn add_note(tick: u64, what: Option<Occurrence>, notes: &mut Vec<Note>) -> Result<(), OutOfMemory>
+    ensures { OnOk result (notes.new.items ≡ notes.old.items ++ option_to_list (note_if tick what)) }
+{
+    match what {
+        Some(what) => Ok(notes.push(Note { tick, what })?),
+        None => Ok(()),
+    }
+}
+
+/// Adds the notes of acts.
+fn add_notes_of_acts(tick: u64, acts: &[Act], notes: &mut Vec<Note>) -> Result<(), OutOfMemory>
+    ensures { OnOk result
+        (notes.new.items ≡ notes.old.items ++ filter_map (note_by_act tick) acts.now) }
+{
+    for act in acts {
+        add_note(tick, occurrence_of_act(act), notes)?;
+    }
+    Ok(())
+}
+
+/// Adds the notes of an entry.
+fn add_notes(tick: u64, entry: &Entry, notes: &mut Vec<Note>) -> Result<(), OutOfMemory>
+    ensures { OnOk result (notes.new.items ≡ notes.old.items ++ notes_in_entry tick entry.now) }
+{
+    let what = occurrence_of_event(&entry.event, &entry.acts.said);
+    add_note(tick, what, notes)?;
+    add_notes_of_acts(tick, entry.acts.list.as_slice(), notes)
+}
+
+/// The notes of a journal, oldest first. `ticks` are those before it.
+pub fn notes_of(alloc: Global, ticks: u64, journal: &[Entry]) -> Result<Vec<Note>, OutOfMemory>
+    requires { ticks + ticks_in journal.now < 2 ^ 64 }
+    ensures { IfOk result (λ notes. notes.items ≡ notes_in ticks journal.now) }
+{
+    let mut notes = Vec::new(alloc);
+    let mut tick = ticks;
+    for entry in journal {
+        tick = tick_with(tick, &entry.event);
+        add_notes(tick, entry, &mut notes)?;
+    }
+    Ok(notes)
+}

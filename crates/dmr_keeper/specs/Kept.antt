@@ -6,14 +6,13 @@ use Rattle.dmr_keeper.specs.declared.counts.TermCounts.{TermCounts}
 use Rattle.dmr_keeper.specs.declared.notes.Note.{Note}
 use Rattle.dmr_keeper.specs.declared.records.Records.{Records}
 
--- the calls, changes and notes of all terms so far, oldest term first; the counts of each term; and the registered
--- radios after the last term, in the order of joining
+-- the records of all terms so far, oldest term first
 pub record Kept : Type 0 where
   pub calls : List EndedCall
   pub changes : List Change
   pub notes : List Note
-  pub counts : List TermCounts
-  pub registered : List ℕ
+  pub counts : List TermCounts  -- one for each term
+  pub registered : List ℕ  -- the radios after the last term, in the order of joining
 
 -- before the first term
 abbrev pub nothing_kept : Kept

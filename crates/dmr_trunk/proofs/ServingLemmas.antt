@@ -1,37 +1,35 @@
--- Terms in a row, as serving runs them.
-use Rattle.std.proofs.Common.{◌≡◌, ℕ, ◌+◌, ◌<◌, List, [], None, Option, refl, sym, subst, arith}
+-- Rows of terms, as serving runs them.
+use Rattle.std.proofs.Common.{◌≡◌, ℕ, ◌+◌, ◌<◌, List, [], Option, refl, sym, ◌∙◌, subst, arith}
 use Rattle.std.proofs.lemmas.List.{append-nil}
 use Rattle.dmr_core.specs.State.{SiteState}
+use Rattle.dmr_core.specs.declared.entry.Entry.{Entry}
 use Rattle.dmr_desk.specs.declared.fault.TermFault.{TermFault}
 use Rattle.dmr_desk.specs.declared.fault.TermsFault.{TermsFault}
+use Rattle.dmr_desk.specs.Pace.{Paced}
 use Rattle.dmr_desk.specs.Term.{Start, start_of_term}
 use Rattle.dmr_desk.specs.Terms.{HaveRun, HaveStopped}
 use Rattle.dmr_desk.specs.Work.{StationState}
-use Rattle.dmr_trunk.specs.Serving.{HasServed, HasStopped}
 
 -- a run of terms that goes on from another makes one run with it
-abbrev pub Joins : Type 0
-Joins = (start middle next : Start) (n m : ℕ) → HaveRun start n middle None None → HaveRun middle m next None None → HaveRun start (n + m) next None None
+abbrev pub Joins : Option (List (List Entry)) → Option (List (List Entry)) → Option (List (List Entry)) → Type 0
+Joins before between after = (start middle next : Start) (n m : ℕ) → HaveRun start n middle before between → HaveRun middle m next between after → HaveRun start (n + m) next before after
 
 -- before the first term
-pub served_none : (start : Start) → HasServed start start
-served_none start = (0, record { ends = []; are = tt; count = refl; next_is = refl; seen = record { follows = λ whole same. (whole, same, sym (append-nil whole)) }; fits = λ some. absurd (omega arith) })
+pub run_none : (start : Start) (seen : Option (List (List Entry))) → HaveRun start 0 start seen seen
+run_none start seen = record { ends = []; are = tt; count = refl; next_is = refl; seen = record { follows = λ whole same. (whole, same, sym (append-nil whole)) }; fits = λ some. absurd (omega arith) }
 
--- after more terms
-pub served_on : Joins → (start middle next : Start) (m : ℕ) → HasServed start middle → HaveRun middle m next None None → HasServed start next
-served_on joins start middle next m served more = (served.0 + m, joins start middle next served.0 m served.1 more)
-
--- at a fault
-pub served_until : Joins → (start middle : Start) (terms : ℕ) (stopped : TermsFault) → HasServed start middle → HaveStopped middle terms stopped None None → HasStopped start stopped.fault
-served_until joins start middle terms stopped served at =
-    record { next = at.next; served = served_on joins start middle at.next stopped.done served at.run; reason = at.why }
-
--- at a fault of a run from the start
-pub stopped_first : (start : Start) (terms : ℕ) (stopped : TermsFault) → HaveStopped start terms stopped None None → HasStopped start stopped.fault
-stopped_first start terms stopped at = record { next = at.next; served = (stopped.done, at.run); reason = at.why }
+-- at a fault of the next term
+pub stopped_next : (start middle : Start) (done asked : ℕ) (at : TermsFault) (before between after : Option (List (List Entry))) → Joins before between after → done < asked → HaveRun start done middle before between → HaveStopped middle 1 at between after
+    → HaveStopped start asked (record { done = done; fault = at.fault }) before after
+stopped_next start middle done asked at before between after joins fewer run stopped =
+    let few = stopped.fewer in
+    let same : done + at.done ≡ done = omega arith in
+    let P : ℕ → Type 0 = λ n. HaveRun start n stopped.next before after in
+    record { next = stopped.next; run = subst P same (joins start middle stopped.next done at.done run stopped.run); fewer = fewer; why = stopped.why }
 
 -- with the plan's limit
-pub stopped_within : (site : SiteState) (stations : List StationState) (console : StationState) (why : TermFault) (limit entries : ℕ) → limit ≡ entries → HasStopped (start_of_term site limit stations None console) why → HasStopped (start_of_term site entries stations None console) why
-stopped_within site stations console why limit entries same stopped =
-    let P : ℕ → Type 0 = λ most. HasStopped (start_of_term site most stations None console) why in
+pub stopped_within : (site : SiteState) (stations : List StationState) (pacer : Option Paced) (console : StationState) (limit entries asked : ℕ) (fault : TermsFault) (before after : Option (List (List Entry))) → limit ≡ entries → HaveStopped (start_of_term site limit stations pacer console) asked fault before after
+    → HaveStopped (start_of_term site entries stations pacer console) asked fault before after
+stopped_within site stations pacer console limit entries asked fault before after same stopped =
+    let P : ℕ → Type 0 = λ most. HaveStopped (start_of_term site most stations pacer console) asked fault before after in
     subst P same stopped

@@ -1,16 +1,7 @@
--- Serving: terms in a row, over ports, gates and a clock that report no record. No observer reports what it saw.
-use Rattle.std.specs.Prelude.{ℕ, None}
-use Rattle.dmr_desk.specs.declared.fault.TermFault.{TermFault}
-use Rattle.dmr_desk.specs.Refusing.{IsTermFault}
-use Rattle.dmr_desk.specs.Term.{Start}
-use Rattle.dmr_desk.specs.Terms.{HaveRun}
+-- Serving: how many terms it runs.
+use Rattle.std.specs.Prelude.{ℕ, zero, suc}
 
--- some number of terms have run in a row from `start`, and another would begin at `next`
-abbrev pub HasServed : Start → Start → Type 0
-HasServed start next = (terms : ℕ) × HaveRun start terms next None None
-
--- some number of terms have run in a row from `start`, and for this reason there is not another
-pub record HasStopped (start : Start) (why : TermFault) : Type 0 where
-  pub next : Start
-  pub served : HasServed start next
-  pub reason : IsTermFault next why
+-- how many terms `--terms` asks for. 0 asks for terms without end: for 2 ^ 64 - 1, which no run lives to see
+abbrev pub terms_asked : ℕ → ℕ
+terms_asked zero = 18446744073709551615
+terms_asked (suc n) = suc n

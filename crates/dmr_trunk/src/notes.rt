@@ -160,4 +160,11 @@ impl<'a, R: Log> Notes<'a, R> {
             info!(*self.rt; target: TARGET, "{count} more terms ended: {terms}");
         }
     }
+    /// Notes that serving stopped, and how many terms ran before the one that failed.
+    pub fn note_stopped(&mut self, done: u64) {
+        if self.is_ready() {
+            let noun = if done == 1 { "term" } else { "terms" };
+            warn!(*self.rt; target: TARGET, "serving stopped after {done} {noun}");
+        }
+    }
 }

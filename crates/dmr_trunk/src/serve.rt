@@ -1,26 +1,20 @@
 //! Serving: a site over TCP, term by term.
 
-ghost use Rattle.std.specs.Prelude.{◌≡◌, ◌≢◌, ◌*◌, IfErr, IfOk, None, map, vec_len};
+ghost use Rattle.std.specs.Prelude.{◌≡◌, ◌*◌, IfOk, None, vec_len};
 ghost use Rattle.dmr_core.specs.Facts.{no_facts};
-ghost use Rattle.dmr_command.specs.declared.fault.ServeFault.TheVariants.{Term as FaultOfTerm};
-ghost use Rattle.dmr_desk.specs.declared.fault.TermFault.{TermFault as ATermFault};
-ghost use Rattle.dmr_desk.specs.declared.fault.TermsFault.{TermsFault as ATermsFault};
-ghost use Rattle.dmr_desk.specs.Term.{start_of_term};
-ghost use Rattle.dmr_desk.specs.Terms.{HaveRun, HaveStopped};
 ghost use Rattle.dmr_link.specs.Identities.{greatest_of};
-ghost use Rattle.dmr_desk.specs.Work.{station_state};
-ghost use Rattle.dmr_trunk.specs.Serving.{HasStopped};
 
 use crate::ends::Connections;
 use crate::mio_sockets::{ListenFault, MioSockets};
 use crate::notes::Notes;
 use crate::pacer::ClockPacer;
 use crate::port_watch::PortWatch;
+use crate::row::serve_service;
 use crate::tally::tally_of;
 use crate::term_log::TermLog;
 use dmr_command::{ServeFault, listen_address};
 use dmr_core::Site;
-use dmr_desk::{ConsoleStation, Observer, Service, Station, Term, run_terms, terms_go_on};
+use dmr_desk::{ConsoleStation, Observer, Service, Station, Term};
 use dmr_link::{ConsoleLink, Link, OpenGate, greatest_version};
 use dmr_pdu::{CarrierNo, OutOfMemory};
 use dmr_plan::{CarrierRow, Plan};
@@ -272,67 +266,6 @@ impl<'a, R: Log + Clock> Observer<CarrierAt<'a, R>, ClockPacer<'a, R>, ConsoleAt
     }
 }
 
-/// Runs `terms` terms in a row, and notes each. The ports, the gates, the clock and the log report no record.
-fn serve_terms<'a, R: Log + Clock + Wait + Threads + Sync>(
-    rt: &R,
-    alloc: Global,
-    limit: usize,
-    service: SiteService<'a, R>,
-    log: &mut TermLog<'a, R>,
-    terms: u32,
-) -> Result<SiteService<'a, R>, ServeFault>
-    ensures run { IfOk result (λ next. HaveRun (start_of_term service.entry.site limit
-        (map (λ s. station_state s.link None None) service.entry.stations.items) None
-        (station_state service.entry.console.link None None))
-        terms (start_of_term next.site limit
-        (map (λ s. station_state s.link None None) next.stations.items) None
-        (station_state next.console.link None None)) None None) }
-    ensures fault { IfErr result (λ fault. (stopped : ATermsFault)
-        × (fault ≡ FaultOfTerm stopped.fault) × HaveStopped (start_of_term service.entry.site limit
-        (map (λ s. station_state s.link None None) service.entry.stations.items) None
-        (station_state service.entry.console.link None None)) terms stopped None None) }
-{
-    match run_terms(rt, alloc, limit, service, log, terms) {
-        Ok(next) => Ok(next),
-        Err(stopped) => Err(ServeFault::Term(stopped.fault)),
-    }
-}
-
-/// Runs `terms` terms in a row from a service; 0 means forever. Each term has at most the plan's number of entries.
-/// What runs forever has run some number of terms in a row at each moment between two of them.
-fn serve_service<'a, R: Log + Clock + Wait + Threads + Sync>(
-    rt: &R,
-    alloc: Global,
-    mut service: SiteService<'a, R>,
-    log: &mut TermLog<'a, R>,
-    terms: u32,
-) -> Result<SiteService<'a, R>, ServeFault>
-    ensures run { IfOk result (λ next. terms ≢ 0
-        → HaveRun (start_of_term service.entry.site service.entry.site.plan.term_entries
-        (map (λ s. station_state s.link None None) service.entry.stations.items) None
-        (station_state service.entry.console.link None None))
-        terms (start_of_term next.site service.entry.site.plan.term_entries
-        (map (λ s. station_state s.link None None) next.stations.items) None
-        (station_state next.console.link None None)) None None) }
-    ensures fault { IfErr result (λ fault. (why : ATermFault) × (fault ≡ FaultOfTerm why)
-        × HasStopped (start_of_term service.entry.site service.entry.site.plan.term_entries
-        (map (λ s. station_state s.link None None) service.entry.stations.items) None
-        (station_state service.entry.console.link None None)) why) }
-{
-    let limit = service.site.plan().term_entries() as usize;
-    if terms == 0 {
-        for _ in rt.forever() {
-            terms_go_on();
-            service = match serve_terms(rt, alloc, limit, service, log, 1) {
-                Ok(next) => next,
-                Err(fault) => return Err(fault),
-            };
-        }
-        return Ok(service);
-    }
-    serve_terms(rt, alloc, limit, service, log, terms)
-}
-
 /// Serves the site of a plan over TCP. Listens at each carrier's port, by number, and at the console's, and runs
 /// `terms` terms, one after another; 0 means forever. Each term has at most the plan's number of entries. Links,
 /// connections and the site continue from term to term ([`run_terms`]). Each term's journal is audited, then dropped.
@@ -345,6 +278,14 @@ pub fn serve<R: Net + Log + Clock + Wait + Threads + Sync>(
     let mut log = TermLog::new(rt, open_notes(rt, alloc)?);
     let service = open_service(rt, alloc, &plan)?;
     note_listening(&service, &mut log);
-    let _last = serve_service(rt, alloc, service, &mut log, terms)?;
-    Ok(())
+    match serve_service(rt, alloc, service, &mut log, terms) {
+        Ok(last) => {
+            drop(last);
+            Ok(())
+        }
+        Err(stopped) => {
+            log.note_stopped(stopped.done);
+            Err(ServeFault::Term(stopped.fault))
+        }
+    }
 }

@@ -1,6 +1,6 @@
 -- Workers and their seats, one after another.
-use Rattle.std.proofs.Common.{◌≡◌, ℕ, zero, suc, ◌+◌, ◌==◌, ◌&&◌, Bool, true, false, List, [], ◌∷◌, ◌++◌, length, map, refl, sym, ◌∙◌, ap, subst, arith}
-use Rattle.std.proofs.lemmas.List.{length-append, length-map}
+use Rattle.std.proofs.Common.{◌≡◌, ℕ, zero, suc, ◌+◌, ◌==◌, ◌&&◌, Bool, true, false, List, [], ◌∷◌, ◌++◌, length, map, slice_index_or, remove, All, ◌<◌, refl, sym, ◌∙◌, ap, subst, arith}
+use Rattle.std.proofs.lemmas.List.{length-append}
 use Rattle.std.proofs.lemmas.Bool.{eq-eqb, eqb-true}
 use Rattle.dmr_link.specs.declared.desk.Deposit.{Deposit}
 use Rattle.dmr_desk.specs.Seats.{SeatState, empty_seats}
@@ -14,17 +14,6 @@ all_done_length n [] [] h = refl
 all_done_length n (s ∷ ss) (d ∷ ds) h = ap (λ k. suc k) (all_done_length (n + 1) ss ds h.1)
 all_done_length n [] (d ∷ ds) h = absurd h
 all_done_length n (s ∷ ss) [] h = absurd h
-
--- one more, the last
-pub all_done_snoc : (n : ℕ) (ss : List StationState) (ds : List Done) (s : StationState) (d : Done) → AllDone n ss ds → IsWorkDone (n + length ss) s d → AllDone n (ss ++ s ∷ []) (ds ++ d ∷ [])
-all_done_snoc n [] [] s d h k =
-    let e : n + 0 ≡ n = omega arith in
-    let P : ℕ → Type 0 = λ m. IsWorkDone m s d in (subst P e k, tt)
-all_done_snoc n (x ∷ ss) (y ∷ ds) s d h k =
-    let e : n + suc (length ss) ≡ n + 1 + length ss = omega arith in
-    let P : ℕ → Type 0 = λ m. IsWorkDone m s d in (h.0, all_done_snoc (n + 1) ss ds s d h.1 (subst P e k))
-all_done_snoc n [] (y ∷ ds) s d h k = absurd h
-all_done_snoc n (x ∷ ss) [] s d h k = absurd h
 
 -- ---- new seats
 
@@ -53,14 +42,43 @@ new_but_last xs ys x e h =
     let both = new_init 0 ys x (subst P e h) in
     let z : 0 + length ys ≡ length ys = omega arith in (both.0, subst Q z both.1)
 
--- a seat that is taken with the last station has that station's number
-pub last_number : {S : Type 0} (stations left : List S) (station : S) (seats rest : List SeatState) (seat : SeatState) (f : S → StationState)
-    → length seats ≡ length stations → stations ≡ left ++ station ∷ [] → seats ≡ rest ++ seat ∷ [] → AreNew 0 seats → seat.actor ≡ 0 + length (map f left)
-last_number stations left station seats rest seat f same first second new =
-    let b : seat.actor ≡ length rest = (new_but_last seats rest seat second new).1.0 in
-    let m : length (map f left) ≡ length left = length-map left f in
-    let p : length stations ≡ length left + 1 = ap length first ∙ length-append left (station ∷ []) in
-    let q : length seats ≡ length rest + 1 = ap length second ∙ length-append rest (seat ∷ []) in omega arith
+-- new seats have no deposits
+new_empty_at : (n : ℕ) (xs : List SeatState) → AreNew n xs → (k : ℕ) (d : SeatState) → k < length xs → (slice_index_or xs k d).deposits ≡ []
+new_empty_at n [] new k d few = absurd (omega arith)
+new_empty_at n (x ∷ xs) new zero d few = new.0.1
+new_empty_at n (x ∷ xs) new (suc k) d few = new_empty_at (n + 1) xs new.1 k d (omega arith)
+
+pub new_empty : (n : ℕ) (xs : List SeatState) → AreNew n xs → All (λ (x : SeatState). x.deposits ≡ []) xs
+new_empty n xs new = λ k d few. new_empty_at n xs new k d few
+
+-- ---- the first of a list
+
+pub first_of : {A : Type 0} (xs left : List A) (x : A) → 0 < length xs → x ≡ slice_index_or xs 0 x → left ≡ remove xs 0 → xs ≡ x ∷ left
+first_of [] left x some value rest = absurd (omega arith)
+first_of (y ∷ ys) left x some value rest = cc
+
+-- its work and that of the others
+pub all_done_cons : {S : Type 0} (f : S → StationState) (stations left : List S) (station : S) (seats others : List SeatState) (seat : SeatState) (n : ℕ) (d : Done) (ds : List Done) → stations ≡ station ∷ left → seats ≡ seat ∷ others → AreNew n seats
+    → IsWorkDone seat.actor (f station) d → (AreNew (n + 1) others → AllDone (n + 1) (map f left) ds) → AllDone n (map f stations) (d ∷ ds)
+all_done_cons {S = S} f stations left station seats others seat n d ds first second new done rest =
+    let P : List SeatState → Type 0 = AreNew n in
+    let both = subst P second new in
+    let Q : ℕ → Type 0 = λ m. IsWorkDone m (f station) d in
+    let R : List S → Type 0 = λ xs. AllDone n (map f xs) (d ∷ ds) in
+    subst R (sym first) (subst Q both.0.0 done, rest both.1)
+
+all_cons_at : {A : Type 0} (P : A → Type 0) (xs : List A) (x : A) → P x → All P xs → (k : ℕ) (d : A) → k < length (x ∷ xs) → P (slice_index_or (x ∷ xs) k d)
+all_cons_at P xs x is all zero d few = is
+all_cons_at P xs x is all (suc k) d few = all k d (omega arith)
+
+pub all_cons : {A : Type 0} (P : A → Type 0) (xs : List A) (x : A) → P x → All P xs → All P (x ∷ xs)
+all_cons P xs x is all = λ k d few. all_cons_at P xs x is all k d few
+
+pub all_tail : {A : Type 0} (P : A → Type 0) (xs left : List A) (x : A) → xs ≡ x ∷ left → All P xs → P x × All P left
+all_tail {A = A} P xs left x same all =
+    let Q : List A → Type 0 = All P in
+    let both = subst Q same all in
+    (both 0 x (omega arith), λ k d few. both (suc k) d (omega arith))
 
 empty_length : (n : ℕ) → length (empty_seats n) ≡ n
 empty_length zero = refl

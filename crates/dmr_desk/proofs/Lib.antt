@@ -13,3 +13,4 @@ mod TermsJoin
 mod JournalsJoin
 mod WorkersGoOn
 mod TicksAddUp
+mod DepositLemmas

@@ -1,5 +1,5 @@
 -- Stations of a plan, and faults.
-use Rattle.std.proofs.Common.{◌≡◌, ℕ, zero, suc, ◌+◌, ◌≤◌, Bool, true, false, cond, List, [], ◌∷◌, Option, Some, Result, Ok, Err, length, map, refl, sym, ◌∙◌, ap, arith}
+use Rattle.std.proofs.Common.{◌≡◌, ℕ, zero, suc, ◌+◌, ◌≤◌, Bool, true, false, cond, List, [], ◌∷◌, Option, Some, None, Result, Ok, Err, length, map, refl, sym, ◌∙◌, ap, arith}
 use Rattle.std.specs.Prelude.{IfOk, IfErr, OnOk}
 use Rattle.std.proofs.lemmas.List.{length-map}
 use Rattle.dmr_core.specs.Facts.{has_carrier}
@@ -8,7 +8,7 @@ use Rattle.dmr_desk.specs.declared.fault.TermFault.{TermFault}
 use Rattle.dmr_desk.specs.declared.fault.TermFault.TheVariants.{BadStations, Open, NoThread, Audit, Early}
 use Rattle.dmr_desk.specs.Opening.{IsLimit}
 use Rattle.dmr_desk.specs.Term.{Start}
-use Rattle.dmr_desk.specs.Refusing.{AreStations, IsFaultFor, IsLate, IsTermFault, carrier_of_peer, numbers_from, carrier_numbers}
+use Rattle.dmr_desk.specs.Refusing.{AreStations, IsFaultFor, IsLate, IsTermFault, carrier_of_peer, numbers_from, carrier_numbers, left_at, starts_threads}
 use Rattle.dmr_desk.specs.Work.{StationState}
 
 -- ---- the plan's numbers
@@ -57,6 +57,21 @@ late_fault start NoThread is late = absurd late
 late_fault start (Audit fault) is late = (is, late)
 late_fault start (Early actor) is late = (is, late)
 
+-- such a fault comes after threads were started, so nothing is left of the arguments
+pub late_starts : (start : Start) (fault : TermFault) → IsLate start fault → starts_threads fault ≡ true
+late_starts start BadStations late = absurd late
+late_starts start (Open fault) late = absurd late
+late_starts start NoThread late = refl
+late_starts start (Audit fault) late = refl
+late_starts start (Early actor) late = refl
+
+pub nothing_left : {A : Type 0} (fault : TermFault) (given : A) → starts_threads fault ≡ true → None ≡ left_at fault given
+nothing_left BadStations given e = absurd cc
+nothing_left (Open fault) given e = absurd cc
+nothing_left NoThread given e = refl
+nothing_left (Audit fault) given e = refl
+nothing_left (Early actor) given e = refl
+
 with_stations : (start : Start) (fault : TermFault) → AreStations start.site.plan start.stations → IsFaultFor start fault → IsTermFault start fault
 with_stations start BadStations are h = absurd h
 with_stations start (Open fault) are h = (are, h)
@@ -64,13 +79,9 @@ with_stations start NoThread are h = (are, h)
 with_stations start (Audit fault) are h = (are, h)
 with_stations start (Early actor) are h = (are, h)
 
-pub fault_result : {T : Type 0} (start : Start) (result : Result T TermFault) → AreStations start.site.plan start.stations → IfErr result (IsFaultFor start) → IfErr result (IsTermFault start)
-fault_result start (Ok t) are h = tt
-fault_result start (Err fault) are h = with_stations start fault are h
-
-pub fits_result : {T : Type 0} (result : Result T TermFault) (P Q : Type 0) → P → OnOk result Q → OnOk result (P × Q)
-fits_result (Ok t) P Q p h = (p, h)
-fits_result (Err fault) P Q p h = tt
+pub fault_result : {T E : Type 0} (start : Start) (result : Result T E) (fault : E → TermFault) → AreStations start.site.plan start.stations → IfErr result (λ e. IsFaultFor start (fault e)) → IfErr result (λ e. IsTermFault start (fault e))
+fault_result start (Ok t) fault are h = tt
+fault_result start (Err e) fault are h = with_stations start (fault e) are h
 
 pub on_ok : {T E : Type 0} (result : Result T E) (P : Type 0) → P → OnOk result P
 on_ok (Ok t) P p = p

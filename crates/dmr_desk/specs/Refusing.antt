@@ -1,5 +1,6 @@
 -- When there is no term.
-use Rattle.std.specs.Prelude.{◌≡◌, ◌≢◌, ◌<◌, ℕ, zero, suc, ◌+◌, ltb, List, [], ◌∷◌, Option, Some}
+use Rattle.std.specs.Prelude.{◌≡◌, ◌≢◌, ◌<◌, ℕ, zero, suc, ◌+◌, ltb, Bool, true, false, List, [], ◌∷◌}
+use Rattle.std.specs.Prelude.{Option, Some}
 use Rattle.std.specs.Prelude.{None, map, length, slice_get, if◌then◌else◌}
 use Rattle.dmr_core.specs.Facts.{has_carrier}
 use Rattle.dmr_pdu.specs.Slots.{carriers_of_site}
@@ -73,6 +74,15 @@ abbrev pub IsTermFault : Start → TermFault → Type 0
 IsTermFault start BadStations = ¬ AreStations start.site.plan start.stations
 IsTermFault start fault = AreStations start.site.plan start.stations × IsFaultFor start fault
 
+-- what is left of the arguments of a term: at a fault that is found before a thread is started, all of them; at the
+-- others nothing
+abbrev pub left_at : {A : Type 0} → TermFault → A → Option A
+left_at BadStations given = Some given
+left_at (Open fault) given = Some given
+left_at NoThread given = None
+left_at (Audit fault) given = None
+left_at (Early actor) given = None
+
 -- ---- on the way
 
 -- a fault that is found after threads have run
@@ -80,6 +90,12 @@ abbrev pub IsLate : Start → TermFault → Type 0
 IsLate start (Audit fault) = IsUnaudited start fault
 IsLate start (Early actor) = IsEarly start actor
 IsLate start fault = ⊥
+
+-- whether threads were started before a fault is found
+abbrev pub starts_threads : TermFault → Bool
+starts_threads BadStations = false
+starts_threads (Open fault) = false
+starts_threads other = true
 
 -- the first actor that ended because the term was over
 abbrev pub first_over : ℕ → List Ending → Option ℕ

@@ -233,7 +233,7 @@ impl<L: DeskLedger> SharedDesk<L> {
     /// Abandons the desk, because a thread of its term could not be started. From now on the desk takes no event, and
     /// [`over`](SharedDesk::over) returns true. It waits for the lock. The journal does not change. No clause says so:
     /// contracts cannot name the content of the lock.
-    pub fn abandon<R: Wait>(&self, rt: &R) {
+    pub(crate) fn abandon<R: Wait>(&self, rt: &R) {
         self.locked.lock(rt).abandon();
     }
 

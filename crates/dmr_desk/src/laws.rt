@@ -1,4 +1,5 @@
-//! The law about a desk's report. This function does nothing: its contract is the law.
+//! The laws about a desk's report, and about a desk that returns none. These functions do nothing: their contracts are
+//! the laws.
 
 ghost use Rattle.std.specs.Prelude.{◌≡◌, ◌<◌, ◌≤◌, ℕ, All, Contains, List, Some, length, reverse};
 ghost use Rattle.std.specs.Prelude.{slice_get};
@@ -6,9 +7,10 @@ ghost use Rattle.dmr_core.specs.Facts.{facts_after};
 ghost use Rattle.dmr_core.specs.Journal.{IsLegal};
 ghost use Rattle.dmr_core.specs.declared.entry.Entry.{Entry as AnEntry};
 ghost use Rattle.dmr_link.specs.Runs.{IsSafe};
-ghost use Rattle.dmr_desk.specs.Audited.{IsAudited};
+ghost use Rattle.dmr_desk.specs.Audited.{IsAudited, IsFault, deposits_of_seats};
 ghost use Rattle.dmr_desk.specs.Seats.{HasSeat, Opened, SeatState};
 ghost use Rattle.dmr_desk.specs.Views.{view_of};
+ghost use Rattle.dmr_desk.specs.declared.fault.CloseFault.TheVariants.{Differs, SeatMissing};
 ghost use Rattle.dmr_desk.specs.declared.report.Report.{Report as AReport};
 
 /// States the facts about the report that [`close`](crate::SharedDesk::close) returns for a desk and these seats.
@@ -48,4 +50,15 @@ pub fn reports_account()
     ensures safe { (desk : Opened) (seats : List SeatState) (report : AReport)
         → IsAudited desk seats report
         → IsSafe desk.site.plan desk.site.facts (reverse report.journal) }
+{}
+
+/// States facts about the fault that [`close`](crate::SharedDesk::close) may return for a desk and these seats.
+/// - `SeatMissing` names an actor of the desk of which no seat was handed in.
+/// - `Differs` is returned only if a seat has a deposit. Without deposits the journal is empty, and no seat differs from
+///   it.
+pub fn faults_account()
+    ensures missing { (desk : Opened) (seats : List SeatState) (actor : ℕ)
+        → IsFault desk seats (SeatMissing actor) → (actor < desk.actors) × ¬ HasSeat seats actor }
+    ensures deposits { (desk : Opened) (seats : List SeatState) (actor : ℕ)
+        → IsFault desk seats (Differs actor) → 0 < deposits_of_seats seats }
 {}

@@ -1,11 +1,12 @@
 //! Running a term.
 
 ghost use Rattle.std.specs.Prelude.{◌≡◌, ◌+◌, ◌-◌, ◌≤◌, ◌↔◌, ℕ, [], IfErr, IfOk, IsTrue, None};
-ghost use Rattle.std.specs.Prelude.{OnOk, Some, map, slice_get, vec_capacity, vec_len};
+ghost use Rattle.std.specs.Prelude.{OnOk, Some, map, slice_get, true, vec_capacity, vec_len};
 ghost use Rattle.dmr_desk.specs.Limits.{most_actors};
 ghost use Rattle.dmr_desk.specs.Opening.{IsLimit};
 ghost use Rattle.dmr_desk.specs.Refusing.{AreStations, IsFaultFor, IsTermFault, carrier_of_peer};
-ghost use Rattle.dmr_desk.specs.Refusing.{numbers_from};
+ghost use Rattle.dmr_desk.specs.Refusing.{left_at, numbers_from, starts_threads};
+ghost use Rattle.dmr_desk.specs.Seats.{empty_seats};
 ghost use Rattle.dmr_desk.specs.Term.{IsTerm, end_of_term, start_of_term};
 ghost use Rattle.dmr_desk.specs.Work.{station_state};
 
@@ -14,8 +15,10 @@ use crate::desk::SharedDesk;
 use crate::desk_ledger::DeskLedger;
 use crate::ending::Ending;
 use crate::fault::{OpenFault, TermFault};
-use crate::limits::PARTS;
+use crate::limits::{MOST_ENTRIES, PARTS};
 use crate::pace::Pacer;
+use crate::seat::Seat;
+use crate::service::{Refused, Service};
 use crate::station::{ConsoleStation, Serving, Station};
 use crate::term::{HandedBack, Term, close_term, run_threads};
 use arrayvec::ArrayVec;
@@ -79,16 +82,18 @@ fn room_for<S: Drop, L: Ledger>(
     Ok((room, back))
 }
 
-/// A term over a ledger, of at most 16 stations.
-fn run_over<S, T, C, L, R>(
+/// Runs a term at a desk that was opened, from its new seats. There is room for the workers' results. On an error a
+/// thread could not be started, or the desk returned no report, or a worker ended early.
+fn run_opened<S, T, C, L, R>(
     rt: &R,
-    alloc: Global,
-    blank: Blank,
-    site: Site,
+    desk: SharedDesk<L>,
     limit: usize,
+    seats: Vec<Seat<L>>,
     stations: Vec<S>,
     pacer: T,
     console: C,
+    room: Vec<LinkWork<S, L>>,
+    back: HandedBack<S, L>,
 ) -> Result<Term<S, T, C>, TermFault>
 where
     S: Serving + Send + Drop,
@@ -96,12 +101,20 @@ where
     C: Serving + Send + Drop,
     L: DeskLedger + Send + Sync,
     R: Wait + Threads + Sync,
-    requires name { blank.name ≡ L.name }
-    requires parts { blank.parts ≡ L.parts }
-    requires eighteen { blank.parts ≡ most_actors }
+    requires whole { L.parts ≡ most_actors }
+    requires limit { desk.limit ≡ limit }
+    requires actors { desk.actors ≡ vec_len stations + 2 }
     requires few { vec_len stations ≤ 16 }
-    requires desk { L.desk ≡ record { site = site; limit = limit; actors = vec_len stations + 2 } }
-    ensures term { IfOk result (λ t. IsTerm (start_of_term site limit
+    requires is_limit { IsLimit desk.limit }
+    requires seats { seats.items ≡ empty_seats (vec_len stations + 2) }
+    requires empty { room.items ≡ [] }
+    requires room { vec_len stations ≤ vec_capacity room }
+    requires no_stations { back.stations.items ≡ [] }
+    requires no_seats { back.seats.items ≡ [] }
+    requires no_ends { back.ends.items ≡ [] }
+    requires stations_room { vec_len stations ≤ vec_capacity back.stations }
+    requires seats_room { vec_len stations + 2 ≤ vec_capacity back.seats }
+    ensures term { IfOk result (λ t. IsTerm (start_of_term desk.site desk.limit
         (map (λ s. S.state s) stations.items) (T.paced pacer) (C.state console))
         (end_of_term t.report t.ends.items (map (λ s. S.state s) t.stations.items) (T.paced t.pacer)
         (C.state t.console))) }
@@ -110,30 +123,159 @@ where
     ensures open { IfOk result
         (λ t. slice_get t.ends.items (vec_len stations + 1) ≡ Some Ending.GateShut
         → C.shut t.console) }
-    ensures fault { IfErr result (IsFaultFor (start_of_term site limit
+    ensures fault { IfErr result (IsFaultFor (start_of_term desk.site desk.limit
         (map (λ s. S.state s) stations.items) (T.paced pacer) (C.state console))) }
-    ensures limit { OnOk result (IsLimit limit) }
+    ensures late { IfErr result (λ fault. starts_threads fault ≡ true) }
 {
-    let count = stations.len();
-    let actors = count as u8 + 2;
-    let (desk, seats) = match SharedDesk::<L>::open(alloc, blank, site, limit, actors) {
-        Ok(opened) => opened,
-        Err((fault, site)) => {
-            drop(site);
-            return Err(TermFault::Open(fault));
-        }
-    };
-    let Ok((room, back)) = room_for(alloc, count) else {
-        drop(desk);
-        return Err(TermFault::Open(OpenFault::OutOfMemory));
-    };
     match run_threads(rt, &desk, stations, seats, pacer, console, room) {
         Some(all) => close_term(rt, desk, limit, all, back),
         None => {
             drop(desk);
+            drop(back);
             Err(TermFault::NoThread)
         }
     }
+}
+
+/// A term over a ledger, of at most 16 stations. All memory is allocated before a thread is started, so the service is
+/// handed back as it was if an allocation is refused.
+fn run_over<P, G, T, C, L, R>(
+    rt: &R,
+    alloc: Global,
+    blank: Blank,
+    limit: usize,
+    service: Service<P, G, T, C>,
+) -> Result<Term<Station<P, G>, T, ConsoleStation<C>>, Refused<P, G, T, C>>
+where
+    P: Port + Send + Drop,
+    G: Gate + Send + Drop,
+    T: Pacer + Send + Drop,
+    C: Port + Send + Drop,
+    L: DeskLedger + Send + Sync,
+    R: Wait + Threads + Sync,
+    requires name { blank.name ≡ L.name }
+    requires parts { blank.parts ≡ L.parts }
+    requires eighteen { blank.parts ≡ most_actors }
+    requires few { vec_len service.stations ≤ 16 }
+    requires limit { IsLimit limit }
+    requires desk { L.desk ≡ record {
+      site = service.site;
+      limit = limit;
+      actors = vec_len service.stations + 2;
+    } }
+    ensures term { IfOk result (λ t. IsTerm (start_of_term service.site limit
+        (map (λ s. station_state s.link (P.reported s.port) (G.passed s.gate))
+        service.stations.items) (T.paced service.pacer)
+        (station_state service.console.link (C.reported service.console.port) None))
+        (end_of_term t.report t.ends.items
+        (map (λ s. station_state s.link (P.reported s.port) (G.passed s.gate)) t.stations.items)
+        (T.paced t.pacer) (station_state t.console.link (C.reported t.console.port) None))) }
+    ensures shut { IfOk result (λ t. (k : ℕ) (s : _) → slice_get t.stations.items k ≡ Some s
+        → slice_get t.ends.items k ≡ Some Ending.GateShut → (before : _) × G.shuts before s.gate) }
+    ensures open { IfOk result
+        (λ t. slice_get t.ends.items (vec_len service.stations + 1) ≡ Some Ending.GateShut
+        → ⊥) }
+    ensures fault { IfErr result (λ refused. IsFaultFor (start_of_term service.site limit
+        (map (λ s. station_state s.link (P.reported s.port) (G.passed s.gate))
+        service.stations.items) (T.paced service.pacer)
+        (station_state service.console.link (C.reported service.console.port) None))
+        refused.fault) }
+    ensures left { IfErr result
+        (λ refused. refused.left ≡ left_at refused.fault service) }
+{
+    let Service {
+        site,
+        stations,
+        pacer,
+        console,
+    } = service;
+    let count = stations.len();
+    let Ok((room, back)) = room_for(alloc, count) else {
+        return Err(Refused {
+            fault: TermFault::Open(OpenFault::OutOfMemory),
+            left: Some(Service {
+                site,
+                stations,
+                pacer,
+                console,
+            }),
+        });
+    };
+    let actors = count as u8 + 2;
+    let (desk, seats) = match SharedDesk::<L>::open(alloc, blank, site, limit, actors) {
+        Ok(opened) => opened,
+        Err((fault, site)) => {
+            drop(room);
+            drop(back);
+            return Err(Refused {
+                fault: TermFault::Open(fault),
+                left: Some(Service {
+                    site,
+                    stations,
+                    pacer,
+                    console,
+                }),
+            });
+        }
+    };
+    match run_opened(rt, desk, limit, seats, stations, pacer, console, room, back) {
+        Ok(term) => Ok(term),
+        Err(fault) => Err(Refused { fault, left: None }),
+    }
+}
+
+/// Runs a term, as [`run_term`] does, from a service. If no thread was started, the error hands back the service as it
+/// was: at `BadStations`, and at `Open`, so if memory ran out. The same term can then be tried again. At the other
+/// faults the service is lost.
+pub fn try_term<P, G, T, C, R>(
+    rt: &R,
+    alloc: Global,
+    limit: usize,
+    service: Service<P, G, T, C>,
+) -> Result<Term<Station<P, G>, T, ConsoleStation<C>>, Refused<P, G, T, C>>
+where
+    P: Port + Send + Drop,
+    G: Gate + Send + Drop,
+    T: Pacer + Send + Drop,
+    C: Port + Send + Drop,
+    R: Wait + Threads + Sync,
+    ensures term { IfOk result (λ t. IsTerm (start_of_term service.site limit
+        (map (λ s. station_state s.link (P.reported s.port) (G.passed s.gate))
+        service.stations.items) (T.paced service.pacer)
+        (station_state service.console.link (C.reported service.console.port) None))
+        (end_of_term t.report t.ends.items
+        (map (λ s. station_state s.link (P.reported s.port) (G.passed s.gate)) t.stations.items)
+        (T.paced t.pacer) (station_state t.console.link (C.reported t.console.port) None))) }
+    ensures shut { IfOk result (λ t. (k : ℕ) (s : _) → slice_get t.stations.items k ≡ Some s
+        → slice_get t.ends.items k ≡ Some Ending.GateShut → (before : _) × G.shuts before s.gate) }
+    ensures open { IfOk result
+        (λ t. slice_get t.ends.items (vec_len service.stations + 1) ≡ Some Ending.GateShut
+        → ⊥) }
+    ensures fault { IfErr result (λ refused. IsTermFault (start_of_term service.site limit
+        (map (λ s. station_state s.link (P.reported s.port) (G.passed s.gate))
+        service.stations.items) (T.paced service.pacer)
+        (station_state service.console.link (C.reported service.console.port) None))
+        refused.fault) }
+    // All of the service is as it was: the site, the links' states and the ports' records among the rest.
+    ensures left { IfErr result
+        (λ refused. refused.left ≡ left_at refused.fault service) }
+    ensures fits { OnOk result (AreStations service.site.plan
+        (map (λ s. station_state s.link (P.reported s.port) (G.passed s.gate))
+        service.stations.items) × IsLimit limit) }
+{
+    if !are_stations(service.site.plan(), 16, service.stations.as_slice()) {
+        return Err(Refused {
+            fault: TermFault::BadStations,
+            left: Some(service),
+        });
+    }
+    if limit == 0 || limit > MOST_ENTRIES {
+        return Err(Refused {
+            fault: TermFault::Open(OpenFault::BadLimit),
+            left: Some(service),
+        });
+    }
+    run_over::<P, G, T, C, Brand, R>(rt, alloc, Blank::new(PARTS), limit, service)
 }
 
 /// Runs a term at one desk: a worker for each station, one for the ticker and one for the console, each in a thread of
@@ -143,7 +285,7 @@ where
 /// worker received. All memory is allocated before a thread is started, and the call waits for each started thread. If
 /// a thread cannot be started, the desk takes no further event. Each started worker then ends when it next asks whether
 /// the term is over; no clause says how soon. The error is the first fault that applies, in the order of [`TermFault`];
-/// all arguments are used up.
+/// all arguments are used up. [`try_term`] hands them back if no thread was started.
 pub fn run_term<P, G, T, C, R>(
     rt: &R,
     alloc: Global,
@@ -177,17 +319,18 @@ where
         (map (λ s. station_state s.link (P.reported s.port) (G.passed s.gate)) stations.items)
         × IsLimit limit) }
 {
-    if !are_stations(site.plan(), 16, stations.as_slice()) {
-        return Err(TermFault::BadStations);
-    }
-    run_over::<Station<P, G>, T, ConsoleStation<C>, Brand, R>(
-        rt,
-        alloc,
-        Blank::new(PARTS),
+    let service = Service {
         site,
-        limit,
         stations,
         pacer,
         console,
-    )
+    };
+    match try_term(rt, alloc, limit, service) {
+        Ok(term) => Ok(term),
+        Err(refused) => {
+            let Refused { fault, left } = refused;
+            drop(left);
+            Err(fault)
+        }
+    }
 }

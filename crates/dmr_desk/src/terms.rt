@@ -2,17 +2,17 @@
 
 ghost use Rattle.std.specs.Prelude.{◌≡◌, [], ◌∷◌, IfErr, IfOk, List, None, OnErr, Option, map};
 ghost use Rattle.dmr_core.specs.declared.entry.Entry.{Entry as AnEntry};
-ghost use Rattle.dmr_desk.specs.Refusing.{IsTermFault};
+ghost use Rattle.dmr_desk.specs.Refusing.{IsTermFault, left_at};
 ghost use Rattle.dmr_desk.specs.Term.{start_of_term};
 ghost use Rattle.dmr_desk.specs.Terms.{HaveRun, HaveStopped, Sees};
 ghost use Rattle.dmr_desk.specs.Work.{station_state};
 
-use crate::fault::{TermFault, TermsFault};
+use crate::fault::TermsFault;
 use crate::pace::Pacer;
-use crate::run::run_term;
+use crate::run::try_term;
+use crate::service::{Refused, Service};
 use crate::station::{ConsoleStation, Station};
 use crate::term::Term;
-use dmr_core::Site;
 use dmr_link::Gate;
 use dmr_wire::Port;
 use std::alloc::Global;
@@ -28,19 +28,6 @@ pub trait Observer<S, T, C> {
     /// Sees a term that has ended. The journal is dropped afterwards.
     fn ended(&mut self, term: &Term<S, T, C>)
         ensures { Sees (seen self.old) (term.now.report.journal ∷ []) (seen self.new) };
-}
-
-/// The state that continues from term to term.
-#[derive(Drop)]
-pub struct Service<P, G, T, C> {
-    /// The site.
-    pub site: Site,
-    /// A station for each carrier of the site's plan, by number.
-    pub stations: Vec<Station<P, G>>,
-    /// The pacer.
-    pub pacer: T,
-    /// The console.
-    pub console: ConsoleStation<C>,
 }
 
 /// Has the observer see a term. Returns the state that the term left; its journal is dropped.
@@ -76,14 +63,16 @@ where
     }
 }
 
-/// Runs one term, and has the observer see it. On an error the observer saw nothing.
-fn run_next<P, G, T, C, O, R>(
+/// Runs one term, as [`try_term`] does, and has the observer see it. Returns the state that the term left. On an error
+/// the observer saw nothing, and the error has what is left: if no thread was started, all of `service`, so the same
+/// term can be tried again.
+pub fn try_next<P, G, T, C, O, R>(
     rt: &R,
     alloc: Global,
     limit: usize,
     service: Service<P, G, T, C>,
     observer: &mut O,
-) -> Result<Service<P, G, T, C>, TermFault>
+) -> Result<Service<P, G, T, C>, Refused<P, G, T, C>>
 where
     P: Port + Send + Drop,
     G: Gate + Send + Drop,
@@ -100,24 +89,21 @@ where
         (T.paced next.pacer) (station_state next.console.link (C.reported next.console.port) None))
         (O.seen observer.old) (O.seen observer.new)) }
     ensures fault { IfErr result
-        (IsTermFault (start_of_term service.site limit (map (λ s. station_state s.link
+        (λ refused. IsTermFault (start_of_term service.site limit (map (λ s. station_state s.link
         (P.reported s.port) (G.passed s.gate)) service.stations.items) (T.paced service.pacer)
-        (station_state service.console.link (C.reported service.console.port) None))) }
+        (station_state service.console.link (C.reported service.console.port) None))
+        refused.fault) }
+    ensures left { IfErr result
+        (λ refused. refused.left ≡ left_at refused.fault service) }
     ensures unseen { OnErr result (O.seen observer.new ≡ O.seen observer.old) }
 {
-    let Service {
-        site,
-        stations,
-        pacer,
-        console,
-    } = service;
-    match run_term(rt, alloc, site, limit, stations, pacer, console) {
+    match try_term(rt, alloc, limit, service) {
         Ok(term) => Ok(leave_term(term, observer)),
-        Err(fault) => Err(fault),
+        Err(refused) => Err(refused),
     }
 }
 
-/// Runs `terms` terms in a row, as [`run_term`] does. The first begins with `service`, each other with the state that
+/// Runs `terms` terms in a row, as [`run_term`](crate::run_term) does. The first begins with `service`, each other with the state that
 /// the one before it left. Each journal may have `limit` entries (1 to 100,000). The observer sees each term
 /// once it was audited. Returns the state that the last term left; if `terms` is 0, that is `service`. The call
 /// stops at the first term that fails.
@@ -155,9 +141,13 @@ where
         terms fault (O.seen observer.old) (O.seen observer.new)) }
 {
     for done in 0..terms {
-        service = match run_next(rt, alloc, limit, service, observer) {
+        service = match try_next(rt, alloc, limit, service, observer) {
             Ok(next) => next,
-            Err(fault) => return Err(TermsFault { done, fault }),
+            Err(refused) => {
+                let Refused { fault, left } = refused;
+                drop(left);
+                return Err(TermsFault { done, fault });
+            }
         };
     }
     Ok(service)

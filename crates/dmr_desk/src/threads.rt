@@ -1,6 +1,6 @@
 //! The threads of a term.
 
-ghost use Rattle.std.specs.Prelude.{◌≡◌, ◌≤◌, ◌+◌, [], All, IfSome, true, map, vec_len};
+ghost use Rattle.std.specs.Prelude.{◌≡◌, ◌≤◌, ◌+◌, ℕ, [], All, IfSome, true, map, vec_len};
 ghost use Rattle.std.specs.Prelude.{vec_capacity};
 ghost use Rattle.dmr_desk.specs.Term.{AllDone, AreNew, IsWorkDone, IsNew, IsTicked, are_new};
 ghost use Rattle.dmr_desk.specs.Term.{work_done, is_new};
@@ -147,9 +147,10 @@ fn report_to_pacer<T: Pacer + Drop, C: Drop, L: Ledger>(others: TickerAndConsole
     others.pacer.term_over();
 }
 
-/// Starts the last station's worker, runs the rest, and waits for the worker. If a thread could not be started, returns
-/// `None`; the desk was abandoned, and all started threads have ended. Unless the ticker had been started, the pacer or
-/// the console received that the term is over.
+/// Starts the first station's worker, runs the rest, and waits for the worker. So the workers start in the order of their
+/// stations, and the ticker and the console's worker last. If a thread could not be started, returns `None`; the desk
+/// was abandoned, and all started threads have ended. Unless the ticker had been started, the pacer or the console
+/// received that the term is over.
 fn run_stations<'s, E, S, T, C, L, R>(
     rt: &'s R,
     scope: &'s Scope<'s, E>,
@@ -166,12 +167,14 @@ where
     L: DeskLedger + Send + Sync + 's,
     R: Wait + Threads + Sync,
     requires each { vec_len seats ≡ vec_len stations }
-    requires new { AreNew 0 seats.items }
+    requires new { All (λ seat. seat.deposits ≡ []) seats.items }
     requires pacer { others.pacer_seat.deposits ≡ [] }
     requires console { others.console_seat.deposits ≡ [] }
     requires empty { room.items ≡ [] }
     requires room { vec_len stations ≤ vec_capacity room }
-    ensures carriers { IfSome result (λ r. AllDone 0 (map (λ s. S.state s) stations.items)
+    // The seats are numbered from any number on.
+    ensures carriers { (first : ℕ) → AreNew first seats.items
+        → IfSome result (λ r. AllDone first (map (λ s. S.state s) stations.items)
         (map (λ w. work_done (S.state w.station) w.seat w.ending) r.carriers.items)) }
     ensures shut { IfSome result
         (λ r. All (λ w. w.ending ≡ Ending.GateShut → S.shut w.station) r.carriers.items) }
@@ -185,12 +188,11 @@ where
     ensures open { IfSome result (λ r. r.console.ending ≡ Ending.GateShut
         → C.shut r.console.station) }
 {
-    let Some(station) = stations.pop() else {
+    if stations.is_empty() {
         return run_ticker_and_console(rt, scope, desk, others, room);
-    };
-    let Some(seat) = seats.pop() else {
-        unreachable!()
-    };
+    }
+    let station = stations.remove(0);
+    let seat = seats.remove(0);
     let promise = LinkPromise(Snapshot::of(&station), seat.actor());
     match scope.spawn_with(
         promise,
@@ -206,7 +208,9 @@ where
             let work = child.join(rt);
             match rest {
                 Some(mut all) => {
-                    all.carriers.push_reserved(work);
+                    let Ok(()) = all.carriers.insert(0, work) else {
+                        unreachable!()
+                    };
                     Some(all)
                 }
                 None => None,

@@ -1,27 +1,8 @@
-use Rattle.std.proofs.Common.{◌≡◌, map, length, vec_len, ◌∙◌, sym}
-use Rattle.std.proofs.lemmas.List.{length-map}
-use Rattle.dmr_desk.proofs.RefusalLemmas.{if_ok_map, if_err_map, late_fault, on_ok}
+use Rattle.dmr_desk.proofs.RefusalLemmas.{nothing_left}
 use Rattle.dmr_desk.proofs.run.run_over.Goals as goal
 
-pub returns-in-Some-clause-term : goal.returns-in-Some-clause-term
-returns-in-Some-clause-term g c =
-    let n : vec_len c.args.stations ≡ length (map (λ s. g.S.Serving.state s) c.args.stations.items) = c.args.stations.ok.0 ∙ sym (length-map c.args.stations.items (λ s. g.S.Serving.state s)) in
-    if_ok_map c.close_term.result _ _
-    (λ t h. let k = h _ _ _ (rw c.in-Some.is at c.run_threads.ensures.carriers) (rw (n, c.in-Some.is) at c.run_threads.ensures.ticker) (rw (n, c.in-Some.is) at c.run_threads.ensures.console) in rw c.in-Ok.ensures.desk at k)
-    c.close_term.ensures.term
+pub returns-in-Err-run_opened-clause-fault : goal.returns-in-Err-run_opened-clause-fault
+returns-in-Err-run_opened-clause-fault g c = rw c.in-Ok-open.ensures.desk at c.in-Err-run_opened.ensures.fault
 
-pub returns-in-Some-clause-shut : goal.returns-in-Some-clause-shut
-returns-in-Some-clause-shut g c = if_ok_map c.close_term.result _ _ (λ t h. h (rw c.in-Some.is at c.run_threads.ensures.shut)) c.close_term.ensures.shut
-
-pub returns-in-Some-clause-open : goal.returns-in-Some-clause-open
-returns-in-Some-clause-open g c = if_ok_map c.close_term.result _ _ (λ t h. rw (rw c.in-Some.is at c.run_threads.ensures.len) at h (rw c.in-Some.is at c.run_threads.ensures.open)) c.close_term.ensures.open
-
-pub returns-in-Some-clause-fault : goal.returns-in-Some-clause-fault
-returns-in-Some-clause-fault g c =
-    let n : vec_len c.args.stations ≡ length (map (λ s. g.S.Serving.state s) c.args.stations.items) = c.args.stations.ok.0 ∙ sym (length-map c.args.stations.items (λ s. g.S.Serving.state s)) in
-    if_err_map c.close_term.result _ _
-    (λ fault h. late_fault _ fault (rw c.in-Ok.is at c.open.ensures.numbers).0 (let k = h _ _ _ (rw c.in-Some.is at c.run_threads.ensures.carriers) (rw (n, c.in-Some.is) at c.run_threads.ensures.ticker) (rw (n, c.in-Some.is) at c.run_threads.ensures.console) in rw c.in-Ok.ensures.desk at k))
-    c.close_term.ensures.late
-
-pub returns-in-Some-clause-limit : goal.returns-in-Some-clause-limit
-returns-in-Some-clause-limit g c = on_ok c.close_term.result _ (rw c.in-Ok.is at c.open.ensures.numbers).0
+pub returns-in-Err-run_opened-clause-left : goal.returns-in-Err-run_opened-clause-left
+returns-in-Err-run_opened-clause-left g c = nothing_left _ _ c.in-Err-run_opened.ensures.late

@@ -1,28 +1,29 @@
-use Rattle.std.proofs.Common.{◌≡◌, length, ◌∙◌, sym}
-use Rattle.std.proofs.lemmas.List.{map-append}
-use Rattle.std.proofs.lemmas.List.Elements.{All-push}
+use Rattle.std.proofs.Common.{◌≡◌, ◌+◌, [], arith}
 use Rattle.dmr_desk.specs.declared.ending.Ending.TheVariants.{GateShut}
-use Rattle.dmr_desk.proofs.CrewLemmas.{all_done_snoc, new_but_last, last_number}
+use Rattle.dmr_desk.specs.Seats.{SeatState}
+use Rattle.dmr_desk.proofs.CrewLemmas.{all_cons, all_done_cons, all_tail, first_of}
 use Rattle.dmr_desk.proofs.threads.+run_stations.Goals as goal
 
 pub spawn_with-requires-clause-runs : goal.spawn_with-requires-clause-runs
-spawn_with-requires-clause-runs g t c = λ κs within. (new_but_last _ _ _ c.in-Some-pop.ensures.items c.requires.new).1.1
+spawn_with-requires-clause-runs g t c = λ κs within. (all_tail (λ (x : SeatState). x.deposits ≡ []) _ _ _ (first_of _ _ _ (omega arith) c.remove-seat.ensures.value c.remove-seat.ensures.items) c.requires.new).0
 
 pub run_stations-rest-requires-clause-new : goal.run_stations-rest-requires-clause-new
-run_stations-rest-requires-clause-new g t c = λ κs within. (new_but_last _ _ _ c.in-Some-pop.ensures.items c.requires.new).0
+run_stations-rest-requires-clause-new g t c = λ κs within. (all_tail (λ (x : SeatState). x.deposits ≡ []) _ _ _ (first_of _ _ _ (omega arith) c.remove-seat.ensures.value c.remove-seat.ensures.items) c.requires.new).1
 
-pub returns-in-Some-rest-clause-carriers : goal.returns-in-Some-rest-clause-carriers
-returns-in-Some-rest-clause-carriers g t c =
+pub returns-in-Ok-insert-clause-carriers : goal.returns-in-Ok-insert-clause-carriers
+returns-in-Ok-insert-clause-carriers g t c = λ first new.
     let o = rw c.in-Ok.is at c.spawn_with.ensures.ok in
     let k = rw o at c.join-work.ensures in
     let kept = rw c.of.ensures at k in
-    let each : length c.args.seats.items ≡ length c.args.stations.items = sym c.args.seats.ok.0 ∙ c.requires.each ∙ c.args.stations.ok.0 in
-    let number = last_number _ _ _ _ _ _ (λ s. g.S.Serving.state s) each c.in-Some.ensures.items c.in-Some-pop.ensures.items c.requires.new in
-    rw (c.in-Some.ensures.items, c.push_reserved.ensures.items, map-append, map-append)
-    (all_done_snoc 0 _ _ _ _ (rw c.in-Some-rest.is at c.run_stations-rest.ensures.carriers) (kept.0.0 ∙ c.actor.ensures ∙ number, kept.0.1))
+    let stations = first_of _ _ _ (omega arith) c.remove-station.ensures.value c.remove-station.ensures.items in
+    let seats = first_of _ _ _ (omega arith) c.remove-seat.ensures.value c.remove-seat.ensures.items in
+    let items = rw c.in-Ok-insert.is at c.insert.ensures.items in
+    rw items
+    (all_done_cons (λ s. g.S.Serving.state s) _ _ _ _ _ _ first _ _ stations seats new (rw c.actor.ensures at kept.0) (λ rest. rw c.in-Some.is at c.run_stations-rest.ensures.carriers (first + 1) rest))
 
-pub returns-in-Some-rest-clause-shut : goal.returns-in-Some-rest-clause-shut
-returns-in-Some-rest-clause-shut g t c =
+pub returns-in-Ok-insert-clause-shut : goal.returns-in-Ok-insert-clause-shut
+returns-in-Ok-insert-clause-shut g t c =
     let o = rw c.in-Ok.is at c.spawn_with.ensures.ok in
     let k = rw o at c.join-work.ensures in
-    rw c.push_reserved.ensures.items (All-push (λ w. w.ending ≡ GateShut → g.S.Serving.shut w.station) _ _ (rw c.in-Some-rest.is at c.run_stations-rest.ensures.shut) k.1)
+    let items = rw c.in-Ok-insert.is at c.insert.ensures.items in
+    rw items (all_cons (λ w. w.ending ≡ GateShut → g.S.Serving.shut w.station) _ _ k.1 (rw c.in-Some.is at c.run_stations-rest.ensures.shut))

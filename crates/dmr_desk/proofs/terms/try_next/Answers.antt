@@ -2,7 +2,7 @@ use Rattle.std.proofs.Common.{map, None}
 use Rattle.dmr_desk.specs.Term.{start_of_term, end_of_term}
 use Rattle.dmr_desk.specs.Work.{station_state}
 use Rattle.dmr_desk.proofs.TermsJoin.{ran_one}
-use Rattle.dmr_desk.proofs.terms.run_next.Goals as goal
+use Rattle.dmr_desk.proofs.terms.try_next.Goals as goal
 
 pub returns-in-Ok-clause-run : goal.returns-in-Ok-clause-run
 returns-in-Ok-clause-run g c =

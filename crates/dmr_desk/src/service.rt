@@ -1,0 +1,28 @@
+//! The state that continues from term to term, and why a term was not run, with what is left.
+
+use crate::fault::TermFault;
+use crate::station::{ConsoleStation, Station};
+use dmr_core::Site;
+
+/// The state that continues from term to term.
+#[derive(Drop)]
+pub struct Service<P, G, T, C> {
+    /// The site.
+    pub site: Site,
+    /// A station for each carrier of the site's plan, by number.
+    pub stations: Vec<Station<P, G>>,
+    /// The pacer.
+    pub pacer: T,
+    /// The console.
+    pub console: ConsoleStation<C>,
+}
+
+/// Why there is no term, with what is left.
+#[derive(Drop)]
+pub struct Refused<P, G, T, C> {
+    /// The first fault that applies.
+    pub fault: TermFault,
+    /// The service, exactly as it was handed in, if no thread was started: at `BadStations` and at `Open`. At the
+    /// other faults it is lost, and this is `None`.
+    pub left: Option<Service<P, G, T, C>>,
+}

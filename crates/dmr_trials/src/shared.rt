@@ -1,4 +1,4 @@
-//! Desks that are opened, shared by two threads, abandoned and closed.
+//! Desks that are opened, shared by two threads and closed.
 
 ghost use Rattle.std.specs.Prelude.{◌≡◌};
 
@@ -195,61 +195,5 @@ fn two_threads(rt: HostRuntime) -> Result<(), Fail> {
         assert_eq!(rt; told, want);
         drop(report);
     }
-    Ok(())
-}
-
-/// Asks from a seat until the term is over, and returns the seat.
-fn wait_until_over<L: DeskLedger, R: Wait>(rt: &R, desk: &SharedDesk<L>, seat: Seat<L>) -> Seat<L> {
-    let mut at = SeatAt::new(rt, desk, seat);
-    for _ in rt.forever() {
-        if at.over() {
-            break;
-        }
-    }
-    at.into_seat()
-}
-
-/// Abandons a desk of ten entries after its first, while another thread waits for the end. Checks its answers and its
-/// report.
-fn abandon_with_one_waiting<
-    L: DeskLedger + Send + Sync,
-    R: Abort + AllocGlobal + Wait + Threads + Sync,
->(rt: &R, blank: Blank, site: Site)
-    requires name { blank.name ≡ L.name }
-    requires parts { blank.parts ≡ L.parts }
-    requires eighteen { blank.parts ≡ 18 }
-    requires desk { L.desk ≡ record { site = site; limit = 10; actors = 1 } }
-{
-    let (desk, mut seats) = SharedDesk::<L>::open(rt.alloc(), blank, site, 10, 1)
-        .ok()
-        .expect(rt, "a desk");
-    let mut at = SeatAt::new(rt, &desk, seats.pop().expect(rt, "a seat"));
-    assert!(rt; at.deposit(Event::Tick).is_ok());
-    assert!(rt; !at.over());
-    let seat = at.into_seat();
-    let shared = &desk;
-    let (seat, ()) = thread::join(
-        rt,
-        move || wait_until_over(rt, shared, seat),
-        move || shared.abandon(rt),
-    );
-    let mut at = SeatAt::new(rt, &desk, seat);
-    assert!(rt; at.over());
-    assert_eq!(rt; at.deposit(Event::Tick), Err(TermOver { entries: 1 }));
-    let seats = Vec::from_array(rt.alloc(), [at.into_seat()]).expect(rt, "memory");
-    let report = desk.close(rt, seats).expect(rt, "a report");
-    assert_eq!(rt; report.journal.as_slice().len(), 1);
-    drop(report);
-}
-
-/// Calls `abandon_with_one_waiting` with a ledger of its own.
-fn abandon_one<R: Abort + AllocGlobal + Wait + Threads + Sync>(rt: &R, site: Site) {
-    abandon_with_one_waiting::<Brand, R>(rt, Blank::new(PARTS), site)
-}
-
-/// An abandoned desk takes no event and reports that the term is over. Its report has the events that it took before.
-#[test]
-fn abandoned(rt: HostRuntime) -> Result<(), Fail> {
-    abandon_one(&rt, quiet_site(rt.alloc())?);
     Ok(())
 }

@@ -145,3 +145,29 @@ fn refusals(rt: HostRuntime) -> Result<(), Fail> {
     }
     Ok(())
 }
+
+/// After each of two refused tries, a term runs as if it had not been tried: the link goes on in the middle of its
+/// connection.
+#[test]
+fn a_term_that_is_tried_again(rt: HostRuntime) -> Result<(), Fail> {
+    let steps = new_steps();
+    let mut stage = TermStage::new(&rt, &steps, &HUNDRED_POLLS)?;
+    let mut letters = String::new(rt.alloc());
+    for limit in [40, 100] {
+        for bad in [0, 100_001] {
+            let Some((fault, left)) = stage.try_refused(&rt, rt.alloc(), bad) else {
+                return Err("a refused term".into());
+            };
+            stage = left;
+            assert_eq!(rt; fault, TermFault::Open(OpenFault::BadLimit), "{bad}");
+        }
+        let outcome = stage.run(&rt, rt.alloc(), limit)?;
+        stage = letters_of_first(&mut letters, outcome)?;
+    }
+    let events = text_of_letters(rt.alloc(), &[(1, "U"), (100, "P"), (1, "L")])?;
+    assert_eq!(rt; letters.as_str(), events.as_str());
+    let octets = octets_of(rt.alloc(), &[(1, "W"), (100, "FD")])?;
+    assert_eq!(rt; stage.taken(0), octets.as_slice());
+    drop(stage);
+    Ok(())
+}

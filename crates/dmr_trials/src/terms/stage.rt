@@ -5,7 +5,9 @@ use super::stories::{NO_CARRIER, NOTHING_COMES};
 use crate::site::quiet_site;
 use arrayvec::ArrayVec;
 use dmr_core::Site;
-use dmr_desk::{ConsoleStation, Ending, Pace, Station, Term, TermFault, Views, run_term};
+use dmr_desk::{
+    ConsoleStation, Ending, Pace, Service, Station, Term, TermFault, Views, run_term, try_term,
+};
 use dmr_frames::Version;
 use dmr_link::{ConsoleLink, Link};
 use dmr_pdu::{CarrierNo, Lpcn};
@@ -226,6 +228,46 @@ impl<'a> TermStage<'a> {
                 console,
             },
         })
+    }
+
+    /// Runs a term that should be refused before a thread is started. Returns the fault, and the stage that is handed
+    /// back. `None` if the term was run, or if nothing is handed back.
+    pub fn try_refused<R: Wait + Threads + Sync>(
+        self,
+        rt: &R,
+        alloc: Global,
+        limit: usize,
+    ) -> Option<(TermFault, TermStage<'a>)> {
+        let service = Service {
+            site: self.site,
+            stations: self.stations,
+            pacer: self.pacer,
+            console: self.console,
+        };
+        match try_term(rt, alloc, limit, service) {
+            Ok(term) => {
+                drop(term);
+                None
+            }
+            Err(refused) => {
+                let fault = refused.fault;
+                let Service {
+                    site,
+                    stations,
+                    pacer,
+                    console,
+                } = refused.left?;
+                Some((
+                    fault,
+                    TermStage {
+                        site,
+                        stations,
+                        pacer,
+                        console,
+                    },
+                ))
+            }
+        }
     }
 
     /// Returns all octets that the port of an actor has taken. The ticker has no port.

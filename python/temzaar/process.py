@@ -41,6 +41,14 @@ class Process:
         """How many file descriptors it has open."""
         return len(os.listdir(f"/proc/{self.pid}/fd"))
 
+    def wakeups(self) -> int:
+        """How often the threads that it has now have begun to wait."""
+        count = 0
+        for thread in os.listdir(f"/proc/{self.pid}/task"):
+            with open(f"/proc/{self.pid}/task/{thread}/status", encoding="utf-8") as it:
+                count += int(re.findall(r"\nvoluntary_ctxt_switches:\s+(\d+)", it.read())[0])
+        return count
+
 
 # The number of the call by which a process says which signal it gets when its parent ends (prctl(2)).
 PR_SET_PDEATHSIG = 1

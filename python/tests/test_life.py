@@ -71,6 +71,14 @@ class Terms(Served):
         self.assertGreater(ended - began, due / 1.5)
         self.assertLess(ended - served, due * 1.5)
 
+    def test_an_idle_site_wakes_for_its_ticks(self) -> None:
+        """If nobody connects to sixteen carriers and the console, their threads wake 25 times a second at most. A tick of 60 ms is 17 of these."""
+        self.serve(path=SIXTEEN_CARRIERS, tick_ms=60)
+        time.sleep(1)
+        before, began = self.controller.wakeups(), time.monotonic()
+        time.sleep(6)
+        self.assertLess(self.controller.wakeups() - before, 25 * (time.monotonic() - began))
+
     def test_one_site_for_all_terms(self) -> None:
         """Over the ends of three terms connections, a registration and a call go on, and each term has all its entries."""
         self.serve(tick_ms=50, term_entries=200, hang=60000, maximum=60000, silence=LONG)
@@ -120,7 +128,7 @@ class Connections(Served):
         self.assertTrue(self.controller.wait_for("carrier 1: .* disconnected: silence", PATIENCE), self.controller.notes)
 
     def test_silence_is_not_counted_in_ticks(self) -> None:
-        """Half a second of silence, with ticks of a second. A minute is allowed: a port counts at most 25 ms of each wait, however long that was on a busy machine."""
+        """Half a second of silence, with ticks of a second. A minute is allowed: a port counts at most 100 ms of each wait, however long that was on a busy machine."""
         self.serve(tick_ms=1000, silence=5)
         carrier = self.carrier(1)
         carrier.stream.settimeout(60)

@@ -100,7 +100,7 @@ static CARRIERS_PORT: [Row; 19] = [
         reads: None,
     },
     Row {
-        name: "a stop of the program counts one part of a wait",
+        name: "a stop of the program counts one wait",
         silence: 10,
         until: 5990,
         script: "\

@@ -9,7 +9,7 @@ use Rattle.dmr_port.specs.PortState.{HasWaitedFor, connection_of, waited_by}
 use Rattle.dmr_port.specs.Served.{after_wait, cause_of_served}
 
 -- the connection goes on
-pub goes_on : (silence ms : ℕ) (keeps is_claimed : Bool) (ready : Ready) (old new : Served) → ms ≤ 25 → new ≡ after_wait ready ms keeps old
+pub goes_on : (silence ms : ℕ) (keeps is_claimed : Bool) (ready : Ready) (old new : Served) → ms ≤ 100 → new ≡ after_wait ready ms keeps old
     → cause_of_served silence keeps ready.connection is_claimed new.patience ≡ None → HasWaitedFor silence keeps (connection_of old) (connection_of new) Again
 goes_on silence ms keeps is_claimed ready old new within after none = record {
   milliseconds = ms;
@@ -23,7 +23,7 @@ goes_on silence ms keeps is_claimed ready old new within after none = record {
 }
 
 -- the connection is given up
-pub is_given_up : (silence ms : ℕ) (keeps is_claimed : Bool) (ready : Ready) (old new : Served) (cause : EndCause) → ms ≤ 25 → new ≡ after_wait ready ms keeps old
+pub is_given_up : (silence ms : ℕ) (keeps is_claimed : Bool) (ready : Ready) (old new : Served) (cause : EndCause) → ms ≤ 100 → new ≡ after_wait ready ms keeps old
     → cause_of_served silence keeps ready.connection is_claimed new.patience ≡ Some cause
     → HasWaitedFor silence keeps (connection_of old) (connection_of (record new { ended = Some cause })) Silent
 is_given_up silence ms keeps is_claimed ready old new cause within after some = record {

@@ -169,12 +169,12 @@ abbrev pub waited_by : Option EndCause → Waited
 waited_by None = Again
 waited_by (Some cause) = Silent
 
--- a wait of at most 25 ms with a connection, after which it is given up by the rules, or goes on. `ready`: it could
+-- a wait of at most 100 ms with a connection, after which it is given up by the rules, or goes on. `ready`: it could
 -- then be read, or written if octets are kept. `is_claimed`: a newcomer has sent a HELLO for this carrier
 pub record HasWaitedFor (silence : ℕ) (keeps : Bool) (old new : Connection)
     (result : Waited) : Type 0 where
   pub milliseconds : ℕ
-  pub within : milliseconds ≤ 25
+  pub within : milliseconds ≤ 100
   pub ready : Bool
   pub is_claimed : Bool
   pub patience : new.patience ≡ patience_after_wait milliseconds keeps old.patience

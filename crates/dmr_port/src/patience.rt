@@ -19,7 +19,7 @@ const SEND_WAITS: u32 = 50;
 /// HELLO (this project's profile). A base station polls once in each TDMA frame of 60 ms.
 const QUIET_MS: u32 = 1000;
 
-/// How long a port has waited for a connection, in milliseconds. Between the ends of two waits at most 25 ms count. So
+/// How long a port has waited for a connection, in milliseconds. Between the ends of two waits at most 100 ms count. So
 /// a time in which the program was stopped does not count against the connection.
 #[derive(Clone, Copy, Debug, PartialEq, Eq)]
 pub struct Patience {

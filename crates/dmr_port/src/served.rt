@@ -170,7 +170,7 @@ impl Served {
         silence: u16,
         is_claimed: bool,
     ) -> Option<EndCause>
-        requires { milliseconds ≤ 25 }
+        requires { milliseconds ≤ 100 }
         ensures { HasWaitedFor silence keeps (connection_of self.old) (connection_of self.new)
             (waited_by result) }
     {

@@ -34,9 +34,12 @@ use std::io;
 use std::marker::Model;
 use std::net::SocketAddr;
 
-/// The milliseconds of a part of a wait. After each part the worker asks whether its term is over. So at the end of a
-/// term the other workers do not wait long for the last one.
-const PART_MS: u64 = 25;
+/// The most milliseconds of a wait for a connection, and the most that one counts.
+const WAIT_MS: u64 = 100;
+
+/// The most milliseconds of a wait while nobody is connected. Whatever comes ends it, and so does the end of a term. So
+/// a port whose sockets cannot be woken delays that end by this much at most.
+const IDLE_MS: u64 = 5000;
 
 /// The most connections that are accepted in one call.
 const MOST_ACCEPTS: usize = 16;
@@ -46,7 +49,7 @@ const MOST_ACCEPTS: usize = 16;
 /// - In a window of 60 ms it returns at most 512 octets to the link; then a read would block.
 /// - A connection from which no octet came for `silence` waits of 100 ms is silent. So is, after as long, a carrier's
 ///   connection without a whole HELLO, and an operator's connection with a line that did not end. Between the ends of
-///   two waits at most 25 ms count.
+///   two waits at most 100 ms count.
 /// - Octets that the connection does not take at once are kept, at most 65,536, and sent before anything more is read.
 ///   A connection that does not take them within 50 waits is given up.
 /// - While a connection is served, at most 8 newcomers wait. When a ninth comes, the oldest that has sent no HELLO for
@@ -346,34 +349,32 @@ impl<S: Sockets + Drop, N: PortNotes + Drop, W: Witness + Drop> ServingPort<S, N
 
     /// Returns for how many milliseconds the next wait asks: for none if more connections may have come than were
     /// accepted. If the connection has to be read and the window's octets have been given, the wait ends with the
-    /// window.
-    fn milliseconds_to_wait(&self, now: u64) -> u64
-        ensures { result ≤ 25 }
-    {
+    /// window. Without a connection only a connection that could not be accepted has to be asked for again.
+    fn milliseconds_to_wait(&self, now: u64) -> u64 {
         if self.has_news && !self.refuses {
             return 0;
         }
         let Some(served) = &self.served else {
-            return PART_MS;
+            return if self.refuses { WAIT_MS } else { IDLE_MS };
         };
         if served.has_to_ask() && self.budget.is_spent() {
-            return self.budget.ms_until_next(now).min(PART_MS);
+            return self.budget.ms_until_next(now).min(WAIT_MS);
         }
-        PART_MS
+        WAIT_MS
     }
 
-    /// Waits for a part of a wait, and accepts newcomers if there is news of some. Returns what the wait found, and how
-    /// many milliseconds passed since the end of the wait before, at most a part. Counted from there, waits that end at
-    /// once add up.
+    /// Waits, and accepts newcomers if there is news of some. Returns what the wait found, and how many milliseconds
+    /// passed since the end of the wait before, at most those of one wait. Counted from there, waits that end at once
+    /// add up.
     fn wait_and_admit(&mut self, keeps: bool) -> (Ready, u32)
-        ensures within { result.1 ≤ 25 }
+        ensures within { result.1 ≤ 100 }
         ensures port { self.new ≡ record self.old { waiting = self.new.waiting } }
     {
         let before = self.sockets.now();
         let asked = self.milliseconds_to_wait(before);
         let ready = self.sockets.wait(asked, keeps);
         let now = self.sockets.now();
-        let passed = now.saturating_sub(self.counted).min(PART_MS);
+        let passed = now.saturating_sub(self.counted).min(WAIT_MS);
         self.counted = now;
         if ready.newcomers || self.has_news {
             self.admit();
@@ -397,7 +398,7 @@ impl<S: Sockets + Drop, N: PortNotes + Drop, W: Witness + Drop> ServingPort<S, N
     /// Decides after a wait of this many milliseconds whether the connection goes on. `keeps`: octets were kept for it
     /// during the wait.
     fn judge(&mut self, ready: Ready, milliseconds: u32, keeps: bool) -> Waited
-        requires { milliseconds ≤ 25 }
+        requires { milliseconds ≤ 100 }
         ensures judged { HasWaited self.old.settings.silence keeps self.old.connection
             self.new.connection result }
         ensures port { self.new ≡ record self.old { connection = self.new.connection } }
@@ -484,8 +485,7 @@ impl<S: Sockets + Drop, N: PortNotes + Drop, W: Witness + Drop> Wire for Serving
 }
 
 impl<S: Sockets + Drop, N: PortNotes + Drop, W: Witness + Drop> Port for ServingPort<S, N, W> {
-    /// Closes the connection that is served, and serves the next newcomer. If nobody waits, it waits for a part of a
-    /// wait.
+    /// Closes the connection that is served, and serves the next newcomer. If there is none, it waits for one.
     fn connect(&mut self) -> Connect
         ensures reported { Reports (W.reported self.old.witness) (of_connect result ∷ [])
             (W.reported self.new.witness) }
@@ -506,14 +506,16 @@ impl<S: Sockets + Drop, N: PortNotes + Drop, W: Witness + Drop> Port for Serving
                 self.answer_not_yet()
             }
             None => {
-                let _ = self.sockets.wait(PART_MS, false);
+                let now = self.sockets.now();
+                let asked = self.milliseconds_to_wait(now);
+                let _ = self.sockets.wait(asked, false);
                 self.answer_not_yet()
             }
         }
     }
 
-    /// Waits until the connection can be read, or written if octets are kept, at most for a part of a wait. Accepts
-    /// newcomers meanwhile. `Silent`: the connection is given up, or there is none.
+    /// Waits until the connection can be read, or written if octets are kept, at most 100 ms. Accepts newcomers
+    /// meanwhile. `Silent`: the connection is given up, or there is none.
     fn wait(&mut self) -> Waited
         ensures reported { Reports (W.reported self.old.witness) (of_wait result ∷ [])
             (W.reported self.new.witness) }
@@ -546,5 +548,12 @@ impl<S: Sockets + Drop, N: PortNotes + Drop, W: Witness + Drop> Port for Serving
         if let Some(served) = &mut self.served {
             served.keep_cause(cause);
         }
+    }
+
+    /// Wakes all ports of the site, so that their workers ask whether the term is over.
+    fn term_over(&mut self)
+        ensures port { self.new ≡ self.old }
+    {
+        self.sockets.wake_all();
     }
 }

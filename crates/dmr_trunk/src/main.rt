@@ -6,8 +6,8 @@
 //! `dmr_command` reads the words, and `files` reads the files. `dmr_replay` runs a script's inputs through the engine
 //! of `dmr_link`. `serve` opens a port of `dmr_port` for each carrier and for operators, over `mio_sockets`. It has a
 //! `pacer` for the ticks: `beat` decides when one is due, and `clock` reads the time. `row` runs terms of `dmr_desk` over
-//! them. `notes` writes the log: `port_watch` has the notes of a port, and `term_log` those of terms. `tally` counts
-//! what a journal shows, and `ends` what happens at the ports.
+//! them, and `wakers` end their waits when a term is over. `notes` writes the log: `port_watch` has the notes of a port,
+//! and `term_log` those of terms. `tally` counts what a journal shows, and `ends` what happens at the ports.
 #![tactic(auto)]
 
 mod beat;
@@ -23,6 +23,7 @@ mod serve;
 mod serving;
 mod tally;
 mod term_log;
+mod wakers;
 
 ghost use Rattle.std.specs.Prelude.{◌≡◌, IfOk, map, string_bytes};
 ghost use Rattle.dmr_trunk.specs.Replay.{AreReplayed, HasPlan, IsJobDone, IsReplayed};

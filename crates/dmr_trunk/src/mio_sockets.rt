@@ -6,15 +6,16 @@ ghost use Rattle.dmr_wire.specs.Answers.{GotWithin, PutWithin};
 ghost use Rattle.dmr_port.specs.Sockets.{PeekedWithin, waiting_after};
 
 use crate::clock::milliseconds;
+use crate::wakers::{WAKER, Wakers, nap};
 use dmr_port::{Accepted, Peeked, Ready, Sockets};
 use dmr_wire::{Got, Put};
 use mio::net::{TcpListener, TcpStream};
 use mio::{Events, Interest, Poll, Token};
 use std::alloc::Global;
+use std::io;
 use std::io::{ErrorKind, Read, Write};
 use std::net::{Net, Shutdown, SocketAddr};
 use std::time::{Clock, Duration};
-use std::{io, thread};
 
 /// The most newcomers.
 const NEWCOMERS: usize = 9;
@@ -22,7 +23,8 @@ const NEWCOMERS: usize = 9;
 /// The most reads of octets that come after a connection's end.
 const LAST_READS: usize = 16;
 
-/// The tokens of the poll. All newcomers have one: a port looks at each of them when one is ready.
+/// The tokens of the poll, with that of its waker. All newcomers have one: a port looks at each of them when one is
+/// ready.
 const LISTENER: Token = Token(0);
 
 const CONNECTION: Token = Token(1);
@@ -60,7 +62,7 @@ enum Backlog {
 pub enum ListenFault {
     /// The program cannot listen at the address.
     CannotListen(io::Error),
-    /// There is no poll.
+    /// The poll does not take the listening socket.
     NoPoll(io::Error),
     /// An allocation was refused.
     OutOfMemory,
@@ -78,6 +80,7 @@ pub struct MioSockets<'a, R> {
     rt: &'a R,
     listener: TcpListener,
     poll: Poll,
+    wakers: &'a Wakers,
     events: Events,
     newcomers: Vec<TcpStream>,
     ghost room: { 9 ≤ vec_capacity newcomers },
@@ -106,11 +109,7 @@ fn finish(stream: &mut TcpStream) {
 }
 
 /// Binds a listening socket, and registers it with a poll.
-fn listen<R: Net>(rt: &R, address: SocketAddr) -> Result<(Poll, TcpListener), ListenFault> {
-    let poll = match Poll::new(rt) {
-        Ok(poll) => poll,
-        Err(error) => return Err(ListenFault::NoPoll(error)),
-    };
+fn listen<R: Net>(rt: &R, poll: &Poll, address: SocketAddr) -> Result<TcpListener, ListenFault> {
     let mut listener = match TcpListener::bind(rt, address) {
         Ok(listener) => listener,
         Err(error) => return Err(ListenFault::CannotListen(error)),
@@ -119,7 +118,7 @@ fn listen<R: Net>(rt: &R, address: SocketAddr) -> Result<(Poll, TcpListener), Li
         .registry()
         .register(&mut listener, LISTENER, Interest::READABLE);
     match registered {
-        Ok(()) => Ok((poll, listener)),
+        Ok(()) => Ok(listener),
         Err(error) => Err(ListenFault::NoPoll(error)),
     }
 }
@@ -167,7 +166,7 @@ fn peeked(looked: io::Result<usize>) -> Peeked
     }
 }
 
-/// What the events of a poll report, and whether one of them is the listening socket's.
+/// What the events of a poll report, and whether one of them is the listening socket's. The waker's reports nothing.
 fn found(events: &Events) -> (Ready, bool) {
     let mut ready = NOTHING;
     let mut listener = false;
@@ -178,7 +177,7 @@ fn found(events: &Events) -> (Ready, bool) {
         } else if token == CONNECTION {
             ready.connection = true;
             ready.input_closed = ready.input_closed || event.is_read_closed() || event.is_error();
-        } else {
+        } else if token == NEWCOMER {
             ready.newcomers = true;
         }
     }
@@ -186,10 +185,12 @@ fn found(events: &Events) -> (Ready, bool) {
 }
 
 impl<'a, R: Clock> MioSockets<'a, R> {
-    /// Listens at an address. There is no newcomer and no connection.
+    /// Listens at an address, with a poll and the wakers of all. There is no newcomer and no connection.
     pub fn listen(
         rt: &'a R,
         alloc: Global,
+        poll: Poll,
+        wakers: &'a Wakers,
         address: SocketAddr,
     ) -> Result<MioSockets<'a, R>, ListenFault>
     where
@@ -197,19 +198,20 @@ impl<'a, R: Clock> MioSockets<'a, R> {
         ensures { IfOk result (λ sockets. (vec_len sockets.newcomers ≡ 0)
             × (sockets.connection ≡ None)) }
     {
-        let Ok(events) = Events::with_capacity(alloc, NEWCOMERS + 2) else {
+        let Ok(events) = Events::with_capacity(alloc, NEWCOMERS + 3) else {
             return Err(ListenFault::OutOfMemory);
         };
         let Ok(newcomers) = Vec::with_capacity(alloc, NEWCOMERS) else {
             return Err(ListenFault::OutOfMemory);
         };
-        let (poll, listener) = listen(rt, address)?;
+        let listener = listen(rt, &poll, address)?;
         let address = listener.local_addr().ok();
         Ok(MioSockets {
             address,
             rt,
             listener,
             poll,
+            wakers,
             events,
             newcomers,
             connection: None,
@@ -297,7 +299,7 @@ impl<'a, R: Clock> MioSockets<'a, R> {
             Ok(()) => found(&self.events),
             // Without a poll the port still asks its sockets now and then.
             Err(_) => {
-                thread::sleep(self.rt, most);
+                nap(self.rt, most);
                 (ALL, true)
             }
         }
@@ -382,5 +384,9 @@ impl<R: Clock> Sockets for MioSockets<'_, R> {
         ready.connection = ready.connection || !is_polled;
         ready.newcomers = ready.newcomers || self.backlog != Backlog::Empty;
         ready
+    }
+
+    fn wake_all(&mut self) {
+        self.wakers.wake_all();
     }
 }

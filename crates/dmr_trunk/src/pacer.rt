@@ -6,28 +6,33 @@ ghost use Rattle.dmr_trunk.specs.Beat.{beat_due, pace_of, start_after};
 use crate::beat::{Beat, MILLISECOND, Ticks};
 use crate::clock::nanoseconds;
 use crate::notes::Notes;
+use crate::wakers::ClockWait;
 use dmr_desk::{Pace, Pacer};
 use dmr_port::{NoteLimit, Verdict};
 use log::Log;
 use std::thread;
 use std::time::{Clock, Duration};
 
-/// The most nanoseconds that the clock sleeps at once, so that a term's end does not wait much longer for it.
-const NAP: u64 = 25 * MILLISECOND;
-
 /// Reports a tick each time that the time of one has passed, by the system's monotonic clock ([`Ticks::ask`]). If the
-/// clock was delayed, for example because the process was stopped, it notes for how long.
+/// clock was delayed, for example because the process was stopped, it notes for how long. The end of a term ends a wait
+/// for a tick.
 #[derive(Drop)]
 pub struct ClockPacer<'a, R> {
     rt: &'a R,
     ticks: Ticks,
     notes: Notes<'a, R>,
     limit: NoteLimit,
+    wait: ClockWait<'a>,
 }
 
 impl<'a, R: Clock + Log> ClockPacer<'a, R> {
     /// Makes a pacer with ticks of `tick_ms` milliseconds. The first is due one tick after the first call.
-    pub fn new(rt: &'a R, tick_ms: u16, notes: Notes<'a, R>) -> ClockPacer<'a, R>
+    pub fn new(
+        rt: &'a R,
+        tick_ms: u16,
+        notes: Notes<'a, R>,
+        wait: ClockWait<'a>,
+    ) -> ClockPacer<'a, R>
         ensures { result.ticks ≡ record { tick = tick_ms * 1000000; from = None } }
     {
         ClockPacer {
@@ -35,12 +40,8 @@ impl<'a, R: Clock + Log> ClockPacer<'a, R> {
             ticks: Ticks::new(tick_ms),
             notes,
             limit: NoteLimit::new(),
+            wait,
         }
-    }
-
-    /// Sleeps for these nanoseconds, or for a nap if that is shorter.
-    fn sleep(&self, left: u64) {
-        thread::sleep(self.rt, Duration::from_nanos(left.min(NAP)));
     }
 
     /// Notes how late a tick is, in nanoseconds, unless there were too many such notes.
@@ -68,7 +69,7 @@ impl<'a, R: Clock + Log> ClockPacer<'a, R> {
     {
         match self.ticks.ask(now) {
             Beat::NotYet(left) => {
-                self.sleep(left);
+                self.wait.wait(self.rt, left);
                 Pace::NotYet
             }
             Beat::Tick => Pace::Tick,
@@ -94,5 +95,11 @@ impl<R: Clock + Log> Pacer for ClockPacer<'_, R> {
                 Pace::Tick
             }
         }
+    }
+
+    fn term_over(&mut self)
+        ensures ticks { self.new.ticks ≡ self.old.ticks }
+    {
+        self.wait.wake_all();
     }
 }

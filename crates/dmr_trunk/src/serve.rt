@@ -12,6 +12,7 @@ use crate::port_watch::PortWatch;
 use crate::row::serve_service;
 use crate::tally::tally_of;
 use crate::term_log::TermLog;
+use crate::wakers::{ClockWait, PollFault, Polls, Wakers, open_polls};
 use dmr_command::{ServeFault, listen_address};
 use dmr_core::Site;
 use dmr_desk::{ConsoleStation, Observer, Service, Station, Term};
@@ -20,6 +21,7 @@ use dmr_pdu::{CarrierNo, OutOfMemory};
 use dmr_plan::{CarrierRow, Plan};
 use dmr_port::{PortSettings, ServingPort, Whose};
 use log::Log;
+use mio::Poll;
 use std::alloc::Global;
 use std::net::{Net, SocketAddr};
 use std::sync::Wait;
@@ -92,6 +94,7 @@ fn make_port<'a, R: Net + Log + Clock>(
 fn open_port<'a, R: Net + Log + Clock>(
     rt: &'a R,
     alloc: Global,
+    polls: &mut Polls<'a>,
     plan: &Plan,
     whose: Whose,
     port: u16,
@@ -101,7 +104,10 @@ fn open_port<'a, R: Net + Log + Clock>(
 {
     let notes = open_notes(rt, alloc)?;
     let address = listen_address(plan, port);
-    match MioSockets::listen(rt, alloc, address) {
+    let Some(poll) = polls.polls.pop() else {
+        return Err(ServeFault::NoPoll);
+    };
+    match MioSockets::listen(rt, alloc, poll, polls.wakers, address) {
         Ok(sockets) => make_port(rt, alloc, plan, whose, notes, sockets),
         Err(fault) => Err(fault_of_port(notes, whose, address, port, fault)),
     }
@@ -111,6 +117,7 @@ fn open_port<'a, R: Net + Log + Clock>(
 fn open_station<'a, R: Net + Log + Clock>(
     rt: &'a R,
     alloc: Global,
+    polls: &mut Polls<'a>,
     plan: &Plan,
     carrier: CarrierNo,
     row: &CarrierRow,
@@ -121,7 +128,7 @@ fn open_station<'a, R: Net + Log + Clock>(
     };
     Ok(Station {
         link: Link::new(carrier, row.lpcn, greatest_version(plan)),
-        port: open_port(rt, alloc, plan, whose, row.port)?,
+        port: open_port(rt, alloc, polls, plan, whose, row.port)?,
         gate: OpenGate,
     })
 }
@@ -130,13 +137,14 @@ fn open_station<'a, R: Net + Log + Clock>(
 fn open_stations<'a, R: Net + Log + Clock>(
     rt: &'a R,
     alloc: Global,
+    polls: &mut Polls<'a>,
     plan: &Plan,
 ) -> Result<Vec<CarrierAt<'a, R>>, ServeFault> {
     let mut stations = Vec::new(alloc);
     for number in 0..16u32 {
         let carrier = CarrierNo::new(number);
         if let Some(row) = plan.carrier_with(carrier) {
-            let station = open_station(rt, alloc, plan, carrier, &row)?;
+            let station = open_station(rt, alloc, polls, plan, carrier, &row)?;
             if stations.push(station).is_err() {
                 return Err(ServeFault::OutOfMemory);
             }
@@ -158,12 +166,19 @@ pub fn open_notes<R: Net + Log>(rt: &R, alloc: Global) -> Result<Notes<'_, R>, S
 fn open_pacer<'a, R: Net + Log + Clock>(
     rt: &'a R,
     alloc: Global,
+    polls: &mut Polls<'a>,
     plan: &Plan,
 ) -> Result<ClockPacer<'a, R>, ServeFault>
     ensures { IfOk result
         (λ pacer. pacer.ticks ≡ record { tick = plan.now.tick_ms * 1000000; from = None }) }
 {
-    Ok(ClockPacer::new(rt, plan.tick_ms(), open_notes(rt, alloc)?))
+    let Some(poll) = polls.polls.pop() else {
+        return Err(ServeFault::NoPoll);
+    };
+    let Some(wait) = ClockWait::new(alloc, poll, polls.wakers) else {
+        return Err(ServeFault::OutOfMemory);
+    };
+    Ok(ClockPacer::new(rt, plan.tick_ms(), open_notes(rt, alloc)?, wait))
 }
 
 /// What is opened for the first term.
@@ -178,6 +193,7 @@ struct Opened<'a, R: Log + Clock> {
 fn open_ports<'a, R: Net + Log + Clock>(
     rt: &'a R,
     alloc: Global,
+    polls: &mut Polls<'a>,
     plan: &Plan,
 ) -> Result<Opened<'a, R>, ServeFault>
     ensures ticks { IfOk result
@@ -185,11 +201,11 @@ fn open_ports<'a, R: Net + Log + Clock>(
     ensures silence { IfOk result
         (λ opened. opened.console.port.settings.silence ≡ plan.now.silence) }
 {
-    let pacer = open_pacer(rt, alloc, plan)?;
-    let stations = open_stations(rt, alloc, plan)?;
+    let pacer = open_pacer(rt, alloc, polls, plan)?;
+    let stations = open_stations(rt, alloc, polls, plan)?;
     let console = ConsoleStation {
         link: ConsoleLink::new(),
-        port: open_port(rt, alloc, plan, Whose::Console, plan.console_port())?,
+        port: open_port(rt, alloc, polls, plan, Whose::Console, plan.console_port())?,
     };
     Ok(Opened {
         stations,
@@ -202,6 +218,7 @@ fn open_ports<'a, R: Net + Log + Clock>(
 fn open_service<'a, R: Net + Log + Clock>(
     rt: &'a R,
     alloc: Global,
+    polls: &mut Polls<'a>,
     plan: &Plan,
 ) -> Result<SiteService<'a, R>, ServeFault>
     ensures site { IfOk result
@@ -213,7 +230,7 @@ fn open_service<'a, R: Net + Log + Clock>(
     let Ok(site) = Site::new(alloc, *plan) else {
         return Err(ServeFault::OutOfMemory);
     };
-    match open_ports(rt, alloc, plan) {
+    match open_ports(rt, alloc, polls, plan) {
         Ok(opened) => {
             let Opened {
                 stations,
@@ -231,6 +248,23 @@ fn open_service<'a, R: Net + Log + Clock>(
             drop(site);
             Err(fault)
         }
+    }
+}
+
+/// Makes a poll for each port of the plan and for its clock, and the wakers of all. Notes why, if there are none.
+fn open_wakers<R: Net + Log>(
+    rt: &R,
+    alloc: Global,
+    plan: &Plan,
+) -> Result<(Wakers, Vec<Poll>), ServeFault> {
+    match open_polls(rt, alloc, plan.carrier().len() + 2) {
+        Ok(opened) => Ok(opened),
+        Err(PollFault::NoPoll(error)) => {
+            let mut notes = open_notes(rt, alloc)?;
+            notes.cannot_poll(&error);
+            Err(ServeFault::NoPoll)
+        }
+        Err(PollFault::OutOfMemory) => Err(ServeFault::OutOfMemory),
     }
 }
 
@@ -275,8 +309,13 @@ pub fn serve<R: Net + Log + Clock + Wait + Threads + Sync>(
     plan: Plan,
     terms: u32,
 ) -> Result<(), ServeFault> {
+    let (wakers, polls) = open_wakers(rt, alloc, &plan)?;
+    let mut polls = Polls {
+        wakers: &wakers,
+        polls,
+    };
     let mut log = TermLog::new(rt, open_notes(rt, alloc)?);
-    let service = open_service(rt, alloc, &plan)?;
+    let service = open_service(rt, alloc, &mut polls, &plan)?;
     note_listening(&service, &mut log);
     match serve_service(rt, alloc, service, &mut log, terms) {
         Ok(last) => {

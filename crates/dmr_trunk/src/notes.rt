@@ -18,6 +18,11 @@ const STANDARD_ERROR: i32 = 2;
 /// The target of the notes in the log.
 const TARGET: &str = "dmr_trunk";
 
+/// The noun for a number of terms.
+fn noun_of_terms(count: u64) -> &'static str {
+    if count == 1 { "term" } else { "terms" }
+}
+
 /// Writes notes to standard error, by the runtime's log. A note is written only if standard error takes it at once;
 /// otherwise it is dropped. So a reader of notes that is slow, or does not read, does not delay the program.
 #[derive(Drop)]
@@ -160,10 +165,25 @@ impl<'a, R: Log> Notes<'a, R> {
             info!(*self.rt; target: TARGET, "{count} more terms ended: {terms}");
         }
     }
+    /// Notes that there is no memory for the term after `done` terms, and that it is tried again.
+    pub fn note_no_memory(&mut self, done: u64) {
+        if self.is_ready() {
+            let noun = noun_of_terms(done);
+            warn!(*self.rt; target: TARGET, "no memory for the term after {done} {noun}, trying again each second");
+        }
+    }
+
+    /// Notes that a term has run for which there was no memory at first, and how many tries failed.
+    pub fn note_memory(&mut self, tries: u64) {
+        if self.is_ready() {
+            info!(*self.rt; target: TARGET, "there is memory again, a term has run, failed tries: {tries}");
+        }
+    }
+
     /// Notes that serving stopped, and how many terms ran before the one that failed.
     pub fn note_stopped(&mut self, done: u64) {
         if self.is_ready() {
-            let noun = if done == 1 { "term" } else { "terms" };
+            let noun = noun_of_terms(done);
             warn!(*self.rt; target: TARGET, "serving stopped after {done} {noun}");
         }
     }

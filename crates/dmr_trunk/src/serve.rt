@@ -302,13 +302,16 @@ impl<'a, R: Log + Clock> Observer<CarrierAt<'a, R>, ClockPacer<'a, R>, ConsoleAt
 
 /// Serves the site of a plan over TCP. Listens at each carrier's port, by number, and at the console's, and runs
 /// `terms` terms, one after another; 0 means forever. Each term has at most the plan's number of entries. Links,
-/// connections and the site continue from term to term ([`run_terms`]). Each term's journal is audited, then dropped.
+/// connections and the site continue from term to term ([`serve_service`]). Each term's journal is audited, then
+/// dropped. If there is no memory for the first term, the fault is the term's `OutOfMemory`; a later term is tried again
+/// each second.
 pub fn serve<R: Net + Log + Clock + Wait + Threads + Sync>(
     rt: &R,
     alloc: Global,
     plan: Plan,
     terms: u32,
 ) -> Result<(), ServeFault> {
+    let mut notes = open_notes(rt, alloc)?;
     let (wakers, polls) = open_wakers(rt, alloc, &plan)?;
     let mut polls = Polls {
         wakers: &wakers,
@@ -317,13 +320,13 @@ pub fn serve<R: Net + Log + Clock + Wait + Threads + Sync>(
     let mut log = TermLog::new(rt, open_notes(rt, alloc)?);
     let service = open_service(rt, alloc, &mut polls, &plan)?;
     note_listening(&service, &mut log);
-    match serve_service(rt, alloc, service, &mut log, terms) {
+    match serve_service(rt, alloc, service, &mut log, &mut notes, terms) {
         Ok(last) => {
             drop(last);
             Ok(())
         }
         Err(stopped) => {
-            log.note_stopped(stopped.done);
+            notes.note_stopped(stopped.done);
             Err(ServeFault::Term(stopped.fault))
         }
     }

@@ -86,11 +86,6 @@ impl<'a, R: Log + Clock> TermLog<'a, R> {
         }
     }
 
-    /// Notes how many terms ran before one failed.
-    pub fn note_stopped(&mut self, done: u64) {
-        self.notes.note_stopped(done);
-    }
-
     /// Notes that a term was audited. `connections` are all of its ports so far, in earlier terms too.
     pub fn note_term(&mut self, tally: Tally, connections: &Connections) {
         let term = TermCounts {

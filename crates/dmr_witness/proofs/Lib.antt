@@ -1,0 +1,4 @@
+mod SessionLemmas
+mod WorkedLinks
+mod WorkedCarriers
+mod WorkedTerm

@@ -205,7 +205,8 @@ pub fn occurrence_of_act(act: &Act) -> Option<Occurrence>
 
 /// Adds the note of an occurrence, if there is one.
 ///
-/// Its callers hand it an [`Occurrence`], and not a [`Note`]: the check of a function with a `Vec<Note>` needs one at hand.
+/// Its callers hand it an [`Occurrence`] and not a [`Note`]. The check of a function with a `Vec<Note>` needs one at
+/// hand.
 fn add_note(tick: u64, what: Option<Occurrence>, notes: &mut Vec<Note>) -> Result<(), OutOfMemory>
     ensures { OnOk result (notes.new.items ≡ notes.old.items ++ option_to_list (note_if tick what)) }
 {

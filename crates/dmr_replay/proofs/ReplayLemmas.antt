@@ -1,46 +1,16 @@
--- The printed text with one more carrier number, site files that are UTF-8, and the reported faults.
-use Rattle.std.proofs.Common.{◌≡◌, ℕ, ◌+◌, List, [], ◌∷◌, ◌++◌, Bool, true, false, map, arith, refl, sym, subst, ap, ◌∙◌, ◌⊎◌, inl, inr}
-use Rattle.std.specs.Prelude.{flat_map, IsErrAnd, Option, Result, Ok, Err, if◌then◌else◌}
-use Rattle.std.specs.List.{range_with_len}
-use Rattle.std.proofs.lemmas.Grind.{flat_map-append}
+-- Site files that are UTF-8, and the reported faults.
+use Rattle.std.proofs.Common.{◌≡◌, ℕ, List, Bool, true, false, refl, sym, subst, ap, ◌⊎◌, inl, inr}
+use Rattle.std.specs.Prelude.{IsErrAnd, Option, Result, Ok, Err, if◌then◌else◌}
 use Rattle.std.specs.Str.{IsUtf8, is_utf8}
 use Rattle.std.proofs.lemmas.Str.{IsUtf8-from_is_utf8, is_utf8-from_IsUtf8}
-use Rattle.std.proofs.lemmas.List.{append-nil}
-use Rattle.std.proofs.lemmas.List.Folds.{flat_map-map}
-use Rattle.std.proofs.lemmas.List.FromFn.{map-range_with_len_more}
 use Rattle.dmr_plan.specs.declared.settings.Settings.{Settings}
-use Rattle.dmr_plan.specs.Carriers.{has_number_in}
 use Rattle.dmr_plan.specs.declared.fault.PlanFault.{PlanFault}
 use Rattle.dmr_plan.specs.declared.fault.PlanFault.TheVariants.{NotToml}
 use Rattle.dmr_plan.specs.Plan.{plan_of_text}
 use Rattle.dmr_replay.specs.declared.replaying.ReplayFault.{ReplayFault}
 use Rattle.dmr_replay.specs.declared.replaying.ReplayFault.TheVariants.{SiteFile, ScriptLine, OutOfMemory}
 use Rattle.dmr_replay.specs.Script.{RepeatedInput}
-use Rattle.dmr_replay.specs.Replay.{Outcome, Prints, SiteNotRead, NoPlan, ScriptNotRead, NoLine, ReportsFault, carrier_line, line_of_number, lines_to, of_lines, of_plan, plan_in}
-
-lines_more : (plan : Settings) (put_out : ℕ → List ℕ) (number : ℕ) → lines_to plan put_out (number + 1) ≡ lines_to plan put_out number ++ line_of_number plan put_out number
-lines_more plan put_out number =
-    let line : ℕ → List ℕ = line_of_number plan put_out in
-    sym (flat_map-map (λ x. x) line (range_with_len 0 (number + 1)))
-    ∙ ap (flat_map (λ x. x)) (map-range_with_len_more line 0 number number (omega arith))
-    ∙ flat_map-append (λ x. x) (map line (range_with_len 0 number)) (line number ∷ [])
-    ∙ ap (λ (before : List ℕ). before ++ (line number ++ [])) (flat_map-map (λ x. x) line (range_with_len 0 number))
-    ∙ ap (λ (after : List ℕ). lines_to plan put_out number ++ after) (append-nil (line number))
-
-module _ (plan : Settings) (put_out : ℕ → List ℕ) (number : ℕ) (before : List ℕ) (before_is : before ≡ lines_to plan put_out number) where
-  -- the plan has the number
-  pub shown_more : (after line : List ℕ) → has_number_in plan.carriers number ≡ true → after ≡ before ++ line → line ≡ carrier_line number (put_out number) → after ≡ lines_to plan put_out (number + 1)
-  shown_more after line there after_is line_is =
-      after_is ∙ (λ k. before_is k ++ line_is k)
-      ∙ ap (λ (b : Bool). lines_to plan put_out number ++ (if b then carrier_line number (put_out number) else [])) (sym there)
-      ∙ sym (lines_more plan put_out number)
-
-  -- the plan does not have the number
-  pub passed_over : (after : List ℕ) → has_number_in plan.carriers number ≡ false → after ≡ before → after ≡ lines_to plan put_out (number + 1)
-  passed_over after missing after_is =
-      after_is ∙ before_is ∙ sym (append-nil (lines_to plan put_out number))
-      ∙ ap (λ (b : Bool). lines_to plan put_out number ++ (if b then carrier_line number (put_out number) else [])) (sym missing)
-      ∙ sym (lines_more plan put_out number)
+use Rattle.dmr_replay.specs.Replay.{Outcome, Prints, SiteNotRead, NoPlan, ScriptNotRead, NoLine, ReportsFault, of_lines, of_plan, plan_in}
 
 -- a site file that is UTF-8
 pub plan_in_text : (site : List ℕ) → IsUtf8 site → plan_in site ≡ plan_of_text site

@@ -145,6 +145,10 @@ script_of script =
     unless_fault (find (λ line. is_faulty_line line.1) (numbered_lines script))
     (filter_map numbered_input (numbered_lines script))
 
+-- the inputs of the lines that are neither skipped nor at fault, in their order
+abbrev pub given_in : List ℕ → List RepeatedInput
+given_in script = filter_map line_input (lines_of script)
+
 -- the inputs of a script, each repeated as often as its line says
 abbrev pub inputs_of_script : List RepeatedInput → List Input
 inputs_of_script given = flat_map (λ (g : RepeatedInput). replicate g.times g.input) given

@@ -1,12 +1,18 @@
 //! Replays of scripts over a site, without sockets and without a clock.
 //!
-//! [`replay`] takes the octets of a site file and of a script. It runs the script's inputs through the engine of
-//! `dmr_link`, and prints the octets that the engine writes for each carrier and for operators. `script` reads the
-//! lines of a script; `replaying` runs them and prints; `status` has the exit statuses. [`plan_of`] and [`read_script`]
-//! read the two files alone, for programs that have another use for them.
+//! [`replay`] takes the octets of a site file and of a script. It checks the script's lines, and then runs their inputs
+//! through the engine of `dmr_link`. At the end it prints the octets that the engine has written for each carrier and
+//! for operators. It takes memory for the two files, the site and these octets, and keeps no list of lines or ticks.
+//!
+//! `script` reads a line; `checking` checks all lines; `running` runs them; `printing` prints; `replaying` is the whole,
+//! with its faults; `status` has the exit statuses. [`plan_of`] and [`read_script`] read the two files alone, for
+//! programs that have another use for them.
 #![tactic(auto)]
 
+mod checking;
+mod printing;
 mod replaying;
+mod running;
 mod script;
 mod status;
 

@@ -1,20 +1,19 @@
 //! Replays a script over the site of a site file, and prints the octets written for carriers and operators.
 
-ghost use Rattle.std.specs.Prelude.{◌≡◌, ◌⊎◌, ℕ, [], IfErr, IfOk, IsErrAnd, MatchResult, Ok, OnOk};
-ghost use Rattle.std.specs.Prelude.{false, map, option_map, slice_index_or, string_bytes};
+ghost use Rattle.std.specs.Prelude.{◌≡◌, ◌⊎◌, [], IfErr, IsErrAnd, MatchResult, Ok, OnOk};
+ghost use Rattle.std.specs.Prelude.{false, option_map, slice_index_or};
 ghost use Rattle.std.specs.Io.KnownBytes.{Appends};
-ghost use Rattle.dmr_link.specs.Input.{input_of};
-ghost use Rattle.dmr_replay.specs.Inputs.{octets_written, operators_text};
-ghost use Rattle.dmr_replay.specs.Script.{repeated_input, inputs_of_script, script_of};
-ghost use Rattle.dmr_replay.specs.Replay.{IsPrinted, Prints, ReportsFault, carrier_line};
-ghost use Rattle.dmr_replay.specs.Replay.{digits_or_dash, is_printed, outcome, plan_in};
-ghost use Rattle.dmr_replay.specs.Replay.{printed_text, status_of};
+ghost use Rattle.dmr_replay.specs.Script.{given_in, script_of};
+ghost use Rattle.dmr_replay.specs.Replay.{IsPrinted, Prints, ReportsFault, is_printed, outcome};
+ghost use Rattle.dmr_replay.specs.Replay.{plan_in, printed_text, status_of};
 
-use crate::script::{ScriptFault, ScriptInput, read_script};
+use crate::checking::check_script;
+use crate::printing::print_outputs;
+use crate::running::outputs_of;
+use crate::script::ScriptFault;
 use crate::status::{FAULT, MEMORY, OK};
-use dmr_core::one_legal_journal;
-use dmr_link::{Engine, Input, Outputs};
-use dmr_pdu::{CarrierNo, OutOfMemory};
+use dmr_link::Outputs;
+use dmr_pdu::OutOfMemory;
 use dmr_plan::{Plan, PlanFault};
 use std::alloc::Global;
 use std::io::Write;
@@ -83,8 +82,8 @@ pub fn replay<'a, W: Write, E: Write>(
     ensures silent { result ≡ OK → err.new ≡ err.old }
     ensures status { (result ≡ OK) ⊎ (result ≡ FAULT) ⊎ (result ≡ MEMORY) }
 {
-    let printed = match text_of_replay(alloc, site_name, site, script_name, script) {
-        Ok(text) => print_text(&text, out),
+    let printed = match printout_of(alloc, site_name, site, script_name, script) {
+        Ok(printout) => print_text(&printout, out),
         Err(fault) => Err(fault),
     };
     match printed {
@@ -96,35 +95,47 @@ pub fn replay<'a, W: Write, E: Write>(
     }
 }
 
-/// Writes the whole text, and flushes the writer.
-fn print_text<'a, W: Write>(text: &[u8], out: &mut W) -> Result<(), ReplayFault<'a>>
-    ensures whole { OnOk result (Appends (W.contents out.old) (W.contents out.new) text.now) }
+/// What a replay prints: the plan, whose carriers have lines, and the octets written for carriers and for operators.
+#[derive(Drop)]
+struct Printout {
+    plan: Plan,
+    outputs: Outputs,
+}
+
+/// Prints the whole text, and flushes the writer.
+fn print_text<'a, W: Write>(printout: &Printout, out: &mut W) -> Result<(), ReplayFault<'a>>
+    ensures whole { OnOk result (Appends (W.contents out.old) (W.contents out.new)
+        (printed_text printout.now.plan
+        (λ c. slice_index_or printout.now.outputs.carriers c []) printout.now.outputs.console)) }
     ensures fault { IfErr result (λ fault. fault ≡ ReplayFault.CannotWrite) }
 {
-    if out.write_all(text).is_err() || out.flush().is_err() {
+    if print_outputs(&printout.plan, &printout.outputs, out).is_err() {
         return Err(ReplayFault::CannotWrite);
     }
     Ok(())
 }
 
-/// Returns the text to print, or the first fault.
+/// Returns what is to be printed, or the first fault.
 #[tactic(auto, using(crate::proofs::ReplayLemmas::no_plan, crate::proofs::ReplayLemmas::no_lines, crate::proofs::ReplayLemmas::no_memory))]
-fn text_of_replay<'a>(
+fn printout_of<'a>(
     alloc: Global,
     site_name: &'a str,
     site: Option<&[u8]>,
     script_name: &'a str,
     script: Option<&[u8]>,
-) -> Result<Vec<u8>, ReplayFault<'a>>
+) -> Result<Printout, ReplayFault<'a>>
     ensures { MatchResult result
-        (λ text. outcome (option_map (λ o. o.now) site.entry) (option_map (λ o. o.now) script.entry)
-        ≡ Prints text.items) (ReportsFault site_name.now script_name.now
+        (λ printout. outcome (option_map (λ o. o.now) site.entry) (option_map (λ o. o.now) script.entry)
+        ≡ Prints (printed_text printout.plan
+        (λ c. slice_index_or printout.outputs.carriers c []) printout.outputs.console))
+        (ReportsFault site_name.now script_name.now
         (outcome (option_map (λ o. o.now) site.entry) (option_map (λ o. o.now) script.entry))) }
 {
     let plan = plan_of(alloc, site.ok_or(ReplayFault::CannotRead(site_name))?)?;
-    let given = lines_by(alloc, script.ok_or(ReplayFault::CannotRead(script_name))?)?;
-    match text_of_inputs(alloc, &plan, given.as_slice()) {
-        Ok(text) => Ok(text),
+    let script = script.ok_or(ReplayFault::CannotRead(script_name))?;
+    check_lines(alloc, script)?;
+    match outputs_of(alloc, &plan, script) {
+        Ok(outputs) => Ok(Printout { plan, outputs }),
         Err(OutOfMemory) => Err(ReplayFault::OutOfMemory),
     }
 }
@@ -146,107 +157,16 @@ pub fn plan_of<'a>(alloc: Global, site: &[u8]) -> Result<Plan, ReplayFault<'a>>
     }
 }
 
-/// Returns the inputs of a script's lines. The error is the number of the first line at fault, or `OutOfMemory`.
-fn lines_by<'a>(alloc: Global, script: &[u8]) -> Result<Vec<ScriptInput>, ReplayFault<'a>>
+/// Checks the lines of a script. The error is the number of the first line at fault, or `OutOfMemory`.
+fn check_lines<'a>(alloc: Global, script: &[u8]) -> Result<(), ReplayFault<'a>>
     ensures { MatchResult result
-        (λ given. script_of script.now ≡ Ok (map repeated_input given.items))
+        (λ _. script_of script.now ≡ Ok (given_in script.now))
         (λ fault. (fault ≡ ReplayFault.OutOfMemory)
         ⊎ IsErrAnd (script_of script.now) (λ line. fault ≡ ReplayFault.ScriptLine line)) }
 {
-    match read_script(alloc, script) {
-        Ok(given) => Ok(given),
+    match check_script(alloc, script) {
+        Ok(()) => Ok(()),
         Err(ScriptFault::Line(number)) => Err(ReplayFault::ScriptLine(number)),
         Err(ScriptFault::OutOfMemory) => Err(ReplayFault::OutOfMemory),
-    }
-}
-
-/// Returns the number of inputs of these lines, or `None` if a `usize` cannot hold it.
-fn inputs_in(given: &[ScriptInput]) -> Option<usize> {
-    let mut count = 0usize;
-    for line in given {
-        count = count.checked_add(line.times() as usize)?;
-    }
-    Some(count)
-}
-
-/// Returns the inputs of these lines. Their memory is allocated at once, so a script with more ticks than fit is
-/// refused before the first input is stored.
-fn inputs_of<'a>(alloc: Global, given: &'a [ScriptInput]) -> Result<Vec<Input<'a>>, OutOfMemory>
-    ensures { IfOk result (λ inputs. map input_of inputs.items
-        ≡ inputs_of_script (map repeated_input given.entry.now)) }
-{
-    let count = inputs_in(given).ok_or(OutOfMemory)?;
-    let mut inputs = Vec::with_capacity(alloc, count)?;
-    for line in given {
-        for _ in 0..line.times() {
-            if inputs.push(line.as_input()).is_err() {
-                return Err(OutOfMemory);
-            }
-        }
-    }
-    Ok(inputs)
-}
-
-/// Returns the output for these inputs, from a new site without connections.
-#[tactic(auto, using(crate::proofs::EngineLemmas::run_text, crate::proofs::EngineLemmas::run_reported))]
-fn outputs_of(alloc: Global, plan: &Plan, inputs: &[Input<'_>]) -> Result<Outputs, OutOfMemory>
-    ensures carriers { IfOk result (λ outputs. (c : ℕ) → slice_index_or outputs.carriers c []
-        ≡ octets_written plan.now (map input_of inputs.now) c) }
-    ensures console { IfOk result
-        (λ outputs. outputs.console ≡ operators_text plan.now (map input_of inputs.now)) }
-{
-    one_legal_journal();
-    let mut engine = Engine::new(alloc, *plan)?;
-    let run = engine.run(alloc, inputs);
-    drop(engine);
-    match run {
-        Ok(outputs) => Ok(outputs),
-        Err(_) => Err(OutOfMemory),
-    }
-}
-
-/// Returns the text that is printed for these lines.
-fn text_of_inputs(alloc: Global, plan: &Plan, given: &[ScriptInput]) -> Result<Vec<u8>, OutOfMemory>
-    ensures { IfOk result (λ text. text.items ≡ printed_text plan.now
-        (octets_written plan.now (inputs_of_script (map repeated_input given.now)))
-        (operators_text plan.now (inputs_of_script (map repeated_input given.now)))) }
-{
-    let inputs = inputs_of(alloc, given)?;
-    let outputs = outputs_of(alloc, plan, inputs.as_slice())?;
-    outputs_text(alloc, plan, &outputs)
-}
-
-/// Returns a line for each carrier of the plan, by number, and then the operators' text.
-fn outputs_text(alloc: Global, plan: &Plan, outputs: &Outputs) -> Result<Vec<u8>, OutOfMemory>
-    ensures { IfOk result (λ text. text.items ≡ printed_text plan.now
-        (λ c. slice_index_or outputs.now.carriers c []) outputs.now.console) }
-{
-    let mut text = Vec::new(alloc);
-    for number in 0..16u32 {
-        let carrier = CarrierNo::new(number);
-        if plan.carrier_with(carrier).is_some() {
-            let line = carrier_line(alloc, number, outputs.carrier(carrier))?;
-            text.extend_from_slice(line.as_bytes())?;
-        }
-    }
-    text.extend_from_slice(outputs.console())?;
-    Ok(text)
-}
-
-/// Returns the line of a carrier: its number, and the octets written for it.
-fn carrier_line(alloc: Global, number: u32, octets: &[u8]) -> Result<String, OutOfMemory>
-    ensures { IfOk result (λ line. string_bytes line ≡ carrier_line number octets.now) }
-{
-    let digits = digits_or_dash(alloc, octets)?;
-    format!(in alloc; "carrier {number} {digits}\n")
-}
-
-/// Returns octets in upper case hexadecimal digits, or `-` if there are none.
-fn digits_or_dash(alloc: Global, octets: &[u8]) -> Result<String, OutOfMemory>
-    ensures { IfOk result (λ text. string_bytes text ≡ digits_or_dash octets.now) }
-{
-    match octets {
-        [] => String::from_str(alloc, "-"),
-        _ => hex::encode_upper(alloc, octets),
     }
 }

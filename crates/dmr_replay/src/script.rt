@@ -5,8 +5,10 @@
 //! everything after that space is the text.
 
 ghost use Rattle.std.specs.Prelude.{◌≡◌, ◌≤◌, ◌++◌, ◌∷◌, [], ℕ, Ok, Err, IfOk, IfSome, map};
-ghost use Rattle.std.specs.Prelude.{option_map};
-ghost use Rattle.dmr_link.specs.Input.{input_of};
+ghost use Rattle.std.specs.Prelude.{List, OnOk, option_map};
+ghost use Rattle.dmr_link.specs.Input.{Input as AnInput, input_of};
+ghost use Rattle.dmr_link.specs.Inputs.{Writes};
+ghost use Rattle.dmr_link.specs.State.{State};
 ghost use Rattle.dmr_replay.specs.Script.{input_of_bytes, carrier_of_word, input_of_cut};
 ghost use Rattle.dmr_replay.specs.Script.{repeated_input, input_of_words, input_of_line};
 ghost use Rattle.dmr_replay.specs.Script.{is_skipped, number_of_word, octets_of_word};
@@ -14,7 +16,8 @@ ghost use Rattle.dmr_replay.specs.Script.{input_of_open, script_of, input_of_tex
 ghost use Rattle.dmr_replay.specs.Script.{count_of_ticks as times_of_word, words_of_script_line};
 
 use dmr_console::number_in;
-use dmr_link::Input;
+use dmr_link::laws::steps_make_runs;
+use dmr_link::{Engine, Input, Outputs};
 use dmr_pdu::{CarrierNo, OutOfMemory};
 use std::alloc::Global;
 
@@ -59,6 +62,40 @@ impl ScriptInput {
         }
     }
 
+    /// Processes the input once, and appends the octets that answer it to `outputs`. `Err`: out of memory.
+    pub fn apply(&self, engine: &mut Engine, outputs: &mut Outputs) -> Result<(), OutOfMemory>
+        // If some inputs led to the engine and its texts, these and the line's input lead to the new ones.
+        ensures { OnOk result ((s : State) (before : List AnInput)
+            → Writes s engine.old outputs.old before
+            → Writes s engine.new outputs.new (before ++ (repeated_input self.now).input ∷ [])) }
+    {
+        steps_make_runs();
+        match self {
+            ScriptInput::Open(carrier) => {
+                let opened = engine.step(Input::Open(*carrier), outputs);
+                opened
+            }
+            ScriptInput::Bytes(carrier, octets) => {
+                let octets = octets.as_slice();
+                let received = engine.step(Input::Bytes(*carrier, octets), outputs);
+                received
+            }
+            ScriptInput::Cut(carrier) => {
+                let cut = engine.step(Input::Cut(*carrier), outputs);
+                cut
+            }
+            ScriptInput::Tick(_) => {
+                let ticked = engine.step(Input::Tick, outputs);
+                ticked
+            }
+            ScriptInput::Text(octets) => {
+                let text = octets.as_slice();
+                let said = engine.step(Input::Text(text), outputs);
+                said
+            }
+        }
+    }
+
     /// Returns how often the input is repeated: the number of ticks, or 1.
     pub fn times(&self) -> u32
         ensures { result ≡ (repeated_input self.now).times }
@@ -97,7 +134,7 @@ pub fn read_script(alloc: Global, script: &[u8]) -> Result<Vec<ScriptInput>, Scr
 }
 
 /// Returns whether a line is skipped: an empty line or a comment.
-fn is_skipped(line: &[u8]) -> bool
+pub fn is_skipped(line: &[u8]) -> bool
     ensures { result ≡ is_skipped line.now }
 {
     match line {
@@ -107,7 +144,7 @@ fn is_skipped(line: &[u8]) -> bool
 }
 
 /// Reads a line that is not skipped. `None` if it is not a line of a script.
-fn parse_line(alloc: Global, line: &[u8]) -> Result<Option<ScriptInput>, OutOfMemory>
+pub fn parse_line(alloc: Global, line: &[u8]) -> Result<Option<ScriptInput>, OutOfMemory>
     ensures { IfOk result (λ input. option_map repeated_input input ≡ input_of_line line.now) }
 {
     match line.strip_prefix(b"say ") {

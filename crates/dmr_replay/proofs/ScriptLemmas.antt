@@ -120,7 +120,7 @@ as_often_more before line input some =
     ap (λ (g : List RepeatedInput). before ++ inputs_of_script g) (adds_input line input some)
     ∙ ap (λ (l : List Input). before ++ l) (append-nil (replicate input.times input.input))
 
--- an input once more
+-- an input again
 pub once_more : (before : List Input) (count : ℕ) (input : Input) → (before ++ replicate count input) ++ input ∷ [] ≡ before ++ replicate (count + 1) input
 once_more before count input =
     append_assoc before (replicate count input) (input ∷ [])

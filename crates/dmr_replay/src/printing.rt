@@ -1,7 +1,7 @@
 //! Prints the octets that an engine has written: a line for each carrier of the plan, and the operators' text.
 //!
-//! The digits are made piece by piece, in a buffer of fixed length. So printing takes no memory, and cannot stop for
-//! want of it after the first octet.
+//! The digits are made piece by piece, in a buffer of fixed length. So printing takes no memory, and cannot run out of
+//! it after the first octet.
 
 ghost use Rattle.std.specs.Prelude.{◌≡◌, ◌≤◌, ◌*◌, [], length, slice_index_or, IfErr, OnOk};
 ghost use Rattle.std.specs.Io.KnownBytes.{Appends};

@@ -17,9 +17,10 @@ pub record IsNewStation (s : StationState) : Type 0 where
   pub passed : (passages : List Passage) → s.passed ≡ Some passages → passages ≡ []
 
 -- A WHOLE SESSION: from a new station to this state, the worker made these steps, each in its place. The record of its
--- port is what the port answered in them. This record alone gives the connections. The desk took this view of them, and
--- what came on them means the events of the view, in its order, and then what is pending. Each connection took the text
--- of its own part, or the first part of it. If the gate has a record, it is how the gate was passed in the steps
+-- port is what the port answered in them. The connections follow from this record alone. The desk took this view of
+-- them. What came on them means the events of the view, in its order, and then what is pending. Each connection took
+-- the text of its own part, or the first part of it. If the gate has a record, it is how the gate was passed in the
+-- steps
 pub record IsWholeSession (t : StationState) (answers : List Answer)
     (view : List Deposit) : Type 0 where
   pub steps : List Step

@@ -65,10 +65,10 @@ impl Gate for RecordingGate {
     }
 }
 
-/// A pacer that gives a number of ticks, and then no more. It reports how many it gave.
+/// A pacer that reports a number of ticks as due, and then that there are no more. It says how many it reported.
 #[derive(Debug, Drop)]
 pub struct CountingPacer {
-    /// The ticks that it gave.
+    /// How many ticks it has reported as due.
     pub given: u32,
     left: u32,
     ghost whole: { given + left ≤ 4294967295 },

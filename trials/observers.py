@@ -135,17 +135,32 @@ class Viewer:
     """A `siteview` on a terminal of its own, which is read as it draws."""
 
     def __init__(self, socket: str) -> None:
+        self.socket, self.is_closed, self.last = socket, False, b""
+        self.start()
+
+    def start(self) -> None:
+        """Starts it."""
         self.terminal, inner = pty.openpty()
         environment = {**os.environ, "TERM": "xterm", "COLUMNS": "120", "LINES": "40"}
-        self.process = subprocess.Popen([TOOLS / "siteview", "--hub", socket], stdin=inner, stdout=inner, stderr=inner, env=environment, preexec_fn=ends_with_parent())
+        self.process = subprocess.Popen([TOOLS / "siteview", "--hub", self.socket], stdin=inner, stdout=inner, stderr=inner, env=environment, preexec_fn=ends_with_parent())
         os.close(inner)
 
     def look(self) -> int:
-        """Reads what it draws. How many pictures that were. OSError: it ended."""
-        return os.read(self.terminal, 65536).count(b"\x1b[H")
+        """Reads what it draws. How many pictures that were. SessionFault: it ended, and was started again."""
+        try:
+            octets = os.read(self.terminal, 65536)
+        except OSError as fault:
+            self.process.wait()
+            os.close(self.terminal)
+            if not self.is_closed:
+                self.start()
+            raise SessionFault(self.last.decode("utf-8", "replace").strip().rpartition("\n")[2]) from fault
+        self.last = octets
+        return octets.count(b"\x1b[H")
 
     def close(self) -> None:
         """Leaves it."""
+        self.is_closed = True
         self.process.terminate()
         self.process.wait()
 

@@ -6,10 +6,12 @@ from collections.abc import Iterator
 
 from temzaar.console import CHANGES, QUESTIONS, Console, ConsoleFault, read_calls, read_radios, read_slots
 from temzaar.hub.config import LinePortKeys
-from temzaar.hub.lines import AWAY, HUB_LISTS, OWN
+from temzaar.hub.lines import AWAY, BUSY, HUB_LISTS, NO_ANSWER, OWN
 
 # A variable of the environment that names another socket than the usual one.
 VARIABLE = "DMR_HUB_SOCKET"
+# How a reply begins that is the hub's own, since there is none of the controller.
+WITHOUT_CONTROLLER = tuple(f"error {it}: " for it in (AWAY, NO_ANSWER, BUSY))
 # The digits of the greatest radio.
 MOST_DIGITS = 8
 
@@ -20,7 +22,7 @@ def default_socket() -> str:
 
 
 class ControllerAway(ConsoleFault):
-    """The hub answers, but the controller does not answer the hub. The text says why."""
+    """The hub answers, but has no answer of the controller. The text says why. The next question may have one."""
 
 
 class HubConsole(Console):
@@ -39,9 +41,9 @@ class HubConsole(Console):
             raise ConsoleFault(f"cannot connect to the hub {path}: {fault.strerror or fault}") from fault
 
     def ask(self, line: str) -> list[str]:
-        """The lines of the reply to a line; the `end` of a list is left out. ControllerAway: the hub cannot ask the controller."""
+        """The lines of the reply to a line; the `end` of a list is left out. ControllerAway: the hub has no answer of the controller."""
         reply = super().ask(line)
-        if reply[:1] and reply[0].startswith(f"error {AWAY}"):
+        if reply[:1] and reply[0].startswith(WITHOUT_CONTROLLER):
             raise ControllerAway(reply[0].removeprefix("error "))
         return reply
 

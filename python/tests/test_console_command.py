@@ -6,6 +6,7 @@ import select
 import subprocess
 import time
 import unittest
+from unittest import mock
 
 from temzaar.cli.siteview import Prompt, View
 from temzaar.console import Console
@@ -127,6 +128,19 @@ class Siteview(ToolCase):
         self.assertIn("radios 40 ", done.stdout)
         done = await self.run_tool("siteview", "--hub", self.socket, "--once")
         self.assertEqual((done.returncode, done.stderr), (1, f"siteview: cannot connect to the hub {self.socket}: No such file or directory\n"))
+
+    async def test_one_answer_is_missing(self) -> None:
+        """siteview shows why, and goes on."""
+        await self.start()
+        console = await asyncio.to_thread(HubConsole, self.socket)
+        view = View(console, "here")
+        for reason in ("no answer: no answer in 1 s", "the hub is busy: the line was not sent in time"):
+            with mock.patch.object(Console, "ask", return_value=[f"error {reason}"]):
+                view.look()
+            self.assertEqual((view.picture, view.away), (None, reason))
+        await asyncio.to_thread(view.look)
+        self.assertIsNotNone(view.picture)
+        console.close()
 
     async def test_the_controller_is_away(self) -> None:
         hub = await self.start()

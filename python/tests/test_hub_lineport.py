@@ -139,6 +139,12 @@ class Served(HubCase):
         self.assertRegex((await operator.ask(b"who")).splitlines()[0], b" away since ")
         self.assertEqual([it["event"] for it in self.records()], ["asked", "not sent"])
 
+    async def test_a_question_without_an_answer(self) -> None:
+        await self.start(config=self.config(answer_seconds=2))
+        operator = await self.connect()
+        self.fake.octets["calls 9"] = b"e"
+        self.assertEqual(await operator.ask(b"calls 9"), b"error no answer: no answer in 2 s\n")
+
     async def test_a_command_without_an_answer(self) -> None:
         await self.start(config=self.config(answer_seconds=2))
         operator = await self.connect()

@@ -6,8 +6,8 @@ from temzaar.console import CHANGES, LISTS, LONGEST_LINE, QUESTIONS
 
 # The hub answers these itself, with lists.
 OWN = ("help", "history", "who")
-# What the hub answers while the controller does not; the reason follows.
-AWAY = "the controller is away"
+# What the hub answers while the controller does not, and to a line that has no answer or was not sent; the reason follows.
+AWAY, NO_ANSWER, BUSY = "the controller is away", "no answer", "the hub is busy"
 # The commands of a line port whose replies are lists.
 HUB_LISTS = (*LISTS, *OWN)
 

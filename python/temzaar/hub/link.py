@@ -14,7 +14,7 @@ from temzaar.console import ConsoleFault, ReplyFrame, Status
 from temzaar.hub.config import ControllerKeys
 from temzaar.hub.counts import HubCounts
 from temzaar.hub.fairqueue import FairQueue
-from temzaar.hub.lines import AWAY
+from temzaar.hub.lines import AWAY, BUSY
 from temzaar.hub.moment import Moment
 from temzaar.sitefile import ConsolePlace, SiteFault
 
@@ -180,7 +180,7 @@ class ConsoleLink:
         loop = asyncio.get_running_loop()
         question = Question(asker, line, loop.create_future())
         if len(self.queue) >= MOST_WAITING:
-            question.fail("the hub is busy: too many questions wait")
+            question.fail(f"{BUSY}: too many questions wait")
         else:
             self.queue.push(asker, question)
             self.wake.set()
@@ -196,7 +196,7 @@ class ConsoleLink:
     def _expire(self, question: Question) -> None:
         """Fails a question whose turn has not come in time. One that was sent has its own limit."""
         if not question.was_sent:
-            question.fail("the hub is busy: the line was not sent in time")
+            question.fail(f"{BUSY}: the line was not sent in time")
 
     async def run(self) -> None:
         """Keeps the link until it is cancelled."""

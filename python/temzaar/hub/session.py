@@ -10,7 +10,7 @@ from temzaar.console import TOO_LONG, UNKNOWN
 from temzaar.hub.audit import AuditFault, AuditLog
 from temzaar.hub.config import LinePortKeys
 from temzaar.hub.counts import HubCounts
-from temzaar.hub.lines import Line, LineCutter, LineKind, printable
+from temzaar.hub.lines import NO_ANSWER, Line, LineCutter, LineKind, printable
 from temzaar.hub.link import ConsoleLink, NoAnswer
 from temzaar.hub.moment import utc_text
 from temzaar.hub.notes import warn
@@ -121,7 +121,7 @@ class Session:
         try:
             return await self.desk.link.ask(self.asker, line.octets)
         except NoAnswer as fault:
-            return error_line(fault.reason)
+            return error_line(f"{NO_ANSWER}: {fault.reason}" if fault.was_sent else fault.reason)
 
     @property
     def asker(self) -> str:
@@ -155,7 +155,7 @@ class Session:
         except NoAnswer as fault:
             if fault.was_sent:
                 self.desk.on_change()
-                return "unanswered", error_line(f"no answer: {fault.reason}; the controller may have done it")
+                return "unanswered", error_line(f"{NO_ANSWER}: {fault.reason}; the controller may have done it")
             return "not sent", error_line(f"not done: {fault.reason}")
         if reply == DONE:
             self.desk.on_change()

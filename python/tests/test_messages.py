@@ -44,7 +44,7 @@ def notes() -> dict[str, str]:
     found: dict[str, str] = {}
     for level in ("info", "warn"):
         for note in literals(own, rf"{level}!\(\*(?:self\.)?rt; target: TARGET, "):
-            found[note.replace("{TARGET}", "dmr_trunk").replace("{noun}", "carriers")] = level.upper()
+            found[note.replace("{TARGET}", "dmr_trunk").replace("{done} {noun}", "{done} terms").replace("{noun}", "carriers")] = level.upper()
     # what a port notes, after its owner; and the counts of terms
     of_ports = literals(function(source("dmr_port/src/notes.rt"), "impl fmt::Display for Note<"), r"=> (?:\{\s*)?write!\(f, ")
     for note in ("{whose}: {note}", "{count} more notes: {kind}"):
@@ -99,7 +99,7 @@ class Messages(unittest.TestCase):
                 self.assertTrue(any(re.fullmatch(as_pattern(it), text) for text in documented), f"not documented: {it}")
 
     def test_notes(self) -> None:
-        self.assertEqual(len(notes()), 16)
+        self.assertEqual(len(notes()), 19)
         self.compare(column_of("## Notes", 1), list(notes()))
 
     def test_levels(self) -> None:

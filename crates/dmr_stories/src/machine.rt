@@ -8,7 +8,6 @@ mod events;
 mod individual;
 mod late_entries;
 mod limits;
-mod records;
 mod registrations;
 mod stage;
 mod starts;

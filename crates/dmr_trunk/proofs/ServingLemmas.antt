@@ -1,12 +1,14 @@
 -- Rows of terms, as serving runs them.
-use Rattle.std.proofs.Common.{◌≡◌, ℕ, ◌<◌, List, [], Option, refl, sym, subst, arith}
+use Rattle.std.proofs.Common.{◌≡◌, ℕ, ◌<◌, List, [], None, Option, Some, refl, sym, subst, arith}
 use Rattle.std.proofs.lemmas.List.{append-nil}
+use Rattle.std.proofs.lemmas.Option.{same_Some}
 use Rattle.dmr_core.specs.State.{SiteState}
 use Rattle.dmr_core.specs.declared.entry.Entry.{Entry}
 use Rattle.dmr_desk.specs.declared.fault.TermFault.{TermFault}
+use Rattle.dmr_desk.specs.declared.fault.TermFault.TheVariants as term_fault
 use Rattle.dmr_desk.specs.declared.fault.TermsFault.{TermsFault}
 use Rattle.dmr_desk.specs.Pace.{Paced}
-use Rattle.dmr_desk.specs.Refusing.{IsTermFault}
+use Rattle.dmr_desk.specs.Refusing.{IsTermFault, left_at}
 use Rattle.dmr_desk.specs.Term.{Start, start_of_term}
 use Rattle.dmr_desk.specs.Terms.{HaveRun, HaveStopped}
 use Rattle.dmr_desk.specs.Work.{StationState}
@@ -28,3 +30,30 @@ pub stopped_within : (site : SiteState) (stations : List StationState) (pacer : 
 stopped_within site stations pacer console limit entries asked fault before after same stopped =
     let P : ℕ → Type 0 = λ most. HaveStopped (start_of_term site most stations pacer console) asked fault before after in
     subst P same stopped
+
+-- ---- a term that is tried again
+
+none_is_some : {A : Type 0} (x : A) → None ≡ Some x → ⊥
+none_is_some x is = cc
+
+-- what is left after this fault, if anything is, is what was given
+pub left_is_given : {A : Type 0} (fault : TermFault) (given left : A) → left_at fault given ≡ Some left → left ≡ given
+left_is_given term_fault.BadStations given left is = sym (same_Some given left is)
+left_is_given (term_fault.Open why) given left is = sym (same_Some given left is)
+left_is_given term_fault.NoThread given left is = absurd (none_is_some left is)
+left_is_given (term_fault.Audit why) given left is = absurd (none_is_some left is)
+left_is_given (term_fault.Early actor) given left is = absurd (none_is_some left is)
+
+-- a run from what is the same, with what was seen being the same
+pub run_from : {A : Type 0} (a b : A) (begin : A → Start) (n : ℕ) (next : Start) (x y after : Option (List (List Entry))) → a ≡ b → x ≡ y → HaveRun (begin a) n next x after → HaveRun (begin b) n next y after
+run_from {A = A} a b begin n next x y after same seen run =
+    let P : A → Type 0 = λ s. HaveRun (begin s) n next y after in
+    let Q : Option (List (List Entry)) → Type 0 = λ o. HaveRun (begin a) n next o after in
+    subst P same (subst Q seen run)
+
+-- a fault of a term from what is the same
+pub fault_from : {A : Type 0} (a b : A) (begin : A → Start) (x y : TermFault) → a ≡ b → y ≡ x → IsTermFault (begin a) x → IsTermFault (begin b) y
+fault_from {A = A} a b begin x y same is fault =
+    let P : A → Type 0 = λ s. IsTermFault (begin s) y in
+    let Q : TermFault → Type 0 = λ f. IsTermFault (begin a) f in
+    subst P same (subst Q (sym is) fault)

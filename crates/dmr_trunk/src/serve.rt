@@ -300,25 +300,17 @@ impl<'a, R: Log + Clock> Observer<CarrierAt<'a, R>, ClockPacer<'a, R>, ConsoleAt
     }
 }
 
-/// Serves the site of a plan over TCP. Listens at each carrier's port, by number, and at the console's, and runs
-/// `terms` terms, one after another; 0 means forever. Each term has at most the plan's number of entries. Links,
-/// connections and the site continue from term to term ([`serve_service`]). Each term's journal is audited, then
-/// dropped. If there is no memory for the first term, the fault is the term's `OutOfMemory`; a later term is tried again
-/// each second.
-pub fn serve<R: Net + Log + Clock + Wait + Threads + Sync>(
-    rt: &R,
+/// Serves the site of a plan, whose ports and clock have these polls and wakers. Opens the ports, and runs the terms.
+fn serve_woken<'a, R: Net + Log + Clock + Wait + Threads + Sync>(
+    rt: &'a R,
     alloc: Global,
-    plan: Plan,
+    mut polls: Polls<'a>,
+    plan: &Plan,
     terms: u32,
 ) -> Result<(), ServeFault> {
     let mut notes = open_notes(rt, alloc)?;
-    let (wakers, polls) = open_wakers(rt, alloc, &plan)?;
-    let mut polls = Polls {
-        wakers: &wakers,
-        polls,
-    };
     let mut log = TermLog::new(rt, open_notes(rt, alloc)?);
-    let service = open_service(rt, alloc, &mut polls, &plan)?;
+    let service = open_service(rt, alloc, &mut polls, plan)?;
     note_listening(&service, &mut log);
     match serve_service(rt, alloc, service, &mut log, &mut notes, terms) {
         Ok(last) => {
@@ -330,4 +322,23 @@ pub fn serve<R: Net + Log + Clock + Wait + Threads + Sync>(
             Err(ServeFault::Term(stopped.fault))
         }
     }
+}
+
+/// Serves the site of a plan over TCP. Listens at each carrier's port, by number, and at the console's, and runs
+/// `terms` terms, one after another; 0 means forever. Each term has at most the plan's number of entries. Links,
+/// connections and the site continue from term to term ([`serve_service`]). Each term's journal is audited, then
+/// dropped. If there is no memory for the first term, the fault is the term's `OutOfMemory`; a later term is tried again
+/// each second.
+pub fn serve<R: Net + Log + Clock + Wait + Threads + Sync>(
+    rt: &R,
+    alloc: Global,
+    plan: Plan,
+    terms: u32,
+) -> Result<(), ServeFault> {
+    let (wakers, polls) = open_wakers(rt, alloc, &plan)?;
+    let polls = Polls {
+        wakers: &wakers,
+        polls,
+    };
+    serve_woken(rt, alloc, polls, &plan, terms)
 }

@@ -313,10 +313,7 @@ fn serve_woken<'a, R: Net + Log + Clock + Wait + Threads + Sync>(
     let service = open_service(rt, alloc, &mut polls, plan)?;
     note_listening(&service, &mut log);
     match serve_service(rt, alloc, service, &mut log, &mut notes, terms) {
-        Ok(last) => {
-            drop(last);
-            Ok(())
-        }
+        Ok(_last) => Ok(()),
         Err(stopped) => {
             notes.note_stopped(stopped.done);
             Err(ServeFault::Term(stopped.fault))

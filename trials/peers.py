@@ -2,6 +2,7 @@
 import socket
 import threading
 import time
+from enum import Enum
 
 from temzaar.frames import BYE, POLL, TO_CARRIER, Cutter, FrameType, Link, hello
 from temzaar.process import connect
@@ -90,19 +91,32 @@ def ask(stream: socket.socket, line: str) -> str:
     return text.split(b"\n")[0].decode()
 
 
-def ended(stream: socket.socket, seconds: float) -> bool:
-    """Whether the controller ends the connection within `seconds`."""
+class End(Enum):
+    """How the controller ended a connection."""
+    ORDERLY = "its stream came to an end"
+    RESET = "it was reset, by which octets that were sent before may be lost"
+
+
+def end_of(stream: socket.socket, seconds: float) -> End | None:
+    """How the controller ends the connection; None if it does not within `seconds`."""
     stream.settimeout(0.2)
     until = time.monotonic() + seconds
     while time.monotonic() < until:
         try:
             if not stream.recv(65536):
-                return True
+                # a reset that follows the end is an error of the socket, and no read finds it
+                time.sleep(0.2)
+                return End.RESET if stream.getsockopt(socket.SOL_SOCKET, socket.SO_ERROR) else End.ORDERLY
         except TimeoutError:
             pass
         except OSError:
-            return True
-    return False
+            return End.RESET
+    return None
+
+
+def ended(stream: socket.socket, seconds: float) -> bool:
+    """Whether the controller ends the connection within `seconds`, in whichever way."""
+    return end_of(stream, seconds) is not None
 
 
 def carrier(site: Site, number: int, say_hello: bool = True) -> socket.socket:

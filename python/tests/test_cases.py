@@ -1,5 +1,6 @@
 """The cases in cases/, over the reader of their texts, over the package's reader of sessions, and over the controller."""
 import pathlib
+import resource
 import subprocess
 import tempfile
 import unittest
@@ -82,6 +83,19 @@ class Controlled(unittest.TestCase):
             with self.subTest(case.full_name):
                 site, script = (None if text is None else octets_of(text) for text in (case.site, case.script))
                 self.assertEqual(self.answer(site, script), case.answer())
+
+    def test_output_that_memory_does_not_hold(self) -> None:
+        """A million polls are answered with 30 million octets. If the process may have 16 MiB, nothing is printed, and the status is that of no memory."""
+        limit = 16 << 20
+        polls = f"bytes 0 {POLL.hex() * 1000}\n"
+        with tempfile.TemporaryDirectory() as folder:
+            words = [self.program, "--site", str(pathlib.Path(folder, SITE_FILE)), "--script", str(pathlib.Path(folder, SCRIPT_FILE))]
+            pathlib.Path(folder, SITE_FILE).write_text(Changes().text(), encoding="utf-8")
+            for lines, most, status, fault in ((1, limit, 0, b""), (1000, resource.RLIM_INFINITY, 0, b""), (1000, limit, 4, b"dmr_trunk: out of memory\n")):
+                with self.subTest(lines=lines, most=most):
+                    pathlib.Path(folder, SCRIPT_FILE).write_text(f"open 0\nbytes 0 {hello(0, 1).hex()}\n{polls * lines}", encoding="utf-8")
+                    done = subprocess.run(words, capture_output=True, check=False, preexec_fn=lambda: resource.setrlimit(resource.RLIMIT_AS, (most, most)))
+                    self.assertEqual((done.returncode, done.stderr, bool(done.stdout)), (status, fault, status == 0))
 
     def test_a_registry_that_is_full(self) -> None:
         """4,096 radios are registered, and the next is refused. Each is answered at its poll."""

@@ -27,8 +27,10 @@ MORE_ADDRESSES, MORE_MEMORY = 64 * 1024 * 1024, 16 * 1024
 MOST_AWAITED = 100
 # Seconds within which the controller has to end a connection that it has to end.
 SOON = 10.0
-# Seconds within which the buffers of the controller's system are full of DONEs, two octets for each poll.
+# Seconds within which the buffers of the controller's system are full of what the control carrier or an operator is sent.
 FLOOD = 180.0
+# Octets that the controller reads from a connection in a frame. It answers two octets of a POLL by as many of a DONE.
+READ_IN_A_FRAME = 512
 # How many times longer silence may take than the plan's time. The controller counts the time that a port waits, and none does while a term ends. While a
 # carrier floods the site, terms of 5,000 entries end about once a second.
 SLOWED = 2
@@ -37,6 +39,15 @@ NO_FRAMES = (
     b"\x06", b"\x01\x01", POLL[:1] + b"\x01", b"\x04\x01\x02", hello(0, 1), b"\xff" * 300,
     rx(0, b"\xff" * 25), rx(0, b"\xff" * 25, 0), rx(2, bytes(25), 0),
 )
+
+
+def kept_at_most() -> int:
+    """The most octets that the system keeps for a connection until its peer reads them. With bbr as congestion control it keeps them even if the peer reads none."""
+    try:
+        with open("/proc/sys/net/ipv4/tcp_wmem", encoding="ascii") as numbers:
+            return int(numbers.read().split()[2])
+    except (OSError, ValueError, IndexError):
+        return 4 << 20
 
 
 class TroubledCarrier:
@@ -131,7 +142,9 @@ class TroubledCarrier:
             self.close("its carrier came again", now)
             self.connect(small=True)
             self.trouble = self.must_end = kind
-            self.until = now + FLOOD
+            # another carrier than the control carrier is sent DONEs alone, which fill the buffers slowly
+            dones = 0.0 if self.number == self.play.site.control else kept_at_most() / READ_IN_A_FRAME * PERIOD
+            self.until = now + FLOOD + dones
         elif kind == "silent":
             self.trouble = self.must_end = kind
             self.until = now + self.play.site.plan["silence"] * WAIT_MS / 1000 * SLOWED + SOON

@@ -101,8 +101,8 @@ fn append_parts(answer: &mut AnswerText, head: &[u8], word: &[u8; 25])
     };
 }
 
-/// Appends the TX of a PDU in a slot: its type, its length, the number of the next TX, if TX are numbered, the slot, and
-/// the 25 octets of the PDU's burst.
+/// Appends the TX of a PDU in a slot: its type, length, number and slot, and the 25 octets of the PDU's burst. It has a
+/// number only if TX are numbered.
 fn append_burst(
     answer: &mut AnswerText,
     numbering: &mut Numbering,

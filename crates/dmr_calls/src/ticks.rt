@@ -3,6 +3,7 @@
 ghost use Rattle.std.specs.Prelude.{◌≡◌, map};
 ghost use Rattle.dmr_calls.specs.Asks.{ask_after_tick as waited_more_of};
 ghost use Rattle.dmr_calls.specs.Calls.{one_tick_older as counted_of, with_activity as marked_of};
+ghost use Rattle.dmr_calls.specs.Calls.{is_slot};
 
 use crate::ask::ActiveAsk;
 use crate::call::ActiveCall;
@@ -31,18 +32,11 @@ fn call_after_tick(standing: ActiveCall) -> ActiveCall
     }
 }
 
-/// A call after activity on a slot.
-fn call_after_activity(standing: ActiveCall, slot: &Slot) -> ActiveCall
-    ensures { result ≡ marked_of slot.now standing }
+/// Reports whether a call is on a slot.
+fn is_on(standing: &ActiveCall, slot: &Slot) -> bool
+    ensures { result ≡ is_slot standing.now.call.slot slot.now }
 {
-    if standing.call.slot == *slot {
-        ActiveCall {
-            quiet: 0,
-            ..standing
-        }
-    } else {
-        standing
-    }
+    standing.call.slot == *slot
 }
 
 /// Adds one tick to each ask.
@@ -71,6 +65,13 @@ pub fn mark_active(calls: &mut KeyedTable<ActiveCall, MOST_CALLS>, slot: &Slot)
 {
     for place in 0..calls.len() {
         let standing = calls.as_slice()[place];
-        calls.replace(place, call_after_activity(standing, slot));
+        // The other calls are not written back: that costs more than the comparison of a slot.
+        if is_on(&standing, slot) {
+            let active = ActiveCall {
+                quiet: 0,
+                ..standing
+            };
+            calls.replace(place, active);
+        }
     }
 }

@@ -7,3 +7,4 @@ pub mod Reading
 pub mod Shape
 pub mod Limits
 pub mod Between
+pub mod Short

@@ -1,6 +1,7 @@
 //! Cuts a carrier's octets into frames.
 
 ghost use Rattle.std.specs.Prelude.{◌≡◌, ℕ, ◌<◌, ◌≤◌, List, [], ◌∷◌, ◌++◌, length, take, IfSome};
+ghost use Rattle.std.specs.Prelude.{None};
 ghost use Rattle.dmr_bits.specs.Bits.{field_of};
 ghost use Rattle.dmr_bits.specs.Words.{word_of};
 ghost use Rattle.dmr_frames.specs.Between.{is_between};
@@ -10,6 +11,8 @@ ghost use Rattle.dmr_frames.specs.Shape.{IsShape, IsBegun, IsWhole, IsRxBody, Is
 ghost use Rattle.dmr_frames.specs.Shape.{IsActiveBody};
 ghost use Rattle.dmr_frames.specs.declared.frame.FrameIn.{FrameIn};
 ghost use Rattle.dmr_frames.specs.declared.version.FrameTable.{FrameTable};
+ghost use Rattle.dmr_frames.specs.declared.version.Version.{Version};
+ghost use Rattle.dmr_frames.specs.Short.{frame_of_short};
 ghost use Rattle.dmr_frames.specs.Stream.{Reads};
 ghost use Rattle.dmr_frames.specs.Reading.{ProduceAtLast, frame_of, step_from, rest_after_octet};
 ghost use Rattle.dmr_frames.specs.Reading.{rest_after_octets};
@@ -17,7 +20,7 @@ ghost use Rattle.dmr_frames.specs.Frames.{IsFrame, spelling, whole_step, hello_s
 ghost use Rattle.dmr_frames.specs.Frames.{burst_step, active_step};
 ghost use Rattle.dmr_frames.specs.Reading.{step_at, length_step, body_step};
 
-use crate::frame::{Cause, FrameIn, LONGEST_FRAME};
+use crate::frame::{Cause, FrameIn, LONGEST_FRAME, ShortFrame};
 use crate::table::FrameKind;
 use crate::version::{FrameTable, Version};
 use dmr_bits::Word196;
@@ -136,6 +139,26 @@ impl Cutter {
         self.feed_one_by_one(octets)
     }
 
+    /// Takes the POLL or the ACTIVE that octets begin with, if no frame has begun and there was no fault. Returns how
+    /// many octets it took, and the frame. The result is that of [`Cutter::feed`], which costs more: its result has
+    /// room for a word. If the result is `None`, nothing was taken, and [`Cutter::feed`] takes what comes.
+    pub fn feed_short(&mut self, octets: &[u8]) -> Option<(usize, ShortFrame)>
+        ensures count { IfSome result (λ r. (0 < r.0) × (r.0 ≤ length octets.now)) }
+        ensures step { IfSome result (λ r. ProduceAtLast self.old (take r.0 octets.now)
+            (Step.Frame (frame_of_short r.1))) }
+        ensures rest { IfSome result
+            (λ r. self.new ≡ rest_after_octets self.old (take r.0 octets.now)) }
+        ensures none { result ≡ None → self.new ≡ self.old }
+    {
+        if self.fault.is_none() && self.count == 0 {
+            if let Some((count, short)) = read_short(octets) {
+                self.table = self.table.next_after_short(&short);
+                return Some((count, short));
+            }
+        }
+        None
+    }
+
     /// Does the same as [`Cutter::feed`], one octet after another.
     fn feed_one_by_one(&mut self, octets: &[u8]) -> (usize, Step)
         requires { 0 < length octets.now }
@@ -179,6 +202,23 @@ impl Cutter {
                 Step::Fault(cause)
             }
         }
+    }
+}
+
+/// Returns the short frame that octets begin with, and how many octets it has.
+fn read_short(octets: &[u8]) -> Option<(usize, ShortFrame)>
+    ensures count { IfSome result (λ r. (0 < r.0) × (r.0 ≤ length octets.now)) }
+    ensures frame { IfSome result (λ r. (version : Version) → IsFrame version (frame_of_short r.1)) }
+    // The octets below are those of the table of frames.
+    ensures octets { IfSome result (λ r. take r.0 octets.now ≡ spelling (frame_of_short r.1)) }
+{
+    match octets {
+        [0x03, 0x00, ..] => Some((2, ShortFrame::Poll)),
+        [0x04, 0x01, slot, ..] if *slot < 2 => {
+            let slot = SlotNo::new(u32::from(*slot));
+            Some((3, ShortFrame::Active(slot)))
+        }
+        _ => None,
     }
 }
 

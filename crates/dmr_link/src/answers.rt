@@ -1,21 +1,24 @@
 //! Encodes the answers to a carrier's events. The engine appends them to its outputs, a link writes them. No other code
 //! encodes the answer to an event of a carrier.
 
-ghost use Rattle.std.specs.Prelude.{◌≡◌, ◌+◌, ◌*◌, ◌≤◌, ◌++◌, [], ◌∷◌, None, flat_map, is_some};
-ghost use Rattle.std.specs.Prelude.{length, MatchOption};
+ghost use Rattle.std.specs.Prelude.{◌≡◌, ◌+◌, ◌*◌, ◌%◌, ◌≤◌, ◌++◌, [], ◌∷◌, None, flat_map, is_some};
+ghost use Rattle.std.specs.Prelude.{length, option_map, MatchOption};
 ghost use Rattle.arrayvec.specs.ArrayVec.{array_vec_len};
+ghost use Rattle.dmr_burst.specs.Functions.{burst_of};
+ghost use Rattle.dmr_frames.specs.Frames.{spelling_out};
 ghost use Rattle.dmr_link.specs.Notices.{event_of_notice, site_notice};
 ghost use Rattle.dmr_link.specs.Answering.{IsFewAt};
 ghost use Rattle.dmr_link.specs.Numbering.{frame_text, frames_text, next_after, next_after_frames};
 ghost use Rattle.dmr_link.specs.Room.{length_of_tx, most_of, most_to_poll};
 ghost use Rattle.dmr_link.specs.Session.{answer_frames, transmissions, welcome};
 
+use crate::kept_burst::KeptBurst;
 use crate::notices::SiteNotice;
 use crate::numbering::Numbering;
 use arrayvec::ArrayVec;
-use dmr_burst::write;
 use dmr_core::{Act, Acts, Event};
 use dmr_frames::{FrameOut, LONGEST_FRAME, Version};
+use dmr_pdu::{Pdu, SlotNo};
 
 /// The room for an answer: a TX for each of 16 acts, and DONE, each counted as a frame of the greatest length.
 const LONGEST_ANSWER: usize = (16 + 1) * LONGEST_FRAME;
@@ -32,6 +35,8 @@ pub struct Answer {
     pub acts: Acts,
     /// The octets that the carrier receives.
     pub octets: AnswerText,
+    /// The burst that was encoded last. A PDU that is sent again is not encoded again.
+    pub burst: KeptBurst,
 }
 
 impl Answer {
@@ -43,6 +48,7 @@ impl Answer {
         Answer {
             acts: Acts::none(),
             octets: ArrayVec::new(),
+            burst: KeptBurst::none(),
         }
     }
 }
@@ -56,17 +62,13 @@ fn welcome_to(version: Version) -> FrameOut
     }
 }
 
-/// Returns the TX of an act, if the act sends a PDU in a slot. The TX receives its number when it is encoded.
-fn tx_of(act: &Act) -> Option<FrameOut>
+/// Returns the slot and the PDU of an act that sends a PDU in a slot.
+fn sent_by(act: &Act) -> Option<(SlotNo, Pdu)>
     ensures { MatchOption result (transmissions act.now ≡ [])
-        (λ frame. transmissions act.now ≡ frame ∷ []) }
+        (λ sent. transmissions act.now ≡ FrameOut.Tx None sent.0 (burst_of sent.1) ∷ []) }
 {
     match act {
-        Act::Send(slot, pdu) | Act::Fill(slot, pdu) => Some(FrameOut::Tx {
-            number: None,
-            slot: slot.slot,
-            word: write(pdu),
-        }),
+        Act::Send(slot, pdu) | Act::Fill(slot, pdu) => Some((slot.slot, *pdu)),
         _ => None,
     }
 }
@@ -85,8 +87,48 @@ fn append_frame(answer: &mut AnswerText, numbering: &mut Numbering, frame: &Fram
     };
 }
 
+/// Appends the first octets of a TX, and then those of its word.
+fn append_parts(answer: &mut AnswerText, head: &[u8], word: &[u8; 25])
+    requires { array_vec_len answer.old + (length head.now + 25) ≤ 493 }
+    ensures items { answer.new.items ≡ answer.old.items ++ (head.now ++ word.now) }
+    ensures len { array_vec_len answer.new ≡ array_vec_len answer.old + (length head.now + 25) }
+{
+    let Ok(()) = answer.try_extend_from_slice(head) else {
+        unreachable!()
+    };
+    let Ok(()) = answer.try_extend_from_slice(word) else {
+        unreachable!()
+    };
+}
+
+/// Appends the TX of a PDU in a slot: its type, length, number and slot, and the 25 octets of the PDU's burst. It has a
+/// number only if TX are numbered.
+fn append_burst(
+    answer: &mut AnswerText,
+    numbering: &mut Numbering,
+    burst: &mut KeptBurst,
+    slot: SlotNo,
+    pdu: &Pdu,
+)
+    requires { array_vec_len answer.old + 29 ≤ 493 }
+    ensures items { answer.new.items ≡ answer.old.items
+        ++ frame_text numbering.old (FrameOut.Tx None slot (burst_of pdu.now)) }
+    ensures next { numbering.new ≡ option_map (λ n. (n + 1) % 256) numbering.old }
+    ensures numbered { is_some numbering.new ≡ is_some numbering.old }
+    ensures len { array_vec_len answer.new
+        ≡ array_vec_len answer.old + length_of_tx (is_some numbering.old) }
+{
+    let word = burst.octets_of(pdu);
+    let slot = slot.get() as u8;
+    // The contract compares these octets with the table of frames.
+    match numbering.take_number() {
+        None => append_parts(answer, &[0x82, 26, slot], &word),
+        Some(number) => append_parts(answer, &[0x82, 27, number, slot], &word),
+    }
+}
+
 /// Appends the TX of an act, if the act sends a PDU in a slot.
-fn append_tx(answer: &mut AnswerText, numbering: &mut Numbering, act: &Act)
+fn append_tx(answer: &mut AnswerText, numbering: &mut Numbering, burst: &mut KeptBurst, act: &Act)
     requires { array_vec_len answer.old + 29 ≤ 493 }
     ensures items { answer.new.items
         ≡ answer.old.items ++ frames_text numbering.old (transmissions act.now) }
@@ -95,13 +137,30 @@ fn append_tx(answer: &mut AnswerText, numbering: &mut Numbering, act: &Act)
         ≤ array_vec_len answer.old + length_of_tx (is_some numbering.old) }
     ensures numbered { is_some numbering.new ≡ is_some numbering.old }
 {
-    if let Some(frame) = tx_of(act) {
-        append_frame(answer, numbering, &frame);
+    if let Some((slot, pdu)) = sent_by(act) {
+        append_burst(answer, numbering, burst, slot, &pdu);
     }
 }
 
+/// Appends DONE.
+fn append_done(answer: &mut AnswerText)
+    requires { array_vec_len answer.old + 29 ≤ 493 }
+    ensures items { answer.new.items ≡ answer.old.items ++ spelling_out FrameOut.Done }
+    ensures len { array_vec_len answer.new ≡ array_vec_len answer.old + 2 }
+{
+    // The contract compares these octets with the table of frames.
+    let Ok(()) = answer.try_extend_from_slice(&[0x83, 0]) else {
+        unreachable!()
+    };
+}
+
 /// Appends the answer to a POLL: a TX for each act that sends a PDU, and DONE. At most 16 acts are allowed.
-fn append_poll_answer(answer: &mut AnswerText, numbering: &mut Numbering, acts: &[Act])
+fn append_poll_answer(
+    answer: &mut AnswerText,
+    numbering: &mut Numbering,
+    burst: &mut KeptBurst,
+    acts: &[Act],
+)
     requires empty { answer.old.items ≡ [] }
     requires most { length acts.now ≤ 16 }
     ensures items { answer.new.items
@@ -112,9 +171,9 @@ fn append_poll_answer(answer: &mut AnswerText, numbering: &mut Numbering, acts: 
         → array_vec_len answer.new ≤ most_to_poll (is_some numbering.old) }
 {
     for act in acts {
-        append_tx(answer, numbering, act);
+        append_tx(answer, numbering, burst, act);
     }
-    append_frame(answer, numbering, &FrameOut::Done);
+    append_done(answer);
 }
 
 /// Appends the answer to a HELLO that is accepted: WELCOME.
@@ -129,10 +188,11 @@ fn append_hello_answer(answer: &mut AnswerText, numbering: &mut Numbering, versi
 
 /// Encodes the answer to a carrier's notice. `answer` becomes its octets, whatever it was before. `acts` are the site's
 /// acts for the notice, at most 16. A HELLO is answered by WELCOME, and a POLL by a TX for each PDU that is sent, and
-/// DONE. Other notices are not answered.
+/// DONE. Other notices are not answered. `burst` spares the encoding of a PDU that was encoded with it last.
 pub fn encode_answer(
     answer: &mut AnswerText,
     numbering: &mut Numbering,
+    burst: &mut KeptBurst,
     notice: &SiteNotice,
     acts: &[Act],
 )
@@ -148,7 +208,7 @@ pub fn encode_answer(
     answer.clear();
     match notice {
         SiteNotice::Accepted(_, version) => append_hello_answer(answer, numbering, *version),
-        SiteNotice::Happened(Event::Poll(_)) => append_poll_answer(answer, numbering, acts),
+        SiteNotice::Happened(Event::Poll(_)) => append_poll_answer(answer, numbering, burst, acts),
         SiteNotice::Happened(_) => {}
     }
 }

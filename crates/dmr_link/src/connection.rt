@@ -1,12 +1,13 @@
 //! A carrier's connection, and the effect of its octets.
 
 ghost use Rattle.std.specs.Prelude.{◌≡◌, ◌<◌, ◌≤◌, Some, None, false, true, length, option_map};
-ghost use Rattle.std.specs.Prelude.{take, IfErr, IfOk};
+ghost use Rattle.std.specs.Prelude.{take, IfErr, IfOk, IfSome, [], ◌∷◌};
 ghost use Rattle.dmr_burst.specs.Functions.{meaning_of};
+ghost use Rattle.dmr_frames.specs.Short.{frame_of_short};
 ghost use Rattle.dmr_frames.specs.Versions.{chosen_by};
 ghost use Rattle.dmr_core.specs.declared.event.Event.TheVariants.{Lost};
 ghost use Rattle.dmr_frames.specs.declared.frame.FrameIn.TheVariants as frame;
-ghost use Rattle.dmr_link.specs.Meaning.{list_of_notice, event_of_burst as burst_event};
+ghost use Rattle.dmr_link.specs.Meaning.{list_of_notice, event_of, event_of_burst as burst_event};
 ghost use Rattle.dmr_link.specs.Meaning.{is_accepted, is_repeat as is_newest_repeat};
 ghost use Rattle.dmr_link.specs.Meaning.{refusal_of_first};
 ghost use Rattle.dmr_link.specs.Closing.{cause_of_refusal, closes, first_fault, waiting_closes};
@@ -25,7 +26,7 @@ use dmr_bits::Word196;
 use dmr_burst::read;
 use dmr_core::Event;
 use dmr_frames::laws::one_reading;
-use dmr_frames::{Cause, Cutter, FrameIn, Refusal, Step, Version};
+use dmr_frames::{Cause, Cutter, FrameIn, Refusal, ShortFrame, Step, Version};
 use dmr_pdu::{CarrierNo, Lpcn, Slot};
 use dmr_wire::{Closing, Hello};
 use std::mem::replace;
@@ -275,6 +276,16 @@ fn outcome_of_step(
     }
 }
 
+/// Returns the event of a short frame of a carrier that is up.
+fn event_of_short(carrier: CarrierNo, short: ShortFrame) -> Event
+    ensures { result ≡ event_of carrier (frame_of_short short) }
+{
+    match short {
+        ShortFrame::Poll => Event::Poll(carrier),
+        ShortFrame::Active(slot) => Event::Active(Slot { carrier, slot }),
+    }
+}
+
 impl Connection {
     /// Returns a carrier's connection that has just begun.
     pub fn open(who: &CarrierIdentity) -> Connection
@@ -336,6 +347,47 @@ impl Connection {
     /// Takes octets up to the end of the next frame, up to a fault, or all of them. Returns how many it took, and the
     /// notice that these produce, if any. The result is that of [`Connection::receive`] for each octet.
     pub fn receive_piece(&mut self, who: &CarrierIdentity, octets: &[u8]) -> (usize, Option<Notice>)
+        requires { 0 < length octets.now }
+        ensures some { 0 < result.0 }
+        ensures count { result.0 ≤ length octets.now }
+        ensures notice { notices_of_octets who.now self.old (take result.0 octets.now)
+            ≡ list_of_notice (option_map notice_meant result.1) }
+        ensures connection { self.new
+            ≡ connection_after_octets who.now self.old (take result.0 octets.now) }
+        ensures sound { IsConnectionSound who.now.greatest self.old
+            → IsConnectionSound who.now.greatest self.new }
+    {
+        one_reading();
+        match self.receive_short(who, octets) {
+            Some((count, event)) => (count, Some(Notice::Site(SiteNotice::Happened(event)))),
+            None => self.receive_any(who, octets),
+        }
+    }
+
+    /// Takes the POLL or the ACTIVE that octets begin with, if the carrier is up and no frame has begun. Returns how
+    /// many octets it took, and the frame's event. If the result is `None`, nothing was taken, and
+    /// [`Connection::receive_any`] takes what comes.
+    fn receive_short(&mut self, who: &CarrierIdentity, octets: &[u8]) -> Option<(usize, Event)>
+        ensures count { IfSome result (λ r. (0 < r.0) × (r.0 ≤ length octets.now)) }
+        ensures notice { IfSome result
+            (λ r. notices_of_octets who.now self.old (take r.0 octets.now) ≡ Happened r.1 ∷ []) }
+        ensures connection { IfSome result (λ r. self.new
+            ≡ connection_after_octets who.now self.old (take r.0 octets.now)) }
+        ensures none { result ≡ None → self.new ≡ self.old }
+    {
+        match self {
+            Connection::Running { cutter, .. } => match cutter.feed_short(octets) {
+                Some((count, short)) => Some((count, event_of_short(who.carrier, short))),
+                None => None,
+            },
+            Connection::Closed | Connection::Waiting(_) => None,
+        }
+    }
+
+    /// Does the same as [`Connection::receive_piece`].
+    // Out of line: a POLL or an ACTIVE then does not clear this function's locals.
+    #[inline(never)]
+    fn receive_any(&mut self, who: &CarrierIdentity, octets: &[u8]) -> (usize, Option<Notice>)
         requires { 0 < length octets.now }
         ensures some { 0 < result.0 }
         ensures count { result.0 ≤ length octets.now }

@@ -26,6 +26,7 @@ mod ended;
 mod engine;
 mod identities;
 mod input;
+mod kept_burst;
 pub mod laws;
 mod limits;
 mod link;

@@ -67,6 +67,16 @@ impl Numbering {
         }
     }
 
+    /// Returns the number of the next TX, if TX are numbered, and advances it.
+    pub fn take_number(&mut self) -> Option<u8>
+        ensures number { result ≡ self.old }
+        ensures next { self.new ≡ option_map (λ n. (n + 1) % 256) self.old }
+    {
+        let number = self.next;
+        self.advance();
+        number
+    }
+
     /// Returns whether TX are numbered.
     pub fn is_on(self) -> bool
         ensures { result ≡ is_some self }

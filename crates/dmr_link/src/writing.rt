@@ -7,6 +7,7 @@ ghost use Rattle.dmr_link.specs.Notices.{peer_notice};
 ghost use Rattle.dmr_link.specs.Peers.{answer_text, peer_notice_text, next_after_answer};
 
 use crate::answers::{AnswerText, encode_answer};
+use crate::kept_burst::KeptBurst;
 use crate::limits::MOST_INTERRUPTIONS;
 use crate::notices::{LineFault, PeerNotice, SiteNotice};
 use crate::numbering::Numbering;
@@ -81,7 +82,14 @@ pub fn write_answer<W: Wire>(
         SiteNotice::Happened(Event::Say(_)) => write_reply(port, &acts.said),
         _ => {
             let mut answer = AnswerText::new();
-            encode_answer(&mut answer, numbering, notice, acts.list.as_slice());
+            let mut burst = KeptBurst::none();
+            encode_answer(
+                &mut answer,
+                numbering,
+                &mut burst,
+                notice,
+                acts.list.as_slice(),
+            );
             write_octets(port, answer.as_slice())
         }
     }

@@ -3,7 +3,7 @@ use Rattle.dmr_link.proofs.outputs.append_octets.Given as goal
 
 abbrev pub invariant-loop-octet : goal.invariant-loop-octet
 invariant-loop-octet l = record {
-  items : l.text.items ≡ l.initial.text.items ++ take l.octet-index l.octets;
-  len : vec_len l.text ≡ vec_len l.initial.text + l.octet-index;
-  room : vec_capacity l.text ≡ vec_capacity l.initial.text;
+  items : l.longer.items ≡ l.initial.longer.items ++ take l.octet-index l.octets;
+  len : vec_len l.longer ≡ vec_len l.initial.longer + l.octet-index;
+  room : vec_capacity l.longer ≡ vec_capacity l.initial.longer;
 }

@@ -20,6 +20,7 @@ mod AnswerSizes
 mod FreeSlotHasRoom
 mod NothingIsSound
 mod PlansAreKnown
+mod RestoredLemmas
 mod ActsAreSafe
 mod LastLemmas
 mod LastOpenerLemmas

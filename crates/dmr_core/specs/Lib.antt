@@ -1,5 +1,6 @@
 pub mod Limits
 pub mod Facts
+pub mod Restored
 pub mod Words
 pub mod Late
 pub mod Displays

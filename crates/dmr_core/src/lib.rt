@@ -15,6 +15,7 @@ mod machine;
 mod named;
 mod reply;
 mod request;
+mod restored;
 mod site;
 
 pub use act::{Act, ActList, Acts};

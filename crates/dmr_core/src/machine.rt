@@ -9,6 +9,7 @@ ghost use Rattle.dmr_core.specs.Journal.{unattributed_entry};
 ghost use Rattle.dmr_core.specs.declared.act.Act.TheVariants.{Began, Ended};
 ghost use Rattle.dmr_pool.specs.Slots.{IsSlot};
 ghost use Rattle.dmr_core.specs.May.{MayBegin, MayDo, AllMayDo};
+ghost use Rattle.dmr_core.specs.Restored.{facts_with};
 ghost use Rattle.dmr_core.specs.Same.{are_same};
 
 mod acts;
@@ -25,7 +26,7 @@ use crate::event::Event;
 use crate::named::NamedSlot;
 use dmr_access::Access;
 use dmr_calls::{Call, Calls};
-use dmr_pdu::{CarrierNo, Lpcn, OutOfMemory, Pdu, Slot};
+use dmr_pdu::{Address, CarrierNo, Lpcn, OutOfMemory, Pdu, Slot};
 use dmr_plan::Plan;
 use dmr_pool::Pool;
 use dmr_registry::Registry;
@@ -81,13 +82,25 @@ fn slot_is_in_range(slot: &Slot)
 
 impl Machine {
     /// Makes a site of the plan on which nothing has happened. Returns `OutOfMemory` if a part cannot be allocated.
-    #[tactic(auto, using(crate::proofs::HeldLemmas::at_first))]
     pub fn new(alloc: Global, plan: &Plan) -> Result<Machine, OutOfMemory>
         ensures { IfOk result (λ m. m ≡ record { plan = plan.now; facts = no_facts }) }
     {
         let Ok(registry) = Registry::new(alloc) else {
             return Err(OutOfMemory);
         };
+        Machine::with_registry(alloc, plan, registry)
+    }
+
+    /// Makes a site of the plan on which nothing has happened, but with radios registered. Returns `OutOfMemory` if a
+    /// part cannot be allocated.
+    #[tactic(auto, using(crate::proofs::HeldLemmas::at_first))]
+    pub fn with_registry(
+        alloc: Global,
+        plan: &Plan,
+        registry: Registry,
+    ) -> Result<Machine, OutOfMemory>
+        ensures { IfOk result (λ m. m ≡ record { plan = plan.now; facts = facts_with registry }) }
+    {
         let Ok(pool) = Pool::new(alloc, plan) else {
             drop(registry);
             return Err(OutOfMemory);
@@ -146,6 +159,13 @@ impl Machine {
         ensures { result.now ≡ self.now.plan }
     {
         &self.plan
+    }
+
+    /// The registered radios, in the order in which they joined.
+    pub fn registered(&self) -> &[Address]
+        ensures { result.now ≡ self.now.facts.registered }
+    {
+        self.registry.as_slice()
     }
 
     /// Applies the Up of a carrier, which is up then if the plan has it. Its calls end, and the PDUs that waited for

@@ -1,9 +1,14 @@
 //! A site.
 
-ghost use Rattle.std.specs.Prelude.{◌≡◌, ◌↔◌, [], ◌∷◌, IfOk, IsTrue};
+ghost use Rattle.std.specs.Prelude.{◌≡◌, ◌≤◌, ◌↔◌, [], ◌∷◌, length, filter, true, IfOk, IsTrue};
+ghost use Rattle.std.specs.List.{All};
+ghost use Rattle.dmr_plan.specs.Plan.{lists_radio};
+ghost use Rattle.dmr_registry.specs.Limits.{most_radios};
+ghost use Rattle.dmr_registry.specs.Radios.{AreDistinct};
 ghost use Rattle.dmr_core.specs.Facts.{facts_after, no_facts};
 ghost use Rattle.dmr_core.specs.Journal.{unattributed_entry};
 ghost use Rattle.dmr_core.specs.Replies.{reply_to};
+ghost use Rattle.dmr_core.specs.Restored.{facts_with, restored};
 ghost use Rattle.dmr_core.specs.Rules.{acts_of};
 ghost use Rattle.dmr_core.specs.Same.{are_same};
 ghost use Rattle.dmr_core.specs.State.{IsSite};
@@ -11,7 +16,8 @@ ghost use Rattle.dmr_core.specs.State.{IsSite};
 use crate::act::Acts;
 use crate::event::Event;
 use crate::machine::Machine;
-use dmr_pdu::OutOfMemory;
+use crate::restored::registry_of;
+use dmr_pdu::{Address, OutOfMemory};
 use dmr_plan::Plan;
 use std::alloc::Global;
 use std::marker::Model;
@@ -49,11 +55,46 @@ impl Site {
         })
     }
 
+    /// Makes a site of this plan on which nothing has happened, but with radios registered already, as after a restart.
+    ///
+    /// Of `radios`, those that the plan lists are registered, in their order. A radio that comes twice is registered
+    /// once, and after 4,096 radios no other is registered.
+    ///
+    /// It allocates all the memory that the site ever needs. Returns `OutOfMemory` if the allocation fails.
+    pub fn with_registered(
+        alloc: Global,
+        plan: Plan,
+        radios: &[Address],
+    ) -> Result<Site, OutOfMemory>
+        ensures facts { IfOk result (λ site. site
+            ≡ record { plan = plan; facts = facts_with (restored plan radios.now) }) }
+        // Each radio that is registered is one that the plan lists.
+        ensures listed { IfOk result (λ site.
+            All (λ radio. lists_radio plan radio ≡ true) site.facts.registered) }
+        // Distinct radios for which there is room keep their order, and none that the plan lists is left out.
+        ensures order { AreDistinct radios.now → length radios.now ≤ most_radios
+            → IfOk result (λ site. site.facts.registered ≡ filter (lists_radio plan) radios.now) }
+    {
+        plan.use_invariant();
+        let registry = registry_of(alloc, &plan, radios)?;
+        let _registered = registry.as_slice();
+        Ok(Site {
+            machine: Machine::with_registry(alloc, &plan, registry)?,
+        })
+    }
+
     /// The site's plan.
     pub fn plan(&self) -> &Plan
         ensures { result.now ≡ self.now.plan }
     {
         self.machine.plan()
+    }
+
+    /// The registered radios, in the order in which they joined: at most 4,096, none of them twice.
+    pub fn registered(&self) -> &[Address]
+        ensures { result.now ≡ self.now.facts.registered }
+    {
+        self.machine.registered()
     }
 
     /// Answers an event with acts and, if it is a command, with a reply.

@@ -7,6 +7,7 @@ ghost use Rattle.dmr_desk.specs.BookState.{site_after_entries};
 
 use crate::report::Journal;
 use crate::room::push_copy;
+use crate::spare::SpareLists;
 use dmr_core::{Acts, Entry, Event, Site, each_act_is_safe};
 use dmr_link::TermOver;
 use dmr_pdu::OutOfMemory;
@@ -61,10 +62,25 @@ impl Book {
             (λ book. book ≡ record { opening = site; limit = limit; entries = [] }) }
         ensures err { IfErr result (λ fault. fault.1 ≡ site) }
     {
+        let mut spare = SpareLists::new(alloc);
+        Book::with_lists(alloc, site, limit, &mut spare)
+    }
+
+    /// Does the same as [`new`](Book::new). If a journal with the room is kept, its memory is used.
+    pub(crate) fn with_lists(
+        alloc: Global,
+        site: Site,
+        limit: usize,
+        spare: &mut SpareLists,
+    ) -> Result<Book, (OutOfMemory, Site)>
+        ensures ok { IfOk result
+            (λ book. book ≡ record { opening = site; limit = limit; entries = [] }) }
+        ensures err { IfErr result (λ fault. fault.1 ≡ site) }
+    {
         let Ok(opening) = site.try_clone(alloc) else {
             return Err((OutOfMemory, site));
         };
-        let Ok(journal) = Vec::with_capacity(alloc, limit) else {
+        let Ok(journal) = spare.take_journal(alloc, limit) else {
             drop(opening);
             return Err((OutOfMemory, site));
         };

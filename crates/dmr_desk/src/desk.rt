@@ -15,6 +15,7 @@ use crate::fault::{CloseFault, OpenFault};
 use crate::limits::{MOST_ACTORS, MOST_ENTRIES};
 use crate::report::Report;
 use crate::seat::Seat;
+use crate::spare::SpareLists;
 use dmr_core::{Acts, Event, Site};
 use dmr_link::TermOver;
 use dmr_pdu::OutOfMemory;
@@ -117,10 +118,11 @@ impl<L: DeskLedger> Locked<L> {
     }
 }
 
-/// Returns the seats of the actors 0 to `actors - 1`. Each has one part of `rest`, in which nothing is counted yet. On
-/// an error an allocation was refused.
+/// Returns the seats of the actors 0 to `actors - 1`, from lists that are kept if there are any. Each has one part of
+/// `rest`, in which nothing is counted yet. On an error an allocation was refused.
 fn seats_for<L: Ledger>(
     alloc: Global,
+    spare: &mut SpareLists,
     rest: &mut Share<L>,
     limit: usize,
     actors: u8,
@@ -133,7 +135,7 @@ fn seats_for<L: Ledger>(
 {
     let mut seats = Vec::with_capacity(alloc, actors as usize)?;
     for actor in 0..actors {
-        let seat = Seat::new(alloc, actor, limit, rest.split_off(1, 0))?;
+        let seat = Seat::new(alloc, spare, actor, limit, rest.split_off(1, 0))?;
         seats.push_reserved(seat);
     }
     Ok(seats)
@@ -179,6 +181,31 @@ impl<L: DeskLedger> SharedDesk<L> {
         ensures fault { IfErr result (λ refused. IsRefused limit actors refused.0) }
         ensures site { IfErr result (λ refused. refused.1 ≡ site) }
     {
+        let mut spare = SpareLists::new(alloc);
+        SharedDesk::<L>::open_with(alloc, blank, site, limit, actors, &mut spare)
+    }
+
+    /// Does the same as [`open`](SharedDesk::open). If lists with the room are kept, their memory is used. If the limit
+    /// is that of the term before, `OutOfMemory` loses none of them.
+    pub(crate) fn open_with(
+        alloc: Global,
+        blank: Blank,
+        site: Site,
+        limit: usize,
+        actors: u8,
+        spare: &mut SpareLists,
+    ) -> Result<(SharedDesk<L>, Vec<Seat<L>>), (OpenFault, Site)>
+        requires name { blank.name ≡ L.name }
+        requires parts { blank.parts ≡ L.parts }
+        requires eighteen { blank.parts ≡ most_actors }
+        requires desk { L.desk ≡ record { site = site; limit = limit; actors = actors } }
+        ensures numbers { OnOk result (IsLimit limit × IsNumber actors) }
+        ensures desk { IfOk result
+            (λ opened. opened.0 ≡ record { site = site; limit = limit; actors = actors }) }
+        ensures seats { IfOk result (λ opened. opened.1.items ≡ empty_seats actors) }
+        ensures fault { IfErr result (λ refused. IsRefused limit actors refused.0) }
+        ensures site { IfErr result (λ refused. refused.1 ≡ site) }
+    {
         if limit == 0 || limit > MOST_ENTRIES {
             return Err((OpenFault::BadLimit, site));
         }
@@ -186,11 +213,12 @@ impl<L: DeskLedger> SharedDesk<L> {
             return Err((OpenFault::BadActors, site));
         }
         let (total, mut rest) = blank.open::<L>();
-        let Ok(seats) = seats_for(alloc, &mut rest, limit, actors) else {
-            return Err((OpenFault::OutOfMemory, site));
+        let book = match Book::with_lists(alloc, site, limit, spare) {
+            Ok(book) => book,
+            Err((_, site)) => return Err((OpenFault::OutOfMemory, site)),
         };
-        match Book::new(alloc, site, limit) {
-            Ok(book) => {
+        match seats_for(alloc, spare, &mut rest, limit, actors) {
+            Ok(seats) => {
                 let locked = Mutex::new(Locked {
                     book,
                     total,
@@ -200,7 +228,11 @@ impl<L: DeskLedger> SharedDesk<L> {
                 });
                 Ok((SharedDesk { locked }, seats))
             }
-            Err((_, site)) => Err((OpenFault::OutOfMemory, site)),
+            Err(_) => {
+                let (site, journal) = book.into_parts();
+                spare.keep_journal(journal);
+                Err((OpenFault::OutOfMemory, site))
+            }
         }
     }
 

@@ -54,8 +54,8 @@ pub fn reports_account()
 
 /// States facts about the fault that [`close`](crate::SharedDesk::close) may return for a desk and these seats.
 /// - `SeatMissing` names an actor of the desk of which no seat was handed in.
-/// - `Differs` is returned only if a seat has a deposit. Without deposits the journal is empty, and no seat differs from
-///   it.
+/// - `Differs` is returned only if a seat has a deposit. Without deposits the journal is empty, and no seat differs
+///   from it.
 pub fn faults_account()
     ensures missing { (desk : Opened) (seats : List SeatState) (actor : ℕ)
         → IsFault desk seats (SeatMissing actor) → (actor < desk.actors) × ¬ HasSeat seats actor }

@@ -19,6 +19,7 @@ use crate::limits::{MOST_ENTRIES, PARTS};
 use crate::pace::Pacer;
 use crate::seat::Seat;
 use crate::service::{Refused, Service};
+use crate::spare::SpareLists;
 use crate::station::{ConsoleStation, Serving, Station};
 use crate::term::{HandedBack, Term, close_term, run_threads};
 use arrayvec::ArrayVec;
@@ -188,6 +189,7 @@ where
         stations,
         pacer,
         console,
+        mut spare,
     } = service;
     let count = stations.len();
     let Ok((room, back)) = room_for(alloc, count) else {
@@ -198,11 +200,14 @@ where
                 stations,
                 pacer,
                 console,
+                spare,
             }),
         });
     };
     let actors = count as u8 + 2;
-    let (desk, seats) = match SharedDesk::<L>::open(alloc, blank, site, limit, actors) {
+    let (desk, seats) = match SharedDesk::<L>::open_with(
+        alloc, blank, site, limit, actors, &mut spare,
+    ) {
         Ok(opened) => opened,
         Err((fault, site)) => {
             drop(room);
@@ -214,10 +219,12 @@ where
                     stations,
                     pacer,
                     console,
+                    spare,
                 }),
             });
         }
     };
+    drop(spare);
     match run_opened(rt, desk, limit, seats, stations, pacer, console, room, back) {
         Ok(term) => Ok(term),
         Err(fault) => Err(Refused { fault, left: None }),
@@ -324,6 +331,7 @@ where
         stations,
         pacer,
         console,
+        spare: SpareLists::new(alloc),
     };
     match try_term(rt, alloc, limit, service) {
         Ok(term) => Ok(term),

@@ -6,6 +6,7 @@ ghost use Rattle.dmr_desk.specs.Seats.{seat_with_deposit};
 
 use crate::book::Book;
 use crate::room::push_copy;
+use crate::spare::SpareLists;
 use crate::view::deposit_of;
 use dmr_core::{Acts, Event};
 use dmr_link::{Deposit, TermOver};
@@ -39,9 +40,11 @@ impl<L: Ledger> Model for Seat<L> {
 }
 
 impl<L: Ledger> Seat<L> {
-    /// Makes the seat of an actor, with room for `limit` deposits. On an error an allocation was refused.
+    /// Makes the seat of an actor, with room for `limit` deposits. If a list with the room is kept, its memory is used.
+    /// On an error an allocation was refused.
     pub(crate) fn new(
         alloc: Global,
+        spare: &mut SpareLists,
         actor: u8,
         limit: usize,
         share: Share<L>,
@@ -50,7 +53,7 @@ impl<L: Ledger> Seat<L> {
         requires idle { share.amount ≡ 0 }
         ensures { IfOk result (λ seat. seat ≡ record { actor = actor; deposits = [] }) }
     {
-        let deposits = Vec::with_capacity(alloc, limit)?;
+        let deposits = spare.take_deposits(alloc, limit)?;
         Ok(Seat {
             actor,
             deposits,

@@ -1,6 +1,7 @@
 //! The state that continues from term to term, and why a term was not run, with what is left.
 
 use crate::fault::TermFault;
+use crate::spare::SpareLists;
 use crate::station::{ConsoleStation, Station};
 use dmr_core::Site;
 
@@ -15,6 +16,8 @@ pub struct Service<P, G, T, C> {
     pub pacer: T,
     /// The console.
     pub console: ConsoleStation<C>,
+    /// The lists of the term before, for the next one.
+    pub spare: SpareLists,
 }
 
 /// Why there is no term, with what is left.

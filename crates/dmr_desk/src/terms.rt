@@ -9,8 +9,10 @@ ghost use Rattle.dmr_desk.specs.Work.{station_state};
 
 use crate::fault::TermsFault;
 use crate::pace::Pacer;
+use crate::report::Report;
 use crate::run::try_term;
 use crate::service::{Refused, Service};
+use crate::spare::SpareLists;
 use crate::station::{ConsoleStation, Station};
 use crate::term::Term;
 use dmr_link::Gate;
@@ -25,12 +27,12 @@ pub trait Observer<S, T, C> {
     /// never reports again.
     ghost seen: { Self → Option (List (List AnEntry)) };
 
-    /// Sees a term that has ended. The journal is dropped afterwards.
+    /// Sees a term that has ended. The next term writes to the memory of its journal.
     fn ended(&mut self, term: &Term<S, T, C>)
         ensures { Sees (seen self.old) (term.now.report.journal ∷ []) (seen self.new) };
 }
 
-/// Has the observer see a term. Returns the state that the term left; its journal is dropped.
+/// Has the observer see a term. Returns the state that the term left, with its lists for the next term.
 fn leave_term<P, G, T, C, O>(
     term: Term<Station<P, G>, T, ConsoleStation<C>>,
     observer: &mut O,
@@ -55,11 +57,17 @@ where
         console,
         ..
     } = term;
+    let Report {
+        site,
+        journal,
+        views,
+    } = report;
     Service {
-        site: report.site,
+        site,
         stations,
         pacer,
         console,
+        spare: SpareLists::of_term(journal, views),
     }
 }
 
@@ -103,9 +111,9 @@ where
     }
 }
 
-/// Runs `terms` terms in a row, as [`run_term`](crate::run_term) does. The first begins with `service`, each other with the state that
-/// the one before it left. Each journal may have `limit` entries (1 to 100,000). The observer sees each term
-/// once it was audited. Returns the state that the last term left; if `terms` is 0, that is `service`. The call
+/// Runs `terms` terms in a row, as [`run_term`](crate::run_term) does. The first begins with `service`, each other with
+/// the state that the one before it left. Each journal may have `limit` entries (1 to 100,000). The observer sees each
+/// term once it was audited. Returns the state that the last term left; if `terms` is 0, that is `service`. The call
 /// stops at the first term that fails.
 ///
 /// A program without end calls this again and again. By [`terms_go_on`](crate::terms_go_on), n terms followed by m

@@ -147,9 +147,9 @@ fn report_to_pacer<T: Pacer + Drop, C: Drop, L: Ledger>(others: TickerAndConsole
     others.pacer.term_over();
 }
 
-/// Starts the first station's worker, runs the rest, and waits for the worker. So the workers start in the order of their
-/// stations, and the ticker and the console's worker last. If a thread could not be started, returns `None`; the desk
-/// was abandoned, and all started threads have ended. Unless the ticker had been started, the pacer or the console
+/// Starts the first station's worker, runs the rest, and waits for the worker. So the workers start in the order of
+/// their stations, and the ticker and the console's worker last. If a thread could not be started, returns `None`; the
+/// desk was abandoned, and all started threads have ended. Unless the ticker had been started, the pacer or the console
 /// received that the term is over.
 fn run_stations<'s, E, S, T, C, L, R>(
     rt: &'s R,

@@ -66,6 +66,13 @@ impl View {
         View { deposits }
     }
 
+    /// Returns the list of the deposits.
+    pub(crate) fn into_deposits(self) -> Vec<Deposit>
+        ensures { result.items ≡ self }
+    {
+        self.deposits
+    }
+
     /// The deposits, in order.
     pub fn as_slice(&self) -> &[Deposit]
         ensures { result.now ≡ self.now }

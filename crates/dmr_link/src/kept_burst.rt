@@ -1,5 +1,5 @@
-//! The burst that was encoded last. Most of the time a site sends the same C_ALOHA again. To compare a PDU costs less than
-//! to encode it.
+//! The burst that was encoded last. Most of the time a site sends the same C_ALOHA again. To compare a PDU costs less
+//! than to encode it.
 
 ghost use Rattle.std.specs.Prelude.{◌≡◌, Some, None};
 ghost use Rattle.dmr_bits.specs.Words.{word_octets};

@@ -137,8 +137,8 @@ pub trait Sockets {
         ensures connection { is_open self.new ≡ is_open self.old }
         ensures log { log self.new ≡ log self.old };
 
-    /// Ends the wait that is under way at any port of the site, or else its next one, with nothing ready, if the sockets
-    /// can do that. By default it does nothing.
+    /// Ends the wait that is under way at any port of the site, or else its next one, with nothing ready, if the
+    /// sockets can do that. By default it does nothing.
     fn wake_all(&mut self)
         ensures waiting { Self.waiting self.new ≡ Self.waiting self.old }
         ensures connection { Self.is_open self.new ≡ Self.is_open self.old }

@@ -24,8 +24,8 @@ fn is_line(alloc: Global, line: &[u8]) -> Result<bool, OutOfMemory>
     }
 }
 
-/// Checks the lines of a script, in their order, and keeps nothing of them. The error is the number of the first line at
-/// fault, or `OutOfMemory`.
+/// Checks the lines of a script, in their order, and keeps nothing of them. The error is the number of the first line
+/// at fault, or `OutOfMemory`.
 pub fn check_script(alloc: Global, script: &[u8]) -> Result<(), ScriptFault>
     // At `Ok` no line is at fault.
     ensures lines { OnOk result (script_of script.now ≡ Ok (given_in script.now)) }

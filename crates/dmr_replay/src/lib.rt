@@ -4,9 +4,9 @@
 //! through the engine of `dmr_link`. At the end it prints the octets that the engine has written for each carrier and
 //! for operators. It takes memory for the two files, the site and these octets, and keeps no list of lines or ticks.
 //!
-//! `script` reads a line; `checking` checks all lines; `running` runs them; `printing` prints; `replaying` is the whole,
-//! with its faults; `status` has the exit statuses. [`plan_of`] and [`read_script`] read the two files alone, for
-//! programs that have another use for them.
+//! `script` reads a line; `checking` checks all lines; `running` runs them; `printing` prints; `replaying` is the
+//! whole, with its faults; `status` has the exit statuses. [`plan_of`] and [`read_script`] read the two files alone,
+//! for programs that have another use for them.
 #![tactic(auto)]
 
 mod checking;

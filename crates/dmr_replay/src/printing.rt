@@ -73,8 +73,8 @@ fn print_carrier<W: Write>(number: u32, octets: &[u8], out: &mut W) -> io::Resul
 /// Prints a line for each carrier of the plan, by number, and then the operators' text, and flushes the writer. It
 /// allocates nothing.
 pub fn print_outputs<W: Write>(plan: &Plan, outputs: &Outputs, out: &mut W) -> io::Result<()>
-    ensures { OnOk result (Appends (W.contents out.old) (W.contents out.new)
-        (printed_text plan.now (λ c. slice_index_or outputs.now.carriers c []) outputs.now.console)) }
+    ensures { OnOk result (Appends (W.contents out.old) (W.contents out.new) (printed_text plan.now
+        (λ c. slice_index_or outputs.now.carriers c []) outputs.now.console)) }
 {
     for number in 0..16u32 {
         let carrier = CarrierNo::new(number);

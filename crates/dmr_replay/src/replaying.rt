@@ -124,8 +124,8 @@ fn printout_of<'a>(
     script_name: &'a str,
     script: Option<&[u8]>,
 ) -> Result<Printout, ReplayFault<'a>>
-    ensures { MatchResult result
-        (λ printout. outcome (option_map (λ o. o.now) site.entry) (option_map (λ o. o.now) script.entry)
+    ensures { MatchResult result (λ printout. outcome (option_map (λ o. o.now) site.entry)
+        (option_map (λ o. o.now) script.entry)
         ≡ Prints (printed_text printout.plan
         (λ c. slice_index_or printout.outputs.carriers c []) printout.outputs.console))
         (ReportsFault site_name.now script_name.now

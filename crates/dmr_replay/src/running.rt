@@ -1,7 +1,7 @@
 //! The second pass over a script: runs its lines, one by one, through an engine.
 //!
-//! Lines are checked before (`checking::check_script`). Here each is read again, so neither the lines nor the ticks that
-//! they ask for are kept in a list.
+//! Lines are checked before (`checking::check_script`). Here each is read again, so neither the lines nor the ticks
+//! that they ask for are kept in a list.
 
 ghost use Rattle.std.specs.Prelude.{◌≡◌, ◌++◌, ◌∷◌, ℕ, List, [], IfOk, OnOk, replicate};
 ghost use Rattle.std.specs.Prelude.{slice_index_or};

@@ -5,9 +5,9 @@
 //!
 //! `dmr_command` reads the words, and `files` reads the files. `dmr_replay` runs a script's inputs through the engine
 //! of `dmr_link`. `serve` opens a port of `dmr_port` for each carrier and for operators, over `mio_sockets`. It has a
-//! `pacer` for the ticks: `beat` decides when one is due, and `clock` reads the time. `row` runs terms of `dmr_desk` over
-//! them, and `wakers` end their waits when a term is over. `notes` writes the log: `port_watch` has the notes of a port,
-//! and `term_log` those of terms. `tally` counts what a journal shows, and `ends` what happens at the ports.
+//! `pacer` for the ticks: `beat` decides when one is due, and `clock` reads the time. `row` runs terms of `dmr_desk`
+//! over them, and `wakers` end their waits when a term is over. `notes` writes the log: `port_watch` has the notes of a
+//! port, and `term_log` those of terms. `tally` counts what a journal shows, and `ends` what happens at the ports.
 #![tactic(auto)]
 
 mod beat;

@@ -15,7 +15,7 @@ use crate::term_log::TermLog;
 use crate::wakers::{ClockWait, PollFault, Polls, Wakers, open_polls};
 use dmr_command::{ServeFault, listen_address};
 use dmr_core::Site;
-use dmr_desk::{ConsoleStation, Observer, Service, Station, Term};
+use dmr_desk::{ConsoleStation, Observer, Service, SpareLists, Station, Term};
 use dmr_link::{ConsoleLink, Link, OpenGate, greatest_version};
 use dmr_pdu::{CarrierNo, OutOfMemory};
 use dmr_plan::{CarrierRow, Plan};
@@ -242,6 +242,7 @@ fn open_service<'a, R: Net + Log + Clock>(
                 stations,
                 pacer,
                 console,
+                spare: SpareLists::new(alloc),
             })
         }
         Err(fault) => {
@@ -324,8 +325,8 @@ fn serve_woken<'a, R: Net + Log + Clock + Wait + Threads + Sync>(
 /// Serves the site of a plan over TCP. Listens at each carrier's port, by number, and at the console's, and runs
 /// `terms` terms, one after another; 0 means forever. Each term has at most the plan's number of entries. Links,
 /// connections and the site continue from term to term ([`serve_service`]). Each term's journal is audited, then
-/// dropped. If there is no memory for the first term, the fault is the term's `OutOfMemory`; a later term is tried again
-/// each second.
+/// dropped. If there is no memory for the first term, the fault is the term's `OutOfMemory`; a later term is tried
+/// again each second.
 pub fn serve<R: Net + Log + Clock + Wait + Threads + Sync>(
     rt: &R,
     alloc: Global,

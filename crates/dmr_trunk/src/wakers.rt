@@ -1,5 +1,5 @@
-//! Wakers: when a term is over, they end the waits of all ports and of the clock. Here are the polls that they wake, and
-//! the clock's wait; `mio_sockets` has the wait of a port.
+//! Wakers: when a term is over, they end the waits of all ports and of the clock. Here are the polls that they wake,
+//! and the clock's wait; `mio_sockets` has the wait of a port.
 
 use mio::{Events, Poll, Token, Waker};
 use std::alloc::Global;

@@ -304,8 +304,8 @@ fn one_frame(rt: HostRuntime) {
     expect_whole(&rt, Version::V2, &RECEIVED_NUMBERED, Some(numbered));
 }
 
-/// Octets that do not make one frame of version 1: two frames, and a frame with an octet after it or before it; a frame to
-/// a carrier, and faults.
+/// Octets that do not make one frame of version 1: two frames, and a frame with an octet after it or before it; a frame
+/// to a carrier, and faults.
 const NO_FRAMES: [&[u8]; 6] = [
     &[0x03, 0x00, 0x05, 0x00],
     &[0x03, 0x00, 0x03],

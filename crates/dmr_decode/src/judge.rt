@@ -3,13 +3,14 @@
 use crate::acts_in_words::show_acts;
 use crate::desk::SiteDesk;
 use crate::judged_carrier::{JudgedCarrier, memory_error, show_newest};
+use crate::kept::{both, push};
 use crate::octet_wire::OctetWire;
 use dmr_core::Event;
 use dmr_link::{ConsoleLink, Desk};
 use dmr_pdu::{CarrierNo, OutOfMemory};
 use dmr_plan::{MOST_CARRIERS, Plan};
 use dmr_replay::ScriptInput;
-use std::alloc::Global;
+use std::alloc::{AllocError, Global};
 use std::io;
 use std::io::Write;
 
@@ -21,32 +22,39 @@ pub struct Judge {
     console: ConsoleLink,
 }
 
-/// Returns the plan's carriers, by number, without connections. `Err`: out of memory.
-fn carriers_of(alloc: Global, plan: &Plan) -> Result<Vec<Option<JudgedCarrier>>, OutOfMemory> {
-    let mut carriers = Vec::new(alloc);
+/// Adds the plan's carriers, by number, without connections.
+fn add_carriers(
+    alloc: Global,
+    plan: &Plan,
+    carriers: &mut Vec<Option<JudgedCarrier>>,
+) -> Result<(), AllocError> {
     for number in 0..MOST_CARRIERS as u32 {
-        let judged = JudgedCarrier::new(alloc, plan, CarrierNo::new(number));
-        if carriers.push(judged).is_err() {
-            return Err(OutOfMemory);
-        }
+        push(
+            carriers,
+            JudgedCarrier::new(alloc, plan, CarrierNo::new(number)),
+        )?;
     }
-    Ok(carriers)
+    Ok(())
+}
+
+/// Returns the operators' link, with a connection.
+fn open_console() -> ConsoleLink {
+    let mut console = ConsoleLink::new();
+    let _ = console.open();
+    console
 }
 
 impl Judge {
     /// Makes the judge of a plan's site. `Err`: out of memory.
     pub fn new(alloc: Global, plan: &Plan) -> Result<Judge, OutOfMemory> {
-        let carriers = carriers_of(alloc, plan)?;
-        let Ok(desk) = SiteDesk::new(alloc, plan) else {
-            drop(carriers);
-            return Err(OutOfMemory);
-        };
-        let mut console = ConsoleLink::new();
-        let _ = console.open();
+        let mut carriers = Vec::new(alloc);
+        let added = add_carriers(alloc, plan, &mut carriers);
+        let (carriers, ()) = both(carriers, added)?;
+        let (carriers, desk) = both(carriers, SiteDesk::new(alloc, plan))?;
         Ok(Judge {
             desk,
             carriers,
-            console,
+            console: open_console(),
         })
     }
 
@@ -159,10 +167,22 @@ impl Judge {
     fn say<W: Write>(&mut self, alloc: Global, octets: &[u8], out: &mut W) -> io::Result<()> {
         writeln!(out, "read")?;
         let mut wire = OctetWire::new(alloc, true);
+        let said = self.say_octets(octets, &mut wire, out);
+        drop(wire);
+        said
+    }
+
+    /// Processes octets of an operator, and prints what they mean. The replies are written to the wire.
+    fn say_octets<W: Write>(
+        &mut self,
+        octets: &[u8],
+        wire: &mut OctetWire,
+        out: &mut W,
+    ) -> io::Result<()> {
         for octet in octets {
             self.desk.forget();
             wire.offer(*octet);
-            let _ = self.console.serve(&mut wire, &mut self.desk);
+            let _ = self.console.serve(wire, &mut self.desk);
             show_newest(&self.desk, out)?;
         }
         if !self.console.live() {

@@ -7,7 +7,7 @@ use dmr_frames::{Cutter, FrameIn, Step};
 use dmr_link::greatest_version;
 use dmr_pdu::{CarrierNo, OutOfMemory};
 use dmr_plan::Plan;
-use dmr_replay::{ReplayFault, ScriptFault, read_script};
+use dmr_replay::{ReplayFault, ScriptFault, ScriptInput, read_script};
 use std::alloc::{AllocError, Global};
 use std::io;
 use std::io::Write;
@@ -133,10 +133,9 @@ fn judge_line<'a, W: Write>(
 ) -> Result<bool, TaskFault<'a>> {
     match read_script(alloc, line.as_bytes()) {
         Ok(given) => {
-            match given.as_slice() {
-                [input] => judge.show_input(alloc, line, input, out)?,
-                _ => writeln!(out, "{line}")?,
-            }
+            let shown = judge_given(alloc, judge, line, given.as_slice(), out);
+            drop(given);
+            shown?;
             Ok(true)
         }
         Err(ScriptFault::Line(_)) => {
@@ -144,5 +143,19 @@ fn judge_line<'a, W: Write>(
             Ok(false)
         }
         Err(ScriptFault::OutOfMemory) => Err(TaskFault::Memory(AllocError)),
+    }
+}
+
+/// Shows a line of a script, which has this input. A comment or an empty line has none.
+fn judge_given<W: Write>(
+    alloc: Global,
+    judge: &mut Judge,
+    line: &str,
+    given: &[ScriptInput],
+    out: &mut W,
+) -> io::Result<()> {
+    match given {
+        [input] => judge.show_input(alloc, line, input, out),
+        _ => writeln!(out, "{line}"),
     }
 }

@@ -24,6 +24,7 @@ mod desk;
 mod judge;
 mod judged_carrier;
 mod judging;
+mod kept;
 mod octet_wire;
 mod pdu_in_words;
 mod site;
@@ -34,6 +35,7 @@ mod words_of_bursts;
 ghost use Rattle.std.specs.Prelude.{◌≤◌, IfOk};
 
 use crate::judging::judge;
+use crate::kept::first_fault;
 use crate::tasks::{TaskFault, run};
 use dmr_plan::Plan;
 use dmr_replay::{MEMORY, ReplayFault, plan_of};
@@ -162,11 +164,8 @@ fn status_of(fault: &TaskFault<'_>, has_site: bool) -> u8
     }
 }
 
-/// Writes why a task ended: its fault, or the help if there is no such task. Returns the exit status. A fault of
-/// standard error is ignored.
-fn report<R: Eprint>(rt: &R, fault: &TaskFault<'_>, has_site: bool) -> u8
-    ensures { result ≤ 4 }
-{
+/// Writes why a task ended: its fault, or the help if there is no such task. A fault of standard error is ignored.
+fn write_fault<R: Eprint>(rt: &R, fault: &TaskFault<'_>) {
     let _ = match fault {
         TaskFault::NoSuchTask(_) => rt.eprint(HELP),
         TaskFault::Io(error) if error.kind() == io::ErrorKind::OutOfMemory => {
@@ -174,7 +173,33 @@ fn report<R: Eprint>(rt: &R, fault: &TaskFault<'_>, has_site: bool) -> u8
         }
         fault => eprintln!(rt; "dmr_decode: {fault}"),
     };
-    status_of(fault, has_site)
+}
+
+/// Writes why a task ended, and returns the exit status.
+fn report<R: Eprint>(rt: &R, fault: TaskFault<'_>, has_site: bool) -> u8
+    ensures { result ≤ 4 }
+{
+    write_fault(rt, &fault);
+    let status = status_of(&fault, has_site);
+    drop(fault);
+    status
+}
+
+/// Runs a task over its input, with the site of a plan if one is given, and writes all of its output. Returns the first
+/// fault.
+fn write_task<'a, W: Write>(
+    alloc: Global,
+    task: &'a str,
+    plan: Option<&Plan>,
+    text: &'a str,
+    out: &mut W,
+) -> Result<(), TaskFault<'a>> {
+    let done = run_task(alloc, task, plan, text, out);
+    let written = match out.flush() {
+        Ok(()) => Ok(()),
+        Err(error) => Err(TaskFault::Io(error)),
+    };
+    first_fault(done, written)
 }
 
 /// Does a task over its input, with the site of a plan if one is given. Prints its output, and returns the exit status.
@@ -188,12 +213,11 @@ fn do_task<R: AllocGlobal + Print + Eprint>(
 {
     let has_site = plan.is_some();
     let mut out = BufWriter::new(rt.alloc(), io::writer(rt))?;
-    let done = run_task(rt.alloc(), task, plan, text, &mut out);
-    let written = out.flush();
-    match (done, written) {
-        (Err(fault), _) => Ok(report(rt, &fault, has_site)),
-        (Ok(()), Err(error)) => Ok(report(rt, &TaskFault::Io(error), has_site)),
-        (Ok(()), Ok(())) => Ok(0),
+    let written = write_task(rt.alloc(), task, plan, text, &mut out);
+    drop(out);
+    match written {
+        Ok(()) => Ok(0),
+        Err(fault) => Ok(report(rt, fault, has_site)),
     }
 }
 
@@ -213,7 +237,7 @@ fn do_words<R: AllocGlobal + Input + Print + Eprint + Files>(
             let text = input_of(rt, words.rest)?;
             do_task(rt, words.task, Some(&plan), text.as_str())
         }
-        Err(fault) => Ok(report(rt, &fault, true)),
+        Err(fault) => Ok(report(rt, fault, true)),
     }
 }
 
@@ -223,7 +247,7 @@ fn print_help<R: Print + Eprint>(rt: &R) -> u8
 {
     match rt.print(HELP) {
         Ok(()) => 0,
-        Err(error) => report(rt, &TaskFault::Io(error), false),
+        Err(error) => report(rt, TaskFault::Io(error), false),
     }
 }
 
@@ -234,7 +258,7 @@ fn run_program<R: AllocGlobal + Env + Input + Print + Eprint + Files>(rt: &R) ->
 {
     let words = env::args(rt)?.skip(1).collect::<Vec<String>>(rt.alloc())?;
     match parse_words(words.as_slice()) {
-        None => Ok(report(rt, &TaskFault::NoSuchTask(""), false)),
+        None => Ok(report(rt, TaskFault::NoSuchTask(""), false)),
         Some(words) if words.task == "--help" => Ok(print_help(rt)),
         Some(words) => do_words(rt, words),
     }

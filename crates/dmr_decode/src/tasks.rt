@@ -1,6 +1,7 @@
 //! The tasks of the program, each over the text of its input.
 
 use crate::carrier::CarrierReader;
+use crate::kept::{both, push};
 use crate::pdu_in_words::{WordFault, pdu_of};
 use crate::site::show_site;
 use crate::words_of_bursts::{show_burst, show_word};
@@ -179,20 +180,19 @@ fn replay_carrier<'a, W: Write>(
     site(alloc, digits, out)
 }
 
-/// Makes a reader for each carrier.
-fn make_readers(alloc: Global) -> Result<Vec<CarrierReader>, AllocError> {
-    let mut readers = Vec::new(alloc);
+/// Adds a reader for each carrier.
+fn add_readers(readers: &mut Vec<CarrierReader>) -> Result<(), AllocError> {
     for _ in 0..16u32 {
-        if readers.push(CarrierReader::new()).is_err() {
-            return Err(AllocError);
-        }
+        push(readers, CarrierReader::new())?;
     }
-    Ok(readers)
+    Ok(())
 }
 
 /// Shows the lines of a script as they are, and after each piece of a carrier's octets the frames that it completes.
 fn script<'a, W: Write>(alloc: Global, text: &str, out: &mut W) -> Result<(), TaskFault<'a>> {
-    let mut readers = make_readers(alloc)?;
+    let mut readers = Vec::new(alloc);
+    let added = add_readers(&mut readers);
+    let (mut readers, ()) = both(readers, added)?;
     let shown = script_lines(alloc, text, readers.as_mut_slice(), out);
     drop(readers);
     shown

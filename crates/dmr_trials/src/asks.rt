@@ -3,13 +3,15 @@
 
 ghost use Rattle.std.specs.Prelude.{[], ⊤};
 
+use crate::kept::{keep, port_of, push};
 use dmr_core::{Acts, Event};
 use dmr_desk::{ConsoleStation, Ending, Station, work_carrier, work_console};
 use dmr_frames::Version;
 use dmr_link::{ConsoleLink, Desk, Link, OpenGate, TermOver};
-use dmr_pdu::{CarrierNo, Lpcn};
+use dmr_pdu::{CarrierNo, Lpcn, OutOfMemory};
 use dmr_wire::{Connect, Got, MemoryPort, Step, Waited};
-use std::alloc::Global;
+use std::alloc::{AllocError, Global};
+use std::sync::Wait;
 use std::test::Fail;
 
 /// A desk that takes no event. It answers that the term is over once it was asked `left` times.
@@ -42,28 +44,56 @@ impl Desk for AskedDesk {
     }
 }
 
-/// Returns a port to which somebody connects at the second request. Twice there is nothing to read, and a wait after
-/// that goes on.
-fn quiet_port(alloc: Global) -> Result<MemoryPort, Fail> {
-    let mut steps = Vec::new(alloc);
-    steps.push(Step::Connect(Connect::NotYet))?;
-    steps.push(Step::Connect(Connect::Ready))?;
+/// Adds the steps of a port to which somebody connects at the second request. Twice there is nothing to read, and a
+/// wait after that goes on.
+fn add_quiet_steps(steps: &mut Vec<Step>) -> Result<(), AllocError> {
+    push(steps, Step::Connect(Connect::NotYet))?;
+    push(steps, Step::Connect(Connect::Ready))?;
     for _ in 0..2 {
-        steps.push(Step::Read(Got::Block))?;
-        steps.push(Step::Wait(Waited::Again))?;
+        push(steps, Step::Read(Got::Block))?;
+        push(steps, Step::Wait(Waited::Again))?;
     }
-    match MemoryPort::new(alloc, steps, 64) {
-        Ok(port) => Ok(port),
-        Err((refused, _)) => Err(refused.into()),
-    }
+    Ok(())
+}
+
+/// Returns that port.
+fn quiet_port(alloc: Global) -> Result<MemoryPort, OutOfMemory> {
+    let mut steps = Vec::new(alloc);
+    let added = add_quiet_steps(&mut steps);
+    port_of(alloc, keep(added, steps)?)
 }
 
 /// Returns the number of answers that a port has given.
 fn answers_of(port: &MemoryPort) -> Option<usize> {
-    match port.entries() {
-        Some(entries) => Some(entries.len()),
-        None => None,
-    }
+    Some(port.entries()?.len())
+}
+
+/// Runs a carrier's worker at a desk that is over once it was asked `asked` times. Returns why it ended, and the number
+/// of answers of its port.
+fn work_of_carrier(rt: &impl Wait, port: MemoryPort, asked: u32) -> (Ending, Option<usize>) {
+    let mut desk = AskedDesk { left: asked };
+    let mut carrier = Station {
+        link: Link::new(CarrierNo::new(0), Lpcn::new(1), Version::V1),
+        port,
+        gate: OpenGate,
+    };
+    let ending = work_carrier(rt, &mut carrier, &mut desk);
+    let answers = answers_of(&carrier.port);
+    drop(carrier);
+    (ending, answers)
+}
+
+/// Runs the console's worker in the same way.
+fn work_of_console(rt: &impl Wait, port: MemoryPort, asked: u32) -> (Ending, Option<usize>) {
+    let mut desk = AskedDesk { left: asked };
+    let mut console = ConsoleStation {
+        link: ConsoleLink::new(),
+        port,
+    };
+    let ending = work_console(rt, &mut console, &mut desk);
+    let answers = answers_of(&console.port);
+    drop(console);
+    (ending, answers)
 }
 
 /// A worker asks before each of its steps. The desk ends the term at some ask. The port has then given one answer for
@@ -71,24 +101,11 @@ fn answers_of(port: &MemoryPort) -> Option<usize> {
 #[test]
 fn asks_before_each_step(rt: HostRuntime) -> Result<(), Fail> {
     for asked in 0..7u32 {
-        let wanted = Some(asked as usize);
-        let mut carrier = Station {
-            link: Link::new(CarrierNo::new(0), Lpcn::new(1), Version::V1),
-            port: quiet_port(rt.alloc())?,
-            gate: OpenGate,
-        };
-        let mut desk = AskedDesk { left: asked };
-        let ending = work_carrier(&rt, &mut carrier, &mut desk);
-        assert_eq!(rt; ending, Ending::TermOver, "asked {asked} times");
-        assert_eq!(rt; answers_of(&carrier.port), wanted, "asked {asked} times");
-        let mut console = ConsoleStation {
-            link: ConsoleLink::new(),
-            port: quiet_port(rt.alloc())?,
-        };
-        let mut desk = AskedDesk { left: asked };
-        let ending = work_console(&rt, &mut console, &mut desk);
-        assert_eq!(rt; ending, Ending::TermOver, "asked {asked} times");
-        assert_eq!(rt; answers_of(&console.port), wanted, "asked {asked} times");
+        let wanted = (Ending::TermOver, Some(asked as usize));
+        let worked = work_of_carrier(&rt, quiet_port(rt.alloc())?, asked);
+        assert_eq!(rt; worked, wanted, "carrier, asked {asked} times");
+        let worked = work_of_console(&rt, quiet_port(rt.alloc())?, asked);
+        assert_eq!(rt; worked, wanted, "console, asked {asked} times");
     }
     Ok(())
 }

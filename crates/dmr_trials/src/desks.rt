@@ -2,9 +2,10 @@
 
 ghost use Rattle.std.specs.Prelude.{◌≡◌};
 
+use crate::kept::both;
 use crate::site::quiet_site;
 use dmr_core::{Event, Site};
-use dmr_desk::{DeskLedger, OpenFault, PARTS, Seat, SharedDesk};
+use dmr_desk::{DeskLedger, OpenFault, PARTS, Report, Seat, SharedDesk};
 use dmr_link::TermOver;
 use dmr_pdu::CarrierNo;
 use std::alloc::Global;
@@ -49,22 +50,20 @@ fn answer_alike(site: &mut Site, other: &mut Site, event: &Event) -> bool {
 fn is_handed_back(alloc: Global, limit: usize, actors: u8, want: OpenFault) -> Result<bool, Fail> {
     let mut site = quiet_site(alloc)?;
     site.apply(Event::Up(CarrierNo::new(0)));
-    let Ok(mut copy) = site.try_clone(alloc) else {
-        drop(site);
-        return Err("a copy of the site".into());
-    };
-    let Some((fault, mut back)) = refusal_of(alloc, site, limit, actors) else {
-        drop(copy);
-        return Err("a desk that was opened".into());
-    };
-    let poll = Event::Poll(CarrierNo::new(0));
-    let alike = fault == want
-        && back == copy
-        && answer_alike(&mut back, &mut copy, &poll)
-        && back == copy;
+    let copy = site.try_clone(alloc);
+    let (site, copy) = both(site, copy)?;
+    let refusal = refusal_of(alloc, site, limit, actors).ok_or("a desk that was opened");
+    let (mut copy, (fault, mut back)) = both(copy, refusal)?;
+    let alike = fault == want && are_alike(&mut back, &mut copy);
     drop(back);
     drop(copy);
     Ok(alike)
+}
+
+/// Returns whether two sites are equal, answer a poll of carrier 0 in the same way, and are equal afterwards.
+fn are_alike(site: &mut Site, other: &mut Site) -> bool {
+    let poll = Event::Poll(CarrierNo::new(0));
+    *site == *other && answer_alike(site, other, &poll) && *site == *other
 }
 
 /// A desk that is not opened returns its site, which answers all later events as before.
@@ -96,14 +95,14 @@ fn refuses_third<L: DeskLedger, R: Wait>(rt: &R, desk: &SharedDesk<L>, seat: &mu
     refused && seat.deposits().len() == 2
 }
 
-/// Runs `refuses_third` at a desk with room for two events and for one actor. Returns its result, the site of the
-/// report, and the number of entries. Returns `None` if the desk cannot be opened or closed.
+/// Runs `refuses_third` at a desk with room for two events and for one actor. Returns its result and the report.
+/// Returns `None` if the desk cannot be opened or closed.
 fn third_of_two<L: DeskLedger, R: Wait>(
     rt: &R,
     alloc: Global,
     blank: Blank,
     site: Site,
-) -> Option<(bool, Site, usize)>
+) -> Option<(bool, Report)>
     requires name { blank.name ≡ L.name }
     requires parts { blank.parts ≡ L.parts }
     requires eighteen { blank.parts ≡ 18 }
@@ -114,13 +113,11 @@ fn third_of_two<L: DeskLedger, R: Wait>(
     for seat in seats.iter_mut() {
         refused = refuses_third(rt, &desk, seat);
     }
-    let report = desk.close(rt, seats).ok()?;
-    let entries = report.journal.as_slice().len();
-    Some((refused, report.site, entries))
+    Some((refused, desk.close(rt, seats).ok()?))
 }
 
 /// Calls `third_of_two` with a ledger of its own.
-fn third_event<R: Wait>(rt: &R, alloc: Global, site: Site) -> Option<(bool, Site, usize)> {
+fn third_event<R: Wait>(rt: &R, alloc: Global, site: Site) -> Option<(bool, Report)> {
     third_of_two::<Brand, R>(rt, alloc, Blank::new(PARTS), site)
 }
 
@@ -128,20 +125,17 @@ fn third_event<R: Wait>(rt: &R, alloc: Global, site: Site) -> Option<(bool, Site
 #[test]
 fn an_event_that_is_refused(rt: HostRuntime) -> Result<(), Fail> {
     let site = quiet_site(rt.alloc())?;
-    let Ok(mut copy) = site.try_clone(rt.alloc()) else {
-        drop(site);
-        return Err("a copy of the site".into());
-    };
+    let copy = site.try_clone(rt.alloc());
+    let (site, mut copy) = both(site, copy)?;
     let events = two_events();
     for event in &events {
         copy.apply(*event);
     }
-    let Some((refused, after, entries)) = third_event(&rt, rt.alloc(), site) else {
-        drop(copy);
-        return Err("a report".into());
-    };
-    let same = after == copy;
-    drop(after);
+    let third = third_event(&rt, rt.alloc(), site).ok_or("a report");
+    let (copy, (refused, report)) = both(copy, third)?;
+    let entries = report.journal.as_slice().len();
+    let same = report.site == copy;
+    drop(report);
     drop(copy);
     assert!(rt; refused);
     assert_eq!(rt; entries, 2);

@@ -14,6 +14,8 @@ mod desks;
 #[cfg(test)]
 mod faults;
 #[cfg(test)]
+mod kept;
+#[cfg(test)]
 mod shared;
 #[cfg(test)]
 mod site;

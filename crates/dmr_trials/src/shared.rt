@@ -106,13 +106,18 @@ fn book_of_one_entry(rt: HostRuntime) -> Result<(), Fail> {
     let mut book = Book::new(rt.alloc(), quiet_site(rt.alloc())?, 1)
         .ok()
         .expect(&rt, "memory");
-    let acts = book.apply(7, Event::Say(Command::Stay)).expect(&rt, "room");
+    check_book(&rt, &mut book);
+    drop(book);
+    Ok(())
+}
+
+/// Checks that a book of one entry takes one event.
+fn check_book(rt: &impl Abort, book: &mut Book) {
+    let acts = book.apply(7, Event::Say(Command::Stay)).expect(rt, "room");
     assert_eq!(rt; acts.said, Some(Reply::Done));
     assert_eq!(rt; book.apply(7, Event::Tick), Err(TermOver { entries: 1 }));
     assert_eq!(rt; book.as_slice().len(), 1);
     assert_eq!(rt; book.as_slice()[0].actor, 7);
-    drop(book);
-    Ok(())
 }
 
 /// Deposits an event from a seat, `times` times or until the term is over, and returns the seat.
@@ -185,15 +190,20 @@ fn two_threads(rt: HostRuntime) -> Result<(), Fail> {
         let report = two_at_once(&rt, rt.alloc(), quiet_site(rt.alloc())?, limit).expect(
             &rt, "a report",
         );
-        let views = report.views.as_slice();
-        assert_eq!(rt; views.len(), 2);
-        assert_eq!(rt; report.journal.as_slice().len(), want);
-        let told = views[0]
-            .as_slice()
-            .len()
-            .saturating_add(views[1].as_slice().len());
-        assert_eq!(rt; told, want);
+        check_report(&rt, &report, want);
         drop(report);
     }
     Ok(())
+}
+
+/// Checks the number of entries of the journal, which two actors have deposited.
+fn check_report(rt: &impl Abort, report: &Report, want: usize) {
+    let views = report.views.as_slice();
+    assert_eq!(rt; views.len(), 2);
+    assert_eq!(rt; report.journal.as_slice().len(), want);
+    let told = views[0]
+        .as_slice()
+        .len()
+        .saturating_add(views[1].as_slice().len());
+    assert_eq!(rt; told, want);
 }

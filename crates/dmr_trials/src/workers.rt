@@ -3,25 +3,25 @@
 
 ghost use Rattle.std.specs.Prelude.{◌≡◌, None};
 
+use crate::kept::{both, keep, port_of, push, push_feed, three};
 use crate::site::quiet_site;
-use crate::terms::spelling::{Letters, octets_of, text_of_letters, write_letters};
+use crate::terms::spelling::Letters;
+use crate::terms::{compare_events, compare_octets};
 use dmr_core::Site;
 use dmr_desk::{
-    ConsoleStation, DeskLedger, Ending, PARTS, Pace, Pacer, Report, SeatAt, SharedDesk, Station,
-    work_carrier, work_console, work_ticker,
+    ConsoleStation, DeskLedger, Ending, PARTS, Pace, Pacer, Report, Seat, SeatAt, SharedDesk,
+    Station, work_carrier, work_console, work_ticker,
 };
 use dmr_frames::Version;
 use dmr_link::{ConsoleLink, Link, OpenGate};
-use dmr_pdu::{CarrierNo, Lpcn};
+use dmr_pdu::{CarrierNo, Lpcn, OutOfMemory};
 use dmr_wire::{Connect, Got, MemoryPort, Step};
-use std::alloc::Global;
+use std::alloc::{AllocError, Global};
 use std::marker::Brand;
+use std::process::Abort;
 use std::sync::Wait;
 use std::sync::ledger::Blank;
 use std::test::Fail;
-
-/// The room of a port's record, in answers and in octets.
-const ROOM: usize = 4096;
 
 /// The events of each actor, by number, and the octets that its port took. The ticker has no port.
 const WANTED: [(Letters, Letters); 3] = [
@@ -58,55 +58,67 @@ struct Served {
     console: ConsoleStation<MemoryPort>,
 }
 
-/// Returns a port of these steps.
-fn port_of(alloc: Global, steps: Vec<Step>) -> Result<MemoryPort, Fail> {
-    match MemoryPort::new(alloc, steps, ROOM) {
-        Ok(port) => Ok(port),
-        Err((refused, _)) => Err(refused.into()),
+/// Adds the steps of a connection with these octets, a piece with each read, and then its end.
+fn add_pieces(alloc: Global, steps: &mut Vec<Step>, pieces: &[&[u8]]) -> Result<(), AllocError> {
+    push(steps, Step::Connect(Connect::Ready))?;
+    for piece in pieces {
+        push_feed(alloc, steps, *piece)?;
     }
+    push(steps, Step::Read(Got::End))
 }
 
-/// Returns the port of a connection with these octets, a piece with each read, and then its end.
-fn port_with(alloc: Global, pieces: &[&[u8]]) -> Result<MemoryPort, Fail> {
+/// Returns the port of that connection.
+fn port_with(alloc: Global, pieces: &[&[u8]]) -> Result<MemoryPort, OutOfMemory> {
     let mut steps = Vec::new(alloc);
-    steps.push(Step::Connect(Connect::Ready))?;
-    for piece in pieces {
-        steps.push(Step::Feed(piece.to_vec(alloc)?))?;
-    }
-    steps.push(Step::Read(Got::End))?;
-    port_of(alloc, steps)
+    let added = add_pieces(alloc, &mut steps, pieces);
+    port_of(alloc, keep(added, steps)?)
 }
 
 /// Returns a carrier that sends HELLO and two POLLs, three ticks, and an operator who asks for the status.
 fn new_served(alloc: Global) -> Result<Served, Fail> {
+    let hello: &[u8] = &[0x01, 0x04, 0x01, 0x00, 0x00, 0x01];
+    let poll: &[u8] = &[0x03, 0x00];
+    let of_carrier = port_with(alloc, &[hello, poll, poll])?;
+    let (of_carrier, of_console) = both(of_carrier, port_with(alloc, &[b"status\n"]))?;
     Ok(Served {
         station: Station {
             link: Link::new(CarrierNo::new(0), Lpcn::new(1), Version::V1),
-            port: port_with(
-                alloc,
-                &[
-                    &[0x01, 0x04, 0x01, 0x00, 0x00, 0x01],
-                    &[0x03, 0x00],
-                    &[0x03, 0x00],
-                ],
-            )?,
+            port: of_carrier,
             gate: OpenGate,
         },
         pacer: Ticks { left: 3 },
         console: ConsoleStation {
             link: ConsoleLink::new(),
-            port: port_with(alloc, &[b"status\n"])?,
+            port: of_console,
         },
     })
 }
 
-/// Why each worker ended, and the report of the desk.
-#[derive(Drop)]
-struct Worked {
-    carrier: Ending,
-    ticker: Ending,
-    console: Ending,
-    report: Report,
+/// Why each worker ended: the carrier's, the ticker's and the console's.
+type Ends = [Ending; 3];
+
+/// Runs the three workers, each with its seat, and returns the seats.
+fn serve_all<L: DeskLedger, R: Wait>(
+    rt: &R,
+    desk: &SharedDesk<L>,
+    seats: (Seat<L>, Seat<L>, Seat<L>),
+    served: &mut Served,
+) -> (Ends, [Seat<L>; 3]) {
+    let (first, second, third) = seats;
+    let mut carrier_at = SeatAt::new(rt, desk, first);
+    let mut ticker_at = SeatAt::new(rt, desk, second);
+    let mut console_at = SeatAt::new(rt, desk, third);
+    let ends = [
+        work_carrier(rt, &mut served.station, &mut carrier_at),
+        work_ticker(rt, &mut served.pacer, &mut ticker_at),
+        work_console(rt, &mut served.console, &mut console_at),
+    ];
+    let seats = [
+        carrier_at.into_seat(),
+        ticker_at.into_seat(),
+        console_at.into_seat(),
+    ];
+    (ends, seats)
 }
 
 /// Runs the three workers at a desk for three actors, and closes the desk.
@@ -116,38 +128,26 @@ fn work_over<L: DeskLedger, R: Wait>(
     blank: Blank,
     site: Site,
     served: &mut Served,
-) -> Option<Worked>
+) -> Option<(Ends, Report)>
     requires name { blank.name ≡ L.name }
     requires parts { blank.parts ≡ L.parts }
     requires eighteen { blank.parts ≡ 18 }
     requires desk { L.desk ≡ record { site = site; limit = 100; actors = 3 } }
 {
-    let (desk, mut seats) = SharedDesk::<L>::open(alloc, blank, site, 100, 3).ok()?;
-    let mut console_at = SeatAt::new(rt, &desk, seats.pop()?);
-    let mut ticker_at = SeatAt::new(rt, &desk, seats.pop()?);
-    let mut carrier_at = SeatAt::new(rt, &desk, seats.pop()?);
-    let carrier = work_carrier(rt, &mut served.station, &mut carrier_at);
-    let ticker = work_ticker(rt, &mut served.pacer, &mut ticker_at);
-    let console = work_console(rt, &mut served.console, &mut console_at);
-    let seats = Vec::from_array(
-        alloc,
-        [
-            carrier_at.into_seat(),
-            ticker_at.into_seat(),
-            console_at.into_seat(),
-        ],
-    );
-    let report = desk.close(rt, seats.ok()?).ok()?;
-    Some(Worked {
-        carrier,
-        ticker,
-        console,
-        report,
-    })
+    let (desk, seats) = SharedDesk::<L>::open(alloc, blank, site, 100, 3).ok()?;
+    let (desk, seats) = Some(desk).zip(three(seats))?;
+    let (ends, seats) = serve_all(rt, &desk, seats, served);
+    let (desk, seats) = Some(desk).zip(Vec::from_array(alloc, seats).ok())?;
+    Some((ends, desk.close(rt, seats).ok()?))
 }
 
 /// Runs the three workers, with a ledger of their own.
-fn work_all<R: Wait>(rt: &R, alloc: Global, site: Site, served: &mut Served) -> Option<Worked> {
+fn work_all<R: Wait>(
+    rt: &R,
+    alloc: Global,
+    site: Site,
+    served: &mut Served,
+) -> Option<(Ends, Report)> {
     work_over::<Brand, R>(rt, alloc, Blank::new(PARTS), site, served)
 }
 
@@ -155,33 +155,28 @@ fn work_all<R: Wait>(rt: &R, alloc: Global, site: Site, served: &mut Served) -> 
 /// ticks, are deposited, and the answers are written.
 #[test]
 fn workers(rt: HostRuntime) -> Result<(), Fail> {
-    let mut served = new_served(rt.alloc())?;
-    let site = quiet_site(rt.alloc())?;
-    let Some(worked) = work_all(&rt, rt.alloc(), site, &mut served) else {
-        return Err("a report".into());
-    };
-    assert_eq!(rt; worked.carrier, Ending::Finished);
-    assert_eq!(rt; worked.ticker, Ending::Finished);
-    assert_eq!(rt; worked.console, Ending::Finished);
-    let Report {
-        site,
-        journal,
-        views,
-    } = worked.report;
-    drop(site);
-    assert_eq!(rt; journal.as_slice().len(), 8);
+    let served = new_served(rt.alloc())?;
+    let (mut served, site) = both(served, quiet_site(rt.alloc()))?;
+    let worked = work_all(&rt, rt.alloc(), site, &mut served).ok_or("a report");
+    let (served, (ends, report)) = both(served, worked)?;
+    assert_eq!(rt; ends, [Ending::Finished; 3]);
+    let compared = compare(&rt, &served, &report);
+    drop(served);
+    drop(report);
+    compared
+}
+
+/// Compares the events that were deposited and the octets that were written with the expected ones.
+fn compare(rt: &(impl Abort + AllocGlobal), served: &Served, report: &Report) -> Result<(), Fail> {
+    assert_eq!(rt; report.journal.as_slice().len(), 8);
     let taken = [
         served.station.port.taken(),
         &[],
         served.console.port.taken(),
     ];
     for (actor, (events, octets)) in WANTED.iter().enumerate() {
-        let mut told = String::new(rt.alloc());
-        write_letters(&mut told, actor, &views)?;
-        let events = text_of_letters(rt.alloc(), *events)?;
-        assert_eq!(rt; told.as_str(), events.as_str(), "actor {actor}");
-        let octets = octets_of(rt.alloc(), *octets)?;
-        assert_eq!(rt; taken[actor], octets.as_slice(), "actor {actor}");
+        compare_events(rt, "workers", actor, &report.views, *events)?;
+        compare_octets(rt, "workers", actor, taken[actor], *octets)?;
     }
     Ok(())
 }

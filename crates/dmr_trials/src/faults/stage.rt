@@ -4,12 +4,10 @@ ghost use Rattle.std.specs.Prelude.{None};
 
 use super::closed::ClosedDesk;
 use super::peers::SitePeer;
+use crate::kept::{both, port_of, two};
 use crate::site::quiet_site;
-use arrayvec::ArrayVec;
 use dmr_core::{Command, Event, Site};
-use dmr_desk::{
-    ConsoleStation, Ending, Pace, Pacer, Report, Station, Term, TermFault, Views, run_term,
-};
+use dmr_desk::{ConsoleStation, Ending, Pace, Pacer, Station, Term, TermFault, run_term};
 use dmr_frames::Version;
 use dmr_link::{ConsoleLink, Ended, Link, OpenGate};
 use dmr_pdu::{CarrierNo, Lpcn};
@@ -18,9 +16,6 @@ use std::alloc::{AllocError, Global};
 use std::sync::Wait;
 use std::test::Fail;
 use std::thread::Threads;
-
-/// The room of a port's record, in answers and in octets.
-const ROOM: usize = 4096;
 
 /// A limit of entries that no term here reaches.
 const AMPLE: usize = 1000;
@@ -52,64 +47,64 @@ pub struct FaultStage {
     actor: usize,
 }
 
-/// The result of a term that has ended.
+/// The result of a term that has ended, and the peer's actor.
 #[derive(Drop)]
 pub struct FaultOutcome {
-    /// The number of entries in the journal.
-    pub entries: usize,
-    /// Why each actor's worker ended.
-    pub ends: ArrayVec<Ending, 18>,
-    views: Views,
-    station: CarrierStation,
-    console: ConsoleStation<MemoryPort>,
+    term: Term<CarrierStation, NoTicks, ConsoleStation<MemoryPort>>,
     actor: usize,
 }
 
-/// Returns a port of these steps.
-fn port_of(alloc: Global, steps: Vec<Step>) -> Result<MemoryPort, Fail> {
-    match MemoryPort::new(alloc, steps, ROOM) {
-        Ok(port) => Ok(port),
-        Err((refused, _)) => Err(refused.into()),
-    }
+/// Returns the stations of two carriers: one that serves versions of the link up to `greatest` and has this port, and
+/// one to which nobody connects.
+fn stations_of(
+    alloc: Global,
+    port: MemoryPort,
+    greatest: Version,
+) -> Result<Vec<CarrierStation>, Fail> {
+    let (port, idle) = both(port, port_of(alloc, Vec::new(alloc)))?;
+    let first = Station {
+        link: Link::new(CarrierNo::new(0), Lpcn::new(1), greatest),
+        port,
+        gate: OpenGate,
+    };
+    let second = Station {
+        link: Link::new(CarrierNo::new(1), Lpcn::new(2), Version::V1),
+        port: idle,
+        gate: OpenGate,
+    };
+    Ok(two(alloc, first, second)?)
 }
 
-/// Returns the station of the carrier with this number, whose port answers by these steps. It serves versions of the
-/// link up to `greatest`.
-fn station_of(
+/// Returns a quiet site with these ports of its first carrier and its console.
+fn stage_of(
     alloc: Global,
-    number: u32,
+    ports: (MemoryPort, MemoryPort),
     greatest: Version,
-    steps: Vec<Step>,
-) -> Result<CarrierStation, Fail> {
-    let carrier = CarrierNo::try_new(number).ok_or("a carrier's number")?;
-    let lpcn = Lpcn::try_new(number.saturating_add(1)).ok_or("a channel")?;
-    Ok(Station {
-        link: Link::new(carrier, lpcn, greatest),
-        port: port_of(alloc, steps)?,
-        gate: OpenGate,
+    actor: usize,
+) -> Result<FaultStage, Fail> {
+    let (of_carrier, of_console) = ports;
+    let (of_console, stations) = both(of_console, stations_of(alloc, of_carrier, greatest))?;
+    let ((port, stations), site) = both((of_console, stations), quiet_site(alloc))?;
+    Ok(FaultStage {
+        site,
+        stations,
+        console: ConsoleStation {
+            link: ConsoleLink::new(),
+            port,
+        },
+        actor,
     })
 }
 
 impl FaultStage {
     /// Returns a quiet site with one peer, whose port answers by these steps.
     pub fn new(alloc: Global, peer: SitePeer, steps: Vec<Step>) -> Result<FaultStage, Fail> {
-        let (of_carrier, greatest, of_operator, actor) = match peer {
-            SitePeer::Carrier(version) => (steps, version, Vec::new(alloc), 0),
-            SitePeer::Operator => (Vec::new(alloc), Version::V1, steps, CONSOLE),
-        };
-        let mut stations = Vec::new(alloc);
-        stations.push(station_of(alloc, 0, greatest, of_carrier)?)?;
-        stations.push(station_of(alloc, 1, greatest, Vec::new(alloc))?)?;
-        let console = ConsoleStation {
-            link: ConsoleLink::new(),
-            port: port_of(alloc, of_operator)?,
-        };
-        Ok(FaultStage {
-            site: quiet_site(alloc)?,
-            stations,
-            console,
-            actor,
-        })
+        let port = port_of(alloc, steps)?;
+        let (port, idle) = both(port, port_of(alloc, Vec::new(alloc)))?;
+        match peer {
+            SitePeer::Carrier(version) => stage_of(alloc, (port, idle), version, 0),
+            SitePeer::Operator => stage_of(alloc, (idle, port), Version::V1, CONSOLE),
+        }
     }
 
     /// Runs the term.
@@ -117,59 +112,39 @@ impl FaultStage {
         self,
         rt: &R,
         alloc: Global,
-    ) -> Result<FaultOutcome, Fail> {
+    ) -> Result<FaultOutcome, TermFault> {
         let actor = self.actor;
-        let Term {
-            report,
-            ends,
-            mut stations,
-            console,
-            ..
-        } = run(rt, alloc, self)?;
-        let Report {
-            site,
-            journal,
-            views,
-        } = report;
-        drop(site);
-        stations.truncate(1);
-        let station = stations.pop().ok_or("a station")?;
-        Ok(FaultOutcome {
-            entries: journal.as_slice().len(),
-            ends,
-            views,
-            station,
-            console,
-            actor,
-        })
+        let term = run_term(
+            rt,
+            alloc,
+            self.site,
+            AMPLE,
+            self.stations,
+            NoTicks,
+            self.console,
+        )?;
+        Ok(FaultOutcome { term, actor })
     }
 }
 
-/// Runs the term of a stage.
-fn run<R: Wait + Threads + Sync>(
-    rt: &R,
-    alloc: Global,
-    stage: FaultStage,
-) -> Result<Term<CarrierStation, NoTicks, ConsoleStation<MemoryPort>>, TermFault> {
-    run_term(
-        rt,
-        alloc,
-        stage.site,
-        AMPLE,
-        stage.stations,
-        NoTicks,
-        stage.console,
-    )
-}
-
 impl FaultOutcome {
+    /// Returns the number of entries in the journal.
+    pub fn entries(&self) -> usize {
+        self.term.report.journal.as_slice().len()
+    }
+
+    /// Returns why each actor's worker ended.
+    pub fn ends(&self) -> &[Ending] {
+        self.term.ends.as_slice()
+    }
+
     /// Returns the events of the peer's actor, a letter for each.
     ///
     /// U is Up, H Heard, N Noise, P Poll and L Lost of carrier 0. S is the command `status`, Y is `stay`, and ? is any
     /// other event.
     pub fn letters(&self, alloc: Global) -> Result<String, AllocError> {
         let mut letters = String::new(alloc);
-        if let Some(view) = self.views.as_slice().get(self.actor) {
+        if let Some(view) = self.term.report.views.as_slice().get(self.actor) {
             for deposit in view.as_slice() {
                 letters.push(letter_of(&deposit.event))?;
             }
@@ -178,43 +153,49 @@ impl FaultOutcome {
     }
 
     /// Returns the port of the peer.
-    fn port(&self) -> &MemoryPort {
+    fn port(&self) -> Option<&MemoryPort> {
         if self.actor == CONSOLE {
-            &self.console.port
+            Some(&self.term.console.port)
         } else {
-            &self.station.port
+            Some(&self.term.stations.first()?.port)
         }
     }
 
     /// Returns all octets that the peer's port has taken.
     pub fn taken(&self) -> &[u8] {
-        self.port().taken()
+        match self.port() {
+            Some(port) => port.taken(),
+            None => &[],
+        }
     }
 
     /// Returns the number of calls that the peer's port has answered, or `None` if it keeps no record.
     pub fn calls(&self) -> Option<usize> {
-        Some(self.port().entries()?.len())
+        Some(self.port()?.entries()?.len())
     }
 
     /// Returns whether the peer's link is live.
     pub fn is_live(&self) -> bool {
         if self.actor == CONSOLE {
-            self.console.link.live()
-        } else {
-            self.station.link.live()
+            return self.term.console.link.live();
+        }
+        match self.term.stations.first() {
+            Some(station) => station.link.live(),
+            None => false,
         }
     }
 
     /// Serves the peer's link again without opening it. Returns how that ended, and the number of calls of the desk.
-    pub fn serve_again(&mut self) -> (Ended, usize) {
+    pub fn serve_again(&mut self) -> Option<(Ended, usize)> {
         let mut desk = ClosedDesk { turns: 0 };
         let ended = if self.actor == CONSOLE {
-            self.console.link.serve(&mut self.console.port, &mut desk)
+            let ConsoleStation { link, port } = &mut self.term.console;
+            link.serve(port, &mut desk)
         } else {
-            let Station { link, port, gate } = &mut self.station;
+            let Station { link, port, gate } = self.term.stations.first_mut()?;
             link.serve(port, &mut desk, gate)
         };
-        (ended, desk.turns)
+        Some((ended, desk.turns))
     }
 }
 

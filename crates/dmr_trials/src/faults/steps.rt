@@ -9,6 +9,7 @@
 //! `N x` before a step repeats it N times.
 
 use super::peers::number;
+use crate::kept::push;
 use dmr_wire::{Connect, Got, Put, Step, Waited};
 use std::alloc::{AllocError, Global};
 
@@ -27,7 +28,7 @@ pub fn add_steps(
         };
         for _ in 0..times {
             match step_of(alloc, input, words, round)? {
-                Some(step) => steps.push(step)?,
+                Some(step) => push(steps, step)?,
                 None => return Ok(false),
             }
         }

@@ -2,24 +2,21 @@
 
 use super::meeting::{Hold, Meeting, MeetingPacer, MeetingPort};
 use super::stories::{NO_CARRIER, NOTHING_COMES};
+use crate::kept::{both, keep, port_of, push, push_feed};
 use crate::site::quiet_site;
-use arrayvec::ArrayVec;
 use dmr_core::Site;
 use dmr_desk::{
-    ConsoleStation, Ending, Pace, Service, Station, Term, TermFault, Views, run_term, try_term,
+    ConsoleStation, Pace, Report, Service, SpareLists, Station, Term, TermFault, run_term, try_term,
 };
 use dmr_frames::Version;
 use dmr_link::{ConsoleLink, Link};
 use dmr_pdu::{CarrierNo, Lpcn};
 use dmr_wire::{Connect, Got, MemoryPort, Step, Waited};
-use std::alloc::Global;
+use std::alloc::{AllocError, Global};
 use std::sync::Wait;
 use std::sync::atomic::AtomicU64;
 use std::test::Fail;
 use std::thread::Threads;
-
-/// The room of a port's record, in answers and in octets.
-const ROOM: usize = 4096;
 
 /// The console's number among the actors.
 const CONSOLE: usize = 3;
@@ -49,7 +46,7 @@ pub struct Opening {
 }
 
 /// A carrier's station.
-type CarrierStation<'a> = Station<MeetingPort<'a>, Meeting<'a>>;
+pub type CarrierStation<'a> = Station<MeetingPort<'a>, Meeting<'a>>;
 
 /// The state that one term hands to the next.
 #[derive(Drop)]
@@ -60,18 +57,11 @@ pub struct TermStage<'a> {
     console: ConsoleStation<MemoryPort>,
 }
 
+/// The same state, as a term hands it back if it is refused.
+type TermService<'a> = Service<MeetingPort<'a>, Meeting<'a>, MeetingPacer<'a>, MemoryPort>;
+
 /// The result of a term.
-#[derive(Drop)]
-pub struct TermOutcome<'a> {
-    /// The number of entries in its journal.
-    pub entries: usize,
-    /// Why each actor's worker ended.
-    pub ends: ArrayVec<Ending, 18>,
-    /// The events of each actor.
-    pub views: Views,
-    /// The stage of the next term.
-    pub stage: TermStage<'a>,
-}
+pub type TermOutcome<'a> = Term<CarrierStation<'a>, MeetingPacer<'a>, ConsoleStation<MemoryPort>>;
 
 /// Returns the counts of the steps that the three actors (two carriers and the ticker) have made: none yet.
 pub fn new_steps() -> [AtomicU64; 3] {
@@ -88,64 +78,191 @@ fn station_of<'a>(
     let actor = usize::from(number);
     let who = CarrierNo::try_new(u32::from(number)).ok_or("a carrier's number")?;
     let lpcn = Lpcn::try_new(u32::from(number) + 1).ok_or("a channel")?;
+    let port = port_of(rt.alloc(), carrier_steps(rt.alloc(), number, carrier)?)?;
     Ok(Station {
         link: Link::new(who, lpcn, Version::V1),
         port: MeetingPort {
-            port: port_of(rt.alloc(), carrier_steps(rt.alloc(), number, carrier)?)?,
+            port,
             meeting: Meeting::new(rt, steps, actor, carrier.wait),
         },
         gate: Meeting::new(rt, steps, actor, carrier.gate),
     })
 }
 
-/// Returns stations of carriers with these numbers, a digit each, to which nobody connects.
-fn stations_of<'a>(
+/// Adds the station of the carrier with this number.
+fn add_station<'a>(
     rt: &'a HostRuntime,
     steps: &'a [AtomicU64],
-    numbers: &str,
-) -> Result<Vec<CarrierStation<'a>>, Fail> {
-    let mut stations = Vec::new(rt.alloc());
-    for digit in numbers.bytes() {
-        let number = digit.wrapping_sub(b'0');
-        stations.push(station_of(rt, steps, number, &NO_CARRIER)?)?;
+    stations: &mut Vec<CarrierStation<'a>>,
+    number: u8,
+    carrier: &Carrier,
+) -> Result<(), Fail> {
+    push(stations, station_of(rt, steps, number, carrier)?)?;
+    Ok(())
+}
+
+/// Adds the stations of these carriers.
+fn add_stations<'a>(
+    rt: &'a HostRuntime,
+    steps: &'a [AtomicU64],
+    stations: &mut Vec<CarrierStation<'a>>,
+    carriers: &[Carrier],
+) -> Result<(), Fail> {
+    for (number, carrier) in [0, 1].into_iter().zip(carriers) {
+        add_station(rt, steps, stations, number, carrier)?;
     }
-    Ok(stations)
+    Ok(())
+}
+
+/// Adds stations of carriers with these numbers, a digit each, to which nobody connects.
+fn add_numbered<'a>(
+    rt: &'a HostRuntime,
+    steps: &'a [AtomicU64],
+    stations: &mut Vec<CarrierStation<'a>>,
+    numbers: &str,
+) -> Result<(), Fail> {
+    for digit in numbers.bytes() {
+        add_station(rt, steps, stations, digit.wrapping_sub(b'0'), &NO_CARRIER)?;
+    }
+    Ok(())
 }
 
 /// Returns the steps of a carrier's port. A connection arrives at the second call of `connect`. Its octets arrive after
 /// a wait, one frame with each read.
-fn carrier_steps(alloc: Global, number: u8, carrier: &Carrier) -> Result<Vec<Step>, Fail> {
+fn carrier_steps(alloc: Global, number: u8, carrier: &Carrier) -> Result<Vec<Step>, AllocError> {
     let mut steps = Vec::new(alloc);
+    let added = add_connections(alloc, &mut steps, number, carrier);
+    keep(added, steps)
+}
+
+/// Adds the steps of a carrier's connections.
+fn add_connections(
+    alloc: Global,
+    steps: &mut Vec<Step>,
+    number: u8,
+    carrier: &Carrier,
+) -> Result<(), AllocError> {
+    let hello = [0x01, 0x04, 0x01, number, 0x00, number.wrapping_add(1)];
     for (polls, end) in carrier.connections {
-        let hello = [0x01, 0x04, 0x01, number, 0x00, number.wrapping_add(1)];
-        steps.push(Step::Connect(Connect::NotYet))?;
-        steps.push(Step::Connect(Connect::Ready))?;
-        steps.push(Step::Read(Got::Block))?;
-        steps.push(Step::Wait(Waited::Again))?;
-        steps.push(Step::Feed(hello.to_vec(alloc)?))?;
+        add_beginning(alloc, steps, &hello)?;
         for _ in 0..*polls {
-            steps.push(Step::Feed([0x03, 0x00].to_vec(alloc)?))?;
+            push_feed(alloc, steps, &[0x03, 0x00])?;
         }
-        steps.push(Step::Read(*end))?;
+        push(steps, Step::Read(*end))?;
     }
-    Ok(steps)
+    Ok(())
 }
 
-/// Returns the steps of the console's port.
-fn console_steps(alloc: Global, operator: &[u8]) -> Result<Vec<Step>, Fail> {
-    let mut steps = Vec::new(alloc);
+/// Adds the steps of a connection to its HELLO.
+fn add_beginning(alloc: Global, steps: &mut Vec<Step>, hello: &[u8]) -> Result<(), AllocError> {
+    push(steps, Step::Connect(Connect::NotYet))?;
+    push(steps, Step::Connect(Connect::Ready))?;
+    push(steps, Step::Read(Got::Block))?;
+    push(steps, Step::Wait(Waited::Again))?;
+    push_feed(alloc, steps, hello)
+}
+
+/// Adds the steps of the console's port.
+fn add_console_steps(
+    alloc: Global,
+    steps: &mut Vec<Step>,
+    operator: &[u8],
+) -> Result<(), AllocError> {
     if !operator.is_empty() {
-        steps.push(Step::Connect(Connect::Ready))?;
-        steps.push(Step::Feed(operator.to_vec(alloc)?))?;
+        push(steps, Step::Connect(Connect::Ready))?;
+        push_feed(alloc, steps, operator)?;
     }
-    Ok(steps)
+    Ok(())
 }
 
-/// Returns a port of these steps.
-fn port_of(alloc: Global, steps: Vec<Step>) -> Result<MemoryPort, Fail> {
-    match MemoryPort::new(alloc, steps, ROOM) {
-        Ok(port) => Ok(port),
-        Err((refused, _)) => Err(refused.into()),
+/// Returns the console, and its port with these octets of an operator.
+fn console_of(alloc: Global, operator: &[u8]) -> Result<ConsoleStation<MemoryPort>, Fail> {
+    let mut steps = Vec::new(alloc);
+    let added = add_console_steps(alloc, &mut steps, operator);
+    let port = port_of(alloc, keep(added, steps)?)?;
+    Ok(ConsoleStation {
+        link: ConsoleLink::new(),
+        port,
+    })
+}
+
+/// Returns the stage of the first term with these stations and a site on which nothing is up.
+fn stage_of<'a>(
+    rt: &'a HostRuntime,
+    steps: &'a [AtomicU64],
+    stations: Vec<CarrierStation<'a>>,
+    opening: &Opening,
+) -> Result<TermStage<'a>, Fail> {
+    let alloc = rt.alloc();
+    let (stations, console) = both(stations, console_of(alloc, opening.operator))?;
+    let ((stations, console), site) = both((stations, console), quiet_site(alloc))?;
+    Ok(TermStage {
+        site,
+        stations,
+        pacer: MeetingPacer {
+            paces: opening.paces,
+            meeting: Meeting::new(rt, steps, 2, opening.pacer),
+        },
+        console,
+    })
+}
+
+/// Returns the stage of the term after this one.
+pub fn next_stage<'a>(outcome: TermOutcome<'a>) -> TermStage<'a> {
+    let Term {
+        report,
+        stations,
+        pacer,
+        console,
+        ..
+    } = outcome;
+    let Report {
+        site,
+        journal,
+        views,
+    } = report;
+    drop(journal);
+    drop(views);
+    TermStage {
+        site,
+        stations,
+        pacer,
+        console,
+    }
+}
+
+/// Returns the service of a stage.
+fn service_of<'a>(stage: TermStage<'a>) -> TermService<'a> {
+    let spare = SpareLists::new(*stage.stations.allocator());
+    Service {
+        site: stage.site,
+        stations: stage.stations,
+        pacer: stage.pacer,
+        console: stage.console,
+        spare,
+    }
+}
+
+/// Returns the stage of a service.
+fn stage_of_service<'a>(service: TermService<'a>) -> TermStage<'a> {
+    TermStage {
+        site: service.site,
+        stations: service.stations,
+        pacer: service.pacer,
+        console: service.console,
+    }
+}
+
+/// Returns all octets that the port of an actor has taken. The ticker has no port.
+pub fn octets_taken<'b>(
+    stations: &'b [CarrierStation<'_>],
+    console: &'b ConsoleStation<MemoryPort>,
+    actor: usize,
+) -> &'b [u8] {
+    match stations.get(actor) {
+        Some(station) => station.port.port.taken(),
+        None if actor == CONSOLE => console.port.taken(),
+        None => &[],
     }
 }
 
@@ -156,24 +273,9 @@ impl<'a> TermStage<'a> {
         steps: &'a [AtomicU64],
         opening: &Opening,
     ) -> Result<Self, Fail> {
-        let alloc = rt.alloc();
-        let mut stations = Vec::new(alloc);
-        for (number, carrier) in [0, 1].into_iter().zip(opening.carriers) {
-            stations.push(station_of(rt, steps, number, carrier)?)?;
-        }
-        let console = ConsoleStation {
-            link: ConsoleLink::new(),
-            port: port_of(alloc, console_steps(alloc, opening.operator)?)?,
-        };
-        Ok(TermStage {
-            site: quiet_site(alloc)?,
-            stations,
-            pacer: MeetingPacer {
-                paces: opening.paces,
-                meeting: Meeting::new(rt, steps, 2, opening.pacer),
-            },
-            console,
-        })
+        let mut stations = Vec::new(rt.alloc());
+        let added = add_stations(rt, steps, &mut stations, opening.carriers);
+        stage_of(rt, steps, keep(added, stations)?, opening)
     }
 
     /// Returns a stage without any input, with stations of carriers of these numbers, a digit each.
@@ -182,17 +284,9 @@ impl<'a> TermStage<'a> {
         steps: &'a [AtomicU64],
         numbers: &str,
     ) -> Result<Self, Fail> {
-        let mut stage = TermStage::new(rt, steps, &NOTHING_COMES)?;
-        match stations_of(rt, steps, numbers) {
-            Ok(stations) => {
-                stage.stations = stations;
-                Ok(stage)
-            }
-            Err(fault) => {
-                drop(stage);
-                Err(fault)
-            }
-        }
+        let mut stations = Vec::new(rt.alloc());
+        let added = add_numbered(rt, steps, &mut stations, numbers);
+        stage_of(rt, steps, keep(added, stations)?, &NOTHING_COMES)
     }
 
     /// Runs a term.
@@ -202,13 +296,7 @@ impl<'a> TermStage<'a> {
         alloc: Global,
         limit: usize,
     ) -> Result<TermOutcome<'a>, TermFault> {
-        let Term {
-            report,
-            ends,
-            stations,
-            pacer,
-            console,
-        } = run_term(
+        run_term(
             rt,
             alloc,
             self.site,
@@ -216,18 +304,7 @@ impl<'a> TermStage<'a> {
             self.stations,
             self.pacer,
             self.console,
-        )?;
-        Ok(TermOutcome {
-            entries: report.journal.as_slice().len(),
-            ends,
-            views: report.views,
-            stage: TermStage {
-                site: report.site,
-                stations,
-                pacer,
-                console,
-            },
-        })
+        )
     }
 
     /// Runs a term that should be refused before a thread is started. Returns the fault, and the stage that is handed
@@ -238,50 +315,19 @@ impl<'a> TermStage<'a> {
         alloc: Global,
         limit: usize,
     ) -> Option<(TermFault, TermStage<'a>)> {
-        let service = Service {
-            site: self.site,
-            stations: self.stations,
-            pacer: self.pacer,
-            console: self.console,
-        };
-        match try_term(rt, alloc, limit, service) {
-            Ok(term) => {
-                drop(term);
-                None
-            }
-            Err(refused) => {
-                let fault = refused.fault;
-                let Service {
-                    site,
-                    stations,
-                    pacer,
-                    console,
-                } = refused.left?;
-                Some((
-                    fault,
-                    TermStage {
-                        site,
-                        stations,
-                        pacer,
-                        console,
-                    },
-                ))
-            }
-        }
+        let refused = try_term(rt, alloc, limit, service_of(self)).err()?;
+        let (fault, service) = Some(refused.fault).zip(refused.left)?;
+        Some((fault, stage_of_service(service)))
     }
 
-    /// Returns all octets that the port of an actor has taken. The ticker has no port.
-    pub fn taken(&self, actor: usize) -> &[u8] {
-        match self.stations.get(actor) {
-            Some(station) => station.port.port.taken(),
-            None if actor == CONSOLE => self.console.port.taken(),
-            None => &[],
-        }
+    /// Returns all octets that carrier 0's port has taken.
+    pub fn taken_by_first(&self) -> &[u8] {
+        octets_taken(self.stations.as_slice(), &self.console, 0)
     }
 
-    /// Returns whether the link of a carrier is live.
-    pub fn is_live(&self, actor: usize) -> bool {
-        match self.stations.get(actor) {
+    /// Returns whether carrier 0's link is live.
+    pub fn is_first_live(&self) -> bool {
+        match self.stations.first() {
             Some(station) => station.link.live(),
             None => false,
         }

@@ -3,3 +3,4 @@ pub mod JoinLemmas
 pub mod SiteLemmas
 pub mod CountLemmas
 pub mod CauseLemmas
+pub mod HandingLemmas

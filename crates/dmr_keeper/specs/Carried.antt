@@ -21,6 +21,10 @@ pub record Carry : Type 0 where
 abbrev pub nothing_carried : Carry
 nothing_carried = record { ticks = 0; calls = []; lines = []; registered = [] }
 
+-- before the first term of a site that starts with these radios registered, in the order of joining
+abbrev pub starting_with : List ℕ → Carry
+starting_with radios = record { ticks = 0; calls = []; lines = []; registered = radios }
+
 -- after the journal of a term, oldest first
 abbrev pub carried_after : Settings → Carry → List Entry → Carry
 carried_after plan before journal = record {

@@ -10,4 +10,7 @@ pub mod Registered
 pub mod Carried
 pub mod Records
 pub mod Laws
+pub mod Times
 pub mod Kept
+pub mod Handing
+pub mod Recording

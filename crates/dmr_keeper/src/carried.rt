@@ -1,7 +1,7 @@
 //! What one term hands on to the next.
 
 ghost use Rattle.std.specs.Prelude.{◌≡◌, IfOk};
-ghost use Rattle.dmr_keeper.specs.Carried.{nothing_carried};
+ghost use Rattle.dmr_keeper.specs.Carried.{nothing_carried, starting_with};
 
 use crate::calls::OpenCall;
 use dmr_calls::Line;
@@ -12,7 +12,8 @@ use std::marker::Model;
 /// The state of records between two terms: the ticks of all terms so far, the calls that are open, the lines that wait,
 /// and the registered radios. Contracts see a record of lists.
 ///
-/// Of a site that starts with nothing, the first term begins with [`Carried::new`], and each later one with
+/// Of a site that starts with nothing, the first term begins with [`Carried::new`]. Of a site that starts with radios
+/// registered, it begins with [`Carried::with_registered`]. Each later term begins with
 /// [`Records::after`](crate::Records::after) of the term before. At most 31 calls are open then, 32 lines wait, and
 /// 4,096 radios are registered, since these are the site's own ([`carried_is_the_sites`](crate::carried_is_the_sites)).
 #[derive(Drop)]
@@ -47,6 +48,22 @@ impl Carried {
             lines: Vec::new(alloc),
             registered: Vec::new(alloc),
         }
+    }
+
+    /// The state before the first term of a site that starts with these radios registered, as after a restart.
+    ///
+    /// `radios` are in the order in which they joined, as the site has them. Returns `OutOfMemory` if the allocation is
+    /// refused.
+    pub fn with_registered(alloc: Global, radios: &[Address]) -> Result<Carried, OutOfMemory>
+        ensures { IfOk result (λ start. start ≡ starting_with radios.now) }
+    {
+        let registered = Vec::from_slice(alloc, radios)?;
+        Ok(Carried {
+            ticks: 0,
+            calls: Vec::new(alloc),
+            lines: Vec::new(alloc),
+            registered,
+        })
     }
 
     /// Makes a copy with memory of its own. Returns `OutOfMemory` if an allocation is refused.

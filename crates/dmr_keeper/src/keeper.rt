@@ -1,31 +1,52 @@
 //! Stores of records.
 
-ghost use Rattle.std.specs.Prelude.{◌≡◌, IsOk};
+ghost use Rattle.std.specs.Prelude.{◌≡◌, [], ◌∷◌, IsOk, IsFalse, OnErr, OnOk, Option, None};
+ghost use Rattle.dmr_keeper.specs.Kept.{Keeps, Kept};
 
-use crate::records::Records;
+use crate::time::TimedRecords;
 use thiserror::Error;
 
-/// Why a store did not keep records.
+/// Why a store did not keep records. The texts are those of a note for the operator.
 #[derive(Clone, Copy, Debug, PartialEq, Eq, Error)]
 pub enum KeepFault {
     /// Memory ran out.
     #[error("out of memory")]
     OutOfMemory,
-    /// The store has no room left, as on a full disk.
-    #[error("no room left")]
+    /// The file cannot be opened or made.
+    #[error("cannot open the file")]
+    CannotOpen,
+    /// Another program has the file open. The same call may be made again.
+    #[error("another program has the file open")]
+    InUse,
+    /// A later version of the site wrote the file.
+    #[error("a later version wrote the file")]
+    Newer,
+    /// The file is not one of records.
+    #[error("not a file of records")]
+    NotRecords,
+    /// A part of the file is damaged.
+    #[error("the file is damaged")]
+    Damaged,
+    /// The store has no room left.
+    #[error("the disk is full")]
     Full,
-    /// The store could not be written, or is closed after an earlier failure.
-    #[error("cannot write")]
-    CannotWrite,
+    /// The disk failed or refused a read or a write.
+    #[error("the disk failed or refused a read or a write")]
+    NotTransferred,
 }
 
 /// A store of records. It is handed the records of each term, oldest term first.
-///
-/// The trait has no contract, since a store may be outside of the program: each store states for itself what `Ok` and
-/// an error mean.
 pub trait Keeper {
-    /// Keeps the records of a term. After an error, none of them are kept, or the store says which are.
-    fn keep(&mut self, records: &Records) -> Result<(), KeepFault>;
+    /// If the keeper reports it: what it has kept. It may stop reporting at any call, and then never reports again.
+    ghost kept: { Self → Option Kept };
+
+    /// Reports whether records are wanted. If they are not, a caller need not make any.
+    fn wants_records(&self) -> bool;
+
+    /// Keeps the records of a term. On an error it keeps none of them, and the same call can be made again.
+    fn keep(&mut self, term: &TimedRecords) -> Result<(), KeepFault>
+        ensures kept { OnOk result (Keeps (kept self.old) (term.now ∷ []) (kept self.new)) }
+        ensures same { OnErr result (Keeps (kept self.old) [] (kept self.new)) };
 }
 
 /// The store that keeps nothing, for a site without records.
@@ -33,9 +54,20 @@ pub trait Keeper {
 pub struct Forget;
 
 impl Keeper for Forget {
-    fn keep(&mut self, _records: &Records) -> Result<(), KeepFault>
+    ghost kept = { λ store. None };
+
+    /// Reports that no records are wanted.
+    fn wants_records(&self) -> bool
+        ensures { IsFalse result }
+    {
+        false
+    }
+
+    fn keep(&mut self, _term: &TimedRecords) -> Result<(), KeepFault>
         ensures done { IsOk result }
-        ensures same { self.new ≡ self.old }
+        ensures unchanged { self.new ≡ self.old }
+        ensures kept { OnOk result (Keeps None (_term.now ∷ []) None) }
+        ensures same { OnErr result (Keeps None [] None) }
     {
         Ok(())
     }

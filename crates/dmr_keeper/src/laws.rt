@@ -1,6 +1,6 @@
 //! Laws: statements about the definitions alone, for every journal.
 
-ghost use Rattle.std.specs.Prelude.{◌≡◌, ◌+◌, ◌++◌, List, length, reverse, true};
+ghost use Rattle.std.specs.Prelude.{◌≡◌, ℕ, ◌+◌, ◌++◌, List, length, reverse, true};
 ghost use Rattle.std.specs.List.{list_any};
 ghost use Rattle.dmr_plan.specs.declared.settings.Settings.{Settings};
 ghost use Rattle.dmr_plan.specs.IsPlan.{IsPlan};
@@ -8,10 +8,11 @@ ghost use Rattle.dmr_core.specs.declared.event.Event.{Event};
 ghost use Rattle.dmr_core.specs.declared.entry.Entry.{Entry};
 ghost use Rattle.dmr_core.specs.Facts.{Facts, facts_after, no_facts};
 ghost use Rattle.dmr_core.specs.Journal.{IsLegal};
+ghost use Rattle.dmr_core.specs.Restored.{facts_with};
 ghost use Rattle.dmr_core.specs.Rules.{acts_of};
 ghost use Rattle.dmr_core.specs.Sound.{IsSound};
 ghost use Rattle.dmr_keeper.specs.Calls.{begun_in};
-ghost use Rattle.dmr_keeper.specs.Carried.{Carry, carried_after, nothing_carried};
+ghost use Rattle.dmr_keeper.specs.Carried.{Carry, carried_after, nothing_carried, starting_with};
 ghost use Rattle.dmr_keeper.specs.Changes.{changes_in};
 ghost use Rattle.dmr_keeper.specs.Counts.{counts_joined};
 ghost use Rattle.dmr_keeper.specs.Laws.{IsOfFacts, HaveAges, IsWithinLimits, MayEndCalls, is_end};
@@ -47,10 +48,11 @@ pub fn records_join()
 ///
 /// What is carried before a journal may agree with the facts of a site (`IsOfFacts`). Then what is carried after the
 /// journal agrees with the facts after it. Before the first term of a site on which nothing has happened, the two
-/// agree. After a legal journal of an accepted plan, at most 31 calls are open, 32 lines wait and 4,096 radios are
+/// agree, and also before that of a site that starts with radios registered. After a legal journal of an accepted plan, at most 31 calls are open, 32 lines wait and 4,096 radios are
 /// registered.
 pub fn carried_is_the_sites()
     ensures starts { IsOfFacts nothing_carried no_facts }
+    ensures restarts { (radios : List ℕ) → IsOfFacts (starting_with radios) (facts_with radios) }
     ensures stays { (plan : Settings) (facts : Facts) (before : Carry) (journal : List Entry)
         → IsOfFacts before facts
         → IsOfFacts (carried_after plan before journal) (facts_after plan facts (reverse journal)) }

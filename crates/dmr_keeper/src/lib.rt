@@ -15,6 +15,9 @@
 //! those of the site. [`calls_are_counted_once`] says that no call is lost or recorded twice, and
 //! [`few_events_end_calls`] that the causes are all.
 //!
+//! A [`Recorder`] reads the records of one term after another, each with its [`TermTime`]: when it ended, and how long
+//! its ticks are. An [`Outbox`] has the records that wait, and hands them over to a store, oldest term first.
+//!
 //! A [`Keeper`] stores records. [`Forget`] keeps nothing, and [`InMemory`] keeps them for a test. A store on a disk is
 //! outside of this crate.
 #![tactic(auto)]
@@ -30,9 +33,12 @@ mod laws;
 mod lines;
 mod memory;
 mod notes;
+mod outbox;
+mod recorder;
 mod records;
 mod registered;
 mod ticks;
+mod time;
 
 pub use calls::{EndedCall, OpenCall};
 pub use carried::Carried;
@@ -43,4 +49,7 @@ pub use keeper::{Forget, KeepFault, Keeper};
 pub use laws::{calls_are_counted_once, carried_is_the_sites, few_events_end_calls, records_join};
 pub use memory::InMemory;
 pub use notes::{Note, Occurrence, Outcome};
+pub use outbox::{MOST_WAITING, Outbox};
+pub use recorder::Recorder;
 pub use records::{Records, RecordsFault, records_of};
+pub use time::{TermTime, TimedRecords};

@@ -1,14 +1,14 @@
 //! A store of records in memory.
 
-ghost use Rattle.std.specs.Prelude.{◌≡◌, OnErr, OnOk};
-ghost use Rattle.dmr_keeper.specs.Kept.{kept_with, nothing_kept};
+ghost use Rattle.std.specs.Prelude.{◌≡◌, [], ◌∷◌, IsTrue, OnErr, OnOk, Some};
+ghost use Rattle.dmr_keeper.specs.Kept.{Keeps, kept_with, nothing_kept};
 
 use crate::calls::EndedCall;
 use crate::changes::Change;
 use crate::counts::TermCounts;
 use crate::keeper::{KeepFault, Keeper};
 use crate::notes::Note;
-use crate::records::Records;
+use crate::time::{TermTime, TimedRecords};
 use dmr_pdu::{Address, OutOfMemory};
 use std::alloc::Global;
 use std::marker::Model;
@@ -20,6 +20,7 @@ pub struct InMemory {
     changes: Vec<Change>,
     notes: Vec<Note>,
     counts: Vec<TermCounts>,
+    times: Vec<TermTime>,
     registered: Vec<Address>,
 }
 
@@ -33,6 +34,7 @@ impl Model for InMemory {
       changes = store.changes.items;
       notes = store.notes.items;
       counts = store.counts.items;
+      times = store.times.items;
       registered = store.registered.items;
     } };
 }
@@ -47,6 +49,7 @@ impl InMemory {
             changes: Vec::new(alloc),
             notes: Vec::new(alloc),
             counts: Vec::new(alloc),
+            times: Vec::new(alloc),
             registered: Vec::new(alloc),
         }
     }
@@ -79,6 +82,13 @@ impl InMemory {
         self.counts.as_slice()
     }
 
+    /// The time of each term, oldest term first.
+    pub fn times(&self) -> &[TermTime]
+        ensures { result.now ≡ self.now.times }
+    {
+        self.times.as_slice()
+    }
+
     /// The radios that were registered after the last term, in the order in which they joined.
     pub fn registered(&self) -> &[Address]
         ensures { result.now ≡ self.now.registered }
@@ -87,15 +97,18 @@ impl InMemory {
     }
 
     /// Adds the records of a term. Returns `OutOfMemory` if an allocation is refused, and then nothing has changed.
-    fn add(&mut self, records: &Records) -> Result<(), OutOfMemory>
-        ensures kept { OnOk result (self.new ≡ kept_with self.old records.now) }
+    fn add(&mut self, term: &TimedRecords) -> Result<(), OutOfMemory>
+        ensures kept { OnOk result (self.new ≡ kept_with self.old term.now) }
         ensures same { OnErr result (self.new ≡ self.old) }
     {
+        let records = &term.records;
         self.calls.reserve(records.calls.len())?;
         self.changes.reserve(records.changes.len())?;
         self.notes.reserve(records.notes.len())?;
         self.registered.reserve(records.after.registered().len())?;
+        self.times.reserve(1)?;
         self.counts.push(records.counts)?;
+        self.times.push(term.time).unwrap();
         self.calls
             .extend_from_slice(records.calls.as_slice())
             .unwrap();
@@ -114,12 +127,23 @@ impl InMemory {
 }
 
 impl Keeper for InMemory {
-    /// Keeps the records of a term. After an error nothing has changed.
-    fn keep(&mut self, records: &Records) -> Result<(), KeepFault>
-        ensures kept { OnOk result (self.new ≡ kept_with self.old records.now) }
-        ensures same { OnErr result (self.new ≡ self.old) }
+    ghost kept = { λ store. Some store };
+
+    /// Reports that records are wanted.
+    fn wants_records(&self) -> bool
+        ensures { IsTrue result }
     {
-        match self.add(records) {
+        true
+    }
+
+    /// Keeps the records of a term. After an error nothing has changed.
+    fn keep(&mut self, term: &TimedRecords) -> Result<(), KeepFault>
+        ensures added { OnOk result (self.new ≡ kept_with self.old term.now) }
+        ensures unchanged { OnErr result (self.new ≡ self.old) }
+        ensures kept { OnOk result (Keeps (Some self.old) (term.now ∷ []) (Some self.new)) }
+        ensures same { OnErr result (Keeps (Some self.old) [] (Some self.new)) }
+    {
+        match self.add(term) {
             Ok(()) => Ok(()),
             Err(OutOfMemory) => Err(KeepFault::OutOfMemory),
         }

@@ -1,4 +1,5 @@
-//! Tests in the form of stories: of the site file, lists, registry, slots, access, site machine, engine and links.
+//! Tests in the form of stories: of the site file, lists, registry, slots, access, site machine, records of terms,
+//! engine and links.
 //!
 //! A story has inputs and the expected answers, mostly as lines of text. The crate holds only tests, and most of them
 //! loop over a table. They are above the crates that they test, since a crate with tests is proved twice.

@@ -8,6 +8,7 @@ mod events;
 mod individual;
 mod late_entries;
 mod limits;
+mod records;
 mod registrations;
 mod stage;
 mod starts;

@@ -8,6 +8,9 @@ use Rattle.dmr_keeper.proofs.laws.carried_is_the_sites.Goals as goal
 pub returns-clause-starts : goal.returns-clause-starts
 returns-clause-starts c = record { calls = refl; lines = refl; registered = refl }
 
+pub returns-clause-restarts : goal.returns-clause-restarts
+returns-clause-restarts c = λ radios. record { calls = refl; lines = refl; registered = refl }
+
 pub returns-clause-stays : goal.returns-clause-stays
 returns-clause-stays c = stays_the_sites
 

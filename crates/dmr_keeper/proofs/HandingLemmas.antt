@@ -1,0 +1,50 @@
+-- What a store kept in steps, and records that are handed over one term at a time.
+use Rattle.std.proofs.Common.{◌≡◌, ◌<◌, List, [], ◌∷◌, ◌++◌, Option, length, get_or, refl, sym, ◌∙◌, ap, append_assoc}
+use Rattle.std.specs.List.{remove}
+use Rattle.dmr_keeper.specs.declared.time.TimedRecords.{TimedRecords}
+use Rattle.dmr_keeper.specs.Kept.{Kept, Keeps, kept_with, kept_with_all}
+use Rattle.dmr_keeper.specs.Handing.{AreHandedOver}
+use Rattle.dmr_keeper.proofs.LoopLemmas.{rest_is}
+
+-- ---- what a store kept
+
+pub keeps_nothing : (before : Option Kept) → Keeps before [] before
+keeps_nothing before = record { follows = λ whole same. (whole, same, refl) }
+
+kept_on : (kept : Kept) (first second : List TimedRecords) → kept_with_all kept (first ++ second) ≡ kept_with_all (kept_with_all kept first) second
+kept_on kept [] second = refl
+kept_on kept (term ∷ first) second = kept_on (kept_with kept term) first second
+
+keeps_more : (before between after : Option Kept) (first second : List TimedRecords) → Keeps before first between → Keeps between second after → Keeps before (first ++ second) after
+keeps_more before between after first second one two = record {
+  follows = λ whole same.
+      let last = two.follows whole same in
+      let begun = one.follows last.0 last.1 in
+      (begun.0, begun.1, last.2 ∙ ap (λ (kept : Kept). kept_with_all kept second) begun.2 ∙ sym (kept_on begun.0 first second));
+}
+
+-- ---- records that are handed over
+
+-- the oldest is the one that is read, and the others are those that stay
+pub oldest_of : (old new : List TimedRecords) (term : TimedRecords) → 0 < length old → term ≡ get_or old 0 term → new ≡ remove old 0 → old ≡ term ∷ new
+oldest_of old new term some read stay = rest_is old 0 term some read ∙ ap (λ (terms : List TimedRecords). term ∷ terms) (sym stay)
+
+-- nothing was handed over
+pub handed_none : (kept : Option Kept) (terms : List TimedRecords) → AreHandedOver kept terms terms kept
+handed_none kept terms = record { handed = []; all = refl; kept = keeps_nothing kept }
+
+-- the oldest
+pub handed_one : (before after : Option Kept) (term : TimedRecords) (old new : List TimedRecords) → old ≡ term ∷ new → Keeps before (term ∷ []) after → AreHandedOver before old new after
+handed_one before after term old new is keeps = record { handed = term ∷ []; all = is; kept = keeps }
+
+-- the store refused the oldest
+pub handed_refused : (before after : Option Kept) (old new : List TimedRecords) → new ≡ old → Keeps before [] after → AreHandedOver before old new after
+handed_refused before after old new is keeps = record { handed = []; all = sym is; kept = keeps }
+
+-- some, and then others
+pub handed_on : (before between after : Option Kept) (old mid new : List TimedRecords) → AreHandedOver before old mid between → AreHandedOver between mid new after → AreHandedOver before old new after
+handed_on before between after old mid new one two = record {
+  handed = one.handed ++ two.handed;
+  all = one.all ∙ ap (λ (terms : List TimedRecords). one.handed ++ terms) two.all ∙ sym (append_assoc one.handed two.handed new);
+  kept = keeps_more before between after one.handed two.handed one.kept two.kept;
+}

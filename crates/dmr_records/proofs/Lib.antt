@@ -1,0 +1,2 @@
+pub mod RanLemmas
+pub mod CommitLemmas

@@ -1,0 +1,140 @@
+-- Statements that run one after another: one, more, and each of a loop.
+use Rattle.std.proofs.Common.{◌≡◌, ◌+◌, ◌<◌, ◌≤◌, inl, inr, ℕ, Bool, true, false, IsTrue, List, [], ◌∷◌, ◌++◌, map, length, drop, get_or, Result, Ok, Err, OnOk, arith, refl, sym, ap, subst, ◌∙◌}
+use Rattle.std.proofs.lemmas.List.{drop_more, drop_all}
+use Rattle.sqlite.specs.Store.{Ghosts}
+use Rattle.sqlite.specs.Order.{Row}
+use Rattle.sqlite.specs.Value.{owned}
+use Rattle.sqlite.specs.Values.{bound, bound_value}
+use Rattle.sqlite.specs.declared.types.Value.{Value}
+use Rattle.sqlite.specs.declared.types.ValueRef.{ValueRef}
+use Rattle.sqlite.specs.declared.error.Error.{Error}
+use Rattle.sqlite.specs.declared.error.Error.TheVariants.{SqliteFailure}
+use Rattle.sqlite.specs.declared.error.ErrorCode.TheVariants.{TransactionState}
+use Rattle.sqlite.specs.State.{State, HasCleanDisk, ExecutesInside, KeepsCommit, Survives}
+use Rattle.sqlite.specs.Held.{Held, state}
+use Rattle.sqlite.proofs.StateLemmas.{survives_then}
+use Rattle.dmr_records.specs.Statements.{Statement, put_registration, put_registrations}
+use Rattle.dmr_records.specs.Ran.{Ran, RanAll, ExecutedAll, Keeps}
+
+-- one statement
+pub ran_one : {S : Type 0} (g : Ghosts S) (it : Statement) (old new : Held S) → Ran g it old new → RanAll g (it ∷ []) old new
+ran_one g it old new ran = (new, ran, refl)
+
+-- some statements, and then others
+pub ran_then : {S : Type 0} (g : Ghosts S) (first second : List Statement) (old mid new : Held S) → RanAll g first old mid → RanAll g second mid new → RanAll g (first ++ second) old new
+ran_then {S} g [] second old mid new is more = subst (λ (h : Held S). RanAll g second h new) is more
+ran_then g (it ∷ later) second old mid new ran more =
+    (ran.0, ran.1, ran_then g later second ran.0 mid new ran.2 more)
+
+-- the elements that are left begin with the one that is read
+rest_is : {X : Type 0} (xs : List X) (i : ℕ) (x : X) → i < length xs → x ≡ get_or xs i x → drop i xs ≡ x ∷ drop (i + 1) xs
+rest_is xs i x within read = drop_more xs i x within ∙ ap (λ y. y ∷ drop (i + 1) xs) (sym read)
+
+-- In a loop that runs one statement for each element: if the statements that are left lead to some state, those of all
+-- elements lead there from the start. So it is at the start ..
+-- .. after one more element ..
+pub ran_on : {S X : Type 0} (g : Ghosts S) (put : X → Statement) (xs : List X) (i : ℕ) (x : X) (start now next : Held S) → i < length xs → x ≡ get_or xs i x → Ran g (put x) now next
+    → ((last : Held S) → RanAll g (map put (drop i xs)) now last → RanAll g (map put xs) start last)
+    → (last : Held S) → RanAll g (map put (drop (i + 1) xs)) next last → RanAll g (map put xs) start last
+ran_on {S} {X} g put xs i x start now next within read ran all last rest =
+    all last (subst (λ (ys : List X). RanAll g (map put ys) now last) (sym (rest_is xs i x within read)) (next, ran, rest))
+
+-- .. and at the end
+pub ran_out : {S X : Type 0} (g : Ghosts S) (put : X → Statement) (xs : List X) (i : ℕ) (start now : Held S) → length xs ≤ i
+    → ((last : Held S) → RanAll g (map put (drop i xs)) now last → RanAll g (map put xs) start last) → RanAll g (map put xs) start now
+ran_out {S} {X} g put xs i start now over all =
+    all now (subst (λ (ys : List X). RanAll g (map put ys) now now) (sym (drop_all i xs over)) refl)
+
+-- the same of registrations, whose places are counted
+pub placed_on : {S : Type 0} (g : Ghosts S) (radios : List ℕ) (i place radio : ℕ) (start now next : Held S) → i < length radios → radio ≡ get_or radios i radio → Ran g (put_registration place radio) now next
+    → ((last : Held S) → RanAll g (put_registrations place (drop i radios)) now last → RanAll g (put_registrations 1 radios) start last)
+    → (last : Held S) → RanAll g (put_registrations (place + 1) (drop (i + 1) radios)) next last → RanAll g (put_registrations 1 radios) start last
+placed_on {S} g radios i place radio start now next within read ran all last rest =
+    all last (subst (λ (ys : List ℕ). RanAll g (put_registrations place ys) now last) (sym (rest_is radios i radio within read)) (next, ran, rest))
+
+pub placed_out : {S : Type 0} (g : Ghosts S) (radios : List ℕ) (i place : ℕ) (start now : Held S) → length radios ≤ i
+    → ((last : Held S) → RanAll g (put_registrations place (drop i radios)) now last → RanAll g (put_registrations 1 radios) start last) → RanAll g (put_registrations 1 radios) start now
+placed_out {S} g radios i place start now over all =
+    all now (subst (λ (ys : List ℕ). RanAll g (put_registrations place ys) now now) (sym (drop_all i radios over)) refl)
+
+-- a statement within a transaction commits nothing
+kept_by : (sql : List ℕ) (params : Row) (old new : State) (r : Result ℕ Error) → ExecutesInside 0 sql params old new r → KeepsCommit old new
+kept_by sql params old new (Ok count) ran = record { was_open = λ _. ran.1.was_open; committed = λ _. ran.1.committed_is }
+kept_by sql params old new (Err e) (inl (_, inl same)) = record { was_open = λ _. same.0.was_open; committed = λ _. same.0.committed_is }
+kept_by sql params old new (Err e) (inl (_, inr back)) = record { was_open = back.was_open; committed = λ opened. (back.undone opened).1 }
+kept_by sql params old new (Err e) (inr (_, _, same)) = record { was_open = λ _. same.0.was_open; committed = λ _. same.0.committed_is }
+
+-- nothing happened
+pub keeps_same : {S : Type 0} (g : Ghosts S) (h : Held S) → Keeps g h h
+keeps_same g h = record {
+  kept = λ _. record { was_open = λ opened. opened; committed = λ _. refl };
+  survives = record {
+    clean = omega arith;
+    shield = λ shielded. shielded;
+    counts = omega arith;
+    limit = refl;
+    closes = λ _ opened. inl opened;
+    crash = λ _ db may. inl may;
+  };
+}
+
+-- what `execute` of a transaction ensures
+pub keeps_run : {S : Type 0} (g : Ghosts S) (sql : List ℕ) (params : Row) (old new : Held S) (r : Result ℕ Error) → ((state g old).in_transaction ≡ false → (r ≡ Err (SqliteFailure TransactionState)) × (new ≡ old))
+    → (HasCleanDisk (state g new) → IsTrue (state g old).in_transaction → ExecutesInside 0 sql params (state g old) (state g new) r) → Survives (state g old) (state g new) (λ _. ⊥) → Keeps g old new
+keeps_run {S} g sql params old new r ended runs survives = record { kept = λ clean. either old.in_transaction refl clean; survives = survives }
+  where
+    either : (b : Bool) → old.in_transaction ≡ b → HasCleanDisk (state g new) → KeepsCommit (state g old) (state g new)
+    either true is clean = kept_by sql params (state g old) (state g new) r (runs clean is)
+    either false is clean = subst (λ (h : Held S). KeepsCommit (state g old) (state g h)) (sym (ended is).1) ((keeps_same g old).kept (subst (λ (h : Held S). HasCleanDisk (state g h)) (ended is).1 clean))
+
+-- one after another
+pub keeps_then : {S : Type 0} (g : Ghosts S) (a b c : Held S) → Keeps g a b → Keeps g b c → Keeps g a c
+keeps_then g a b c one two = record {
+  kept = λ clean.
+      let early : HasCleanDisk (state g b) = omega (arith, two.survives.clean) in
+      record {
+        was_open = λ opened. (one.kept early).was_open ((two.kept clean).was_open opened);
+        committed = λ opened. (two.kept clean).committed opened ∙ (one.kept early).committed ((two.kept clean).was_open opened);
+      };
+  survives = survives_then (state g a) (state g b) (state g c) _ _ (λ _. ⊥) (λ _ _ none. none) (λ _ _ none. none) one.survives two.survives;
+}
+
+-- if the disk has returned what was written up to the end, it has up to the beginning
+pub clean_before : {S : Type 0} (g : Ghosts S) (its : List Statement) (old new : Held S) → RanAll g its old new → HasCleanDisk (state g new) → HasCleanDisk (state g old)
+clean_before {S} g [] old new is clean = subst (λ (h : Held S). HasCleanDisk (state g h)) is clean
+clean_before g (it ∷ later) old new ran clean =
+    let late : HasCleanDisk (state g ran.0) = clean_before g later ran.0 new ran.2 clean in
+    let kept = ran.1.survives.clean in
+    omega arith
+
+-- statements that ran were executed, if the disk has returned what was written
+pub executed : {S : Type 0} (g : Ghosts S) (its : List Statement) (old new : Held S) → RanAll g its old new → HasCleanDisk (state g new) → IsTrue (state g old).in_transaction
+    → ExecutedAll g its old new × IsTrue (state g new).in_transaction
+executed {S} g [] old new is clean inside = (is, subst (λ (h : Held S). IsTrue h.in_transaction) (sym is) inside)
+executed g (it ∷ later) old new ran clean inside =
+    let did = ran.1.runs (clean_before g later ran.0 new ran.2 clean) inside in
+    let more = executed g later ran.0 new ran.2 clean did.executes.1.mode in
+    ((ran.0, did, more.0), more.1)
+
+-- the same statement, written otherwise
+pub ran_as : {S : Type 0} (g : Ghosts S) (it : Statement) (text : List ℕ) (params : Row) (old new : Held S) (r : Result (Unit {0}) Error) → OnOk r (Ran g (record { text = text; params = params }) old new)
+    → text ≡ it.text → params ≡ it.params → OnOk r (Ran g it old new)
+ran_as g it text params old new r ran same_text same_params =
+    subst (λ (p : Row). OnOk r (Ran g (record { text = it.text; params = p }) old new)) same_params
+    (subst (λ (t : List ℕ). OnOk r (Ran g (record { text = t; params = params }) old new)) same_text ran)
+
+-- a fact of success follows from another
+pub ok_then : {X E A B : Type 0} (r : Result X E) → (A → B) → OnOk r A → OnOk r B
+ok_then (Ok x) f a = f a
+ok_then (Err e) f a = tt
+
+-- the values that are bound, one by one
+bound_cons : (v : ValueRef) (vs : List ValueRef) (x : Value) (xs : Row) → bound_value (owned v) ≡ x → bound vs ≡ xs → bound (v ∷ vs) ≡ x ∷ xs
+bound_cons v vs x xs first rest = cc
+
+-- 11 values that are bound
+pub bound_11 : (v1 v2 v3 v4 v5 v6 v7 v8 v9 v10 v11 : ValueRef) (x1 x2 x3 x4 x5 x6 x7 x8 x9 x10 x11 : Value)
+    → bound_value (owned v1) ≡ x1 → bound_value (owned v2) ≡ x2 → bound_value (owned v3) ≡ x3 → bound_value (owned v4) ≡ x4 → bound_value (owned v5) ≡ x5 →
+    bound_value (owned v6) ≡ x6 → bound_value (owned v7) ≡ x7 → bound_value (owned v8) ≡ x8 → bound_value (owned v9) ≡ x9 → bound_value (owned v10) ≡ x10 →
+    bound_value (owned v11) ≡ x11 → bound (v1 ∷ v2 ∷ v3 ∷ v4 ∷ v5 ∷ v6 ∷ v7 ∷ v8 ∷ v9 ∷ v10 ∷ v11 ∷ []) ≡ x1 ∷ x2 ∷ x3 ∷ x4 ∷ x5 ∷ x6 ∷ x7 ∷ x8 ∷ x9 ∷ x10 ∷ x11 ∷ []
+bound_11 v1 v2 v3 v4 v5 v6 v7 v8 v9 v10 v11 x1 x2 x3 x4 x5 x6 x7 x8 x9 x10 x11 e1 e2 e3 e4 e5 e6 e7 e8 e9 e10 e11 = cc

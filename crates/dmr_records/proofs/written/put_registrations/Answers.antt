@@ -1,0 +1,11 @@
+use Rattle.std.proofs.Common.{◌∙◌, arith}
+use Rattle.dmr_records.proofs.RanLemmas.{keeps_then, placed_on}
+use Rattle.dmr_records.proofs.written.put_registrations.Goals as goal
+
+pub loop-radio-preserved : goal.loop-radio-preserved
+loop-radio-preserved g c = record {
+  same = c.put_registration.ensures.same_reference ∙ c.loop-radio.invariant.same;
+  keeps = keeps_then g.S.Store _ _ _ c.loop-radio.invariant.keeps c.put_registration.ensures.keeps;
+  place = omega arith;
+  all = placed_on g.S.Store c.args.radios.now c.loop-radio.radio-index c.loop-radio.place c.radio-item.result _ _ _ c.loop-radio-test.true c.radio-item.is c.in_ok-put_registration.ensures.ran c.loop-radio.invariant.all;
+}

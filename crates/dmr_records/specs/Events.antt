@@ -1,0 +1,52 @@
+-- The events of a term: the changes of registration and the notes, each as a row of the table `events`.
+use Rattle.std.specs.Prelude.{ℕ, Some, None}
+use Rattle.dmr_keeper.specs.declared.changes.Change.{Change}
+use Rattle.dmr_keeper.specs.declared.changes.ChangeKind.{ChangeKind}
+use Rattle.dmr_keeper.specs.declared.changes.ChangeKind.TheVariants as change
+use Rattle.dmr_keeper.specs.declared.notes.Note.{Note}
+use Rattle.dmr_keeper.specs.declared.notes.Occurrence.{Occurrence}
+use Rattle.dmr_keeper.specs.declared.notes.Occurrence.TheVariants as what
+use Rattle.dmr_records.specs.declared.events.EventRow.{EventRow}
+use Rattle.dmr_records.specs.declared.events.EventKind.{EventKind}
+use Rattle.dmr_records.specs.declared.events.EventKind.TheVariants as kind
+
+-- an event of which only the tick and the kind are known
+abbrev pub bare : ℕ → EventKind → EventRow
+bare tick k = record {
+  tick = tick;
+  kind = k;
+  carrier = None;
+  slot = None;
+  radio = None;
+  target = None;
+  channel = None;
+  reason = None;
+  reply = None;
+}
+
+abbrev pub kind_of_change : ChangeKind → EventKind
+kind_of_change change.Joined = kind.Joined
+kind_of_change change.Left = kind.Left
+kind_of_change change.Dropped = kind.Dropped
+
+-- a change of registration: its radio
+abbrev pub event_of_change : Change → EventRow
+event_of_change c = record (bare c.tick (kind_of_change c.kind)) { radio = Some c.radio }
+
+-- what happened: of a refusal the radio that asked, what it asked about and the reason; of a command what it names, and
+-- its result
+abbrev pub event_of : ℕ → Occurrence → EventRow
+event_of tick (what.CameUp carrier) = record (bare tick kind.CameUp) { carrier = Some carrier }
+event_of tick (what.WasLost carrier) = record (bare tick kind.WasLost) { carrier = Some carrier }
+event_of tick (what.Refused source target reason) =
+    record (bare tick kind.Refused) { radio = Some source; target = Some target; reason = Some reason }
+event_of tick (what.DropCommand radio outcome) =
+    record (bare tick kind.DropCommand) { radio = Some radio; reply = Some outcome }
+event_of tick (what.EndCommand carrier slot outcome) =
+    record (bare tick kind.EndCommand) { carrier = Some carrier; slot = Some slot; reply = Some outcome }
+event_of tick (what.MoveCommand channel outcome) =
+    record (bare tick kind.MoveCommand) { channel = Some channel; reply = Some outcome }
+event_of tick (what.StayCommand outcome) = record (bare tick kind.StayCommand) { reply = Some outcome }
+
+abbrev pub event_of_note : Note → EventRow
+event_of_note note = event_of note.tick note.what

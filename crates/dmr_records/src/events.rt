@@ -1,0 +1,151 @@
+//! The events of a term: changes of registration and notes, each as a row of the table `events`.
+
+ghost use Rattle.std.specs.Prelude.{◌≡◌};
+ghost use Rattle.dmr_records.specs.Events.{bare as only, event_of, event_of_change as change_row};
+ghost use Rattle.dmr_records.specs.Events.{event_of_note as note_row};
+ghost use Rattle.dmr_records.specs.Events.{kind_of_change as kind_by_change};
+
+use dmr_keeper::{Change, ChangeKind, Note, Occurrence, Outcome};
+
+/// The kind of an event.
+#[derive(Clone, Copy, Debug, PartialEq, Eq)]
+pub enum EventKind {
+    /// A radio was registered.
+    Joined,
+    /// A radio left by its request.
+    Left,
+    /// An operator ended the registration of a radio.
+    Dropped,
+    /// A carrier came up.
+    CameUp,
+    /// A carrier was lost.
+    WasLost,
+    /// A request was refused.
+    Refused,
+    /// An operator sent `drop`.
+    DropCommand,
+    /// An operator sent `end`.
+    EndCommand,
+    /// An operator sent `move`.
+    MoveCommand,
+    /// An operator sent `stay`.
+    StayCommand,
+}
+
+/// An event with the values of its columns. A value that its kind does not have is `None`.
+#[derive(Clone, Copy, Debug, PartialEq, Eq)]
+pub struct EventRow {
+    /// The tick, counted over all terms.
+    pub tick: u64,
+    /// The kind.
+    pub kind: EventKind,
+    /// The number of the carrier.
+    pub carrier: Option<u32>,
+    /// The number of the slot.
+    pub slot: Option<u32>,
+    /// The number of the radio.
+    pub radio: Option<u32>,
+    /// The address that a refused request was about.
+    pub target: Option<u32>,
+    /// The number of the channel to which the control channel is moved.
+    pub channel: Option<u32>,
+    /// The reason code of the acknowledgement.
+    pub reason: Option<u32>,
+    /// The result of the command.
+    pub reply: Option<Outcome>,
+}
+
+/// An event of this kind with no other value than the tick.
+fn bare(tick: u64, kind: EventKind) -> EventRow
+    ensures { result ≡ only tick kind }
+{
+    EventRow {
+        tick,
+        kind,
+        carrier: None,
+        slot: None,
+        radio: None,
+        target: None,
+        channel: None,
+        reason: None,
+        reply: None,
+    }
+}
+
+/// The kind of a change's event.
+fn kind_of_change(kind: &ChangeKind) -> EventKind
+    ensures { result ≡ kind_by_change kind.now }
+{
+    match kind {
+        ChangeKind::Joined => EventKind::Joined,
+        ChangeKind::Left => EventKind::Left,
+        ChangeKind::Dropped => EventKind::Dropped,
+    }
+}
+
+/// The event of a change of registration.
+pub fn event_of_change(change: &Change) -> EventRow
+    ensures { result ≡ change_row change.now }
+{
+    let mut event = bare(change.tick, kind_of_change(&change.kind));
+    event.radio = Some(change.radio.get());
+    event
+}
+
+/// The event of a note.
+pub fn event_of_note(note: &Note) -> EventRow
+    ensures { result ≡ note_row note.now }
+{
+    let tick = note.tick;
+    match &note.what {
+        Occurrence::CameUp(carrier) => {
+            let mut event = bare(tick, EventKind::CameUp);
+            event.carrier = Some(carrier.get());
+            event
+        }
+        Occurrence::WasLost(carrier) => {
+            let mut event = bare(tick, EventKind::WasLost);
+            event.carrier = Some(carrier.get());
+            event
+        }
+        Occurrence::Refused {
+            source,
+            target,
+            reason,
+        } => {
+            let mut event = bare(tick, EventKind::Refused);
+            event.radio = Some(source.get());
+            event.target = Some(target.get());
+            event.reason = Some(reason.get());
+            event
+        }
+        Occurrence::DropCommand { radio, outcome } => {
+            let mut event = bare(tick, EventKind::DropCommand);
+            event.radio = Some(radio.get());
+            event.reply = Some(*outcome);
+            event
+        }
+        Occurrence::EndCommand {
+            carrier,
+            slot,
+            outcome,
+        } => {
+            let mut event = bare(tick, EventKind::EndCommand);
+            event.carrier = Some(carrier.get());
+            event.slot = Some(slot.get());
+            event.reply = Some(*outcome);
+            event
+        }
+        Occurrence::MoveCommand { channel, outcome } => {
+            let mut event = bare(tick, EventKind::MoveCommand);
+            event.channel = Some(channel.get());
+            event.reply = Some(*outcome);
+            event
+        }
+        Occurrence::StayCommand { outcome } => {
+            let mut event = bare(tick, EventKind::StayCommand);
+            event.reply = Some(*outcome);
+            event
+        }
+    }
+}

@@ -1,0 +1,34 @@
+//! Records of a site in an SQLite file, for its operator to query.
+//!
+//! [`RecordsFile`] is a [`Keeper`](dmr_keeper::Keeper). It keeps the [`TimedRecords`](dmr_keeper::TimedRecords) of each
+//! term: the calls that ended, the changes of registration, the notes, the counts, and the radios that are registered
+//! after the term. Each call and event has its ticks and its times of day. It writes a term in one transaction, so either all of its records are in the file, or none. Of each table of
+//! calls, events and terms it keeps the newest [`MOST_ROWS`] rows.
+//!
+//! The file is open only while a term is written, since SQLite's exclusive lock is held until it is closed. Between
+//! terms any SQLite program can read it. `docs/RECORDS.md` describes the tables, column by column.
+//!
+//! At a start, [`RecordsFile::registered`] reads the registered radios back, in the order in which they joined. A
+//! [`FileFault`] says why a file cannot be used.
+//!
+//! The contracts say which statements run, in which order, and with which values ([`write_term`]). What a statement
+//! does to a database is said by the contracts of the library `sqlite`.
+#![tactic(auto)]
+
+mod commit;
+mod events;
+mod fault;
+mod file;
+mod reading;
+mod rows;
+mod tables;
+mod term_row;
+mod values;
+mod words;
+mod written;
+
+pub use commit::write_term;
+pub use fault::{FileFault, keep_fault_of};
+pub use file::{MOST_ROWS, RecordsFile};
+pub use reading::read_radios;
+pub use tables::{VERSION, prepare_tables};

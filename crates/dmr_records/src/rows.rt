@@ -1,0 +1,234 @@
+//! The statements that write a row.
+//!
+//! Each function runs one statement in a transaction. If the statement fails or is refused, the transaction is as the
+//! library leaves it, and its owner drops it, which rolls it back.
+
+ghost use Rattle.std.specs.Prelude.{◌≡◌, OnOk};
+ghost use Rattle.sqlite.specs.Values.{bound};
+ghost use Rattle.dmr_records.specs.Ran.{Keeps, Ran};
+ghost use Rattle.dmr_records.specs.Statements.{cut_registrations as statement_of_cut};
+ghost use Rattle.dmr_records.specs.Statements.{mark_removed as statement_of_mark};
+ghost use Rattle.dmr_records.specs.Statements.{prune_calls as statement_of_calls};
+ghost use Rattle.dmr_records.specs.Statements.{prune_events as statement_of_events};
+ghost use Rattle.dmr_records.specs.Statements.{prune_terms as statement_of_terms};
+ghost use Rattle.dmr_records.specs.Statements.{put_call as statement_of_call};
+ghost use Rattle.dmr_records.specs.Statements.{put_event as statement_of_event};
+ghost use Rattle.dmr_records.specs.Statements.{put_registration as statement_of_registration};
+ghost use Rattle.dmr_records.specs.Statements.{put_term as statement_of_term};
+
+use crate::events::EventRow;
+use crate::term_row::TermRow;
+use crate::values::{count, flag, number, number_or_null, outcome_or_null, size, word};
+use crate::words::{cause_word, kind_word};
+use dmr_keeper::{EndedCall, TermCounts, TermTime};
+use dmr_pdu::Address;
+use sqlite::types::ValueRef;
+use sqlite::{Alter, Error, Transaction};
+
+const PUT_TERM: &str =
+    "INSERT INTO terms (ended_ms, tick_ms, last_tick, entries, heard, requests, noise, active, \
+    polls, ticks, commands, grants, late_entries, registrations, refusals, begun, ended, most_lines) \
+    VALUES (?1, ?2, ?3, ?4, ?5, ?6, ?7, ?8, ?9, ?10, ?11, ?12, ?13, ?14, ?15, ?16, ?17, ?18)";
+
+const PUT_CALL: &str =
+    "INSERT INTO calls (term, carrier, slot, is_group, source, target, began, began_ms, ended, \
+    ended_ms, cause) VALUES (?1, ?2, ?3, ?4, ?5, ?6, ?7, ?8, ?9, ?10, ?11)";
+
+const PUT_EVENT: &str = "INSERT INTO events \
+    (term, tick, at_ms, kind, carrier, slot, radio, target, channel, reason, reply) \
+    VALUES (?1, ?2, ?3, ?4, ?5, ?6, ?7, ?8, ?9, ?10, ?11)";
+
+const PUT_REGISTRATION: &str = "INSERT INTO registrations (place, radio) VALUES (?1, ?2) \
+    ON CONFLICT (place) DO UPDATE SET radio = excluded.radio WHERE radio <> excluded.radio";
+
+const CUT_REGISTRATIONS: &str = "DELETE FROM registrations WHERE place > ?1";
+
+const MARK_REMOVED: &str = "UPDATE removed SET calls = (SELECT max(number) FROM calls) - ?1, \
+    events = (SELECT max(number) FROM events) - ?1, \
+    terms = (SELECT max(number) FROM terms) - ?1";
+
+const PRUNE_CALLS: &str = "DELETE FROM calls WHERE number <= (SELECT calls FROM removed)";
+
+const PRUNE_EVENTS: &str = "DELETE FROM events WHERE number <= (SELECT events FROM removed)";
+
+const PRUNE_TERMS: &str = "DELETE FROM terms WHERE number <= (SELECT terms FROM removed)";
+
+/// Runs a statement, and does not say how many rows it changed.
+fn run<S: Alter>(
+    tx: &mut Transaction<'_, S>,
+    text: &str,
+    params: &[ValueRef<'_>],
+) -> Result<(), Error>
+    ensures same_reference { tx.new.conn.ghost_name ≡ tx.old.conn.ghost_name }
+    ensures ran { OnOk result (Ran S.Store (record { text = text.now; params = bound params.now })
+        tx.old.conn.now tx.new.conn.now) }
+    ensures keeps { Keeps S.Store tx.old.conn.now tx.new.conn.now }
+{
+    match tx.execute(text, params) {
+        Ok(_) => Ok(()),
+        Err(error) => Err(error),
+    }
+}
+
+/// Writes the row of a term: its time, the ticks of all terms up to its end, and its counts. The
+/// row has the next number.
+pub fn put_term<S: Alter>(
+    tx: &mut Transaction<'_, S>,
+    time: TermTime,
+    ticks: u64,
+    counts: &TermCounts,
+) -> Result<(), Error>
+    ensures same_reference { tx.new.conn.ghost_name ≡ tx.old.conn.ghost_name }
+    ensures ran { OnOk result
+        (Ran S.Store (statement_of_term time ticks counts.now) tx.old.conn.now tx.new.conn.now) }
+    ensures keeps { Keeps S.Store tx.old.conn.now tx.new.conn.now }
+{
+    run(
+        tx,
+        PUT_TERM,
+        &[
+            count(time.ended),
+            number(time.tick_ms),
+            count(ticks),
+            size(counts.entries),
+            size(counts.heard),
+            size(counts.requests),
+            size(counts.noise),
+            size(counts.active),
+            size(counts.polls),
+            size(counts.ticks),
+            size(counts.commands),
+            size(counts.grants),
+            size(counts.late_entries),
+            size(counts.registrations),
+            size(counts.refusals),
+            size(counts.begun),
+            size(counts.ended),
+            size(counts.most_lines),
+        ],
+    )
+}
+
+/// Writes the row of a call that ended in the term with this row.
+pub fn put_call<S: Alter>(
+    tx: &mut Transaction<'_, S>,
+    term: TermRow,
+    call: &EndedCall,
+) -> Result<(), Error>
+    ensures same_reference { tx.new.conn.ghost_name ≡ tx.old.conn.ghost_name }
+    ensures ran { OnOk result
+        (Ran S.Store (statement_of_call term call.now) tx.old.conn.now tx.new.conn.now) }
+    ensures keeps { Keeps S.Store tx.old.conn.now tx.new.conn.now }
+{
+    run(
+        tx,
+        PUT_CALL,
+        &[
+            count(term.number),
+            number(call.call.slot.carrier.get()),
+            number(call.call.slot.slot.get()),
+            flag(call.call.group),
+            number(call.call.source.get()),
+            number(call.call.target.get()),
+            count(call.began),
+            count(term.time_of(call.began)),
+            count(call.ended),
+            count(term.time_of(call.ended)),
+            word(cause_word(&call.cause)),
+        ],
+    )
+}
+
+/// Writes the row of an event in the term with this row.
+pub fn put_event<S: Alter>(
+    tx: &mut Transaction<'_, S>,
+    term: TermRow,
+    event: &EventRow,
+) -> Result<(), Error>
+    ensures same_reference { tx.new.conn.ghost_name ≡ tx.old.conn.ghost_name }
+    ensures ran { OnOk result
+        (Ran S.Store (statement_of_event term event.now) tx.old.conn.now tx.new.conn.now) }
+    ensures keeps { Keeps S.Store tx.old.conn.now tx.new.conn.now }
+{
+    run(
+        tx,
+        PUT_EVENT,
+        &[
+            count(term.number),
+            count(event.tick),
+            count(term.time_of(event.tick)),
+            word(kind_word(&event.kind)),
+            number_or_null(event.carrier),
+            number_or_null(event.slot),
+            number_or_null(event.radio),
+            number_or_null(event.target),
+            number_or_null(event.channel),
+            number_or_null(event.reason),
+            outcome_or_null(event.reply),
+        ],
+    )
+}
+
+/// Writes the radio at a place of the order of joining. A row that has this radio already is not written.
+pub fn put_registration<S: Alter>(
+    tx: &mut Transaction<'_, S>,
+    place: u64,
+    radio: &Address,
+) -> Result<(), Error>
+    ensures same_reference { tx.new.conn.ghost_name ≡ tx.old.conn.ghost_name }
+    ensures ran { OnOk result
+        (Ran S.Store (statement_of_registration place radio.now) tx.old.conn.now tx.new.conn.now) }
+    ensures keeps { Keeps S.Store tx.old.conn.now tx.new.conn.now }
+{
+    run(tx, PUT_REGISTRATION, &[count(place), number(radio.get())])
+}
+
+/// Removes the registrations after this place.
+pub fn cut_registrations<S: Alter>(tx: &mut Transaction<'_, S>, last: usize) -> Result<(), Error>
+    ensures same_reference { tx.new.conn.ghost_name ≡ tx.old.conn.ghost_name }
+    ensures ran { OnOk result
+        (Ran S.Store (statement_of_cut last) tx.old.conn.now tx.new.conn.now) }
+    ensures keeps { Keeps S.Store tx.old.conn.now tx.new.conn.now }
+{
+    run(tx, CUT_REGISTRATIONS, &[size(last)])
+}
+
+/// Notes up to which number the rows of each table are removed next, so that at most this many stay.
+pub fn mark_removed<S: Alter>(tx: &mut Transaction<'_, S>, most: u32) -> Result<(), Error>
+    ensures same_reference { tx.new.conn.ghost_name ≡ tx.old.conn.ghost_name }
+    ensures ran { OnOk result
+        (Ran S.Store (statement_of_mark most) tx.old.conn.now tx.new.conn.now) }
+    ensures keeps { Keeps S.Store tx.old.conn.now tx.new.conn.now }
+{
+    run(tx, MARK_REMOVED, &[number(most)])
+}
+
+/// Removes the calls up to the noted number.
+pub fn prune_calls<S: Alter>(tx: &mut Transaction<'_, S>) -> Result<(), Error>
+    ensures same_reference { tx.new.conn.ghost_name ≡ tx.old.conn.ghost_name }
+    ensures ran { OnOk result
+        (Ran S.Store statement_of_calls tx.old.conn.now tx.new.conn.now) }
+    ensures keeps { Keeps S.Store tx.old.conn.now tx.new.conn.now }
+{
+    run(tx, PRUNE_CALLS, &[])
+}
+
+/// Removes the events up to the noted number.
+pub fn prune_events<S: Alter>(tx: &mut Transaction<'_, S>) -> Result<(), Error>
+    ensures same_reference { tx.new.conn.ghost_name ≡ tx.old.conn.ghost_name }
+    ensures ran { OnOk result
+        (Ran S.Store statement_of_events tx.old.conn.now tx.new.conn.now) }
+    ensures keeps { Keeps S.Store tx.old.conn.now tx.new.conn.now }
+{
+    run(tx, PRUNE_EVENTS, &[])
+}
+
+/// Removes the terms up to the noted number.
+pub fn prune_terms<S: Alter>(tx: &mut Transaction<'_, S>) -> Result<(), Error>
+    ensures same_reference { tx.new.conn.ghost_name ≡ tx.old.conn.ghost_name }
+    ensures ran { OnOk result
+        (Ran S.Store statement_of_terms tx.old.conn.now tx.new.conn.now) }
+    ensures keeps { Keeps S.Store tx.old.conn.now tx.new.conn.now }
+{
+    run(tx, PRUNE_TERMS, &[])
+}

@@ -35,12 +35,13 @@ help: ## this list
 demo: ## builds the program without its proofs and replays one registration (about a minute)
 	@cd crates/dmr_trunk && rt try -- --site data/site.toml --script data/registration.txt
 
-build: ## the proved programs, at build/dmr_trunk, dmr_decode, dmr_refusals and dmr_soak (long, the first time)
+build: ## the proved programs, at build/dmr_trunk, dmr_decode, dmr_refusals, dmr_filing and dmr_soak (long, the first time)
 	cd crates/dmr_trunk && rt run -- --site data/site.toml --script data/registration.txt
 	cd crates/dmr_decode && rt run -- write C_RAND kind=registration source=1
 	cd crates/dmr_refusals && rt run
+	cd crates/dmr_filing && rt run -- site.db
 	cd crates/dmr_soak && rt run
-	mkdir -p build && for name in dmr_trunk dmr_decode dmr_refusals dmr_soak; do cp crates/$$name/out/$$name build || exit; done
+	mkdir -p build && for name in dmr_trunk dmr_decode dmr_refusals dmr_filing dmr_soak; do cp crates/$$name/out/$$name build || exit; done
 
 check: ## proves one crate over what earlier runs kept: make check CRATE=dmr_pool; all crates without CRATE
 ifdef CRATE

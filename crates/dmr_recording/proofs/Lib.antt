@@ -1,0 +1,9 @@
+mod FreeWords
+mod LinesAreRead
+mod CommandsAreRead
+mod EventLines
+mod ConnectionsAreMeant
+mod EventsAreMeant
+mod NoiseMeansNothing
+mod EventsInARow
+mod JournalLemmas

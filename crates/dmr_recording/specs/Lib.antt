@@ -1,0 +1,7 @@
+pub mod Lines
+pub mod Commands
+pub mod Events
+pub mod Recordable
+pub mod Records
+pub mod Restored
+pub mod Drafts

@@ -4,3 +4,4 @@ pub mod SiteLemmas
 pub mod CountLemmas
 pub mod CauseLemmas
 pub mod HandingLemmas
+pub mod NewestLemmas

@@ -1,7 +1,11 @@
 -- Handing records over to a store.
-use Rattle.std.specs.Prelude.{◌≡◌, List, ◌++◌, Option}
+use Rattle.std.specs.Prelude.{◌≡◌, ◌-◌, List, ◌++◌, Option, length, drop}
 use Rattle.dmr_keeper.specs.declared.time.TimedRecords.{TimedRecords}
 use Rattle.dmr_keeper.specs.Kept.{Kept, Keeps}
+
+-- as many of these records as may wait: those of the newest 1,000 terms
+abbrev pub newest : List TimedRecords → List TimedRecords
+newest terms = drop (length terms - 1000) terms
 
 -- of the records that waited, the store kept the oldest, each once and in their order; the others still wait
 pub record AreHandedOver (before : Option Kept) (old new : List TimedRecords)

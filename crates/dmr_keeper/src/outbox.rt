@@ -1,8 +1,8 @@
 //! Records that wait until a store keeps them.
 
-ghost use Rattle.std.specs.Prelude.{◌≡◌, ◌<◌, ◌≤◌, ◌+◌, ◌↔◌, [], ◌∷◌, ◌++◌, length, vec_capacity};
+ghost use Rattle.std.specs.Prelude.{◌≡◌, ◌<◌, ◌≤◌, ◌+◌, ◌-◌, ◌↔◌, [], ◌∷◌, ◌++◌, length, vec_capacity};
 ghost use Rattle.std.specs.Prelude.{IfOk, IsSome, IsTrue, OnErr, OnOk, option_to_list};
-ghost use Rattle.dmr_keeper.specs.Handing.{AreHandedOver};
+ghost use Rattle.dmr_keeper.specs.Handing.{AreHandedOver, newest};
 ghost use Rattle.dmr_keeper.specs.Kept.{Keeps};
 
 use crate::keeper::{KeepFault, Keeper};
@@ -90,6 +90,7 @@ impl Outbox {
     /// Adds the records of a term. If [`MOST_WAITING`] wait already, the oldest are removed and returned: they are lost
     /// for the store. It allocates nothing.
     pub fn add(&mut self, term: TimedRecords) -> Option<TimedRecords>
+        ensures added { self.new ≡ newest (self.old ++ term ∷ []) }
         ensures all { option_to_list result ++ self.new ≡ self.old ++ term ∷ [] }
         ensures lost { IsSome result ↔ (MOST_WAITING ≤ length self.old) }
     {
@@ -110,6 +111,20 @@ impl Outbox {
             return None;
         }
         Some(self.terms.remove(0))
+    }
+
+    /// Moves all records of another outbox here, after these. If there is no room for all, the oldest are lost for the store,
+    /// and it returns for how many terms. It allocates nothing.
+    pub fn append(&mut self, later: &mut Outbox) -> usize
+        ensures moved { self.new ≡ newest (self.old ++ later.old) }
+        ensures none { later.new ≡ [] }
+        ensures lost { result ≡ length self.old + length later.old - MOST_WAITING }
+    {
+        let lost = (self.len() + later.len()).saturating_sub(MOST_WAITING);
+        while let Some(term) = later.take_oldest() {
+            drop(self.add(term));
+        }
+        lost
     }
 
     /// Hands records to a keeper, oldest term first, until it refuses some or none are left. Those that it kept are

@@ -1,6 +1,6 @@
 # `make` alone says what there is.
 .DEFAULT_GOAL := help
-.PHONY: help demo build check fmt test gate check-fast check-programs tools-check wrong-bodies bench bench-instructions soak serve-check serve-hostile network-recipes refuse-memory pictures package package-check release maps trusted install
+.PHONY: help demo build check fmt test gate check-fast check-programs tools-check wrong-bodies bench bench-instructions soak serve-check serve-hostile network-recipes restart refuse-memory pictures package package-check release maps trusted install
 
 PREFIX ?= /usr/local
 DESTDIR ?=
@@ -19,6 +19,7 @@ help: ## this list
 	@echo
 	@echo "tools/siteview       a live picture of a served site"
 	@echo "tools/timeline       an SVG of a replay"
+	@echo "tools/callbook       prints the calls that a controller recorded"
 	@echo "tools/capture        records a session as a script that replays"
 	@echo "tools/carriers       plays carriers and radios against a served site"
 	@echo "tools/check          checks a site file: its faults and its risks"
@@ -27,6 +28,8 @@ help: ## this list
 	@echo "trials/serve-hostile plays carriers and strangers that behave badly"
 	@echo "trials/long-replay   how long a long replay takes"
 	@echo "trials/watch-hour    whether a site's observers delay its carriers"
+	@echo "trials/restart       kills a controller that keeps records, and starts it again"
+	@echo "trials/recording     records a served site, replays it, and compares what carriers received"
 	@echo "trials/refuse-memory refuses each allocation of the programs in turn"
 	@echo "trials/network-recipes tries firewall and tunnels, in network namespaces"
 	@echo "trials/page-pictures takes the pictures of the hub's page"
@@ -97,6 +100,9 @@ serve-hostile: build/dmr_trunk ## the proved program served to carriers and stra
 network-recipes: build/dmr_trunk ## firewall, tunnels and units of deploy/ in network namespaces, with the proved program (a minute; as root, with nftables, wireguard-tools, stunnel4, apparmor)
 	trials/network-recipes build/dmr_trunk
 
+restart: build/dmr_trunk ## the proved program killed and started again over its file of records, a hundred times; and records that cannot be written for a while (five minutes)
+	trials/restart build/dmr_trunk
+
 refuse-memory: build/dmr_trunk build/dmr_refusals ## each allocation of two replays, of each call and of a served term refused in turn, in the proved programs (a minute)
 	trials/refuse-memory
 
@@ -130,14 +136,14 @@ install: build/dmr_trunk build/dmr_decode ## the programs, tools, manual pages, 
 	install -m 644 python/temzaar/cli/*.py $(DESTDIR)$(PYTHON_LIB)/temzaar/cli
 	install -m 644 python/temzaar/hub/*.py $(DESTDIR)$(PYTHON_LIB)/temzaar/hub
 	install -m 644 python/temzaar/hub/page/* $(DESTDIR)$(PYTHON_LIB)/temzaar/hub/page
-	for tool in siteview timeline capture carriers check hub console; do sed -e "s|@TOOL@|$$tool|" -e 's|@PYTHON_LIB@|$(PYTHON_LIB)|' python/launcher.in >$(DESTDIR)$(PREFIX)/bin/dmr_$$tool && chmod 755 $(DESTDIR)$(PREFIX)/bin/dmr_$$tool || exit; done
+	for tool in siteview timeline callbook capture carriers check hub console; do sed -e "s|@TOOL@|$$tool|" -e 's|@PYTHON_LIB@|$(PYTHON_LIB)|' python/launcher.in >$(DESTDIR)$(PREFIX)/bin/dmr_$$tool && chmod 755 $(DESTDIR)$(PREFIX)/bin/dmr_$$tool || exit; done
 	for section in 1 5 8; do install -d $(DESTDIR)$(MAN)/man$$section && for page in deploy/man/*.$$section; do sed -e 's|@VERSION@|$(VERSION)|' -e 's|@PREFIX@|$(PREFIX)|' $$page >$(DESTDIR)$(MAN)/man$$section/$${page##*/} || exit; done || exit; done
 	install -D -m 644 deploy/wireshark/dmr_link.lua $(DESTDIR)$(WIRESHARK_PLUGINS)/dmr_link.lua
 	ln -sf ../man8/dmr_trunk.8 $(DESTDIR)$(MAN)/man1/dmr_trunk.1
 	install -D -m 644 deploy/completion/dmr.bash $(DESTDIR)$(COMPLETIONS)/dmr_trunk
-	for command in decode siteview timeline capture carriers check hub console; do ln -sf dmr_trunk $(DESTDIR)$(COMPLETIONS)/dmr_$$command || exit; done
+	for command in decode siteview timeline callbook capture carriers check hub console; do ln -sf dmr_trunk $(DESTDIR)$(COMPLETIONS)/dmr_$$command || exit; done
 	for unit in dmr_trunk dmr_hub dmr_trunk@ dmr_hub@; do sed 's|@PREFIX@|$(PREFIX)|' deploy/$$unit.service >$(DESTDIR)$(PREFIX)/lib/systemd/system/$$unit.service || exit; done
-	install -m 644 docs/OPERATING.md docs/SECURITY.md docs/ALARMS.md docs/CAPACITY.md docs/HUB.md docs/SITE_FILE.md docs/FORMATS.md docs/LINK.md docs/GLOSSARY.md docs/GUARANTEES.md docs/ASSURANCE.md CHANGELOG.md LICENSE-APACHE LICENSE-MIT $(DESTDIR)$(DOC)
+	install -m 644 docs/OPERATING.md docs/SECURITY.md docs/ALARMS.md docs/CAPACITY.md docs/HUB.md docs/RECORDS.md docs/SITE_FILE.md docs/FORMATS.md docs/LINK.md docs/GLOSSARY.md docs/GUARANTEES.md docs/ASSURANCE.md CHANGELOG.md LICENSE-APACHE LICENSE-MIT $(DESTDIR)$(DOC)
 	install -m 644 docs/pictures/*.svg docs/pictures/*.png $(DESTDIR)$(DOC)/pictures
 	install -m 644 sites/*.toml deploy/hub.toml $(DESTDIR)$(DOC)/examples
 	for kind in nftables wireguard stunnel systemd apparmor prometheus grafana; do install -d $(DESTDIR)$(DOC)/examples/$$kind && install -m 644 deploy/$$kind/* $(DESTDIR)$(DOC)/examples/$$kind || exit; done

@@ -6,11 +6,12 @@ _dmr_options() {
         dmr_trunk) echo --site --script --serve --terms --version --help ;;
         dmr_decode) echo --site --help ;;
         dmr_siteview) echo --site --hub --console --once --every --help ;;
-        dmr_timeline) echo --site --script --printed --program --out --start --from --to --page --calls --help ;;
+        dmr_timeline) echo --site --script --printed --program --out --records --start --from --to --page --calls --help ;;
+        dmr_callbook) echo --records --format --radio --group --carrier --cause --from --to --last --seconds --help ;;
         dmr_capture) echo --site --program --out --running --shift --seconds --pcap --unfinished --help ;;
         dmr_carriers) echo --site --program --pid --port --carriers --link-version --radios --seconds --polls --fast --seed --faults --troubles --help ;;
         dmr_check) echo --explain --strict --json --link-version --controller --no-controller --help ;;
-        dmr_hub) echo --config --check --help ;;
+        dmr_hub) echo --config --records --check --help ;;
         dmr_console) echo --socket --tcp --seconds --help ;;
     esac
 }
@@ -39,12 +40,15 @@ _dmr() {
     case $before in
         --site) _dmr_files toml "$word" ;;
         --config) _dmr_files toml "$word" ;;
+        --records) _dmr_files db "$word" ;;
         --script | --printed | --unfinished) _dmr_files txt "$word" ;;
         --out | --pcap | --socket | --hub) _dmr_files "" "$word" ;;
         --program | --controller) mapfile -t COMPREPLY < <(compgen -c -- "$word") ;;
         --link-version) mapfile -t COMPREPLY < <(compgen -W "1 2" -- "$word") ;;
+        --format) mapfile -t COMPREPLY < <(compgen -W "table csv json" -- "$word") ;;
+        --cause) mapfile -t COMPREPLY < <(compgen -W "hang_time maximum radio_left dropped ended_by_operator carrier_lost" -- "$word") ;;
         --calls) mapfile -t COMPREPLY < <(compgen -W "text csv json" -- "$word") ;;
-        --terms | --every | --seconds | --polls | --seed | --radios | --carriers | --port | --pid | --shift | --page | --troubles | --start | --from | --to | --tcp | --console) COMPREPLY=() ;;
+        --terms | --every | --seconds | --polls | --seed | --radios | --carriers | --port | --pid | --shift | --page | --troubles | --start | --from | --to | --tcp | --console | --radio | --group | --carrier | --last) COMPREPLY=() ;;
         *)
             if [ "$command" = dmr_check ] && [ "${word#-}" = "$word" ]; then
                 _dmr_files toml "$word"
@@ -55,4 +59,4 @@ _dmr() {
     esac
 }
 
-complete -F _dmr dmr_trunk dmr_decode dmr_siteview dmr_timeline dmr_capture dmr_carriers dmr_check dmr_hub dmr_console
+complete -F _dmr dmr_trunk dmr_decode dmr_siteview dmr_timeline dmr_callbook dmr_capture dmr_carriers dmr_check dmr_hub dmr_console

@@ -30,10 +30,14 @@ comparison of the two means something. One module per subject, lowest first:
     callsheet   the list of calls as text, CSV and JSON
     clock       ticks and clock times, and windows of them
     drawing     the picture of a session
+    moments     dates and times that people write, and times before now
+    records     the controller's file of records
+    recordsheet the calls of a file of records as a table, CSV and JSON
+    recordsession a period of a file of records as a session that can be drawn
     ticks       where the ticks of a recorded session fell
     player      the play of a site's carriers and radios
     trouble     the same with connections that break, stall and misbehave
     hub         a service that holds the console and serves many who ask
     hubconsole  a connection to the hub, and what its lines may be completed to
-    cli         the commands: siteview, timeline, capture, carriers, check, hub, console
+    cli         the commands: siteview, timeline, callbook, capture, carriers, check, hub, console
 """

@@ -1,12 +1,12 @@
 """The picture of a session, as an SVG: slots as rows, time in ticks, calls as bars with their parties, and a legend."""
 from collections.abc import Iterator
 from html import escape
-from typing import Any, NamedTuple
+from typing import Any, NamedTuple, Protocol
 
 from temzaar import pdus
 from temzaar.calls import Calls, SlotKey
 from temzaar.clock import Clock, Window
-from temzaar.grants import granted_parties, is_grant, is_late
+from temzaar.grants import Call, granted_parties, is_grant, is_late
 from temzaar.script import Event, Input
 
 WIDTH, LEFT, ROW, TOP = 1100, 120, 26, 40
@@ -14,6 +14,8 @@ WIDTH, LEFT, ROW, TOP = 1100, 120, 26, 40
 NUMBER_ROOM, TIME_ROOM, POLL_ROOM = 34.0, 68.0, 0.5
 # The room below the rows without the legend, and the height of a line of the legend.
 BELOW, LEGEND_ROW = 24, 16
+# Rows below those of the slots, for events that belong to no slot: by what they are, in their order.
+LANES = {"radio": "radios", "said": "operator"}
 COLOURS = ("#7fb3d5", "#f5b27a", "#8fd19e", "#c9a3e0", "#f2d16b", "#e59aa8", "#8fd3d1", "#c5b79b")
 STYLE = """text{font:11px sans-serif;fill:#222}.small{font-size:9px;fill:#666}.row{fill:#f6f6f6}.control{fill:#eef3fa}.down{fill:#d9d9d9}
 .grid{stroke:#ddd}.lost{stroke:#c0392b;stroke-width:2}.up{stroke:#27ae60;stroke-width:2}.poll{stroke:#bbb}.grant{fill:#1e6b35}.late{fill:#a6d3b3}.ended{fill:none;stroke:#1e6b35}.clear{fill:#a93226}
@@ -88,7 +90,8 @@ class Axis:
 def event_in_words(event: Event) -> str:
     """An event in words."""
     if not event.octets:
-        return {"heard": "a burst was heard (flipped bits, or noise)", "said": f"operator: {event.text.strip()}"}.get(event.what, event.what)
+        words = {"heard": "a burst was heard (flipped bits, or noise)", "said": f"operator: {event.text.strip()}", "radio": event.text}
+        return words.get(event.what, event.what)
     pdu = pdus.read(event.octets)
     if pdu.name == "C_ACKD":
         return f"C_ACKD to {pdu['target']}: {pdus.reason_in_words(pdu['reason'])}"
@@ -105,13 +108,25 @@ def event_in_words(event: Event) -> str:
     return event.octets.hex().upper() if pdu.name == pdus.OTHER else pdu.name
 
 
-class Session:
-    """What is drawn: the inputs and the events of a replay over a site, its calls, its clock, and how many ticks it has."""
+class DrawnCalls(Protocol):
+    """The calls of a session: those that a replay shows, or those of records."""
+    # the grants of calls that had ended, by the index of their events
+    ended: set[int]
 
-    def __init__(self, plan: dict[str, Any], inputs: list[Input], events: list[Event], clock: Clock) -> None:
+    def bars(self) -> list[tuple[SlotKey, Call]]:
+        """The calls that have a bar, each with its slot, by their beginnings."""
+        ...
+
+
+class Session:
+    """What is drawn: inputs and events over a site, its calls, its clock, and how many ticks it has. Without `calls` they are those that the events, of a
+    replay, show. `has_ticks` is false if the ticks are not the site's."""
+
+    def __init__(self, plan: dict[str, Any], inputs: list[Input], events: list[Event], clock: Clock, calls: DrawnCalls | None = None, has_ticks: bool = True) -> None:
         self.plan, self.inputs, self.events, self.clock = plan, inputs, events, clock
-        self.calls = Calls(plan, events)
+        self.calls: DrawnCalls = calls or Calls(plan, events)
         self.ticks = sum(it.count for it in inputs)
+        self.has_ticks = has_ticks
 
 
 class Drawing:
@@ -119,11 +134,12 @@ class Drawing:
 
     def __init__(self, session: Session, window: Window) -> None:
         self.plan, self.events, self.calls, self.clock = session.plan, session.events, session.calls, session.clock
-        self.window, self.axis = window, Axis(session.inputs, window)
+        self.window, self.axis, self.has_ticks = window, Axis(session.inputs, window), session.has_ticks
         self.rows: list[SlotKey] = [(row["number"], slot) for row in sorted(self.plan["carrier"], key=lambda it: it["number"]) for slot in (0, 1)]
-        self.says = any(it.what == "said" for it in self.events)
+        used = {it.what for it in self.events}
+        self.lanes = [what for what in LANES if what in used]
         # the lower edge of the rows, and of the picture
-        self.bottom = TOP + ROW * (len(self.rows) + self.says)
+        self.bottom = TOP + ROW * (len(self.rows) + len(self.lanes))
         self.height = self.bottom + BELOW + LEGEND_ROW * len(LEGEND)
         self.parts: list[str] = []
         # the place of the last poll that was drawn, by carrier
@@ -139,9 +155,15 @@ class Drawing:
         """The upper edge of a slot's row."""
         return TOP + ROW * self.rows.index(slot)
 
+    def above_lane(self, what: str) -> int:
+        """The upper edge of the row of events that belong to no slot."""
+        return TOP + ROW * (len(self.rows) + self.lanes.index(what))
+
     def at_tick(self, tick: int) -> str:
         """A tick in words, with its clock time if it is known."""
         time = self.clock.time_of_day(tick)
+        if not self.has_ticks:
+            return time
         return f"tick {tick} ({time})" if time else f"tick {tick}"
 
     def draw(self) -> str:
@@ -159,22 +181,25 @@ class Drawing:
     def draw_rows(self) -> None:
         """The rows, their names, the ticks, and the clock times above them."""
         for slot in self.rows:
-            control = slot == (self.plan["control"], 0)
+            control = slot == (self.plan.get("control"), 0)
             self.put("rect", x=LEFT, y=self.above(slot) + 1, width=self.axis.end - LEFT, height=ROW - 2, class_="control" if control else "row")
             self.put("text", text=f"carrier {slot[0]} slot {slot[1]}", x=6, y=self.above(slot) + 13)
             if control:
                 self.put("text", text="control", x=6, y=self.above(slot) + 23, class_="small")
-        if self.says:
-            self.put("text", text="operator", x=6, y=self.bottom - ROW + 16)
+        for what in self.lanes:
+            self.put("text", text=LANES[what], x=6, y=self.above_lane(what) + 16)
+        self.draw_axis()
+
+    def draw_axis(self) -> None:
+        """The numbers of ticks, if they are the site's, and the clock times above them, if they are known."""
         timed = self.clock.start is not None
-        self.put("text", text="tick", x=LEFT - 30, y=TOP - 12, class_="small")
-        if timed:
-            self.put("text", text="time", x=LEFT - 30, y=TOP - 24, class_="small")
+        names = [("tick", TOP - 12)] * self.has_ticks + [("time", TOP - 24)] * timed
+        for name, y in names:
+            self.put("text", text=name, x=LEFT - 30, y=y, class_="small")
         for tick, across in self.axis.labels(TIME_ROOM if timed else NUMBER_ROOM):
             self.put("line", x1=across, y1=TOP - 8, x2=across, y2=self.bottom, class_="grid")
-            self.put("text", text=str(tick), x=across, y=TOP - 12, class_="small")
-            if timed:
-                self.put("text", text=self.clock.time_of_day(tick), x=across, y=TOP - 24, class_="small")
+            for name, y in names:
+                self.put("text", text=str(tick) if name == "tick" else self.clock.time_of_day(tick), x=across, y=y, class_="small")
 
     def draw_outages(self) -> None:
         """Grey on both slots of a carrier while it is not up, and a line when it comes up or is lost."""
@@ -218,7 +243,9 @@ class Drawing:
         """The mark of an event."""
         across, title = self.axis.at[event.index], f"{self.at_tick(event.tick)}: {event_in_words(event)}"
         if event.what == "said":
-            self.put("circle", title=title, cx=across + 3, cy=float(self.bottom - ROW / 2), r=3, class_="said")
+            self.put("circle", title=title, cx=across + 3, cy=float(self.above_lane("said") + ROW / 2), r=3, class_="said")
+        elif event.what == "radio":
+            self.put("rect", title=title, x=across - 2, y=self.above_lane("radio") + 6, width=4, height=7, class_="ack")
         elif event.what == "polled" and across - self.polled.get(event.carrier, 0.0) >= POLL_ROOM:
             below = self.above((event.carrier, 1)) + ROW - 1
             self.put("line", x1=across, y1=below - 3, x2=across, y2=below, class_="poll")

@@ -8,7 +8,7 @@ import subprocess
 import tempfile
 import threading
 import time
-from collections.abc import Callable, Sequence
+from collections.abc import Callable, Mapping, Sequence
 from typing import Any
 
 from temzaar.script import SessionFault
@@ -68,15 +68,16 @@ def ends_with_parent() -> Callable[[], None]:
 class Controller(Process):
     """The controller, serving a site until it is stopped, or until this process ends. Ctrl-C in the terminal does not reach it by itself. `notes` has the lines of its standard error, as they come."""
 
-    def __init__(self, program: str, site: Site, words: Sequence[str] = (), **options: Any) -> None:
-        """Starts it, with further words of its command line; `options` go to `subprocess.Popen`. SessionFault: it cannot be run."""
+    def __init__(self, program: str, site: Site, words: Sequence[str] = (), variables: Mapping[str, str] | None = None, **options: Any) -> None:
+        """Starts it, with further words of its command line and further variables of its environment; `options` go to `subprocess.Popen`.
+        SessionFault: it cannot be run."""
         self.folder = tempfile.TemporaryDirectory()
         path = os.path.join(self.folder.name, "site.toml")
         with open(path, "w", encoding="utf-8") as it:
             it.write(site.text())
         self.notes: list[str] = []
         # as deploy/dmr_trunk.service has it: the memory of a term goes back to the system when the term ends
-        environment = {**os.environ, "MALLOC_MMAP_THRESHOLD_": "262144"}
+        environment = {**os.environ, "MALLOC_MMAP_THRESHOLD_": "262144", **(variables or {})}
         command = [program, "--site", path, "--serve", *words]
         more: dict[str, Any] = {"stdin": subprocess.DEVNULL, "process_group": 0, "preexec_fn": ends_with_parent(), **options}
         try:

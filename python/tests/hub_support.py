@@ -13,7 +13,7 @@ from unittest import mock
 
 from temzaar.console import ReplyFrame
 from temzaar.hub import notes
-from temzaar.hub.config import AuditKeys, Config, ControllerKeys, HealthKeys, HttpKeys, LinePortKeys, PollKeys
+from temzaar.hub.config import AuditKeys, Config, ControllerKeys, HealthKeys, HttpKeys, LinePortKeys, PollKeys, RecordsKeys
 from temzaar.hub.lines import HUB_LISTS
 from temzaar.hub.roles import Role, Rules
 from temzaar.hub.service import Hub
@@ -85,10 +85,10 @@ class HubCase(unittest.IsolatedAsyncioTestCase):
             it.write(f"console_port = {port}\nsilence = 600\n")
 
     def config(self, line_port: dict[str, Any] | None = None, http: dict[str, Any] | None = None, health: HealthKeys = HealthKeys(), audit: dict[str, Any] | None = None,
-               answer_seconds: float = 10.0) -> Config:
+               answer_seconds: float = 10.0, records: str = "") -> Config:
         """A config in the test's folder."""
         return Config(controller=ControllerKeys(site_file=self.site, answer_seconds=answer_seconds, reconnect_seconds=0.2),
-                      poll=PollKeys(state_seconds=0.2, radios_seconds=0.5, questions_per_second=1000),
+                      poll=PollKeys(state_seconds=0.2, radios_seconds=0.5, questions_per_second=1000), records=RecordsKeys(file=records, read_seconds=0.1),
                       line_port=LinePortKeys(socket=self.socket, **(line_port or {})), audit=AuditKeys(file=self.audit, **(audit or {})),
                       http=HttpKeys(**(http or {})), health=health)
 

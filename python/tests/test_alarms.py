@@ -8,6 +8,8 @@ import tempfile
 import unittest
 from typing import Any
 
+from tests.hub_support import wait_until
+from tests.made_records import make_records
 from tests.support import TOP, read_document, table_rows
 from tests.test_hub_web import WebCase
 
@@ -157,7 +159,8 @@ class Scraped(WebCase):
     """The expressions, compared with a scrape of a hub."""
 
     async def test_a_hub_serves_each_metric(self) -> None:
-        await self.serve()
+        hub = await self.serve(records=str(make_records(pathlib.Path(self.folder, "site.db"))))
+        await wait_until(lambda: hub.records and hub.records.last)
         octets = (await self.get("/metrics")).body.decode("utf-8")
         # a counter with labels has no sample before its first event
         declared = set(re.findall(r"^# TYPE (\w+) \w+$", octets, re.M))

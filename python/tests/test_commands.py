@@ -13,17 +13,17 @@ import unittest
 from collections.abc import Callable, Iterator
 from typing import NamedTuple
 
-from temzaar.cli import capture, carriers, check, console, hub, siteview, timeline
+from temzaar.cli import callbook, capture, carriers, check, console, hub, siteview, timeline
 from temzaar.process import connect
 from temzaar.sitefile import Site
 from tests.support import EXAMPLES, TOP, TWO_CARRIERS, call_tool, take_signals, tool_words
 
-MAINS: dict[str, Callable[[list[str]], int]] = {"siteview": siteview.main, "timeline": timeline.main, "capture": capture.main, "carriers": carriers.main,
+MAINS: dict[str, Callable[[list[str]], int]] = {"siteview": siteview.main, "timeline": timeline.main, "callbook": callbook.main, "capture": capture.main, "carriers": carriers.main,
                                                  "check": check.main, "hub": hub.main, "console": console.main}
 # The words for `--help` that would do harm, or fail, without it.
-HELP_WORDS = {"capture": "--site {none} --program {none} --out {out}", "check": "{none}", "hub": "--config {none}", "console": "--socket {none} status"}
+HELP_WORDS = {"capture": "--site {none} --program {none} --out {out}", "check": "{none}", "hub": "--config {none}", "console": "--socket {none} status", "callbook": "--records {none}"}
 # Those that do something without words.
-WITHOUT_WORDS = ("hub", "console")
+WITHOUT_WORDS = ("hub", "console", "callbook")
 FAKE = str(TOP / "python" / "tests" / "fake_controller.py")
 # The console of a stand-in, the first of some ports on which nothing listens, and the first of a controller that is started.
 CONSOLE, NOBODY, PLAYED = 18400, 18450, 18500
@@ -65,6 +65,8 @@ CASES = (
     Case("console", "--socket {text} status", 1, "cannot connect to the hub {text}: Connection refused"),
     Case("console", f"--tcp 127.0.0.1:{NOBODY} status", 1, f"cannot connect to the console 127.0.0.1:{NOBODY}: Connection refused"),
     # no file, a folder for a file, a file of something else
+    *(Case(tool, f"--records {{{file}}}", 1, f"{{{file}}}: {said}") for tool in ("callbook", "timeline")
+      for file, said in (("none", "No such file or directory"), ("folder", "Is a directory"), ("text", "not an SQLite database"), ("octets", "not an SQLite database"))),
     *(Case("check", f"{{{file}}}", 2, f"cannot read {{{file}}}: {said}") for file, said in (("none", "No such file or directory"), ("folder", "Is a directory"))),
     *(Case("hub", f"{more} --config {{{file}}}", 1, f"config file: {said}") for more in ("", "--check") for file, said in (
         ("none", "cannot read {none}: No such file or directory"), ("folder", "cannot read {folder}: Is a directory"), ("text", "not TOML"),
@@ -99,6 +101,7 @@ CASES = (
     *(Case("timeline", f"{DRAW} {words}", 2, said) for words, said in (("--page x", "not a number above 0"), ("--calls x", "invalid choice"), ("--page 1", "--page needs --out"))),
     *(Case("capture", f"--site {{site}} {RECORD} {words}", 2, said) for words, said in (("--shift x", "not a whole number from 1"), ("--seconds 0", "not a number above 0"))),
     *(Case("check", words, 2, said) for words, said in (("--link-version 3 {site}", "invalid choice"), ("{site} {site}", "unrecognized arguments"))),
+    *(Case("callbook", words, 2, said) for words, said in (("--radio x", "not a whole number from 1"), ("--format xml", "invalid choice"), ("site.db", "unrecognized arguments"))),
     *(Case("hub", words, 2, said) for words, said in (("--config", "expected one argument"), ("status", "unrecognized arguments"))),
     *(Case("console", f"{words} status", 2, said) for words, said in (
         ("--tcp 7100", "is not ADDRESS:PORT"), ("--tcp a:70000", "is not ADDRESS:PORT"), ("--seconds 0", "not a number above 0"), ("--tcp a:1 --socket {none}", "not allowed with"))),
@@ -165,7 +168,7 @@ class Ended(unittest.TestCase):
             words = HELP_WORDS.get(tool, "--site {none}").format(**self.names).split()
             done = call_tool(main, *words, "--help")
             self.assertEqual((done.returncode, done.stderr), (0, ""), tool)
-            self.assertRegex(done.stdout, r"(?s)^usage: .*(?:--site|SITE_FILE|--config|--socket)")
+            self.assertRegex(done.stdout, r"(?s)^usage: .*(?:--site|SITE_FILE|--config|--socket|--records)")
             self.assertIn("Status:" if tool != "carriers" else "The status is", done.stdout)
         self.assertFalse(os.path.exists(self.names["out"]))
 

@@ -8,7 +8,7 @@ import unittest
 TOP = pathlib.Path(__file__).resolve().parent.parent.parent
 FILE = TOP / "deploy" / "completion" / "dmr.bash"
 MANUAL = TOP / "deploy" / "man"
-COMMANDS = ("dmr_trunk", "dmr_decode", "dmr_siteview", "dmr_timeline", "dmr_capture", "dmr_carriers", "dmr_check", "dmr_hub", "dmr_console")
+COMMANDS = ("dmr_trunk", "dmr_decode", "dmr_siteview", "dmr_timeline", "dmr_callbook", "dmr_capture", "dmr_carriers", "dmr_check", "dmr_hub", "dmr_console")
 
 
 def completed(words: list[str], within: pathlib.Path = TOP) -> list[str]:
@@ -45,6 +45,9 @@ class Completion(unittest.TestCase):
             (["dmr_console", "s"], ["status", "slots", "stay"]),
             (["dmr_carriers", "--link-version", ""], ["1", "2"]),
             (["dmr_timeline", "--calls", "c"], ["csv"]),
+            (["dmr_callbook", "--format", "c"], ["csv"]),
+            (["dmr_callbook", "--cause", "ma"], ["maximum"]),
+            (["dmr_callbook", "--last", ""], []),
             (["/usr/bin/dmr_hub", "--ch"], ["--check"]),
             (["dmr_trunk", "--terms", ""], []),
         ):

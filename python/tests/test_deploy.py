@@ -19,6 +19,8 @@ OF_TRUNK = (
     ("Description=DMR Tier III trunked site controller", "Description=DMR Tier III trunked site controller, site %i"),
     ("/etc/dmr_trunk/site.toml", "/etc/dmr_trunk/%i.toml"),
     ("User=dmr_trunk", "User=dmr_trunk-%i"),
+    ("StateDirectory=dmr_trunk", "StateDirectory=dmr_trunk/%i"),
+    ("/var/lib/dmr_trunk/site-%b.txt", "/var/lib/dmr_trunk/%i/site-%b.txt"),
 )
 OF_HUB = (
     ("Description=Hub for the console of the DMR Tier III trunked site controller", "Description=Hub for the console of the DMR Tier III trunked site controller, site %i"),
@@ -67,7 +69,7 @@ class Units(unittest.TestCase):
     def test_nothing_of_an_instance_is_that_of_another(self) -> None:
         for name in ("dmr_trunk", "dmr_hub"):
             for line in settings(read(f"{name}@.service")):
-                if re.match(r"(?:User|RuntimeDirectory|LogsDirectory|ExecStart)=", line):
+                if re.match(r"(?:User|RuntimeDirectory|LogsDirectory|StateDirectory|ExecStart)=", line):
                     self.assertIn("%i", line)
 
 

@@ -8,6 +8,8 @@ import tempfile
 import time
 import unittest
 
+from temzaar.cli.hub import config_of, read_words
+from temzaar.hub.config import RecordsKeys
 from temzaar.process import Controller
 from temzaar.sitefile import Site
 from tests.fake_console import FakeConsole
@@ -91,6 +93,16 @@ class Command(HubProcess):
             self.assertIn("[INFO  dmr_hub] stopped", rest)
             self.assertNotIn("Traceback", rest)
             self.assertFalse(os.path.exists(self.socket))
+
+    def test_records_of_the_words(self) -> None:
+        """The word goes before the config file. A relative path begins at the folder in which the hub is started."""
+        self.write('[records]\nfile = "/var/lib/a.db"\n')
+        for words, file in ((["--config", self.config], "/var/lib/a.db"), (["--config", self.config, "--records", "/b.db"], "/b.db"),
+                            (["--config", self.config, "--records", "c.db"], os.path.join(os.getcwd(), "c.db"))):
+            self.assertEqual(config_of(read_words(words)).records, RecordsKeys(file=file))
+        self.write('[records]\nfile = "a.db"\n')
+        done = run_tool("hub", "--config", self.config, "--check")
+        self.assertEqual((done.returncode, done.stderr), (1, "dmr_hub: config file: records.file: not an absolute path, or empty\n"))
 
 
 class OverTheController(HubProcess):

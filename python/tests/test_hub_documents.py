@@ -1,5 +1,6 @@
 """The hub's documents and files: docs/HUB.md has its keys and metrics, and deploy/ its config file and unit."""
 import dataclasses
+import pathlib
 import re
 import tomllib
 import unittest
@@ -15,6 +16,7 @@ from temzaar.hub.samples import FIGURES, Samples
 from temzaar.hub.seencalls import MOST_ENDED, CallLog, SeenCall
 from temzaar.hub.session import HELP
 from tests.hub_support import HubCase, wait_until
+from tests.made_records import make_records
 from tests.support import TOP, read_document, table_rows
 
 HUB = read_document("HUB.md")
@@ -88,9 +90,10 @@ class Metrics(HubCase):
     """The table of metrics."""
 
     async def test_metrics(self) -> None:
-        hub = await self.start()
-        await wait_until(lambda: hub.model.picture is not None)
-        series = [*hub.views._site_series(), *hub.views._process_series(), *hub.counts.all_series()]
+        records = make_records(pathlib.Path(self.folder, "site.db"))
+        hub = await self.start(config=self.config(records=str(records)))
+        await wait_until(lambda: hub.model.picture is not None and hub.records and hub.records.last)
+        series = hub.views.all_series()
         shown = [(it.name, "histogram" if isinstance(it, Histogram) else it.kind) for it in series]
         rows = table_rows(HUB, "| metric | type")
         self.assertEqual([(row[0], row[1]) for row in rows], shown)

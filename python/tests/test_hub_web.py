@@ -1,6 +1,7 @@
 """The hub's HTTP port: its views, and requests, clients and loads that are to leave the console unharmed."""
 import asyncio
 import json
+import pathlib
 import re
 import shutil
 import socket
@@ -15,6 +16,7 @@ from temzaar.hub.session import Desk
 from temzaar.hub.web import Response
 from temzaar.picture import RadioList
 from tests.hub_support import FULL, HubCase, wait_until
+from tests.made_records import make_records
 
 GET = "GET {} HTTP/1.1\r\nHost: localhost:{}\r\n\r\n"
 
@@ -32,11 +34,11 @@ class Answer:
 class WebCase(HubCase):
     """A hub with an HTTP port."""
 
-    async def serve(self, health: HealthKeys = HealthKeys(), **http: Any) -> Hub:
-        """Starts it."""
+    async def serve(self, health: HealthKeys = HealthKeys(), records: str = "", **http: Any) -> Hub:
+        """Starts it, with a file of records if one is named."""
         with socket.create_server(("127.0.0.1", 0)) as free:
             self.port = free.getsockname()[1]
-        hub = await self.start(FULL, self.config(http={"port": self.port, **http}, health=health))
+        hub = await self.start(FULL, self.config(http={"port": self.port, **http}, health=health, records=records))
         await wait_until(lambda: hub.model.picture is not None and hub.model.radios is not None)
         return hub
 
@@ -124,7 +126,8 @@ class Shown(WebCase):
     async def test_promtool_finds_nothing(self) -> None:
         if not shutil.which("promtool"):
             self.skipTest("there is no promtool: the package prometheus has it")
-        await self.serve()
+        hub = await self.serve(records=str(make_records(pathlib.Path(self.folder, "site.db"))))
+        await wait_until(lambda: hub.records and hub.records.last)
         body = (await self.get("/metrics")).body
         done = await asyncio.to_thread(subprocess.run, ["promtool", "check", "metrics"], input=body, capture_output=True, check=False)
         self.assertEqual((done.returncode, done.stdout + done.stderr), (0, b""))

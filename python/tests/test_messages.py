@@ -10,6 +10,13 @@ CRATES = TOP / "crates"
 HOLE = r"\{[\w.]*\}"
 WORD = r"[A-Z]+(?::[A-Z]+)?"
 PROGRAM = "dmr_trunk: "
+# What the program writes for its own names and for nouns.
+NAMED = {
+    "{TARGET}": "dmr_trunk", "{MOST_WAITING}": "1000", "{done} {noun}": "{done} terms", "{lost} {noun}": "{lost} terms", "{radios} {noun}": "{radios} radios",
+    "{carriers} {noun}": "{carriers} carriers",
+}
+# How notes begin that are documented with their subject.
+RECORDS, RECORDING = "records: ", "recording: "
 
 
 def source(name: str) -> str:
@@ -44,7 +51,9 @@ def notes() -> dict[str, str]:
     found: dict[str, str] = {}
     for level in ("info", "warn"):
         for note in literals(own, rf"{level}!\(\*(?:self\.)?rt; target: TARGET, "):
-            found[note.replace("{TARGET}", "dmr_trunk").replace("{done} {noun}", "{done} terms").replace("{noun}", "carriers")] = level.upper()
+            for hole, text in NAMED.items():
+                note = note.replace(hole, text)
+            found[note] = level.upper()
     # what a port notes, after its owner; and the counts of terms
     of_ports = literals(function(source("dmr_port/src/notes.rt"), "impl fmt::Display for Note<"), r"=> (?:\{\s*)?write!\(f, ")
     for note in ("{whose}: {note}", "{count} more notes: {kind}"):
@@ -78,7 +87,8 @@ def messages() -> list[str]:
     others = [stations, *(unopened.replace("{0}", it) for it in errors["OpenFault"] if it != "out of memory")]
     words = [*literals(source("dmr_command/src/words.rt"), r"report_refused_words\(err, "), *literals(source("dmr_trunk/src/main.rt"), r"report_refused_words\(\s*err,\s*")]
     texts = [*replay, *(it for it in own if it != "{other}"), *others]
-    return [*dict.fromkeys(PROGRAM + it for it in texts), *words]
+    environment = [it for it in literals(source("dmr_trunk/src/serving.rt"), r"writeln!\(\s*err,\s*") if "{" not in it]
+    return [*dict.fromkeys(PROGRAM + it for it in texts), *words, *environment]
 
 
 def column_of(heading: str, column: int) -> list[str]:
@@ -99,8 +109,17 @@ class Messages(unittest.TestCase):
                 self.assertTrue(any(re.fullmatch(as_pattern(it), text) for text in documented), f"not documented: {it}")
 
     def test_notes(self) -> None:
-        self.assertEqual(len(notes()), 19)
-        self.compare(column_of("## Notes", 1), list(notes()))
+        self.assertEqual(len(notes()), 27)
+        self.compare(column_of("## Notes", 1), [it for it in notes() if not it.startswith((RECORDS, RECORDING))])
+
+    def test_notes_of_records(self) -> None:
+        self.compare(column_of("### When records cannot be written", 0), [it for it in notes() if it.startswith(RECORDS)])
+
+    def test_notes_of_the_recording(self) -> None:
+        self.assertEqual([it for it in notes() if it.startswith(RECORDING)], ["recording: ended: {fault}"])
+        faults = literals(source("dmr_trunk/src/script.rt"), r"#\[error\(")
+        documented = column_of("### By the controller itself", 0)
+        self.assertEqual(documented, [*faults, "event N ..", "out of memory"])
 
     def test_levels(self) -> None:
         for level, note in ((row[0], row[1]) for row in table_rows(OPERATING, "## Notes")):

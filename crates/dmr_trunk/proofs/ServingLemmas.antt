@@ -1,5 +1,5 @@
 -- Rows of terms, as serving runs them.
-use Rattle.std.proofs.Common.{◌≡◌, ℕ, ◌<◌, List, [], None, Option, Some, refl, sym, subst, arith}
+use Rattle.std.proofs.Common.{◌≡◌, ℕ, ◌<◌, List, [], None, Option, Some, Result, Err, IfErr, refl, sym, subst, arith}
 use Rattle.std.proofs.lemmas.List.{append-nil}
 use Rattle.std.proofs.lemmas.Option.{same_Some}
 use Rattle.dmr_core.specs.State.{SiteState}
@@ -30,6 +30,16 @@ pub stopped_within : (site : SiteState) (stations : List StationState) (pacer : 
 stopped_within site stations pacer console limit entries asked fault before after same stopped =
     let P : ℕ → Type 0 = λ most. HaveStopped (start_of_term site most stations pacer console) asked fault before after in
     subst P same stopped
+
+-- with an observer that has seen the same
+pub run_to_seen : (start : Start) (n : ℕ) (next : Start) (before after later : Option (List (List Entry))) → later ≡ after → HaveRun start n next before after → HaveRun start n next before later
+run_to_seen start n next before after later same run =
+    let P : Option (List (List Entry)) → Type 0 = λ seen. HaveRun start n next before seen in
+    subst P (sym same) run
+
+-- what an error ensures, if this is the error
+pub at_err : {A E : Type 0} (P : E → Type 0) (r : Result A E) (e : E) → r ≡ Err e → IfErr r P → P e
+at_err P r e is given = subst (λ x. IfErr x P) is given
 
 -- ---- a term that is tried again
 

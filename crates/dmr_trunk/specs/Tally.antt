@@ -1,5 +1,5 @@
 -- What the journal of a term shows, in numbers.
-use Rattle.std.specs.Prelude.{ℕ, ◌/◌, ◌==◌, List, Bool, true, false, length}
+use Rattle.std.specs.Prelude.{◌/◌, ◌==◌, List, Bool, true, false, length}
 use Rattle.std.specs.List.{count_by, list_any}
 use Rattle.dmr_pdu.specs.declared.pdu.Pdu.TheVariants.{Ackd}
 use Rattle.dmr_core.specs.declared.act.Act.{Act}

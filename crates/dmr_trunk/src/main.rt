@@ -8,19 +8,32 @@
 //! `pacer` for the ticks: `beat` decides when one is due, and `clock` reads the time. `row` runs terms of `dmr_desk`
 //! over them, and `wakers` end their waits when a term is over. `notes` writes the log: `port_watch` has the notes of a
 //! port, and `term_log` those of terms. `tally` counts what a journal shows, and `ends` what happens at the ports.
+//!
+//! If the environment names a folder for the program's state, records are kept there in a file of `dmr_records`.
+//! `recorded` makes those of each term. `keeping` hands them to the store while terms go on. `restart` reads which
+//! radios were registered. `store` is the only module that names the database.
+//!
+//! If the environment names a file for a recording, each term's journal is appended to it, as lines of `dmr_recording`.
+//! `scripted` is the observer that does so, and `script` is the file.
 #![tactic(auto)]
 
 mod beat;
 mod clock;
 mod ends;
 mod files;
+mod keeping;
 mod mio_sockets;
 mod notes;
 mod pacer;
 mod port_watch;
+mod recorded;
+mod restart;
 mod row;
+mod script;
+mod scripted;
 mod serve;
 mod serving;
+mod store;
 mod tally;
 mod term_log;
 mod wakers;
@@ -30,9 +43,12 @@ ghost use Rattle.dmr_trunk.specs.Replay.{AreReplayed, HasPlan, IsJobDone, IsRepl
 ghost use Rattle.dmr_trunk.specs.Replay.{IsReplayedBySome, IsStatus};
 
 use crate::files::{FileSource, SystemFiles, slice_of};
+use crate::script::{RecordingFile, Script, recording_path};
 use crate::serving::serve_file;
+use crate::store::{Kept, Store, Stored, records_path};
 use dmr_command::{Job, choose, report_out_of_memory, report_refused_words};
 use dmr_pdu::OutOfMemory;
+use dmr_records::RecordsFile;
 use dmr_replay::replay;
 use log::Log;
 use std::alloc::Global;
@@ -86,50 +102,74 @@ fn replay_files<S: FileSource, W: Write, E: Write>(
 }
 
 /// Serves the site of the site file at a path, and returns the exit status. It prints nothing to standard output.
-fn serve_path<R: Net + Log + Clock + Wait + Threads + Sync, S: FileSource, E: Write>(
+fn serve_path<R, S, K, F, E>(
     rt: &R,
     alloc: Global,
     files: &S,
     site: &str,
     terms: u32,
+    kept: Kept<K, F>,
     err: &mut E,
 ) -> Result<u8, OutOfMemory>
+where
+    R: Net + Log + Clock + Wait + Threads + Sync,
+    S: FileSource,
+    K: Store + Send + Drop,
+    F: Script + Drop,
+    E: Write,
     ensures status { IfOk result IsStatus }
     // At status 0 the file that the source gave for the path has a plan.
     ensures ok { IfOk result (λ status. status ≡ 0 → HasPlan (S.gave files.now) site.now) }
 {
     let site_octets = files.octets_of(site)?;
-    Ok(serve_file(rt, alloc, site, slice_of(&site_octets), terms, err))
+    let site_octets = slice_of(&site_octets);
+    Ok(serve_file(rt, alloc, site, site_octets, terms, kept, err))
 }
 
 /// Does a job with the files of a source, and returns the exit status.
-fn do_job<R: Net + Log + Clock + Wait + Threads + Sync, S: FileSource, W: Write, E: Write>(
+fn do_job<R, S, K, F, W, E>(
     rt: &R,
     alloc: Global,
     files: &S,
     job: Job<'_>,
+    kept: Kept<K, F>,
     out: &mut W,
     err: &mut E,
 ) -> Result<u8, OutOfMemory>
+where
+    R: Net + Log + Clock + Wait + Threads + Sync,
+    S: FileSource,
+    K: Store + Send + Drop,
+    F: Script + Drop,
+    W: Write,
+    E: Write,
     ensures status { IfOk result IsStatus }
     ensures ok { IfOk result (λ status. status ≡ 0
         → IsJobDone (S.gave files.now) job.entry (W.contents out.old) (W.contents out.new)) }
 {
     match job {
         Job::Script { site, script } => replay_files(alloc, files, site, script, out, err),
-        Job::Serve { site, terms } => serve_path(rt, alloc, files, site, terms, err),
+        Job::Serve { site, terms } => serve_path(rt, alloc, files, site, terms, kept, err),
     }
 }
 
 /// Does the job that the words ask for, with the files of a source, and returns the exit status.
-fn run_words<R: Net + Log + Clock + Wait + Threads + Sync, S: FileSource, W: Write, E: Write>(
+fn run_words<R, S, K, F, W, E>(
     rt: &R,
     alloc: Global,
     files: &S,
     words: &[String],
+    kept: Kept<K, F>,
     out: &mut W,
     err: &mut E,
 ) -> Result<u8, OutOfMemory>
+where
+    R: Net + Log + Clock + Wait + Threads + Sync,
+    S: FileSource,
+    K: Store + Send + Drop,
+    F: Script + Drop,
+    W: Write,
+    E: Write,
     ensures status { IfOk result IsStatus }
     // At status 0 the words ask for a job, and that job was done.
     ensures ok { IfOk result (λ status. status ≡ 0
@@ -138,18 +178,26 @@ fn run_words<R: Net + Log + Clock + Wait + Threads + Sync, S: FileSource, W: Wri
 {
     let texts = texts_of(alloc, words)?;
     match choose(alloc, texts.as_slice(), err) {
-        Ok(job) => do_job(rt, alloc, files, job, out, err),
+        Ok(job) => do_job(rt, alloc, files, job, kept, out, err),
         Err(status) => Ok(status),
     }
 }
 
 /// Reads the words, does the job that they ask for, and returns the exit status.
-fn run_program<
+fn run_program<R, S, K, F, W, E>(
+    rt: &R,
+    files: &S,
+    kept: Kept<K, F>,
+    out: &mut W,
+    err: &mut E,
+) -> u8
+where
     R: AllocGlobal + Env + Net + Log + Clock + Wait + Threads + Sync,
     S: FileSource,
+    K: Store + Send + Drop,
+    F: Script + Drop,
     W: Write,
     E: Write,
->(rt: &R, files: &S, out: &mut W, err: &mut E) -> u8
     ensures status { IsStatus result }
     // At status 0 there were words that ask for a job, and that job was done.
     ensures ok { result ≡ 0
@@ -170,14 +218,43 @@ fn run_program<
     let Ok(words) = words.collect::<Vec<String>>(rt.alloc()) else {
         return report_out_of_memory(err);
     };
-    match run_words(rt, rt.alloc(), files, words.as_slice(), out, err) {
+    match run_words(rt, rt.alloc(), files, words.as_slice(), kept, out, err) {
         Ok(status) => status,
         Err(OutOfMemory) => report_out_of_memory(err),
+    }
+}
+
+/// The file of records at a path, which is not opened yet.
+fn file_at<'a>(rt: &'a HostRuntime, path: &'a Stored<String>) -> Stored<RecordsFile<'a>> {
+    match path {
+        Stored::Nowhere => Stored::Nowhere,
+        Stored::In(path) => Stored::In(RecordsFile::new(rt, path.as_str())),
+        Stored::NotText => Stored::NotText,
+    }
+}
+
+/// The recording at a path, whose file is not made yet.
+fn recording_at<'a>(rt: &'a HostRuntime, path: &'a Stored<String>) -> Stored<RecordingFile<'a>> {
+    match path {
+        Stored::Nowhere => Stored::Nowhere,
+        Stored::In(path) => Stored::In(RecordingFile::new(rt, path.as_str())),
+        Stored::NotText => Stored::NotText,
     }
 }
 
 fn main(rt: HostRuntime) -> ExitCode {
     let mut out = rt.stdout();
     let mut err = rt.stderr();
-    ExitCode::from(run_program(&rt, &SystemFiles::new(&rt), &mut out, &mut err))
+    let files = SystemFiles::new(&rt);
+    let Ok(path) = records_path(&rt) else {
+        return ExitCode::from(report_out_of_memory(&mut err));
+    };
+    let Ok(recording) = recording_path(&rt) else {
+        return ExitCode::from(report_out_of_memory(&mut err));
+    };
+    let kept = Kept {
+        records: file_at(&rt, &path),
+        recording: recording_at(&rt, &recording),
+    };
+    ExitCode::from(run_program(&rt, &files, kept, &mut out, &mut err))
 }

@@ -1,9 +1,12 @@
 //! Notes: the serving program's log, on standard error.
 
+use crate::script::ScriptFault;
 use crate::term_log::TermCounts;
 use dmr_command::VERSION;
+use dmr_keeper::{KeepFault, MOST_WAITING};
 use dmr_pdu::OutOfMemory;
 use dmr_port::{Note, Whose};
+use dmr_recording::RecordingFault;
 use log::{Log, info, warn};
 use mio::unix::SourceFd;
 use mio::{Events, Interest, Poll, Token};
@@ -165,6 +168,72 @@ impl<'a, R: Log> Notes<'a, R> {
             info!(*self.rt; target: TARGET, "{count} more terms ended: {terms}");
         }
     }
+
+    /// Notes how many radios are registered at the start, since they were at the end of the last term that was kept.
+    pub fn restored(&mut self, radios: usize) {
+        if self.is_ready() {
+            let noun = if radios == 1 { "radio" } else { "radios" };
+            info!(*self.rt; target: TARGET, "records: {radios} {noun} registered again");
+        }
+    }
+
+    /// Notes why the radios that were registered are not known.
+    pub fn cannot_restore(&mut self, fault: KeepFault) {
+        if self.is_ready() {
+            warn!(*self.rt; target: TARGET, "records: no radio is registered again: {fault}");
+        }
+    }
+
+    /// Notes why the records of a term were not kept. They are kept for the next try.
+    pub fn cannot_keep(&mut self, fault: KeepFault) {
+        if self.is_ready() {
+            warn!(*self.rt; target: TARGET, "records: not kept, trying again with each term: {fault}");
+        }
+    }
+
+    /// Notes that records are kept again, and of how many terms they were lost.
+    pub fn kept_again(&mut self, lost: u64) {
+        if self.is_ready() {
+            let noun = noun_of_terms(lost);
+            info!(*self.rt; target: TARGET, "records: kept again, lost: those of {lost} {noun}");
+        }
+    }
+
+    /// Notes that too many records wait, so that the oldest are lost.
+    pub fn records_lost(&mut self) {
+        if self.is_ready() {
+            warn!(*self.rt; target: TARGET, "records: those of {MOST_WAITING} terms wait, the oldest are lost");
+        }
+    }
+
+    /// Notes that there is no memory for the records of a term, and that they are made as soon as there is.
+    pub fn no_memory_for_records(&mut self) {
+        if self.is_ready() {
+            warn!(*self.rt; target: TARGET, "records: no memory, trying again each second");
+        }
+    }
+
+    /// Notes that a term has no records, since the ticks of all terms do not fit in 64 bits.
+    pub fn no_records(&mut self) {
+        if self.is_ready() {
+            warn!(*self.rt; target: TARGET, "records: none of this term, the ticks of all terms do not fit");
+        }
+    }
+
+    /// Notes why the recording has ended: an event cannot be recorded.
+    pub fn cannot_record(&mut self, fault: &RecordingFault) {
+        if self.is_ready() {
+            warn!(*self.rt; target: TARGET, "recording: ended: {fault}");
+        }
+    }
+
+    /// Notes why the recording has ended: its script takes no more lines.
+    pub fn recording_ended(&mut self, fault: ScriptFault) {
+        if self.is_ready() {
+            warn!(*self.rt; target: TARGET, "recording: ended: {fault}");
+        }
+    }
+
     /// Notes that there is no memory for the term after `done` terms, and that it is tried again.
     pub fn note_no_memory(&mut self, done: u64) {
         if self.is_ready() {

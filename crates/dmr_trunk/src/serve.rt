@@ -1,23 +1,28 @@
 //! Serving: a site over TCP, term by term.
 
 ghost use Rattle.std.specs.Prelude.{◌≡◌, ◌*◌, IfOk, None, vec_len};
-ghost use Rattle.dmr_core.specs.Facts.{no_facts};
+ghost use Rattle.dmr_core.specs.Restored.{facts_with, restored};
 ghost use Rattle.dmr_link.specs.Identities.{greatest_of};
 
 use crate::ends::Connections;
+use crate::keeping::{Keeping, Waiting};
 use crate::mio_sockets::{ListenFault, MioSockets};
 use crate::notes::Notes;
 use crate::pacer::ClockPacer;
 use crate::port_watch::PortWatch;
-use crate::row::serve_service;
+use crate::recorded::{RecordMaker, Recorded};
+use crate::row::{Ran, serve_service};
+use crate::script::{RecordingFile, Script};
+use crate::scripted::{Recording, Scripted};
 use crate::tally::tally_of;
 use crate::term_log::TermLog;
 use crate::wakers::{ClockWait, PollFault, Polls, Wakers, open_polls};
 use dmr_command::{ServeFault, listen_address};
 use dmr_core::Site;
 use dmr_desk::{ConsoleStation, Observer, Service, SpareLists, Station, Term};
+use dmr_keeper::{Carried, Forget, Keeper, Outbox, Recorder};
 use dmr_link::{ConsoleLink, Link, OpenGate, greatest_version};
-use dmr_pdu::{CarrierNo, OutOfMemory};
+use dmr_pdu::{Address, CarrierNo, OutOfMemory};
 use dmr_plan::{CarrierRow, Plan};
 use dmr_port::{PortSettings, ServingPort, Whose};
 use log::Log;
@@ -214,20 +219,22 @@ fn open_ports<'a, R: Net + Log + Clock>(
     })
 }
 
-/// Makes the state for the first term: a site with nothing active, and ports without a connection.
+/// Makes the state for the first term: a site with nothing active on which these radios are registered, and ports
+/// without a connection.
 fn open_service<'a, R: Net + Log + Clock>(
     rt: &'a R,
     alloc: Global,
     polls: &mut Polls<'a>,
     plan: &Plan,
+    radios: &[Address],
 ) -> Result<SiteService<'a, R>, ServeFault>
-    ensures site { IfOk result
-        (λ service. service.site ≡ record { plan = plan.now; facts = no_facts }) }
+    ensures site { IfOk result (λ service. service.site
+        ≡ record { plan = plan.now; facts = facts_with (restored plan.now radios.now) }) }
     ensures ticks { IfOk result
         (λ service. service.pacer.ticks
         ≡ record { tick = plan.now.tick_ms * 1000000; from = None }) }
 {
-    let Ok(site) = Site::new(alloc, *plan) else {
+    let Ok(site) = Site::with_registered(alloc, *plan, radios) else {
         return Err(ServeFault::OutOfMemory);
     };
     match open_ports(rt, alloc, polls, plan) {
@@ -301,19 +308,111 @@ impl<'a, R: Log + Clock> Observer<CarrierAt<'a, R>, ClockPacer<'a, R>, ConsoleAt
     }
 }
 
+/// What makes the records of a site's terms.
+fn make_records<'a, R: Net + Log + Clock + Wait>(
+    rt: &'a R,
+    alloc: Global,
+    site: &Site,
+) -> Result<RecordMaker<'a, R>, ServeFault> {
+    match Carried::with_registered(alloc, site.registered()) {
+        Ok(carried) => {
+            let recorder = Recorder::new(carried);
+            let notes = open_notes(rt, alloc)?;
+            Ok(RecordMaker::new(rt, alloc, *site.plan(), recorder, notes))
+        }
+        Err(OutOfMemory) => Err(ServeFault::OutOfMemory),
+    }
+}
+
+/// Begins the recording of a site, if there is a script.
+fn begin_recording<'a, W: Script + Drop, R: Net + Log>(
+    rt: &'a R,
+    alloc: Global,
+    site: &Site,
+    script: Option<W>,
+) -> Result<Option<Recording<'a, W, R>>, ServeFault> {
+    match script {
+        Some(script) => {
+            let notes = open_notes(rt, alloc)?;
+            let plan = *site.plan();
+            Ok(Some(Recording::begin(alloc, plan, site.registered(), script, notes)))
+        }
+        None => Ok(None),
+    }
+}
+
+/// The log of a site's terms, and what records them.
+type LogAndScript<'a, W, R> = Scripted<'a, TermLog<'a, R>, W, R>;
+
+/// The observer of a site's terms: the log, what records them if there is a script, and what makes records if the store
+/// asks for them.
+fn observe<'a, W, R>(
+    rt: &'a R,
+    alloc: Global,
+    service: &SiteService<'a, R>,
+    with_records: bool,
+    script: Option<W>,
+) -> Result<Recorded<'a, LogAndScript<'a, W, R>, R>, ServeFault>
+where
+    W: Script + Drop,
+    R: Net + Log + Clock + Wait,
+{
+    let mut log = TermLog::new(rt, open_notes(rt, alloc)?);
+    note_listening(service, &mut log);
+    let maker = if with_records {
+        Some(make_records(rt, alloc, &service.site)?)
+    } else {
+        None
+    };
+    let recording = begin_recording(rt, alloc, &service.site, script)?;
+    Ok(Recorded {
+        observer: Scripted {
+            observer: log,
+            recording,
+        },
+        maker,
+    })
+}
+
+/// Allocates room for the records of terms that wait for a store.
+fn open_outbox(alloc: Global) -> Result<Outbox, ServeFault> {
+    match Outbox::new(alloc) {
+        Ok(outbox) => Ok(outbox),
+        Err(OutOfMemory) => Err(ServeFault::OutOfMemory),
+    }
+}
+
 /// Serves the site of a plan, whose ports and clock have these polls and wakers. Opens the ports, and runs the terms.
-fn serve_woken<'a, R: Net + Log + Clock + Wait + Threads + Sync>(
+fn serve_woken<'a, K, W, R>(
     rt: &'a R,
     alloc: Global,
     mut polls: Polls<'a>,
     plan: &Plan,
     terms: u32,
-) -> Result<(), ServeFault> {
+    keeper: K,
+    radios: &[Address],
+    script: Option<W>,
+) -> Result<(), ServeFault>
+where
+    K: Keeper + Send + Drop,
+    W: Script + Drop,
+    R: Net + Log + Clock + Wait + Threads + Sync,
+{
     let mut notes = open_notes(rt, alloc)?;
-    let mut log = TermLog::new(rt, open_notes(rt, alloc)?);
-    let service = open_service(rt, alloc, &mut polls, plan)?;
-    note_listening(&service, &mut log);
-    match serve_service(rt, alloc, service, &mut log, &mut notes, terms) {
+    let with_records = keeper.wants_records();
+    let keeping = Keeping {
+        keeper,
+        outbox: open_outbox(alloc)?,
+        fault: None,
+    };
+    let waiting = Waiting::new(open_outbox(alloc)?);
+    let service = open_service(rt, alloc, &mut polls, plan, radios)?;
+    let observer = observe(rt, alloc, &service, with_records, script)?;
+    let Ran { result, observer } = serve_service(
+        rt, alloc, service, observer, keeping, waiting, &mut notes, terms,
+    );
+    drop(observer);
+    match result {
         Ok(_last) => Ok(()),
         Err(stopped) => {
             notes.note_stopped(stopped.done);
@@ -322,21 +421,43 @@ fn serve_woken<'a, R: Net + Log + Clock + Wait + Threads + Sync>(
     }
 }
 
+/// Serves the site of a plan over TCP, as [`serve`] does, and has a store keep the records of its terms. At the start
+/// those of `radios` are registered that the plan lists, in their order; after a restart these are the ones that the
+/// store has. A store that fails does not stop serving: its fault is noted, and the records wait for the next term. If
+/// there is a script, each term's journal is appended to it. If that fails, the recording ends, and it is noted why.
+pub fn serve_kept<K, W, R>(
+    rt: &R,
+    alloc: Global,
+    plan: Plan,
+    terms: u32,
+    keeper: K,
+    radios: &[Address],
+    script: Option<W>,
+) -> Result<(), ServeFault>
+where
+    K: Keeper + Send + Drop,
+    W: Script + Drop,
+    R: Net + Log + Clock + Wait + Threads + Sync,
+{
+    let (wakers, polls) = open_wakers(rt, alloc, &plan)?;
+    let polls = Polls {
+        wakers: &wakers,
+        polls,
+    };
+    serve_woken(rt, alloc, polls, &plan, terms, keeper, radios, script)
+}
+
 /// Serves the site of a plan over TCP. Listens at each carrier's port, by number, and at the console's, and runs
 /// `terms` terms, one after another; 0 means forever. Each term has at most the plan's number of entries. Links,
 /// connections and the site continue from term to term ([`serve_service`]). Each term's journal is audited, then
 /// dropped. If there is no memory for the first term, the fault is the term's `OutOfMemory`; a later term is tried
-/// again each second.
+/// again each second. Nothing is kept ([`serve_kept`] keeps records).
 pub fn serve<R: Net + Log + Clock + Wait + Threads + Sync>(
     rt: &R,
     alloc: Global,
     plan: Plan,
     terms: u32,
 ) -> Result<(), ServeFault> {
-    let (wakers, polls) = open_wakers(rt, alloc, &plan)?;
-    let polls = Polls {
-        wakers: &wakers,
-        polls,
-    };
-    serve_woken(rt, alloc, polls, &plan, terms)
+    let script: Option<RecordingFile<'_>> = None;
+    serve_kept(rt, alloc, plan, terms, Forget, &[], script)
 }

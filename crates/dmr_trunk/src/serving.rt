@@ -3,10 +3,15 @@
 ghost use Rattle.std.specs.Prelude.{◌≡◌, IfOk, option_map};
 ghost use Rattle.dmr_trunk.specs.Replay.{IsPlanned, IsStatus};
 
-use crate::serve::{open_notes, serve};
+use crate::notes::Notes;
+use crate::restart::read_registered;
+use crate::script::Script;
+use crate::serve::{open_notes, serve, serve_kept};
+use crate::store::{Kept, Store, Stored};
 use dmr_command::ServeFault;
+use dmr_keeper::Forget;
 use dmr_plan::Plan;
-use dmr_replay::{OK, ReplayFault, plan_of};
+use dmr_replay::{FAULT, OK, ReplayFault, plan_of};
 use log::Log;
 use std::alloc::Global;
 use std::io::Write;
@@ -26,49 +31,67 @@ fn plan_in<'a>(
     plan_of(alloc, site.ok_or(ReplayFault::CannotRead(site_name))?)
 }
 
-/// Notes which version of the program serves which site file. These notes are opened for this one; `serve` opens its
-/// own.
-fn note_start<R: Net + Log>(
-    rt: &R,
+/// Notes which version of the program serves which site file. Returns the notes, which were opened for this; `serve`
+/// opens its own.
+fn note_start<'a, R: Net + Log>(
+    rt: &'a R,
     alloc: Global,
     site_name: &str,
     plan: &Plan,
-) -> Result<(), ServeFault> {
+) -> Result<Notes<'a, R>, ServeFault> {
     let mut notes = open_notes(rt, alloc)?;
     notes.note_start(site_name, plan.carrier().len());
-    Ok(())
+    Ok(notes)
 }
 
-/// Notes the start, and serves the site of a plan.
-fn serve_noted<R>(
+/// Notes the start, and serves the site of a plan. If there is a store, it keeps the records, and the radios that were
+/// registered are so again. If there is a script, the site is recorded to it.
+fn serve_noted<K, F, R>(
     rt: &R,
     alloc: Global,
     site_name: &str,
     plan: Plan,
     terms: u32,
+    store: Option<K>,
+    script: Option<F>,
 ) -> Result<(), ServeFault>
 where
+    K: Store + Send + Drop,
+    F: Script + Drop,
     R: Net + Log + Clock + Wait + Threads + Sync,
 {
-    note_start(rt, alloc, site_name, &plan)?;
-    serve(rt, alloc, plan, terms)
+    let mut notes = note_start(rt, alloc, site_name, &plan)?;
+    match store {
+        Some(store) => {
+            let radios = read_registered(rt, alloc, &store, &mut notes);
+            serve_kept(rt, alloc, plan, terms, store, radios.as_slice(), script)
+        }
+        None => match script {
+            Some(script) => serve_kept(rt, alloc, plan, terms, Forget, &[], Some(script)),
+            None => serve(rt, alloc, plan, terms),
+        },
+    }
 }
 
 /// Serves the site of a plan, and returns the exit status. A fault is written to `err`.
-fn serve_plan<R, E>(
+fn serve_plan<K, F, R, E>(
     rt: &R,
     alloc: Global,
     site_name: &str,
     plan: Plan,
     terms: u32,
+    store: Option<K>,
+    script: Option<F>,
     err: &mut E,
 ) -> u8
 where
+    K: Store + Send + Drop,
+    F: Script + Drop,
     R: Net + Log + Clock + Wait + Threads + Sync,
     E: Write,
     ensures status { IsStatus result }
 {
-    match serve_noted(rt, alloc, site_name, plan, terms) {
+    match serve_noted(rt, alloc, site_name, plan, terms, store, script) {
         Ok(()) => OK,
         Err(fault) => {
             let _ = writeln!(err, "dmr_trunk: {fault}");
@@ -77,18 +100,95 @@ where
     }
 }
 
+/// Serves the site of a plan with the store that the environment names, and returns the exit status.
+fn serve_stored<K, F, R, E>(
+    rt: &R,
+    alloc: Global,
+    site_name: &str,
+    plan: Plan,
+    terms: u32,
+    store: Stored<K>,
+    script: Option<F>,
+    err: &mut E,
+) -> u8
+where
+    K: Store + Send + Drop,
+    F: Script + Drop,
+    R: Net + Log + Clock + Wait + Threads + Sync,
+    E: Write,
+    ensures status { IsStatus result }
+{
+    match store {
+        Stored::Nowhere => {
+            serve_plan::<K, F, R, E>(rt, alloc, site_name, plan, terms, None, script, err)
+        }
+        Stored::In(store) => {
+            serve_plan(rt, alloc, site_name, plan, terms, Some(store), script, err)
+        }
+        Stored::NotText => {
+            let _ = writeln!(err, "dmr_trunk: STATE_DIRECTORY is not UTF-8");
+            FAULT
+        }
+    }
+}
+
+/// Serves the site of a plan, keeps what the environment asks for, and returns the exit status.
+fn serve_keeping<K, F, R, E>(
+    rt: &R,
+    alloc: Global,
+    site_name: &str,
+    plan: Plan,
+    terms: u32,
+    kept: Kept<K, F>,
+    err: &mut E,
+) -> u8
+where
+    K: Store + Send + Drop,
+    F: Script + Drop,
+    R: Net + Log + Clock + Wait + Threads + Sync,
+    E: Write,
+    ensures status { IsStatus result }
+{
+    let Kept { records, recording } = kept;
+    match recording {
+        Stored::Nowhere => {
+            serve_stored::<K, F, R, E>(rt, alloc, site_name, plan, terms, records, None, err)
+        }
+        Stored::In(script) => {
+            serve_stored(
+                rt,
+                alloc,
+                site_name,
+                plan,
+                terms,
+                records,
+                Some(script),
+                err,
+            )
+        }
+        Stored::NotText => {
+            drop(records);
+            let _ = writeln!(err, "dmr_trunk: DMR_TRUNK_RECORD is not UTF-8");
+            FAULT
+        }
+    }
+}
+
 /// Serves the site of a site file, and returns the exit status. `site` has the file's octets, or `None` if the file
-/// could not be read; `site_name` is its name in a fault's text. A fault is written to `err` as one line; an error of
+/// could not be read; `site_name` is its name in a fault's text. `kept` says what is kept. A fault is written to `err` as one line; an error of
 /// `err` is ignored.
-pub fn serve_file<R, E>(
+pub fn serve_file<K, F, R, E>(
     rt: &R,
     alloc: Global,
     site_name: &str,
     site: Option<&[u8]>,
     terms: u32,
+    kept: Kept<K, F>,
     err: &mut E,
 ) -> u8
 where
+    K: Store + Send + Drop,
+    F: Script + Drop,
     R: Net + Log + Clock + Wait + Threads + Sync,
     E: Write,
     ensures status { IsStatus result }
@@ -96,7 +196,7 @@ where
     ensures ok { result ≡ OK → IsPlanned (option_map (λ o. o.now) site.entry) }
 {
     match plan_in(alloc, site_name, site) {
-        Ok(plan) => serve_plan(rt, alloc, site_name, plan, terms, err),
+        Ok(plan) => serve_keeping(rt, alloc, site_name, plan, terms, kept, err),
         Err(fault) => {
             let _ = writeln!(err, "dmr_trunk: {fault}");
             fault.status()

@@ -2,6 +2,7 @@
 
     hub                          with /etc/dmr_trunk/hub.toml
     hub --config hub.toml        with this config file
+    hub --records site.db        reads this file of the controller's records, whatever the config file names
     hub --check                  checks the config file alone
 
 The controller serves one console connection at a time. The hub has that connection, and passes on the lines of all who are connected to it, each with the
@@ -11,11 +12,13 @@ Status: 0 it was stopped, or the config file is accepted; 1 the config file, a p
 """
 import argparse
 import asyncio
+import dataclasses
+import os
 from collections.abc import Sequence
 
 from temzaar.cli.command import parse_words, run_command
 from temzaar.faults import ToolFault
-from temzaar.hub.config import DEFAULT_PATH, load_config
+from temzaar.hub.config import DEFAULT_PATH, Config, load_config
 from temzaar.hub.keys import ConfigFault
 from temzaar.hub.notes import note
 from temzaar.hub.roles import find_rules
@@ -26,14 +29,23 @@ def read_words(words: Sequence[str] | None) -> argparse.Namespace:
     """The words of the command line."""
     parser = argparse.ArgumentParser(description=__doc__, formatter_class=argparse.RawDescriptionHelpFormatter)
     parser.add_argument("--config", metavar="FILE", default=DEFAULT_PATH, help=f"the config file ({DEFAULT_PATH})")
+    parser.add_argument("--records", metavar="RECORDS", help="the controller's file of records, in place of that of the config file")
     parser.add_argument("--check", action="store_true", help="check the config file, and end")
     return parse_words(parser, words)
+
+
+def config_of(options: argparse.Namespace) -> Config:
+    """The config of the words. ConfigFault: it cannot be read, or used."""
+    config = load_config(options.config)
+    if options.records is None:
+        return config
+    return dataclasses.replace(config, records=dataclasses.replace(config.records, file=os.path.abspath(options.records)))
 
 
 def hold_console(options: argparse.Namespace) -> int:
     """Serves until a signal comes, or checks the config file. The status. ToolFault: the config file, a port or the audit log is at fault."""
     try:
-        config = load_config(options.config)
+        config = config_of(options)
         rules = find_rules(config.roles)
     except ConfigFault as fault:
         raise ToolFault(f"config file: {fault}") from fault

@@ -1,10 +1,11 @@
-"""Draws a replayed script, or a recorded session, as an SVG: slots as rows, time in ticks, calls as bars with their parties. Or lists its calls.
+"""Draws a replayed script, a recorded session or a period of the controller's records as an SVG: slots as rows, calls as bars. Or lists a script's calls.
 
     timeline --site site.toml --script incident.txt --program build/dmr_trunk --out incident.svg
     timeline --site site.toml --script incident.txt --printed incident.out --out incident.svg
     timeline .. --from 10:15:00 --to 10:17:30 --out part.svg        a part of it
     timeline .. --page 5 --out incident.svg                         pages of five minutes: incident-001.svg, incident-002.svg, ..
     timeline .. --calls csv --out calls.csv                         the calls, one to a line
+    timeline --records site.db --from 08:00 --to 09:00 --out morning.svg    this hour of today, from the controller's file of records
 
 --printed is what `dmr_trunk --site site.toml --script incident.txt` printed; with --program the tool runs that itself. A call's bar goes from its first
 grant to its P_CLEAR, or to the loss of its carrier. If no grant was sent before a call's end, it has no bar. Marks:
@@ -21,6 +22,11 @@ order. With --start, or if the script was recorded by `capture`, clock times are
 The list of calls has for each when it began and ended, its carrier and slot, its kind, source and target. It also has how long the call waited for a
 slot, and why it ended: that follows from the site file and the script.
 
+With --records there is no script. The picture has what the records have: calls, carriers that come up and are lost, registrations and refusals in a row
+`radios`, and operators' commands. Grants, P_CLEARs, bursts and polls are not recorded. The site file is optional: it has the carriers that no record names, and
+which slot is the control slot. --from and --to are times then: 2026-11-27, 2026-11-27 08:00, 08:00 (today), or -2h (also s, m and d). Without them it is
+all of the file. `callbook` lists the calls of records.
+
 Status: 0 drawn; 1 a file, the program, a script whose replay sent nothing, or an output of another script, named on standard error; 2 the words.
 """
 import argparse
@@ -35,7 +41,9 @@ from temzaar.cli.command import amount_above, parse_words, run_command
 from temzaar.clock import Clock, Window, recorded_start
 from temzaar.drawing import Drawing, Session
 from temzaar.faults import read_text, write_text
+from temzaar.moments import join_times
 from temzaar.process import replay
+from temzaar.recordsession import read_period, session_of, window_of
 from temzaar.script import Replay, SessionFault, read_printed, read_script
 from temzaar.sitefile import read_plan
 
@@ -80,15 +88,30 @@ def draw_pages(options: argparse.Namespace, session: Session, window: Window) ->
     for number, page in enumerate(window.pages(session.clock.ticks_of_minutes(options.page)), 1):
         path = f"{name}-{number:03}{extension}"
         write_text(path, Drawing(session, page).draw())
-        first, last = page.first, page.end - 1
-        times = f" ({session.clock.time_of_day(first)} to {session.clock.time_of_day(last)})" if session.clock.start else ""
-        print(f"{path}: ticks {first} to {last}{times}")
+        print(f"{path}: {page_in_words(session, page.first, page.end - 1)}")
+
+
+def page_in_words(session: Session, first: int, last: int) -> str:
+    """The ticks of a page, and their clock times if they are known; the times alone if the ticks are not the site's."""
+    times = f"{session.clock.time_of_day(first)} to {session.clock.time_of_day(last)}" if session.clock.start else ""
+    if not session.has_ticks:
+        return times
+    return f"ticks {first} to {last} ({times})" if times else f"ticks {first} to {last}"
+
+
+def read_what_is_drawn(options: argparse.Namespace) -> tuple[Session, Window]:
+    """The session and the window that the words name."""
+    if options.records:
+        period = read_period(options.records, options.first, options.last)
+        session = session_of(period, read_plan(options.site) if options.site else None)
+        return session, window_of(session)
+    session = read_files(options)
+    return session, session.clock.window(options.first, options.last, session.ticks)
 
 
 def draw_files(options: argparse.Namespace) -> int:
     """Draws, or lists, what the words name. The status."""
-    session = read_files(options)
-    window = session.clock.window(options.first, options.last, session.ticks)
+    session, window = read_what_is_drawn(options)
     if options.calls:
         records = calls_in(list_calls(session.plan, session.events), window)
         write_output(options, write_list(records, session.clock, ListFormat(options.calls)))
@@ -102,23 +125,33 @@ def draw_files(options: argparse.Namespace) -> int:
 def read_words(words: Sequence[str] | None) -> argparse.Namespace:
     """The words of the command line."""
     parser = argparse.ArgumentParser(description=__doc__, formatter_class=argparse.RawDescriptionHelpFormatter)
-    parser.add_argument("--site", required=True, help="the site file")
-    parser.add_argument("--script", required=True, help="the script")
+    parser.add_argument("--site", help="the site file; optional with --records")
+    parser.add_argument("--script", help="the script")
     which = parser.add_mutually_exclusive_group(required=True)
     which.add_argument("--printed", help="what the replay of the script printed")
     which.add_argument("--program", help="the controller that is to replay the script")
+    which.add_argument("--records", metavar="FILE", help="the controller's file of records, in place of a script")
     parser.add_argument("--out", help="the SVG, or the list; without it, standard output")
     parser.add_argument("--start", help="the clock time of tick 0: HH:MM:SS, or YYYY-MM-DDTHH:MM:SS (that which a recorded script has)")
-    parser.add_argument("--from", dest="first", metavar="FROM", help="draw or list from this tick, or clock time, on")
-    parser.add_argument("--to", dest="last", metavar="TO", help="draw or list up to this tick, or clock time")
+    parser.add_argument("--from", dest="first", metavar="FROM", help="draw or list from this tick, or time, on")
+    parser.add_argument("--to", dest="last", metavar="TO", help="draw or list up to this tick, or time")
     parser.add_argument("--page", type=amount_above(0, 1e6), metavar="MINUTES", help="draw pages of so many minutes, each into a file of its own")
     parser.add_argument("--calls", nargs="?", const="text", choices=[it.value for it in ListFormat], help="list the calls, as text without a word after it, instead of drawing")
-    options = parse_words(parser, words)
+    options = parse_words(parser, join_times(list(sys.argv[1:] if words is None else words), ("--from", "--to")))
+    check_words(parser, options)
+    return options
+
+
+def check_words(parser: argparse.ArgumentParser, options: argparse.Namespace) -> None:
+    """Ends the command if words are missing, or do not belong together."""
+    if options.records and (options.script or options.start or options.calls):
+        parser.error("--records has no script, no --start and no --calls: callbook lists the calls of records")
+    if not options.records and not (options.site and options.script):
+        parser.error("the following arguments are required: --site, --script")
     if options.page and options.calls:
         parser.error("--page draws, and --calls lists: give one of them")
     if options.page and not options.out:
         parser.error("--page needs --out, after which its files are named")
-    return options
 
 
 def main(words: Sequence[str] | None = None) -> int:

@@ -8,7 +8,7 @@ from temzaar.hub.moment import Moment, utc_text
 from temzaar.hub.query import read_query
 from temzaar.hub.samples import FIGURES, SPANS, Span, Summary
 from temzaar.hub.seencalls import CallFilter, SeenCall
-from temzaar.hub.views import Views, json_octets, rounded
+from temzaar.hub.views import MISSED_POLLS, Views, json_octets, rounded
 from temzaar.hub.web import JSON, Request, Response, tagged_response
 from temzaar.picture import LAST_RADIO
 
@@ -42,12 +42,20 @@ class BoardViews:
         return tagged_response(json_octets(view), JSON)
 
     def calls_json(self, request: Request) -> Response:
-        """Calls that the hub has seen, by the query. The response stays the same until a call begins or ends. BadRequest: the query is refused."""
+        """Calls that the hub has seen, and those of the records, by the query. The response stays the same until a call begins or ends, or is recorded.
+        BadRequest: the query is refused."""
         query, log = read_query(request.query, CALL_KEYS), self.model.calls
-        found = log.find(CallFilter(query.get("radio"), query.get("group")), query.get("last", USUAL_CALLS))
+        found = self._find_calls(CallFilter(query.get("radio"), query.get("group")), query.get("last", USUAL_CALLS))
+        until = self.views.records.log.until if self.views.records else None
         view = {"since": utc_text(self.views.begun.wall, decimals=True), "poll_seconds": self.views.config.poll.state_seconds, "seen": log.count, "kept": log.ended.size,
-                "calls": [call_view(it) for it in found]}
+                "recorded_until": None if until is None else utc_text(until, decimals=True), "calls": [call_view(it) for it in found]}
         return tagged_response(json_octets(view), JSON)
+
+    def _find_calls(self, wanted: CallFilter, most: int) -> list[SeenCall]:
+        """The calls that are asked for. Of those that ended before the last recorded term did, the records have the last word."""
+        if self.views.records is None:
+            return self.model.calls.find(wanted, most)
+        return self.views.records.log.find(self.model.calls, wanted, most, MISSED_POLLS * self.views.config.poll.state_seconds)
 
     def history_json(self, request: Request) -> Response:
         """The samples of a span. BadRequest: the query is refused."""
@@ -56,11 +64,12 @@ class BoardViews:
 
 
 def call_view(call: SeenCall) -> dict[str, Any]:
-    """A call that was seen."""
+    """A call that was seen, or recorded."""
     carrier, slot = call.slot
     return {"number": call.number, "carrier": carrier, "slot": slot, "kind": call.parties.kind, "target": call.parties.target, "source": call.parties.source,
             "began": utc_text(call.began.wall, decimals=True), "older": call.is_older, "ended": utc_text(call.ended.wall, decimals=True) if call.ended else None,
-            "end_seen": call.is_end_seen if call.ended else None, "seconds": rounded(call.seconds) if call.seconds is not None else None}
+            "end_seen": call.is_end_seen if call.ended else None, "seconds": rounded(call.seconds) if call.seconds is not None else None,
+            "recorded": call.cause is not None, "cause": call.cause}
 
 
 def span_view(name: str, span: Span, now: Moment) -> dict[str, Any]:

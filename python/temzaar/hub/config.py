@@ -35,6 +35,13 @@ class PollKeys:
 
 
 @dataclasses.dataclass(frozen=True)
+class RecordsKeys:
+    """The controller's file of records."""
+    file: str = key(FilePath(or_none=True), "", "the file; if it is empty, none is read")
+    read_seconds: float = key(Number(0.05, 3600), 5.0, "from one look at the file to the next")
+
+
+@dataclasses.dataclass(frozen=True)
 class LinePortKeys:
     """The port for operators."""
     socket: str = key(FilePath(), "/run/dmr_hub/console.sock", "the unix socket")
@@ -87,6 +94,7 @@ class Config:
     """All sections."""
     controller: ControllerKeys = ControllerKeys()
     poll: PollKeys = PollKeys()
+    records: RecordsKeys = RecordsKeys()
     line_port: LinePortKeys = LinePortKeys()
     roles: RoleKeys = RoleKeys()
     audit: AuditKeys = AuditKeys()

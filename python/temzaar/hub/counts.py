@@ -65,6 +65,11 @@ class Histogram:
         self.counts[bisect.bisect_left(self.bounds, value)] += 1
         self.sum += value
 
+    def add(self, counts: list[int], total: float) -> None:
+        """Counts values that were sorted by these bounds already, the last ones above all of them; `total` is their sum."""
+        self.counts = [before + more for before, more in zip(self.counts, counts, strict=True)]
+        self.sum += total
+
     def lines(self) -> Iterator[str]:
         """The lines of the format."""
         yield f"# HELP {self.name} {self.about}\n# TYPE {self.name} histogram\n"

@@ -56,11 +56,15 @@ class Whole:
 
 
 class FilePath:
-    """An absolute path."""
-    says = "an absolute path"
+    """An absolute path; it may be empty if `or_none` says so."""
+
+    def __init__(self, or_none: bool = False) -> None:
+        self.or_none, self.says = or_none, "an absolute path, or empty" if or_none else "an absolute path"
 
     def read(self, value: Any) -> str:
         """The path."""
+        if self.or_none and value == "":
+            return ""
         if not isinstance(value, str) or not value.startswith("/") or "\0" in value:
             raise ValueError(f"not {self.says}")
         return value

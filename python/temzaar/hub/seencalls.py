@@ -11,18 +11,21 @@ from typing import Any
 
 from temzaar.console import Parties, SlotKey
 from temzaar.hub.moment import Moment
+from temzaar.records import CAUSES
 
 # How many calls that have ended are kept: about an hour of the busiest site, and days of a small one.
 MOST_ENDED = 10_000
 # A call that has ended: its number, carrier, slot, target, source and flags, and when it began and ended, on both clocks.
 RECORD = struct.Struct("<QIIIIBdddd")
 IS_GROUP, IS_OLDER, IS_END_SEEN = 1, 2, 4
+# The cause of the end is in the flags from this bit on: 0 is none, and the last one is any other text.
+CAUSE_BIT, CAUSE_NAMES = 3, (None, *CAUSES, "other")
 
 
 @dataclass(frozen=True)
 class SeenCall:
     """A call. `is_older`: it was there when the hub connected. `ended` is None while the last picture has it. `is_end_seen` is False if the hub lost the console
-    before the end: `ended` is then when the call was seen last."""
+    before the end: `ended` is then when the call was seen last. `cause` is why it ended, if the call is one of the controller's records."""
     number: int
     slot: SlotKey
     parties: Parties
@@ -30,6 +33,7 @@ class SeenCall:
     is_older: bool
     ended: Moment | None = None
     is_end_seen: bool = False
+    cause: str | None = None
 
     @property
     def seconds(self) -> float | None:
@@ -37,10 +41,15 @@ class SeenCall:
         return self.ended.steady - self.began.steady if self.ended else None
 
 
+def cause_number(cause: str | None) -> int:
+    """The number of a cause in the flags of a record."""
+    return CAUSE_NAMES.index(cause) if cause in CAUSE_NAMES else len(CAUSE_NAMES) - 1
+
+
 def pack_call(call: SeenCall) -> bytes:
     """The record of a call that has ended."""
     assert call.ended
-    flags = IS_GROUP * (call.parties.kind == "group") | IS_OLDER * call.is_older | IS_END_SEEN * call.is_end_seen
+    flags = IS_GROUP * (call.parties.kind == "group") | IS_OLDER * call.is_older | IS_END_SEEN * call.is_end_seen | cause_number(call.cause) << CAUSE_BIT
     return RECORD.pack(call.number, *call.slot, call.parties.target, call.parties.source, flags, call.began.wall, call.began.steady, call.ended.wall, call.ended.steady)
 
 
@@ -48,7 +57,8 @@ def unpack_call(record: tuple[Any, ...]) -> SeenCall:
     """The call of a record's values."""
     number, carrier, slot, target, source, flags, *times = record
     parties = Parties("group" if flags & IS_GROUP else "radio", target, source)
-    return SeenCall(number, (carrier, slot), parties, Moment(*times[:2]), bool(flags & IS_OLDER), Moment(*times[2:]), bool(flags & IS_END_SEEN))
+    return SeenCall(number, (carrier, slot), parties, Moment(*times[:2]), bool(flags & IS_OLDER), Moment(*times[2:]), bool(flags & IS_END_SEEN),
+                    CAUSE_NAMES[flags >> CAUSE_BIT])
 
 
 @dataclass(frozen=True)
@@ -123,5 +133,9 @@ class CallLog:
 
     def find(self, wanted: CallFilter, most: int) -> list[SeenCall]:
         """The calls that are asked for, `most` of them: the active ones first, the last to begin first; then the others, the last to end first."""
+        return list(islice(self.search(wanted), most))
+
+    def search(self, wanted: CallFilter) -> Iterator[SeenCall]:
+        """All calls that are asked for, in the order of `find`, one by one."""
         active = [it for it in self.active.values() if wanted.passes(it.parties.kind == "group", it.parties.target, it.parties.source)]
-        return list(islice(chain(sorted(active, key=lambda it: -it.number), self.ended.find(wanted)), most))
+        return chain(sorted(active, key=lambda it: -it.number), self.ended.find(wanted))

@@ -16,6 +16,7 @@ from temzaar.hub.moment import Moment
 from temzaar.hub.notes import note, notify_systemd, warn
 from temzaar.hub.pagefiles import PREFIX, load_page
 from temzaar.hub.poller import Poller
+from temzaar.hub.recordreader import RecordReader
 from temzaar.hub.roles import Rules
 from temzaar.hub.session import Desk
 from temzaar.hub.views import Views
@@ -33,7 +34,8 @@ class Hub:
         self.audit = AuditLog(config.audit)
         self.desk = Desk(self.link, self.audit, config.line_port, self.counts, self.poller.hurry)
         self.line_port = LinePort(self.desk, rules)
-        self.views = Views(config, self.link, self.model, self.counts, self.desk.sessions, Moment.now())
+        self.records = RecordReader(config.records) if config.records.file else None
+        self.views = Views(config, self.link, self.model, self.counts, self.desk.sessions, Moment.now(), self.records)
         views = {**self._load_page(), **self._views_for_machines()}
         self.web_port = WebPort(config.http, views, self.counts, [path for path in views if not path.startswith(PREFIX)])
         self.stopping = asyncio.Event()
@@ -94,6 +96,8 @@ class Hub:
         try:
             await self._open_ports()
             tasks += [asyncio.create_task(self.link.run()), asyncio.create_task(self.poller.run())]
+            if self.records:
+                tasks.append(asyncio.create_task(self.records.run()))
             notify_systemd("READY=1")
             await asyncio.wait({waiting, *tasks}, return_when=asyncio.FIRST_COMPLETED)
             for task in tasks:

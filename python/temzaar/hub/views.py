@@ -7,11 +7,12 @@ from typing import Any
 
 from temzaar.console import Parties
 from temzaar.hub.config import Config
-from temzaar.hub.counts import HubCounts, Series
+from temzaar.hub.counts import Histogram, HubCounts, Series
 from temzaar.hub.lines import AWAY
 from temzaar.hub.link import ConsoleLink
 from temzaar.hub.model import SiteModel
 from temzaar.hub.moment import Moment, utc_text
+from temzaar.hub.recordreader import RecordReader
 from temzaar.picture import Picture, Standing
 from temzaar.process import Process
 
@@ -22,13 +23,14 @@ MISSED_POLLS = 5
 
 @dataclass
 class Views:
-    """Everything that the views are made of. `sessions` has the connections of operators."""
+    """Everything that the views are made of. `sessions` has the connections of operators; `records` is None if no file of records is read."""
     config: Config
     link: ConsoleLink
     model: SiteModel
     counts: HubCounts
     sessions: Sized
     begun: Moment
+    records: RecordReader | None = None
 
     def site_json(self) -> bytes:
         """The state of the site as JSON (docs/HUB.md)."""
@@ -86,8 +88,13 @@ class Views:
 
     def metrics(self) -> bytes:
         """All metrics."""
-        series = [*self._site_series(), *self._process_series(), *self.counts.all_series()]
+        series = self.all_series()
         return "".join(line for it in series for line in it.lines()).encode("utf-8")
+
+    def all_series(self) -> list[Series | Histogram]:
+        """All metrics, in the order in which they are shown."""
+        of_records = self.records.counts.all_series() if self.records else []
+        return [*self._site_series(), *of_records, *self._process_series(), *self.counts.all_series()]
 
     def _site_series(self) -> Iterator[Series]:
         """Gauges of the site. While the controller is away there are only its name and the one that says so."""

@@ -132,7 +132,8 @@ function lastedElements(call) {
     return [makeElement("span", { class: "active" }, "▶ active")];
   }
   const isAtLeast = call.older || !call.end_seen;
-  const why = !call.end_seen ? "the hub lost sight of it" : call.older ? "it was there when the hub connected" : null;
+  const cause = call.cause ? `ended: ${call.cause.replaceAll("_", " ")}` : null;
+  const why = !call.end_seen ? "the hub lost sight of it" : call.older ? "it was there when the hub connected" : cause;
   return [makeElement("span", { title: why }, `${isAtLeast ? ">" : ""}${ageText(call.seconds)}`)];
 }
 
@@ -148,10 +149,10 @@ function fillCall(row, call) {
   ]);
 }
 
-/** Shows seen calls in the rows of a table. */
+/** Shows calls, seen or recorded, in the rows of a table. */
 export function showCalls(body, calls) {
   body.closest("table").hidden = calls.length === 0;
-  syncRows(body, calls, (call) => call.number, fillCall);
+  syncRows(body, calls, (call) => `${call.recorded} ${call.number} ${call.began}`, fillCall);
 }
 
 /** Shows the registered radios whose numbers begin with the filter's digits. */

@@ -1,4 +1,4 @@
-use Rattle.std.proofs.Common.{◌≡◌, None, map, refl, sym, ◌∙◌}
+use Rattle.std.proofs.Common.{None, map, refl, sym, ◌∙◌}
 use Rattle.dmr_desk.specs.Term.{start_of_term}
 use Rattle.dmr_desk.specs.Work.{station_state}
 use Rattle.dmr_trunk.proofs.ServingLemmas.{fault_from, left_is_given, run_from}

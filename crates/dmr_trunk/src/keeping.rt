@@ -1,0 +1,216 @@
+//! Keeping the records of terms: a store receives them in a thread of its own, while terms go on.
+
+ghost use Rattle.std.specs.Prelude.{◌≡◌, [], ◌∷◌, ◌++◌, None};
+ghost use Rattle.dmr_keeper.specs.Handing.{AreHandedOver, newest};
+
+use crate::notes::Notes;
+use dmr_keeper::{KeepFault, Keeper, Outbox, TimedRecords};
+use log::Log;
+use std::snapshot::Snapshot;
+use std::sync::Wait;
+use std::sync::atomic::{AtomicBool, Ordering};
+use std::thread::{Promise, PromisedHandle, Scope, Threads};
+
+/// A store, and the records that it is to keep next.
+#[derive(Drop)]
+pub struct Keeping<K> {
+    /// The store.
+    pub keeper: K,
+    /// The records, oldest term first.
+    pub outbox: Outbox,
+    /// Why the store refused records the last time. `None` if it refused none.
+    pub fault: Option<KeepFault>,
+}
+
+impl<K: Keeper + Drop> Keeping<K> {
+    /// Hands the store what waits, oldest term first, until it refuses some. If there is no fault then, nothing waits.
+    pub fn hand_over(self) -> Keeping<K>
+        ensures handed { AreHandedOver (K.kept self.keeper) self.outbox result.outbox
+            (K.kept result.keeper) }
+        ensures all { result.fault ≡ None → result.outbox ≡ [] }
+    {
+        let Keeping {
+            mut keeper,
+            mut outbox,
+            ..
+        } = self;
+        let fault = outbox.hand_over(&mut keeper).err();
+        Keeping {
+            keeper,
+            outbox,
+            fault,
+        }
+    }
+}
+
+/// The promise that a thread hands the store what waits.
+#[derive(Drop)]
+pub struct HandOver<K>(pub Snapshot<Keeping<K>>);
+
+impl<K: Keeper> Promise<Keeping<K>> for HandOver<K> {
+    ghost use Rattle.std.specs.Prelude.{◌≡◌, [], None};
+    ghost use Rattle.dmr_keeper.specs.Handing.{AreHandedOver};
+
+    ghost kept_by = { λ p r. AreHandedOver (K.kept p.0.value.keeper) p.0.value.outbox r.outbox
+        (K.kept r.keeper) × (r.fault ≡ None → r.outbox ≡ []) };
+}
+
+/// The store: it is here, or a thread writes to it.
+#[derive(Drop)]
+pub enum Writer<K: Keeper> {
+    /// The store is here.
+    Idle(Keeping<K>),
+    /// A thread has it, and returns it.
+    Busy(PromisedHandle<Keeping<K>, HandOver<K>>),
+}
+
+/// The records of the terms that have ended since the store was last handed some.
+#[derive(Drop)]
+pub struct Waiting {
+    /// The records, oldest term first.
+    outbox: Outbox,
+    /// Why the store last refused records, as far as it was noted.
+    noted: Option<KeepFault>,
+    /// Of how many terms the records were lost since the store last took some.
+    lost: u64,
+}
+
+impl Waiting {
+    /// Begins with no records.
+    pub fn new(outbox: Outbox) -> Waiting
+        ensures { result.outbox ≡ outbox }
+    {
+        Waiting {
+            outbox,
+            noted: None,
+            lost: 0,
+        }
+    }
+
+    /// Counts terms whose records are lost. The first of them is noted.
+    fn count_lost<R: Log>(&mut self, lost: u64, notes: &mut Notes<'_, R>)
+        ensures { self.new.outbox ≡ self.old.outbox }
+    {
+        if lost > 0 && self.lost == 0 {
+            notes.records_lost();
+        }
+        self.lost = self.lost.saturating_add(lost);
+    }
+
+    /// Adds the records of a term. If there is no room for them, the oldest are lost.
+    pub fn add<R: Log>(&mut self, term: TimedRecords, notes: &mut Notes<'_, R>)
+        ensures { self.new.outbox ≡ newest (self.old.outbox ++ term ∷ []) }
+    {
+        if let Some(oldest) = self.outbox.add(term) {
+            drop(oldest);
+            self.count_lost(1, notes);
+        }
+    }
+
+    /// Moves all records to the store's. They come after those that it refused. If there is no room for all, the oldest
+    /// are lost.
+    fn move_to<R: Log>(&mut self, outbox: &mut Outbox, notes: &mut Notes<'_, R>)
+        ensures moved { outbox.new ≡ newest (outbox.old ++ self.old.outbox) }
+        ensures none { self.new.outbox ≡ [] }
+    {
+        let lost = outbox.append(&mut self.outbox);
+        self.count_lost(lost as u64, notes);
+    }
+
+    /// Notes what came of handing records over: a fault that is not the one before, or that there is none any more.
+    fn note<R: Log>(&mut self, fault: Option<KeepFault>, notes: &mut Notes<'_, R>)
+        ensures { self.new.outbox ≡ self.old.outbox }
+    {
+        if fault == self.noted {
+            return;
+        }
+        self.noted = fault;
+        match fault {
+            Some(fault) => notes.cannot_keep(fault),
+            None => {
+                notes.kept_again(self.lost);
+                self.lost = 0;
+            }
+        }
+    }
+}
+
+/// Starts a thread that hands the store what waits for it, if anything does. It sets `written` at its end. If no thread
+/// can be started, hands it over before it returns.
+fn start_writing<'s, E, K>(
+    scope: &'s Scope<'s, E>,
+    written: &'s AtomicBool,
+    keeping: Keeping<K>,
+) -> Writer<K>
+where
+    K: Keeper + Send + Drop + 's,
+{
+    if keeping.outbox.is_empty() {
+        return Writer::Idle(keeping);
+    }
+    written.store(false, Ordering::SeqCst);
+    let promise = HandOver(Snapshot::of(&keeping));
+    match scope.spawn_with(
+        promise,
+        move || -> Keeping<K>
+            ensures { AreHandedOver (K.kept keeping.keeper) keeping.outbox result.outbox
+                (K.kept result.keeper) × (result.fault ≡ None → result.outbox ≡ []) }
+        {
+            let back = keeping.hand_over();
+            written.store(true, Ordering::SeqCst);
+            back
+        },
+    ) {
+        Ok(child) => Writer::Busy(child),
+        Err(refused) => Writer::Idle((refused.value)()),
+    }
+}
+
+/// Goes on at the end of a term, with the records that wait. If the thread that writes has ended, or there is none, a
+/// thread is started for what waits now. Nobody waits for a thread here.
+pub fn go_on<'s, E, K, R>(
+    rt: &R,
+    scope: &'s Scope<'s, E>,
+    written: &'s AtomicBool,
+    writer: Writer<K>,
+    waiting: &mut Waiting,
+    notes: &mut Notes<'_, R>,
+) -> Writer<K>
+where
+    K: Keeper + Send + Drop + 's,
+    R: Log + Threads,
+{
+    let mut keeping = match writer {
+        Writer::Idle(keeping) => keeping,
+        Writer::Busy(child) => {
+            if !written.load(Ordering::SeqCst) {
+                return Writer::Busy(child);
+            }
+            child.join(rt)
+        }
+    };
+    waiting.note(keeping.fault, notes);
+    waiting.move_to(&mut keeping.outbox, notes);
+    start_writing(scope, written, keeping)
+}
+
+/// Hands the store all that waits at the end, after the thread that writes has ended. It waits for both.
+pub fn hand_over_rest<K, R>(
+    rt: &R,
+    writer: Writer<K>,
+    mut waiting: Waiting,
+    notes: &mut Notes<'_, R>,
+) -> Keeping<K>
+where
+    K: Keeper + Send + Drop,
+    R: Log + Threads,
+{
+    let mut keeping = match writer {
+        Writer::Idle(keeping) => keeping,
+        Writer::Busy(child) => child.join(rt),
+    };
+    waiting.move_to(&mut keeping.outbox, notes);
+    let keeping = keeping.hand_over();
+    waiting.note(keeping.fault, notes);
+    keeping
+}

@@ -1,0 +1,127 @@
+//! The script to which a site is recorded: a new file, if the environment names one.
+
+ghost use Rattle.std.specs.Prelude.{◌≡◌, ℕ, List, Option, None, OnOk};
+ghost use Rattle.dmr_trunk.specs.Scripts.{Appends};
+
+use crate::store::Stored;
+use dmr_pdu::OutOfMemory;
+use std::env::VarError;
+use std::fs::File;
+use std::io::Write;
+use std::rt::Env;
+use std::{env, io};
+use thiserror::Error;
+
+/// The variable that names the file of a recording.
+const RECORD: &str = "DMR_TRUNK_RECORD";
+
+/// The most octets of a recording: 1 GiB.
+pub const MOST_OCTETS: u64 = 1 << 30;
+
+/// Why lines were not appended to a recording. The texts are those of a note for the operator.
+#[derive(Clone, Copy, Debug, PartialEq, Eq, Error)]
+pub enum ScriptFault {
+    /// There is such a file already. Nothing is written to it.
+    #[error("there is such a file already")]
+    Exists,
+    /// The file cannot be made.
+    #[error("cannot make the file")]
+    CannotMake,
+    /// The recording would have more than [`MOST_OCTETS`].
+    #[error("it has 1 GiB")]
+    Long,
+    /// The disk has no room left.
+    #[error("the disk is full")]
+    Full,
+    /// The disk failed or refused a write.
+    #[error("the disk failed or refused a write")]
+    NotWritten,
+}
+
+/// A script to which lines are appended.
+pub trait Script {
+    // If the script reports it: all octets that were appended, in their order. It may stop reporting at any call, and then
+    // never reports again.
+    ghost appended: { Self → Option (List ℕ) };
+
+    /// Appends lines. After an error nothing more is appended.
+    fn append(&mut self, lines: &str) -> Result<(), ScriptFault>
+        ensures { OnOk result (Appends (appended self.old) lines.now (appended self.new)) };
+}
+
+/// A recording in a file. The file is made at the first call, and must not exist then.
+#[derive(Drop)]
+pub struct RecordingFile<'a> {
+    rt: &'a HostRuntime,
+    path: &'a str,
+    file: Option<File>,
+    octets: u64,
+}
+
+impl<'a> RecordingFile<'a> {
+    /// A recording at a path. It makes no file yet.
+    pub fn new(rt: &'a HostRuntime, path: &'a str) -> RecordingFile<'a> {
+        RecordingFile {
+            rt,
+            path,
+            file: None,
+            octets: 0,
+        }
+    }
+}
+
+/// Makes the file of a path. It must not exist.
+fn make_file(rt: &HostRuntime, path: &str) -> Result<File, ScriptFault> {
+    match File::create_new(rt, path) {
+        Ok(file) => Ok(file),
+        Err(error) => Err(match error.kind() {
+            io::ErrorKind::AlreadyExists => ScriptFault::Exists,
+            _ => ScriptFault::CannotMake,
+        }),
+    }
+}
+
+/// Writes lines at the end of a file that has this many octets. If not all can be written, the file keeps none of them.
+fn write_lines(file: &mut File, octets: u64, lines: &str) -> Result<(), ScriptFault> {
+    match file.write_all(lines.as_bytes()) {
+        Ok(()) => Ok(()),
+        Err(error) => {
+            let _ = file.set_len(octets);
+            Err(match error.kind() {
+                io::ErrorKind::StorageFull => ScriptFault::Full,
+                _ => ScriptFault::NotWritten,
+            })
+        }
+    }
+}
+
+/// The file does not report what was appended, since other programs may write it too.
+impl Script for RecordingFile<'_> {
+    ghost appended = { λ file. None };
+
+    fn append(&mut self, lines: &str) -> Result<(), ScriptFault> {
+        let octets = self.octets.saturating_add(lines.len() as u64);
+        if octets > MOST_OCTETS {
+            return Err(ScriptFault::Long);
+        }
+        let mut file = match self.file.take() {
+            Some(file) => file,
+            None => make_file(self.rt, self.path)?,
+        };
+        write_lines(&mut file, self.octets, lines)?;
+        self.file = Some(file);
+        self.octets = octets;
+        Ok(())
+    }
+}
+
+/// Reads the path of the file of a recording. Nothing is recorded if the variable `DMR_TRUNK_RECORD` is not set or empty.
+pub fn recording_path<R: AllocGlobal + Env>(rt: &R) -> Result<Stored<String>, OutOfMemory> {
+    match env::var(rt, RECORD) {
+        Ok(path) if path.is_empty() => Ok(Stored::Nowhere),
+        Ok(path) => Ok(Stored::In(path)),
+        Err(VarError::NotPresent) => Ok(Stored::Nowhere),
+        Err(VarError::NotUnicode) => Ok(Stored::NotText),
+        Err(VarError::OutOfMemory) => Err(OutOfMemory),
+    }
+}

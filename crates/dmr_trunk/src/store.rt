@@ -1,0 +1,66 @@
+//! The store of records: a file in the folder for the program's state, if the environment names one.
+
+use dmr_keeper::{KeepFault, Keeper};
+use dmr_pdu::{Address, OutOfMemory};
+use dmr_records::{RecordsFile, keep_fault_of};
+use std::alloc::Global;
+use std::env;
+use std::env::VarError;
+use std::rt::Env;
+
+/// The variable that names the folder for the program's state. systemd sets it for `StateDirectory=`.
+const STATE_DIRECTORY: &str = "STATE_DIRECTORY";
+
+/// The name of the file of records in that folder.
+const FILE: &str = "/site.db";
+
+/// A store that can say which radios were registered.
+pub trait Store: Keeper {
+    /// Reads the radios that were registered at the end of the last term that the store has, in the order in which they
+    /// joined.
+    fn registered(&self, alloc: Global) -> Result<Vec<Address>, KeepFault>;
+}
+
+impl Store for RecordsFile<'_> {
+    fn registered(&self, _alloc: Global) -> Result<Vec<Address>, KeepFault> {
+        match RecordsFile::registered(self) {
+            Ok(radios) => Ok(radios),
+            Err(fault) => Err(keep_fault_of(fault)),
+        }
+    }
+}
+
+/// What the environment says about the store.
+#[derive(Drop)]
+pub enum Stored<K> {
+    /// Nothing is kept.
+    Nowhere,
+    /// Records are kept here.
+    In(K),
+    /// The name of the folder is not UTF-8.
+    NotText,
+}
+
+/// What is kept of a served site, as the environment asks for it.
+#[derive(Drop)]
+pub struct Kept<K, W> {
+    /// Its records, in a store.
+    pub records: Stored<K>,
+    /// Its recording, in a script.
+    pub recording: Stored<W>,
+}
+
+/// Reads the path of the file of records: `site.db` in the folder that `STATE_DIRECTORY` names. No folder is named if the
+/// variable is not set or empty.
+pub fn records_path<R: AllocGlobal + Env>(rt: &R) -> Result<Stored<String>, OutOfMemory> {
+    match env::var(rt, STATE_DIRECTORY) {
+        Ok(folder) if folder.is_empty() => Ok(Stored::Nowhere),
+        Ok(mut path) => {
+            path.push_str(FILE)?;
+            Ok(Stored::In(path))
+        }
+        Err(VarError::NotPresent) => Ok(Stored::Nowhere),
+        Err(VarError::NotUnicode) => Ok(Stored::NotText),
+        Err(VarError::OutOfMemory) => Err(OutOfMemory),
+    }
+}

@@ -1,0 +1,66 @@
+"""Prints the calls that the controller has recorded: when each began, how long it was, on which slot, who called whom, and why it ended.
+
+    callbook                                       all calls of /var/lib/dmr_trunk/site.db, newest last
+    callbook --records site.db --last 20           the last twenty of this file
+    callbook --radio 1001 --from 08:00             those that radio 1001 made or received today, since 08:00
+    callbook --group 91 --from -2h --format csv    those to talkgroup 91 of the last two hours, as CSV
+
+--from and --to take times of the machine's zone: 2026-11-27 (as --to: to the end of that day), 2026-11-27 08:00, and 08:00, which is today. -2h is two hours
+ago; s, m and d are seconds, minutes and days. A call is printed if it was active at some time between them.
+
+The tool copies the file while it has SQLite's lock of readers, and writes nothing next to it. It needs the right to read the file, as root or the
+controller's user has it. The controller writes the file at the end of each term, so calls of the term that runs are not in it yet.
+
+Status: 0 printed; 1 the file, named on standard error with the reason; 2 the words.
+"""
+import argparse
+import sys
+from collections.abc import Sequence
+from datetime import UTC, datetime
+
+from temzaar.cli.command import amount_above, count_of, parse_words, run_command
+from temzaar.moments import join_times, read_moment
+from temzaar.records import CAUSES, DEFAULT_PATH, LOCK_SECONDS, opened_records
+from temzaar.recordsheet import CallQuery, SheetFormat, write_sheet
+
+MOST_ADDRESS = (1 << 24) - 1
+MOST_CALLS = 1_000_000
+
+
+def read_words(words: Sequence[str] | None) -> argparse.Namespace:
+    """The words of the command line."""
+    parser = argparse.ArgumentParser(description=__doc__, formatter_class=argparse.RawDescriptionHelpFormatter)
+    parser.add_argument("--records", metavar="FILE", default=DEFAULT_PATH, help=f"the controller's file of records ({DEFAULT_PATH})")
+    parser.add_argument("--format", choices=[it.value for it in SheetFormat], default=SheetFormat.TABLE.value, help="what is printed (table)")
+    parser.add_argument("--radio", type=count_of(1, MOST_ADDRESS), help="calls that this radio began, and calls to it")
+    parser.add_argument("--group", type=count_of(1, MOST_ADDRESS), help="calls to this talkgroup")
+    parser.add_argument("--carrier", type=count_of(0, 15), help="calls on this carrier")
+    parser.add_argument("--cause", choices=CAUSES, help="calls that ended for this cause")
+    parser.add_argument("--from", dest="first", metavar="FROM", help="calls that were active at this time, or later")
+    parser.add_argument("--to", dest="last_time", metavar="TO", help="calls that were active at this time, or earlier")
+    parser.add_argument("--last", type=count_of(1, MOST_CALLS), metavar="N", help="the newest N of them")
+    parser.add_argument("--seconds", type=amount_above(0, 600), default=LOCK_SECONDS, help=f"how long to wait while the controller writes the file ({LOCK_SECONDS:g})")
+    return parse_words(parser, join_times(list(sys.argv[1:] if words is None else words), ("--from", "--to")))
+
+
+def query_of(options: argparse.Namespace) -> CallQuery:
+    """The calls that the words ask for. MomentFault: a time is none."""
+    now = datetime.now(UTC)
+    first = None if options.first is None else read_moment(options.first, now)
+    last = None if options.last_time is None else read_moment(options.last_time, now, is_end=True)
+    return CallQuery(options.radio, options.group, options.carrier, options.cause, first, last)
+
+
+def print_calls(options: argparse.Namespace) -> int:
+    """Prints what the words ask for. The status. ToolFault: the file or a time is at fault."""
+    query = query_of(options)
+    with opened_records(options.records, options.seconds) as records:
+        calls = records.calls(query.where(), options.last)
+    sys.stdout.write(write_sheet(calls, SheetFormat(options.format)))
+    return 0
+
+
+def main(words: Sequence[str] | None = None) -> int:
+    """Runs the command. The status."""
+    options = read_words(words)
+    return run_command("callbook", lambda: print_calls(options))

@@ -1,0 +1,97 @@
+"""What is new in the controller's file of records since a term: sums, counts and the newest calls. It is read in a thread of its own, into memory of a fixed size."""
+import bisect
+import os
+from collections import Counter
+from collections.abc import Iterable
+from dataclasses import dataclass, field
+
+from temzaar import pdus
+from temzaar.hub.seencalls import MOST_ENDED
+from temzaar.records import LOG, RecordedCall, RecordedTerm, Records, opened_records
+
+# Seconds for which a look at the file waits while the controller writes; then the hub tries again at the next look.
+LOCK_SECONDS = 0.5
+# Seconds: a call lasts from the hang time, some seconds, up to the maximum of the site file, some minutes.
+DURATION_BUCKETS = (1.0, 2.0, 5.0, 10.0, 20.0, 30.0, 60.0, 120.0, 180.0, 300.0)
+# The columns of `terms` that are summed.
+SUMMED = ("registrations", "heard", "noise", "polls", "grants", "late_entries")
+
+Signature = tuple[tuple[int, int, int] | None, ...]
+
+
+@dataclass
+class Durations:
+    """How many calls were at most as long as each bound, and how long they were together, in seconds."""
+    counts: list[int] = field(default_factory=lambda: [0] * (len(DURATION_BUCKETS) + 1))
+    sum: float = 0.0
+
+    def add(self, seconds: float) -> None:
+        """Counts a call."""
+        self.counts[bisect.bisect_left(DURATION_BUCKETS, seconds)] += 1
+        self.sum += seconds
+
+
+@dataclass
+class NewRecords:
+    """What is new. `last` is the newest term, None if there is none; `terms` is how many are new. Calls are counted by kind and cause, refusals by reason.
+    `newest` are the newest calls, in their order."""
+    last: RecordedTerm | None = None
+    terms: int = 0
+    sums: dict[str, int] = field(default_factory=lambda: dict.fromkeys(SUMMED, 0))
+    calls: Counter[tuple[str, str]] = field(default_factory=Counter)
+    durations: Durations = field(default_factory=Durations)
+    refusals: Counter[str] = field(default_factory=Counter)
+    newest: list[RecordedCall] = field(default_factory=list)
+
+
+def signature(path: str) -> Signature:
+    """What changes if the file or its log does."""
+    found: list[tuple[int, int, int] | None] = []
+    for name in (path, path + LOG):
+        try:
+            state = os.stat(name)
+            found.append((state.st_ino, state.st_size, state.st_mtime_ns))
+        except (OSError, ValueError):
+            found.append(None)
+    return tuple(found)
+
+
+def last_known(records: Records, last: RecordedTerm | None) -> int:
+    """The number of the term after which rows are new; 0 if the file is not the one that was read before."""
+    if last is None:
+        return 0
+    row = records.conn.execute("SELECT ended_ms FROM terms WHERE number = ?", (last.number,)).fetchone()
+    if row is not None:
+        return last.number if row[0] == last.ended_ms else 0
+    # the term has been removed with other old rows, or another file is at this path, whose terms begin at 1
+    greatest = records.conn.execute("SELECT max(number) FROM terms").fetchone()[0] or 0
+    return last.number if greatest > last.number else 0
+
+
+def reason_text(reason: int | None) -> str:
+    """A reason code, by its name if it has one."""
+    if reason is None:
+        return "none"
+    return pdus.REASONS[reason].name if reason in pdus.REASONS else f"0x{reason:02X}"
+
+
+def count_calls(rows: Iterable[tuple[int, str, int]], new: NewRecords) -> None:
+    """Counts calls: whether each was to a group, why it ended, and how many milliseconds it lasted."""
+    for is_group, cause, milliseconds in rows:
+        new.calls["group" if is_group else "radio", cause] += 1
+        new.durations.add(max(0, milliseconds) / 1000)
+
+
+def read_new(path: str, last: RecordedTerm | None) -> NewRecords:
+    """What is new in a file since a term, or all of it. RecordsFault: it cannot be read now."""
+    new = NewRecords()
+    with opened_records(path, LOCK_SECONDS) as records:
+        since = last_known(records, last)
+        new.terms, *sums = records.conn.execute(f"SELECT count(*), {', '.join(f'total({it})' for it in SUMMED)} FROM terms WHERE number > ?", (since,)).fetchone()
+        new.sums = {name: int(value) for name, value in zip(SUMMED, sums, strict=True)}
+        new.last = next(iter(records.terms(("number = (SELECT max(number) FROM terms)", []))), None)
+        count_calls(records.conn.execute("SELECT is_group, cause, ended_ms - began_ms FROM calls WHERE term > ?", (since,)), new)
+        for reason, count in records.conn.execute("SELECT reason, count(*) FROM events WHERE kind = 'refused' AND term > ? GROUP BY reason", (since,)):
+            new.refusals[reason_text(reason)] += count
+        new.newest = records.calls(("term > ?", [since]), last=MOST_ENDED)
+    return new

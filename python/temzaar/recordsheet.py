@@ -1,0 +1,96 @@
+"""The calls of a file of records as a table, CSV and JSON; and which of them are asked for."""
+import csv
+import io
+import json
+from dataclasses import dataclass
+from enum import Enum
+from typing import Any
+
+from temzaar.moments import iso_text, short_text
+from temzaar.records import RecordedCall, Where
+
+COLUMNS = ("number", "term", "began", "ended", "seconds", "carrier", "slot", "kind", "source", "target", "cause")
+TABLE = ("number", "began", "seconds", "slot", "kind", "source", "target", "cause")
+# The columns of the table that are numbers, which end at the same place.
+RIGHT = ("number", "seconds")
+# What a cell of CSV begins with if a spreadsheet takes it for a formula.
+FORMULA = ("=", "+", "-", "@", "\t", "\r", "\n")
+
+
+class SheetFormat(Enum):
+    """How the calls are written."""
+    TABLE = "table"
+    CSV = "csv"
+    JSON = "json"
+
+
+@dataclass(frozen=True)
+class CallQuery:
+    """Which calls are asked for. None: any. Of a radio: those that it began, and those to it. Of a time: those that were active then."""
+    radio: int | None = None
+    group: int | None = None
+    carrier: int | None = None
+    cause: str | None = None
+    from_ms: int | None = None
+    to_ms: int | None = None
+
+    def where(self) -> Where:
+        """The condition of the rows of `calls`."""
+        parts: list[tuple[str, Any, int]] = [
+            ("(source = ? OR (target = ? AND is_group = 0))", self.radio, 2), ("(target = ? AND is_group = 1)", self.group, 1), ("carrier = ?", self.carrier, 1),
+            ("cause = ?", self.cause, 1), ("ended_ms >= ?", self.from_ms, 1), ("began_ms <= ?", self.to_ms, 1)]
+        asked = [(text, value, count) for text, value, count in parts if value is not None]
+        return " AND ".join(text for text, _, _ in asked) or "1", [value for _, value, count in asked for _ in range(count)]
+
+
+def call_row(call: RecordedCall) -> dict[str, str | int | float | None]:
+    """The columns of a call. A time that the calendar does not have is None."""
+    return {"number": call.number, "term": call.term, "began": iso_text(call.began_ms), "ended": iso_text(call.ended_ms), "seconds": call.duration_ms / 1000,
+            "carrier": call.carrier, "slot": call.slot, "kind": kind_of(call), "source": call.source, "target": call.target, "cause": call.cause}
+
+
+def kind_of(call: RecordedCall) -> str:
+    """Who is called."""
+    return "talkgroup" if call.is_group else "individual"
+
+
+def printable(text: str) -> str:
+    """A text whose control characters cannot move the cursor of a terminal."""
+    return "".join(it if it.isprintable() else f"\\x{ord(it):02x}" for it in text)
+
+
+def safe_cell(value: str | int | float | None) -> str | int | float | None:
+    """A cell of CSV that no spreadsheet takes for a formula."""
+    return f"'{value}" if isinstance(value, str) and value.startswith(FORMULA) else value
+
+
+def table_cells(call: RecordedCall) -> dict[str, str]:
+    """The cells of a call in the table."""
+    return {"number": str(call.number), "began": short_text(call.began_ms), "seconds": f"{call.duration_ms / 1000:.1f}", "slot": f"{call.carrier}/{call.slot}",
+            "kind": kind_of(call), "source": str(call.source), "target": str(call.target), "cause": printable(call.cause)}
+
+
+def text_table(calls: list[RecordedCall]) -> str:
+    """The calls as a table for people."""
+    rows = [dict(zip(TABLE, TABLE, strict=True)), *map(table_cells, calls)]
+    widths = {name: max(len(row[name]) for row in rows) for name in TABLE}
+    lines = ["  ".join(f"{row[name]:{'>' if name in RIGHT else '<'}{widths[name]}}" for name in TABLE).rstrip() for row in rows]
+    return "".join(f"{line}\n" for line in lines)
+
+
+def csv_text(calls: list[RecordedCall]) -> str:
+    """The calls as CSV, with a line of the names of the columns."""
+    out = io.StringIO(newline="")
+    writer = csv.DictWriter(out, COLUMNS, lineterminator="\n")
+    writer.writeheader()
+    writer.writerows({name: safe_cell(value) for name, value in call_row(it).items()} for it in calls)
+    return out.getvalue()
+
+
+def write_sheet(calls: list[RecordedCall], form: SheetFormat) -> str:
+    """The calls in a format."""
+    if form is SheetFormat.TABLE:
+        return text_table(calls)
+    if form is SheetFormat.CSV:
+        return csv_text(calls)
+    return json.dumps([call_row(it) for it in calls], indent=2) + "\n"

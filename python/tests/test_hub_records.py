@@ -1,0 +1,262 @@
+"""The hub's counters and last calls of the controller's records. The rows are those of `made_records`, and the figures were counted in them by hand."""
+import asyncio
+import json
+import pathlib
+import re
+import sqlite3
+import tempfile
+import time
+import unittest
+from contextlib import closing
+
+from temzaar.console import Parties
+from temzaar.hub.moment import Moment
+from temzaar.hub.newrecords import read_new, reason_text, signature
+from temzaar.hub.recordcounts import RecordCounts, RecordedLog
+from temzaar.hub.seencalls import RECORD, CallFilter, CallLog, SeenCall, pack_call, unpack_call
+from temzaar.records import CAUSES, RecordedTerm
+from tests.hub_support import wait_until
+from tests.made_records import NOON, add_term, locked, make_records
+from tests.test_hub_web import WebCase
+
+ALL = CallFilter()
+# Of all three terms. Calls by kind and cause: each cause but one has one call.
+TOTALS = {
+    'dmr_site_calls_total{kind="group",cause="hang_time"}': 1, 'dmr_site_calls_total{kind="group",cause="carrier_lost"}': 1, 'dmr_site_calls_total{kind="group",cause="maximum"}': 1,
+    'dmr_site_calls_total{kind="radio",cause="ended_by_operator"}': 1, 'dmr_site_calls_total{kind="radio",cause="radio_left"}': 1,
+    'dmr_site_calls_total{kind="group",cause="dropped"}': 0, 'dmr_site_calls_total{kind="radio",cause="hang_time"}': 0,
+    # 3 s, 6 s, 12 s, 15 s and 37.5 s
+    'dmr_site_call_duration_seconds_bucket{le="2"}': 0, 'dmr_site_call_duration_seconds_bucket{le="5"}': 1, 'dmr_site_call_duration_seconds_bucket{le="10"}': 2,
+    'dmr_site_call_duration_seconds_bucket{le="20"}': 4, 'dmr_site_call_duration_seconds_bucket{le="60"}': 5, 'dmr_site_call_duration_seconds_bucket{le="+Inf"}': 5,
+    "dmr_site_call_duration_seconds_sum": 73.5, "dmr_site_call_duration_seconds_count": 5,
+    "dmr_site_registrations_total": 4, 'dmr_site_refusals_total{reason="Group_Not_Allowed"}': 2, 'dmr_site_refusals_total{reason="Called_Party_Busy"}': 1,
+    "dmr_site_terms_total": 3, "dmr_site_polls_total": 2876 + 1440 + 1905, "dmr_site_bursts_total": 41, "dmr_site_noise_bursts_total": 4, "dmr_site_grants_total": 15,
+    "dmr_site_late_entries_total": 3, "dmr_site_longest_queue": 0, "dmr_site_records_timestamp_seconds": NOON // 1000 + 160,
+}
+
+
+def samples_of(text: str) -> dict[str, float]:
+    """The samples of a text in the format of Prometheus."""
+    return {name: float(value) for name, value in re.findall(r"^(\w+(?:\{[^}]*\})?) (\S+)$", text, re.M)}
+
+
+class Folder(unittest.TestCase):
+    """A test with a folder."""
+
+    def setUp(self) -> None:
+        folder = tempfile.TemporaryDirectory()
+        self.addCleanup(folder.cleanup)
+        self.folder = pathlib.Path(folder.name)
+
+
+class New(Folder):
+    """What is new in a file."""
+
+    def counted(self, path: pathlib.Path, counts: RecordCounts, last: RecordedTerm | None) -> RecordedTerm | None:
+        """Takes what is new since a term. The last term."""
+        new = read_new(str(path), last)
+        counts.take(new)
+        return new.last
+
+    def figures(self, counts: RecordCounts) -> dict[str, float]:
+        """The samples of the counters."""
+        return samples_of("".join(line for it in counts.all_series() for line in it.lines()))
+
+    def assert_totals(self, counts: RecordCounts) -> None:
+        """The counters have all three terms."""
+        found = self.figures(counts)
+        self.assertEqual({name: found.get(name) for name in TOTALS}, TOTALS)
+
+    def test_all_at_once(self) -> None:
+        counts = RecordCounts()
+        self.counted(make_records(self.folder / "site.db"), counts, None)
+        self.assert_totals(counts)
+
+    def test_term_by_term(self) -> None:
+        counts, path = RecordCounts(), make_records(self.folder / "site.db", terms=1)
+        last = self.counted(path, counts, None)
+        self.assertEqual((self.figures(counts)["dmr_site_terms_total"], self.figures(counts)["dmr_site_longest_queue"]), (1, 1))
+        add_term(path, 2)
+        last = self.counted(path, counts, last)
+        self.assertEqual((self.figures(counts)["dmr_site_terms_total"], self.figures(counts)["dmr_site_longest_queue"]), (2, 2))
+        self.assertEqual(self.counted(path, counts, last), last)
+        add_term(path, 3)
+        self.counted(path, counts, last)
+        self.assert_totals(counts)
+
+    def test_no_counter_goes_down_if_old_rows_are_removed(self) -> None:
+        counts, path = RecordCounts(), make_records(self.folder / "site.db", terms=2)
+        last = self.counted(path, counts, None)
+        add_term(path, 3)
+        with closing(sqlite3.connect(path)) as conn, conn:
+            for table, column in (("terms", "number"), ("calls", "term"), ("events", "term")):
+                conn.execute(f"DELETE FROM {table} WHERE {column} < 3")
+        self.counted(path, counts, last)
+        self.assert_totals(counts)
+
+    def test_another_file_at_the_same_path(self) -> None:
+        """All of its rows are new, whether it has fewer terms, as many, or more."""
+        for terms in (1, 2, 3):
+            with self.subTest(terms):
+                path = make_records(self.folder / f"{terms}.db", terms)
+                with closing(sqlite3.connect(path)) as conn, conn:
+                    conn.execute("UPDATE terms SET ended_ms = ended_ms + 1")
+                before = read_new(str(make_records(self.folder / f"old{terms}.db", 2)), None).last
+                self.assertEqual(read_new(str(path), before).terms, terms)
+
+    def test_no_term(self) -> None:
+        counts = RecordCounts()
+        self.assertIsNone(self.counted(make_records(self.folder / "site.db", terms=0), counts, None))
+        self.assertEqual((self.figures(counts)["dmr_site_terms_total"], self.figures(counts).get("dmr_site_longest_queue")), (0, None))
+
+    def test_reasons(self) -> None:
+        self.assertEqual([reason_text(it) for it in (0x2F, 0x7A, 5, None)], ["Group_Not_Allowed", "0x7A", "0x05", "none"])
+
+    def test_signature(self) -> None:
+        path = make_records(self.folder / "site.db", terms=1)
+        before = signature(str(path))
+        self.assertEqual(signature(str(path)), before)
+        add_term(path, 2)
+        self.assertNotEqual(signature(str(path)), before)
+        self.assertEqual(signature(str(self.folder / "none")), (None, None))
+
+
+def seen(log: CallLog, number: int, slot: tuple[int, int], parties: str, began: float, ended: float, is_end_seen: bool = True) -> None:
+    """Adds a call that has ended to a log; seconds after noon."""
+    log.ended.append(SeenCall(number, slot, Parties.read(parties), Moment(NOON / 1000 + began, began), False, Moment(NOON / 1000 + ended, ended), is_end_seen))
+
+
+class LastCalls(Folder):
+    """The calls of the records and those that the hub saw, as one list."""
+
+    def find(self, log: CallLog, terms: int, wanted: CallFilter = ALL, most: int = 100) -> list[tuple[int, bool, str | None]]:
+        """Calls: number, whether each has ended, and the cause. The hub is five seconds late at most."""
+        recorded = RecordedLog()
+        recorded.take(read_new(str(make_records(self.folder / f"site{terms}.db", terms)), None))
+        return [(it.number, it.ended is not None, it.cause) for it in recorded.find(log, wanted, most, 5.0)]
+
+    def test_records_alone(self) -> None:
+        self.assertEqual(self.find(CallLog(10), 3), [(5, True, "maximum"), (4, True, "radio_left"), (3, True, "carrier_lost"), (2, True, "ended_by_operator"), (1, True, "hang_time")])
+        self.assertEqual(self.find(CallLog(10), 3, CallFilter(radio=1001), most=2), [(4, True, "radio_left"), (2, True, "ended_by_operator")])
+
+    def test_times(self) -> None:
+        recorded = RecordedLog()
+        recorded.take(read_new(str(make_records(self.folder / "site.db")), None))
+        call = next(recorded.ended.find(ALL))
+        self.assertEqual((call.began.wall, call.ended and call.ended.wall, call.seconds, call.slot, str(call.parties), recorded.until),
+                         (NOON / 1000 + 112, NOON / 1000 + 149.5, 37.5, (0, 1), str(Parties("group", 91, 1002)), NOON / 1000 + 160))
+
+    def test_seen_calls_before_the_last_term_are_the_records(self) -> None:
+        """The first two terms end at 30 s. A call that the hub saw end after that is listed, the others are not."""
+        log = CallLog(10)
+        seen(log, 1, (0, 1), "radio 1003 from 1001", 10, 25)
+        seen(log, 2, (1, 0), "group 93 from 1003", 20, 30)
+        seen(log, 3, (0, 1), "group 91 from 1002", 31, 40)
+        self.assertEqual(self.find(log, 2)[:2], [(3, True, None), (4, True, "radio_left")])
+
+    def test_an_end_that_was_seen_late(self) -> None:
+        """A call of the records ended at 24 s. The hub saw one of the same parties end at 31 s, too late to be the same. Then one at 28 s, just after the end of
+        a last term at 27 s: that is the same, and one of other parties is not."""
+        log = CallLog(10)
+        seen(log, 7, (0, 1), "radio 1003 from 1001", 10, 31)
+        self.assertEqual(self.find(log, 2)[0], (7, True, None))
+        recorded = RecordedLog()
+        recorded.take(read_new(str(make_records(self.folder / "late.db", 2)), None))
+        recorded.until = NOON / 1000 + 27
+        log = CallLog(10)
+        seen(log, 8, (0, 1), "radio 1003 from 1001", 10, 28)
+        seen(log, 9, (0, 1), "radio 1003 from 1002", 10, 28)
+        self.assertEqual([it.number for it in recorded.find(log, ALL, 3, 5.0)], [9, 4, 3])
+
+    def test_active_calls_come_first(self) -> None:
+        log = CallLog(10)
+        log.look({}, Moment(NOON / 1000, 0))
+        log.look({(1, 1): "group 92 from 1003"}, Moment(NOON / 1000 + 200, 200))
+        self.assertEqual(self.find(log, 3, most=2), [(1, False, None), (5, True, "maximum")])
+
+    def test_no_record_yet(self) -> None:
+        log = CallLog(10)
+        seen(log, 1, (0, 1), "radio 1003 from 1001", 10, 25)
+        self.assertEqual(self.find(log, 0), [(1, True, None)])
+
+    def test_each_cause_is_kept(self) -> None:
+        for cause, kept in (*((it, it) for it in CAUSES), (None, None), ("=1+1", "other")):
+            call = SeenCall(1, (15, 1), Parties("radio", 16777215, 1), Moment(1.5, 2.5), True, Moment(3.5, 4.5), True, cause)
+            found = unpack_call(RECORD.unpack(pack_call(call)))
+            self.assertEqual((found.cause, found.is_older, found.is_end_seen, found.parties.kind, found.slot), (kept, True, True, "radio", (15, 1)))
+
+
+class Served(WebCase):
+    """A hub that reads the records."""
+
+    async def asyncSetUp(self) -> None:
+        await super().asyncSetUp()
+        self.path = await asyncio.to_thread(make_records, pathlib.Path(self.folder, "site.db"), 2)
+
+    async def figures(self) -> dict[str, float]:
+        """The samples that the hub serves."""
+        return samples_of((await self.get("/metrics")).body.decode())
+
+    async def until_terms(self, count: int) -> dict[str, float]:
+        """Waits until `count` terms are counted. The samples then."""
+        until = time.monotonic() + 20
+        while (found := await self.figures())["dmr_site_terms_total"] != count:
+            assert time.monotonic() < until, found
+            await asyncio.sleep(0.05)
+        return found
+
+    async def test_counters_and_a_new_term(self) -> None:
+        await self.serve(records=str(self.path))
+        found = await self.until_terms(2)
+        self.assertEqual((found["dmr_site_longest_queue"], found["dmr_site_call_duration_seconds_count"]), (2, 4))
+        add_term(self.path, 3)
+        found = await self.until_terms(3)
+        self.assertEqual({name: found.get(name) for name in TOTALS}, TOTALS)
+        # a file that does not change is not read again
+        self.assertEqual((await self.figures())["dmr_hub_records_reads_total"], found["dmr_hub_records_reads_total"])
+
+    async def test_a_locked_file(self) -> None:
+        """The hub answers at once, and has the new rows when the file is free."""
+        await self.serve(records=str(self.path))
+        await self.until_terms(2)
+        add_term(self.path, 3)
+        with locked(self.path):
+            faults = (await self.figures())["dmr_hub_records_faults_total"]
+            until = time.monotonic() + 20
+            while (await self.figures())["dmr_hub_records_faults_total"] < faults + 1:
+                assert time.monotonic() < until
+                began = time.monotonic()
+                await self.assert_unharmed()
+                self.assertLess(time.monotonic() - began, 5)
+        await self.until_terms(3)
+
+    async def test_a_file_that_comes_later(self) -> None:
+        path = pathlib.Path(self.folder, "later.db")
+        hub = await self.serve(records=str(path))
+        await wait_until(lambda: hub.records and hub.records.fault == f"{path}: No such file or directory")
+        make_records(path)
+        await self.until_terms(3)
+        self.assertIsNone(hub.records and hub.records.fault)
+
+    async def test_last_calls(self) -> None:
+        await self.serve(records=str(self.path))
+        await self.until_terms(2)
+        view = json.loads((await self.get("/v1/calls.json?radio=1003&last=5")).body)
+        self.assertEqual(view["recorded_until"], "2026-11-27T12:00:30.000Z")
+        self.assertEqual([{name: it[name] for name in ("number", "recorded", "cause", "began", "ended", "seconds", "older", "end_seen")} for it in view["calls"] if it["recorded"]],
+                         [{"number": 4, "recorded": True, "cause": "radio_left", "began": "2026-11-27T12:00:09.000Z", "ended": "2026-11-27T12:00:24.000Z", "seconds": 15, "older": False,
+                           "end_seen": True},
+                          {"number": 3, "recorded": True, "cause": "carrier_lost", "began": "2026-11-27T11:59:54.000Z", "ended": "2026-11-27T12:00:06.000Z", "seconds": 12, "older": False,
+                           "end_seen": True}])
+        tag = (await self.get("/v1/calls.json")).headers["etag"]
+        self.assertEqual((await self.get("/v1/calls.json")).headers["etag"], tag)
+
+    async def test_without_records(self) -> None:
+        await self.serve()
+        self.assertNotIn("dmr_site_calls_total", (await self.get("/metrics")).body.decode())
+        view = json.loads((await self.get("/v1/calls.json")).body)
+        self.assertEqual((view["recorded_until"], {it["recorded"] for it in view["calls"]}, {it["cause"] for it in view["calls"]}), (None, {False}, {None}))
+
+
+if __name__ == "__main__":
+    unittest.main()

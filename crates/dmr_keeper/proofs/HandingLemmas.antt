@@ -3,7 +3,8 @@ use Rattle.std.proofs.Common.{◌≡◌, ◌<◌, List, [], ◌∷◌, ◌++◌,
 use Rattle.std.specs.List.{remove}
 use Rattle.dmr_keeper.specs.declared.time.TimedRecords.{TimedRecords}
 use Rattle.dmr_keeper.specs.Kept.{Kept, Keeps, kept_with, kept_with_all}
-use Rattle.dmr_keeper.specs.Handing.{AreHandedOver}
+use Rattle.dmr_keeper.specs.declared.keeper.KeepFault.{KeepFault}
+use Rattle.dmr_keeper.specs.Handing.{AreHandedOver, IsRefused}
 use Rattle.dmr_keeper.proofs.LoopLemmas.{rest_is}
 
 -- ---- what a store kept
@@ -48,3 +49,20 @@ handed_on before between after old mid new one two = record {
   all = one.all ∙ ap (λ (terms : List TimedRecords). one.handed ++ terms) two.all ∙ sym (append_assoc one.handed two.handed new);
   kept = keeps_more before between after one.handed two.handed one.kept two.kept;
 }
+
+-- the store refused the oldest at once
+pub refused_first : {K : Type 0} (kept : K → Option Kept) (refuses : K → TimedRecords → KeepFault → Type 0) (store : K) (term : TimedRecords) (later old : List TimedRecords) (fault : KeepFault) → old ≡ term ∷ later → refuses store term fault → IsRefused kept refuses store old old fault
+refused_first kept refuses store term later old fault oldest refused = ([], store, term, later, refl, keeps_nothing (kept store), oldest, refused)
+
+-- it kept some, and then refused one
+pub refused_on : {K : Type 0} (kept : K → Option Kept) (refuses : K → TimedRecords → KeepFault → Type 0) (before between : K) (old mid new : List TimedRecords) (fault : KeepFault) → AreHandedOver (kept before) old mid (kept between) → IsRefused kept refuses between mid new fault → IsRefused kept refuses before old new fault
+refused_on kept refuses before between old mid new fault one two = (
+  one.handed ++ two.0,
+  two.1,
+  two.2,
+  two.3,
+  one.all ∙ ap (λ (terms : List TimedRecords). one.handed ++ terms) two.4 ∙ sym (append_assoc one.handed two.0 new),
+  keeps_more (kept before) (kept between) (kept two.1) one.handed two.0 one.kept two.5,
+  two.6,
+  two.7,
+)

@@ -1,6 +1,8 @@
 //! Stores of records.
 
-ghost use Rattle.std.specs.Prelude.{◌≡◌, [], ◌∷◌, IsOk, IsFalse, OnErr, OnOk, Option, None};
+ghost use Rattle.std.specs.Prelude.{◌≡◌, [], ◌∷◌, IfErr, IsOk, IsFalse, OnErr, OnOk, Option, None};
+ghost use Rattle.dmr_keeper.specs.declared.keeper.KeepFault.{KeepFault as AFault};
+ghost use Rattle.dmr_keeper.specs.declared.time.TimedRecords.{TimedRecords as TermRecords};
 ghost use Rattle.dmr_keeper.specs.Kept.{Keeps, Kept};
 
 use crate::time::TimedRecords;
@@ -40,13 +42,17 @@ pub trait Keeper {
     /// If the keeper reports it: what it has kept. It may stop reporting at any call, and then never reports again.
     ghost kept: { Self → Option Kept };
 
+    // What holds if the keeper refuses the records of this term with this fault.
+    ghost refuses: { Self → TermRecords → AFault → Type 0 };
+
     /// Reports whether records are wanted. If they are not, a caller need not make any.
     fn wants_records(&self) -> bool;
 
     /// Keeps the records of a term. On an error it keeps none of them, and the same call can be made again.
     fn keep(&mut self, term: &TimedRecords) -> Result<(), KeepFault>
         ensures kept { OnOk result (Keeps (kept self.old) (term.now ∷ []) (kept self.new)) }
-        ensures same { OnErr result (Keeps (kept self.old) [] (kept self.new)) };
+        ensures same { OnErr result (Keeps (kept self.old) [] (kept self.new)) }
+        ensures refused { IfErr result (λ fault. refuses self.old term.now fault) };
 }
 
 /// The store that keeps nothing, for a site without records.
@@ -55,6 +61,8 @@ pub struct Forget;
 
 impl Keeper for Forget {
     ghost kept = { λ store. None };
+
+    ghost refuses = { λ store term fault. ⊥ };
 
     /// Reports that no records are wanted.
     fn wants_records(&self) -> bool
@@ -68,6 +76,7 @@ impl Keeper for Forget {
         ensures unchanged { self.new ≡ self.old }
         ensures kept { OnOk result (Keeps None (_term.now ∷ []) None) }
         ensures same { OnErr result (Keeps None [] None) }
+        ensures refused { IfErr result (λ fault. ⊥) }
     {
         Ok(())
     }

@@ -48,8 +48,8 @@ pub fn records_join()
 ///
 /// What is carried before a journal may agree with the facts of a site (`IsOfFacts`). Then what is carried after the
 /// journal agrees with the facts after it. Before the first term of a site on which nothing has happened, the two
-/// agree, and also before that of a site that starts with radios registered. After a legal journal of an accepted plan, at most 31 calls are open, 32 lines wait and 4,096 radios are
-/// registered.
+/// agree, and also before that of a site that starts with radios registered. After a legal journal of an accepted plan,
+/// at most 31 calls are open, 32 lines wait and 4,096 radios are registered.
 pub fn carried_is_the_sites()
     ensures starts { IsOfFacts nothing_carried no_facts }
     ensures restarts { (radios : List ℕ) → IsOfFacts (starting_with radios) (facts_with radios) }

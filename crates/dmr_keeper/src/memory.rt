@@ -1,6 +1,7 @@
 //! A store of records in memory.
 
-ghost use Rattle.std.specs.Prelude.{◌≡◌, [], ◌∷◌, IsTrue, OnErr, OnOk, Some};
+ghost use Rattle.std.specs.Prelude.{◌≡◌, [], ◌∷◌, IfErr, IsTrue, OnErr, OnOk, Some};
+ghost use Rattle.dmr_keeper.specs.declared.keeper.KeepFault.TheVariants.{OutOfMemory as MemoryRanOut};
 ghost use Rattle.dmr_keeper.specs.Kept.{Keeps, kept_with, nothing_kept};
 
 use crate::calls::EndedCall;
@@ -129,6 +130,8 @@ impl InMemory {
 impl Keeper for InMemory {
     ghost kept = { λ store. Some store };
 
+    ghost refuses = { λ store term fault. fault ≡ MemoryRanOut };
+
     /// Reports that records are wanted.
     fn wants_records(&self) -> bool
         ensures { IsTrue result }
@@ -142,6 +145,7 @@ impl Keeper for InMemory {
         ensures unchanged { OnErr result (self.new ≡ self.old) }
         ensures kept { OnOk result (Keeps (Some self.old) (term.now ∷ []) (Some self.new)) }
         ensures same { OnErr result (Keeps (Some self.old) [] (Some self.new)) }
+        ensures refused { IfErr result (λ fault. fault ≡ KeepFault.OutOfMemory) }
     {
         match self.add(term) {
             Ok(()) => Ok(()),

@@ -1,8 +1,8 @@
 //! Records that wait until a store keeps them.
 
 ghost use Rattle.std.specs.Prelude.{◌≡◌, ◌<◌, ◌≤◌, ◌+◌, ◌-◌, ◌↔◌, [], ◌∷◌, ◌++◌, length, vec_capacity};
-ghost use Rattle.std.specs.Prelude.{IfOk, IsSome, IsTrue, OnErr, OnOk, option_to_list};
-ghost use Rattle.dmr_keeper.specs.Handing.{AreHandedOver, newest};
+ghost use Rattle.std.specs.Prelude.{IfErr, IfOk, IsSome, IsTrue, OnErr, OnOk, option_to_list};
+ghost use Rattle.dmr_keeper.specs.Handing.{AreHandedOver, IsRefused, newest};
 ghost use Rattle.dmr_keeper.specs.Kept.{Keeps};
 
 use crate::keeper::{KeepFault, Keeper};
@@ -40,6 +40,8 @@ fn hand_oldest<K: Keeper>(terms: &mut Vec<TimedRecords>, keeper: &mut K) -> Resu
         (K.kept keeper.new) }
     ensures removed { OnOk result (length terms.new.items + 1 ≡ length terms.old.items) }
     ensures stays { OnErr result (terms.new.items ≡ terms.old.items) }
+    ensures refused { IfErr result
+        (IsRefused K.kept K.refuses keeper.old terms.old.items terms.new.items) }
     ensures room { vec_capacity terms.new ≡ vec_capacity terms.old }
 {
     keeper.keep(&terms[0])?;
@@ -53,6 +55,8 @@ fn hand_all<K: Keeper>(terms: &mut Vec<TimedRecords>, keeper: &mut K) -> Result<
         (K.kept keeper.new) }
     ensures all { OnOk result (terms.new.items ≡ []) }
     ensures left { OnErr result (0 < length terms.new.items) }
+    ensures refused { IfErr result
+        (IsRefused K.kept K.refuses keeper.old terms.old.items terms.new.items) }
     ensures fewer { length terms.new.items ≤ length terms.old.items }
     ensures room { vec_capacity terms.new ≡ vec_capacity terms.old }
 {
@@ -113,8 +117,8 @@ impl Outbox {
         Some(self.terms.remove(0))
     }
 
-    /// Moves all records of another outbox here, after these. If there is no room for all, the oldest are lost for the store,
-    /// and it returns for how many terms. It allocates nothing.
+    /// Moves all records of another outbox here, after these. If there is no room for all, the oldest are lost for the
+    /// store, and it returns for how many terms. It allocates nothing.
     pub fn append(&mut self, later: &mut Outbox) -> usize
         ensures moved { self.new ≡ newest (self.old ++ later.old) }
         ensures none { later.new ≡ [] }
@@ -137,6 +141,7 @@ impl Outbox {
         ensures handed { AreHandedOver (K.kept keeper.old) self.old self.new (K.kept keeper.new) }
         ensures all { OnOk result (self.new ≡ []) }
         ensures left { OnErr result (0 < length self.new) }
+        ensures refused { IfErr result (IsRefused K.kept K.refuses keeper.old self.old self.new) }
     {
         hand_all(&mut self.terms, keeper)
     }

@@ -1,6 +1,6 @@
 //! The file of records.
 
-ghost use Rattle.std.specs.Prelude.{◌≡◌, false, IfOk, IsTrue, None};
+ghost use Rattle.std.specs.Prelude.{◌≡◌, ⊤, false, IfOk, IsTrue, None};
 
 use crate::commit;
 use crate::fault::{FileFault, fault_of, keep_fault_of};
@@ -76,6 +76,9 @@ impl<'a> RecordsFile<'a> {
 /// The file does not report what it has kept, since other programs may write it too.
 impl Keeper for RecordsFile<'_> {
     ghost kept = { λ file. None };
+
+    // Other programs use the file and the disk, so any write may be refused.
+    ghost refuses = { λ file term fault. ⊤ };
 
     /// Reports that records are wanted.
     fn wants_records(&self) -> bool

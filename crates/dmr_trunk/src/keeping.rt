@@ -1,7 +1,7 @@
 //! Keeping the records of terms: a store receives them in a thread of its own, while terms go on.
 
-ghost use Rattle.std.specs.Prelude.{◌≡◌, [], ◌∷◌, ◌++◌, None};
-ghost use Rattle.dmr_keeper.specs.Handing.{AreHandedOver, newest};
+ghost use Rattle.std.specs.Prelude.{◌≡◌, [], ◌∷◌, ◌++◌, None, IfSome};
+ghost use Rattle.dmr_keeper.specs.Handing.{AreHandedOver, IsRefused, newest};
 
 use crate::notes::Notes;
 use dmr_keeper::{KeepFault, Keeper, Outbox, TimedRecords};
@@ -28,6 +28,8 @@ impl<K: Keeper + Drop> Keeping<K> {
         ensures handed { AreHandedOver (K.kept self.keeper) self.outbox result.outbox
             (K.kept result.keeper) }
         ensures all { result.fault ≡ None → result.outbox ≡ [] }
+        ensures refused { IfSome result.fault
+            (IsRefused K.kept K.refuses self.keeper self.outbox result.outbox) }
     {
         let Keeping {
             mut keeper,
@@ -48,11 +50,12 @@ impl<K: Keeper + Drop> Keeping<K> {
 pub struct HandOver<K>(pub Snapshot<Keeping<K>>);
 
 impl<K: Keeper> Promise<Keeping<K>> for HandOver<K> {
-    ghost use Rattle.std.specs.Prelude.{◌≡◌, [], None};
-    ghost use Rattle.dmr_keeper.specs.Handing.{AreHandedOver};
+    ghost use Rattle.std.specs.Prelude.{◌≡◌, [], None, IfSome};
+    ghost use Rattle.dmr_keeper.specs.Handing.{AreHandedOver, IsRefused};
 
     ghost kept_by = { λ p r. AreHandedOver (K.kept p.0.value.keeper) p.0.value.outbox r.outbox
-        (K.kept r.keeper) × (r.fault ≡ None → r.outbox ≡ []) };
+        (K.kept r.keeper) × (r.fault ≡ None → r.outbox ≡ [])
+        × IfSome r.fault (IsRefused K.kept K.refuses p.0.value.keeper p.0.value.outbox r.outbox) };
 }
 
 /// The store: it is here, or a thread writes to it.
@@ -154,7 +157,9 @@ where
         promise,
         move || -> Keeping<K>
             ensures { AreHandedOver (K.kept keeping.keeper) keeping.outbox result.outbox
-                (K.kept result.keeper) × (result.fault ≡ None → result.outbox ≡ []) }
+                (K.kept result.keeper) × (result.fault ≡ None → result.outbox ≡ [])
+                × IfSome result.fault
+                (IsRefused K.kept K.refuses keeping.keeper keeping.outbox result.outbox) }
         {
             let back = keeping.hand_over();
             written.store(true, Ordering::SeqCst);

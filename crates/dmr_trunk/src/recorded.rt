@@ -78,7 +78,8 @@ impl<'a, R: Log + Clock + Wait> RecordMaker<'a, R> {
     }
 }
 
-/// An observer that also makes the records of each term, if the store asks for them. It reports what `observer` reports.
+/// An observer that also makes the records of each term, if the store asks for them. It reports what `observer`
+/// reports.
 #[derive(Drop)]
 pub struct Recorded<'a, O, R> {
     /// The observer.

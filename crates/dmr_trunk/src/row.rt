@@ -302,9 +302,9 @@ where
 /// for a term after the first, it is tried again each second. The function is generic in all that reports a record, so
 /// the clauses speak of what the ports, the gates, the pacer and the observer report.
 ///
-/// The records of a term, if the observer makes them, wait in `waiting` from its end on. A thread hands them to the store
-/// while later terms run, so a slow store delays no term. What the store refuses it is handed again after the next term.
-/// Before the call returns, it is handed what still waits.
+/// The records of a term, if the observer makes them, wait in `waiting` from its end on. A thread hands them to the
+/// store while later terms run, so a slow store delays no term. What the store refuses it is handed again after the
+/// next term. Before the call returns, it is handed what still waits.
 pub fn serve_service<'a, P, G, T, C, O, K, R>(
     rt: &R,
     alloc: Global,

@@ -1,7 +1,8 @@
 //! The script to which a site is recorded: a new file, if the environment names one.
 
-ghost use Rattle.std.specs.Prelude.{◌≡◌, ℕ, List, Option, None, OnOk};
-ghost use Rattle.dmr_trunk.specs.Scripts.{Appends};
+ghost use Rattle.std.specs.Prelude.{◌≡◌, ℕ, List, [], Option, None, true, IfErr, OnErr, OnOk};
+ghost use Rattle.dmr_trunk.specs.declared.script.ScriptFault.{ScriptFault as AFault};
+ghost use Rattle.dmr_trunk.specs.Scripts.{Appends, MayRefuse, is_of_disk, is_of_making};
 
 use crate::store::Stored;
 use dmr_pdu::OutOfMemory;
@@ -40,13 +41,18 @@ pub enum ScriptFault {
 
 /// A script to which lines are appended.
 pub trait Script {
-    // If the script reports it: all octets that were appended, in their order. It may stop reporting at any call, and then
-    // never reports again.
+    // If the script reports it: all octets that were appended, in their order. It may stop reporting at any call, and
+    // then never reports again.
     ghost appended: { Self → Option (List ℕ) };
 
-    /// Appends lines. After an error nothing more is appended.
+    // What holds if the script refuses these lines with this fault.
+    ghost refuses: { Self → List ℕ → AFault → Type 0 };
+
+    /// Appends lines. On an error it has appended none of them.
     fn append(&mut self, lines: &str) -> Result<(), ScriptFault>
-        ensures { OnOk result (Appends (appended self.old) lines.now (appended self.new)) };
+        ensures appended { OnOk result (Appends (appended self.old) lines.now (appended self.new)) }
+        ensures same { OnErr result (Appends (appended self.old) [] (appended self.new)) }
+        ensures refused { IfErr result (λ fault. refuses self.old lines.now fault) };
 }
 
 /// A recording in a file. The file is made at the first call, and must not exist then.
@@ -71,7 +77,9 @@ impl<'a> RecordingFile<'a> {
 }
 
 /// Makes the file of a path. It must not exist.
-fn make_file(rt: &HostRuntime, path: &str) -> Result<File, ScriptFault> {
+fn make_file(rt: &HostRuntime, path: &str) -> Result<File, ScriptFault>
+    ensures { IfErr result (λ fault. is_of_making fault ≡ true) }
+{
     match File::create_new(rt, path) {
         Ok(file) => Ok(file),
         Err(error) => Err(match error.kind() {
@@ -82,7 +90,9 @@ fn make_file(rt: &HostRuntime, path: &str) -> Result<File, ScriptFault> {
 }
 
 /// Writes lines at the end of a file that has this many octets. If not all can be written, the file keeps none of them.
-fn write_lines(file: &mut File, octets: u64, lines: &str) -> Result<(), ScriptFault> {
+fn write_lines(file: &mut File, octets: u64, lines: &str) -> Result<(), ScriptFault>
+    ensures { IfErr result (λ fault. is_of_disk fault ≡ true) }
+{
     match file.write_all(lines.as_bytes()) {
         Ok(()) => Ok(()),
         Err(error) => {
@@ -98,6 +108,8 @@ fn write_lines(file: &mut File, octets: u64, lines: &str) -> Result<(), ScriptFa
 /// The file does not report what was appended, since other programs may write it too.
 impl Script for RecordingFile<'_> {
     ghost appended = { λ file. None };
+
+    ghost refuses = { λ file lines fault. MayRefuse file lines fault };
 
     fn append(&mut self, lines: &str) -> Result<(), ScriptFault> {
         let octets = self.octets.saturating_add(lines.len() as u64);
@@ -115,7 +127,8 @@ impl Script for RecordingFile<'_> {
     }
 }
 
-/// Reads the path of the file of a recording. Nothing is recorded if the variable `DMR_TRUNK_RECORD` is not set or empty.
+/// Reads the path of the file of a recording. Nothing is recorded if the variable `DMR_TRUNK_RECORD` is not set or
+/// empty.
 pub fn recording_path<R: AllocGlobal + Env>(rt: &R) -> Result<Stored<String>, OutOfMemory> {
     match env::var(rt, RECORD) {
         Ok(path) if path.is_empty() => Ok(Stored::Nowhere),

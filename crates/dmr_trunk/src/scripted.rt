@@ -1,12 +1,15 @@
 //! Recording a site: an observer appends the journal of each term that ends to a script.
 
-ghost use Rattle.std.specs.Prelude.{◌≡◌, false, true};
-ghost use Rattle.dmr_recording.specs.Events.{events_of, inputs_of_events};
-ghost use Rattle.dmr_recording.specs.Lines.{text_of};
-ghost use Rattle.dmr_trunk.specs.Scripts.{Appends};
+ghost use Rattle.std.specs.Prelude.{string_bytes, ◌⊎◌, false, replicate};
+ghost use Rattle.std.specs.Prelude.{◌≡◌, [], ◌∷◌, None, Some, IfErr, IfOk, IfSome, IsSomeAnd, OnErr, OnOk};
+ghost use Rattle.dmr_desk.specs.Terms.{Sees};
+ghost use Rattle.dmr_recording.specs.Events.{events_of};
+ghost use Rattle.dmr_recording.specs.Recordable.{AreRecordable, IsFirstFault, up_after_all};
+ghost use Rattle.dmr_trunk.specs.Scripts.{Appends, HasAppended, IsEnding, IsRefusal};
+ghost use Rattle.dmr_trunk.specs.Scripts.{events_at_start, lines_of};
 
 use crate::notes::Notes;
-use crate::script::Script;
+use crate::script::{Script, ScriptFault};
 use dmr_core::Entry;
 use dmr_desk::{Observer, Term};
 use dmr_pdu::Address;
@@ -15,6 +18,15 @@ use dmr_recording::{Carriers, RecordingFault, record_journal, record_restored};
 use log::Log;
 use std::alloc::Global;
 
+/// Why a recording ended.
+#[derive(Clone, Copy, Debug, PartialEq, Eq)]
+pub enum Ending {
+    /// An event cannot be recorded, or memory ran out.
+    NotRecorded(RecordingFault),
+    /// The script refused lines.
+    Refused(ScriptFault),
+}
+
 /// What records a site, if the environment asks for it.
 #[derive(Drop)]
 pub struct Recording<'a, W, R> {
@@ -22,8 +34,25 @@ pub struct Recording<'a, W, R> {
     plan: Plan,
     up: Carriers,
     script: W,
-    ended: bool,
+    ending: Option<Ending>,
     notes: Notes<'a, R>,
+}
+
+/// Returns the lines of the session in which radios register; none without radios.
+fn lines_at_start(alloc: Global, plan: &Plan, radios: &[Address]) -> Result<String, RecordingFault>
+    ensures lines { IfOk result (λ text. string_bytes text
+        ≡ lines_of plan.now (events_at_start plan.now radios.now)) }
+    ensures fault { IfErr result (λ fault. (fault ≡ RecordingFault.OutOfMemory)
+        ⊎ IsFirstFault plan.now (replicate 16 false) 0 (events_at_start plan.now radios.now) fault) }
+{
+    let mut text = String::new(alloc);
+    if radios.is_empty() {
+        return Ok(text);
+    }
+    match record_restored(alloc, plan, radios, &mut text) {
+        Ok(()) => Ok(text),
+        Err(fault) => Err(fault),
+    }
 }
 
 impl<'a, W: Script, R: Log> Recording<'a, W, R> {
@@ -35,76 +64,104 @@ impl<'a, W: Script, R: Log> Recording<'a, W, R> {
         radios: &[Address],
         script: W,
         notes: Notes<'a, R>,
-    ) -> Recording<'a, W, R> {
+    ) -> Recording<'a, W, R>
+        ensures plan { result.plan ≡ plan }
+        ensures up { result.up ≡ replicate 16 false }
+        ensures lines { result.ending ≡ None → Appends (W.appended script)
+            (lines_of plan (events_at_start plan radios.now)) (W.appended result.script) }
+        ensures ending { IfSome result.ending (IsEnding (W.refuses script) plan
+            (replicate 16 false) (events_at_start plan radios.now)) }
+    {
         let mut recording = Recording {
             alloc,
             plan,
             up: Carriers::none_up(),
             script,
-            ended: false,
+            ending: None,
             notes,
         };
-        recording.append_restored(radios);
+        if let Err(ending) = recording.append_restored(radios) {
+            recording.end(ending);
+        }
         recording
     }
 
-    /// Appends the session in which radios register. Without radios it is empty.
-    fn append_restored(&mut self, radios: &[Address])
-        ensures up { self.new.up ≡ self.old.up }
+    /// Appends the session in which radios register. Without radios it is empty. The error says why the recording ends.
+    fn append_restored(&mut self, radios: &[Address]) -> Result<(), Ending>
+        ensures same { (self.new.plan ≡ self.old.plan) × (self.new.up ≡ self.old.up)
+            × (self.new.ending ≡ self.old.ending) }
+        ensures appended { OnOk result (Appends (W.appended self.old.script)
+            (lines_of self.old.plan (events_at_start self.old.plan radios.now))
+            (W.appended self.new.script)) }
+        ensures ending { IfErr result (IsEnding (W.refuses self.old.script) self.old.plan
+            (replicate 16 false) (events_at_start self.old.plan radios.now)) }
     {
-        if radios.is_empty() {
-            self.append("");
-            return;
-        }
-        let mut text = String::new(self.alloc);
-        match record_restored(self.alloc, &self.plan, radios, &mut text) {
-            Ok(()) => self.append(text.as_str()),
-            Err(fault) => self.end(&fault),
+        match lines_at_start(self.alloc, &self.plan, radios) {
+            Ok(text) => self.append(text.as_str()),
+            Err(fault) => Err(Ending::NotRecorded(fault)),
         }
     }
 
-    /// Ends the recording, since an event cannot be recorded.
-    fn end(&mut self, fault: &RecordingFault)
-        ensures ended { self.new.ended ≡ true }
-        ensures same { (self.new.plan ≡ self.old.plan) × (self.new.up ≡ self.old.up) }
+    /// Ends the recording, and notes why.
+    fn end(&mut self, ending: Ending)
+        ensures ending { self.new.ending ≡ Some ending }
+        ensures same { (self.new.plan ≡ self.old.plan) × (self.new.up ≡ self.old.up)
+            × (self.new.script ≡ self.old.script) }
     {
-        self.ended = true;
-        self.notes.cannot_record(fault);
+        self.ending = Some(ending);
+        match ending {
+            Ending::NotRecorded(fault) => self.notes.cannot_record(&fault),
+            Ending::Refused(fault) => self.notes.recording_ended(fault),
+        }
     }
 
-    /// Appends lines. If they cannot be appended, the recording ends, and a note says why.
-    fn append(&mut self, lines: &str)
-        ensures same { (self.new.plan ≡ self.old.plan) × (self.new.up ≡ self.old.up) }
-        ensures appended { self.new.ended ≡ false
-            → Appends (W.appended self.old.script) lines.now (W.appended self.new.script) }
+    /// Appends lines. The error says why the recording ends.
+    fn append(&mut self, lines: &str) -> Result<(), Ending>
+        ensures same { (self.new.plan ≡ self.old.plan) × (self.new.up ≡ self.old.up)
+            × (self.new.ending ≡ self.old.ending) }
+        ensures appended { OnOk result
+            (Appends (W.appended self.old.script) lines.now (W.appended self.new.script)) }
+        ensures unchanged { OnErr result
+            (Appends (W.appended self.old.script) [] (W.appended self.new.script)) }
+        ensures refused { IfErr result (IsRefusal (W.refuses self.old.script lines.now)) }
     {
         match self.script.append(lines) {
-            Ok(()) => {}
-            Err(fault) => {
-                self.ended = true;
-                self.notes.recording_ended(fault);
-            }
+            Ok(()) => Ok(()),
+            Err(fault) => Err(Ending::Refused(fault)),
+        }
+    }
+
+    /// Appends the journal of a term. The error says why the recording ends, and then nothing is appended.
+    fn append_journal(&mut self, journal: &[Entry]) -> Result<(), Ending>
+        ensures same { (self.new.plan ≡ self.old.plan) × (self.new.ending ≡ self.old.ending) }
+        ensures appended { OnOk result (Appends (W.appended self.old.script)
+            (lines_of self.old.plan (events_of journal.now)) (W.appended self.new.script)) }
+        ensures unchanged { OnErr result
+            (Appends (W.appended self.old.script) [] (W.appended self.new.script)) }
+        ensures recordable { OnOk result (AreRecordable self.old.plan self.old.up (events_of journal.now)) }
+        ensures up { OnOk result (self.new.up ≡ up_after_all self.old.up (events_of journal.now)) }
+        ensures ending { IfErr result (IsEnding (W.refuses self.old.script) self.old.plan
+            self.old.up (events_of journal.now)) }
+    {
+        let mut text = String::new(self.alloc);
+        match record_journal(self.alloc, &self.plan, &mut self.up, journal, &mut text) {
+            Ok(()) => self.append(text.as_str()),
+            Err(fault) => Err(Ending::NotRecorded(fault)),
         }
     }
 
     /// Appends the journal of a term, unless the recording has ended. If that fails, the recording ends.
     fn record(&mut self, journal: &[Entry])
         ensures plan { self.new.plan ≡ self.old.plan }
-        // As long as the recording goes on, the lines are those of all events of the journal.
-        ensures appended { self.new.ended ≡ false → Appends (W.appended self.old.script)
-            (text_of (inputs_of_events self.old.plan (events_of journal.now)))
-            (W.appended self.new.script) }
-        ensures over { self.old.ended ≡ true → self.new.ended ≡ true }
-        ensures silent { self.old.ended ≡ true
-            → W.appended self.new.script ≡ W.appended self.old.script }
+        ensures recorded { HasAppended (W.appended self.old.script) (W.refuses self.old.script)
+            self.old.plan self.old.up self.old.ending (events_of journal.now)
+            (W.appended self.new.script) self.new.up self.new.ending }
     {
-        if self.ended {
+        if self.ending.is_some() {
             return;
         }
-        let mut text = String::new(self.alloc);
-        match record_journal(self.alloc, &self.plan, &mut self.up, journal, &mut text) {
-            Ok(()) => self.append(text.as_str()),
-            Err(fault) => self.end(&fault),
+        if let Err(ending) = self.append_journal(journal) {
+            self.end(ending);
         }
     }
 }
@@ -126,7 +183,14 @@ where
 {
     ghost seen = { λ s. O.seen s.observer };
 
-    fn ended(&mut self, term: &Term<S, T, C>) {
+    fn ended(&mut self, term: &Term<S, T, C>)
+        ensures seen { Sees (O.seen self.old.observer) (term.now.report.journal ∷ [])
+            (O.seen self.new.observer) }
+        ensures recorded { IfSome self.old.recording (λ before. IsSomeAnd self.new.recording (λ after.
+            HasAppended (W.appended before.script) (W.refuses before.script) before.plan before.up
+            before.ending (events_of term.now.report.journal) (W.appended after.script) after.up
+            after.ending)) }
+    {
         self.observer.ended(term);
         if let Some(recording) = &mut self.recording {
             recording.record(term.report.journal.as_slice());

@@ -175,8 +175,8 @@ where
 }
 
 /// Serves the site of a site file, and returns the exit status. `site` has the file's octets, or `None` if the file
-/// could not be read; `site_name` is its name in a fault's text. `kept` says what is kept. A fault is written to `err` as one line; an error of
-/// `err` is ignored.
+/// could not be read; `site_name` is its name in a fault's text. `kept` says what is kept. A fault is written to `err`
+/// as one line; an error of `err` is ignored.
 pub fn serve_file<K, F, R, E>(
     rt: &R,
     alloc: Global,

@@ -50,8 +50,8 @@ pub struct Kept<K, W> {
     pub recording: Stored<W>,
 }
 
-/// Reads the path of the file of records: `site.db` in the folder that `STATE_DIRECTORY` names. No folder is named if the
-/// variable is not set or empty.
+/// Reads the path of the file of records: `site.db` in the folder that `STATE_DIRECTORY` names. No folder is named if
+/// the variable is not set or empty.
 pub fn records_path<R: AllocGlobal + Env>(rt: &R) -> Result<Stored<String>, OutOfMemory> {
     match env::var(rt, STATE_DIRECTORY) {
         Ok(folder) if folder.is_empty() => Ok(Stored::Nowhere),

@@ -1,5 +1,5 @@
-use Rattle.std.proofs.Common.{◌∙◌, arith, refl}
-use Rattle.dmr_keeper.proofs.HandingLemmas.{handed_none, handed_on}
+use Rattle.std.proofs.Common.{◌≡◌, Err, ◌∙◌, arith, refl, rules}
+use Rattle.dmr_keeper.proofs.HandingLemmas.{handed_none, handed_on, refused_on}
 use Rattle.dmr_keeper.proofs.outbox.hand_all.Goals as goal
 
 pub loop-terms-init : goal.loop-terms-init
@@ -17,3 +17,8 @@ loop-terms-preserved g c =
 
 pub returns-in_err-hand_oldest-clause-handed : goal.returns-in_err-hand_oldest-clause-handed
 returns-in_err-hand_oldest-clause-handed g c = handed_on _ _ _ _ _ _ c.loop-terms.invariant.handed c.hand_oldest.ensures.handed
+
+pub returns-in_err-hand_oldest-clause-refused : goal.returns-in_err-hand_oldest-clause-refused
+returns-in_err-hand_oldest-clause-refused g c =
+    let err : c.from_residual.result ≡ Err c.in_err-hand_oldest.field-0.0 = search rules in
+    rw err (refused_on g.K.Keeper.kept g.K.Keeper.refuses _ _ _ _ _ c.in_err-hand_oldest.field-0.0 c.loop-terms.invariant.handed c.in_err-hand_oldest.ensures.refused)

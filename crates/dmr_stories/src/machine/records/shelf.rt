@@ -1,6 +1,6 @@
 //! A store for the stories of records.
 
-ghost use Rattle.std.specs.Prelude.{None};
+ghost use Rattle.std.specs.Prelude.{⊤, None};
 
 use dmr_keeper::{InMemory, KeepFault, Keeper, TimedRecords};
 
@@ -15,6 +15,8 @@ pub struct Shelf {
 
 impl Keeper for Shelf {
     ghost kept = { λ shelf. None };
+
+    ghost refuses = { λ shelf term fault. ⊤ };
 
     fn wants_records(&self) -> bool {
         self.store.wants_records()

@@ -19,7 +19,7 @@ _dmr_options() {
 # Prints the words that may stand where no option does.
 _dmr_words() {
     case $1 in
-        dmr_decode) [ "$2" -eq 1 ] && echo carrier site word pdu replay script write ;;
+        dmr_decode) [ "$2" -eq 1 ] && echo carrier site word pdu replay script journal write ;;
         dmr_console) echo status radios calls lines slots drop end move stay help history who ;;
     esac
 }

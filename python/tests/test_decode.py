@@ -1,4 +1,5 @@
 """The output of `dmr_decode`, compared with docs/FORMATS.md; judged by a site file, with docs/LINK.md and with the controller's replay."""
+import itertools
 import os
 import pathlib
 import random
@@ -8,7 +9,8 @@ import tempfile
 import unittest
 
 from temzaar import code, pdus
-from temzaar.frames import FrameType, burst_frame, hello, welcome
+from temzaar.entries import read_entries
+from temzaar.frames import FrameType, burst_frame, hello, rx, welcome
 from tests import decoded
 from tests.support import EXAMPLES, TOP, TWO_CARRIERS, program
 
@@ -143,6 +145,34 @@ class Judged(unittest.TestCase):
             replies = [line.removeprefix("      reply: ") for line in judged if line.startswith("      reply: ")]
             self.assertEqual(replies, [line for line in replay.split("\n")[2:] if line])
 
+    def test_a_journal(self) -> None:
+        """A session that was worked out by hand: what is an event of the site, and what is not."""
+        comes_up = f"bytes 0 {hello(0, 1, 1).hex()}"
+        script = [
+            "# nothing", "open 7", "open 0", comes_up, "open 1", f"bytes 1 {hello(1, 2, 1).hex()}", f"bytes 0 {rx(0, bytes(25)).hex()}", "bytes 0 040101",
+            "tick 2", "bytes 1 03", "bytes 1 000300", "say stay", "say what", "cut 0", "cut 0",
+        ]
+        entries = [
+            "carrier 0 is up", "carrier 1 is up", "noise on carrier 0 slot 0", "activity on carrier 0 slot 1", "a tick", "a tick", "carrier 1 polls", "carrier 1 polls",
+            "say stay", "      reply: ok", "carrier 0 is lost",
+        ]
+        # a connection that follows one which has not ended ends it, and one without a HELLO is none to the site
+        script += ["open 0", comes_up, "open 0", "bytes 0 0300", comes_up]
+        entries += ["carrier 0 is up", "carrier 0 is lost"]
+        number = itertools.count(1)
+        wanted = "".join(f"{line}\n" if line.startswith(" ") else f"entry {next(number)}: {line}\n" for line in entries)
+        self.assertEqual(self.ask("journal", "--site", TWO_CARRIERS, text="\n".join([*script, ""])).stdout, wanted)
+
+    def test_journals_of_examples(self) -> None:
+        """A journal has the acts and replies that the judged script has, in their order. A line that means no command is not an event."""
+        for path in sorted((EXAMPLES / "scripts").glob("*.txt")):
+            script = path.read_text(encoding="utf-8")
+            answers = [line for line in self.judge(script).split("\n") if line.startswith(("      act: ", "      reply: "))]
+            journal = list(read_entries(self.ask("journal", "--site", TWO_CARRIERS, text=script).stdout.splitlines()))
+            acts, replies = ([*itertools.chain.from_iterable(lists)] for lists in zip(*((it.acts, it.replies) for it in journal), strict=True))
+            self.assertEqual([f"      act: {it}" for it in acts], [it for it in answers if " act: " in it])
+            self.assertEqual([f"      reply: {it}" for it in replies], [it for it in answers if " reply: " in it and "error unknown command" not in it])
+
     def test_no_room(self) -> None:
         """With 57 PDUs that wait for the control slot, requests and answers are ignored."""
         asks = pdus.write("C_RAND", kind=14, options=1, source=2001, target=0xFFFEC6)
@@ -160,6 +190,8 @@ class Judged(unittest.TestCase):
                 done = subprocess.run(words, input=b"# a comment\n\n%s\nopen 77\n" % line, capture_output=True, check=False)
                 self.assertEqual((done.returncode, done.stderr), (1, b"dmr_decode: script line 3\n"))
                 self.assertEqual(done.stdout, b"# a comment\n\n%s -> fault: not a line of a script\n" % line)
+        done = self.ask("journal", "--site", TWO_CARRIERS, text="tick\ntick x\ntick\n")
+        self.assertEqual((done.returncode, done.stdout, done.stderr), (1, "entry 1: a tick\n", "dmr_decode: script line 2\n"))
 
     def test_site_files(self) -> None:
         """Faults of the site file are the controller's."""
@@ -176,8 +208,8 @@ class Judged(unittest.TestCase):
                 self.assertEqual(wanted.returncode, 1)
 
     def test_words(self) -> None:
-        """A site is for two tasks, and has a path."""
-        for words in (["script", "--site"], ["word", "--site", TWO_CARRIERS, "00"], ["write", "--site", TWO_CARRIERS, "C_RAND"], ["--site", TWO_CARRIERS]):
+        """A site is for three tasks, one of which has to have it, and has a path."""
+        for words in (["script", "--site"], ["journal"], ["journal", "--site"], ["word", "--site", TWO_CARRIERS, "00"], ["write", "--site", TWO_CARRIERS, "C_RAND"], ["--site", TWO_CARRIERS]):
             with self.subTest(words):
                 done = self.ask(*words)
                 self.assertEqual((done.returncode, done.stdout), (2, ""))

@@ -17,7 +17,7 @@ TOOLS = ("siteview", "timeline", "callbook", "capture", "carriers", "check", "co
 PAGE_OF = {tool: f"dmr_{tool}.{8 if tool == 'hub' else 1}" for tool in TOOLS}
 WANTED = {"dmr_trunk.8", "dmr_trunk.5", "dmr_decode.1", *PAGE_OF.values()}
 # The order of sections; a page leaves out those that do not apply.
-ORDER = ("NAME", "SYNOPSIS", "DESCRIPTION", "COMMANDS", "OPTIONS", "JUDGEMENTS", "CONSOLE", "SIGNALS", "EXIT STATUS", "DIAGNOSTICS", "ENVIRONMENT", "FILES", "SECURITY", "EXAMPLES", "SEE ALSO")
+ORDER = ("NAME", "SYNOPSIS", "DESCRIPTION", "COMMANDS", "OPTIONS", "JUDGEMENTS", "JOURNAL", "CONSOLE", "SIGNALS", "EXIT STATUS", "DIAGNOSTICS", "ENVIRONMENT", "FILES", "SECURITY", "EXAMPLES", "SEE ALSO")
 ALWAYS = {"NAME", "SYNOPSIS", "DESCRIPTION", "EXAMPLES", "SEE ALSO"}
 JOINED = ("BI", "BR", "IB", "IR", "RB", "RI")
 # A reader of an installed page has no source tree.
@@ -172,7 +172,7 @@ class Options(unittest.TestCase):
     def test_of_the_decoder(self) -> None:
         text = (TOP / "crates/dmr_decode/src/main.rt").read_text(encoding="utf-8")
         commands = dict(re.findall(r"^  dmr_decode (\S+(?: [A-Z.]+)?)  +(\S.*)$", text[:text.index('";\n')], re.M))
-        self.assertEqual(len(commands), 7)
+        self.assertEqual(len(commands), 8)
         entries = {entry.tags[0]: entry.text for entry in entries_of(sections_of("dmr_decode.1")["COMMANDS"])}
         self.assertEqual(set(entries), set(commands))
         for command, said in commands.items():

@@ -1,4 +1,4 @@
-//! The acts of the site in words: what the controller does for an event.
+//! The site's answers in words: what the controller does for an event, and what it replies to an operator.
 
 use dmr_calls::{Ask, Call, Line};
 use dmr_core::Act;
@@ -11,6 +11,14 @@ pub fn show_acts<W: Write>(acts: &[Act], out: &mut W) -> io::Result<()> {
     for act in acts {
         write!(out, "      act: ")?;
         show_act(act, out)?;
+    }
+    Ok(())
+}
+
+/// Prints the text of a reply, line by line.
+pub fn show_reply<W: Write>(text: &str, out: &mut W) -> io::Result<()> {
+    for line in text.lines() {
+        writeln!(out, "      reply: {line}")?;
     }
     Ok(())
 }

@@ -69,6 +69,13 @@ impl SiteDesk {
         Ok(acts)
     }
 
+    /// Returns the events that the desk keeps, each with its answer, oldest first.
+    pub fn taken(&self) -> &[Deposit]
+        ensures { result.now ≡ self.now.taken }
+    {
+        self.taken.as_slice()
+    }
+
     /// Returns the newest event that the desk keeps, and its answer.
     pub fn newest(&self) -> Option<Deposit> {
         match self.taken.as_slice() {

@@ -1,6 +1,6 @@
 //! A judged site: the controller's links over a site of its own, which say what the controller makes of each input.
 
-use crate::acts_in_words::show_acts;
+use crate::acts_in_words::{show_acts, show_reply};
 use crate::desk::SiteDesk;
 use crate::judged_carrier::{JudgedCarrier, memory_error, show_newest};
 use crate::kept::{both, push};
@@ -17,9 +17,9 @@ use std::io::Write;
 /// A site on which nothing has happened at first, its carriers by number, and the operators' link.
 #[derive(Drop)]
 pub struct Judge {
-    desk: SiteDesk,
-    carriers: Vec<Option<JudgedCarrier>>,
-    console: ConsoleLink,
+    pub(crate) desk: SiteDesk,
+    pub(crate) carriers: Vec<Option<JudgedCarrier>>,
+    pub(crate) console: ConsoleLink,
 }
 
 /// Adds the plan's carriers, by number, without connections.
@@ -204,11 +204,8 @@ fn show_closed<W: Write>(out: &mut W) -> io::Result<()> {
 
 /// Prints what an operator receives, line by line.
 fn show_replies<W: Write>(octets: &[u8], out: &mut W) -> io::Result<()> {
-    let Ok(text) = str::from_utf8(octets) else {
-        return Ok(());
-    };
-    for line in text.lines() {
-        writeln!(out, "      reply: {line}")?;
+    match str::from_utf8(octets) {
+        Ok(text) => show_reply(text, out),
+        Err(_) => Ok(()),
     }
-    Ok(())
 }

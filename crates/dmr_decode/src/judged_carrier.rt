@@ -95,6 +95,13 @@ impl JudgedCarrier {
         )
     }
 
+    /// Lets the link process an octet. The desk then has the event that the octet completed, if it completed one.
+    pub fn serve_octet(&mut self, octet: u8, desk: &mut SiteDesk) {
+        desk.forget();
+        self.wire.offer(octet);
+        let _ = self.link.serve(&mut self.wire, desk, &mut OpenGate);
+    }
+
     /// Processes an octet. Prints the frame or the fault that it completes, with the verdict.
     fn receive_octet<W: Write>(
         &mut self,
@@ -104,9 +111,7 @@ impl JudgedCarrier {
         out: &mut W,
     ) -> io::Result<()> {
         let step = self.cutter.feed_byte(octet);
-        desk.forget();
-        self.wire.offer(octet);
-        let _ = self.link.serve(&mut self.wire, desk, &mut OpenGate);
+        self.serve_octet(octet, desk);
         let place = self.came;
         self.came = place.saturating_add(1);
         match step {

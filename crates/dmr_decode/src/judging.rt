@@ -1,6 +1,7 @@
 //! The tasks of the program with the site of a site file: they show octets with what the site's controller makes of
-//! them.
+//! them, and print its journal.
 
+use crate::journal::EntryPrinter;
 use crate::judge::Judge;
 use crate::tasks::{TaskFault, octets_of};
 use dmr_frames::{Cutter, FrameIn, Step};
@@ -11,6 +12,15 @@ use dmr_replay::{ReplayFault, ScriptFault, ScriptInput, read_script};
 use std::alloc::{AllocError, Global};
 use std::io;
 use std::io::Write;
+
+/// What is printed of a script.
+#[derive(Drop)]
+enum Shown<'a> {
+    /// Each line, with what the controller makes of it.
+    Verdicts,
+    /// The entries of the site's journal.
+    Entries(EntryPrinter<'a>),
+}
 
 /// Runs the task with this name over a text, with the site of a plan, and writes its output.
 pub fn judge<'a, W: Write>(
@@ -25,7 +35,11 @@ pub fn judge<'a, W: Write>(
             let octets = octets_of(alloc, text)?;
             judge_octets(alloc, plan, octets.as_slice(), out)
         }
-        "script" => judge_script(alloc, plan, text, out),
+        "script" => judge_script(alloc, plan, &mut Shown::Verdicts, text, out),
+        "journal" => {
+            let mut shown = Shown::Entries(EntryPrinter::new(alloc, plan));
+            judge_script(alloc, plan, &mut shown, text, out)
+        }
         _ => Err(TaskFault::NoSuchTask(task)),
     }
 }
@@ -89,19 +103,21 @@ fn show_connection<W: Write>(
 fn judge_script<'a, W: Write>(
     alloc: Global,
     plan: &Plan,
+    shown: &mut Shown<'_>,
     text: &str,
     out: &mut W,
 ) -> Result<(), TaskFault<'a>> {
     let mut judge = judge_of(alloc, plan)?;
-    let shown = judge_lines(alloc, &mut judge, text, out);
+    let done = judge_lines(alloc, &mut judge, shown, text, out);
     drop(judge);
-    shown
+    done
 }
 
 /// Shows the lines of a script, up to the first that is not a line of a script.
 fn judge_lines<'a, W: Write>(
     alloc: Global,
     judge: &mut Judge,
+    shown: &mut Shown<'_>,
     text: &str,
     out: &mut W,
 ) -> Result<(), TaskFault<'a>> {
@@ -109,7 +125,7 @@ fn judge_lines<'a, W: Write>(
         return Ok(());
     };
     for (index, line) in text.split('\n').enumerate() {
-        if !judge_line(alloc, judge, line, out)? {
+        if !judge_line(alloc, judge, shown, line, out)? {
             return Err(TaskFault::Replay(ReplayFault::ScriptLine(index.saturating_add(1))));
         }
     }
@@ -128,18 +144,21 @@ fn lines_in(text: &str) -> Option<&str> {
 fn judge_line<'a, W: Write>(
     alloc: Global,
     judge: &mut Judge,
+    shown: &mut Shown<'_>,
     line: &str,
     out: &mut W,
 ) -> Result<bool, TaskFault<'a>> {
     match read_script(alloc, line.as_bytes()) {
         Ok(given) => {
-            let shown = judge_given(alloc, judge, line, given.as_slice(), out);
+            let done = judge_given(alloc, judge, shown, line, given.as_slice(), out);
             drop(given);
-            shown?;
+            done?;
             Ok(true)
         }
         Err(ScriptFault::Line(_)) => {
-            writeln!(out, "{line} -> fault: not a line of a script")?;
+            if matches!(shown, Shown::Verdicts) {
+                writeln!(out, "{line} -> fault: not a line of a script")?;
+            }
             Ok(false)
         }
         Err(ScriptFault::OutOfMemory) => Err(TaskFault::Memory(AllocError)),
@@ -150,12 +169,15 @@ fn judge_line<'a, W: Write>(
 fn judge_given<W: Write>(
     alloc: Global,
     judge: &mut Judge,
+    shown: &mut Shown<'_>,
     line: &str,
     given: &[ScriptInput],
     out: &mut W,
 ) -> io::Result<()> {
-    match given {
-        [input] => judge.show_input(alloc, line, input, out),
-        _ => writeln!(out, "{line}"),
+    match (shown, given) {
+        (Shown::Verdicts, [input]) => judge.show_input(alloc, line, input, out),
+        (Shown::Verdicts, _) => writeln!(out, "{line}"),
+        (Shown::Entries(entries), [input]) => judge.show_entries(input, entries, out),
+        (Shown::Entries(_), _) => Ok(()),
     }
 }

@@ -1,5 +1,5 @@
-//! Functions that are generic in what they keep. A function that owns a judge, its carriers or a fault, and can end while
-//! it does, is expensive to prove; a call of one of these is cheap.
+//! Functions that are generic in what they keep. A function that owns a judge, its carriers or a fault, and can end
+//! while it does, is expensive to prove; a call of one of these is cheap.
 
 use std::alloc::AllocError;
 

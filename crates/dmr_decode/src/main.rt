@@ -6,6 +6,7 @@
 //! - `dmr_decode pdu HEX`: ten octets
 //! - `dmr_decode replay`: the output of a replay
 //! - `dmr_decode script`: a script
+//! - `dmr_decode journal --site FILE`: the journal of a site that runs a script
 //! - `dmr_decode write PDU`: the octets, check and burst of a PDU that is given in words
 //!
 //! `dmr_burst::read` reads the words, and `dmr_frames::Cutter` cuts the frames of carriers, so the output shows what
@@ -15,12 +16,13 @@
 //! With `--site FILE`, `carrier` and `script` also say what the controller of that site would count, ignore and answer,
 //! and which frame would end a connection. No rule is written here again: `judged_carrier` and `judge` have the links
 //! of `dmr_link`, which hand their events to the site of `dmr_core` at a `desk`. `verdict` names the outcome,
-//! `acts_in_words` shows the site's acts, and `judging` has the two tasks.
+//! `acts_in_words` shows the site's answers, `journal` its events, and `judging` has the tasks.
 #![tactic(auto)]
 
 mod acts_in_words;
 mod carrier;
 mod desk;
+mod journal;
 mod judge;
 mod judged_carrier;
 mod judging;
@@ -55,6 +57,7 @@ Says in words what the octets of a site are, as the controller reads them.
   dmr_decode pdu HEX         the ten octets of a PDU
   dmr_decode replay          what `dmr_trunk --script` printed, from standard input
   dmr_decode script          a script, from standard input
+  dmr_decode journal         the journal of a site for a script, from standard input; with --site
   dmr_decode write PDU       the other way: a PDU in words to its octets, check and burst
 
 Without HEX or a PDU they are read from standard input. HEX may have spaces anywhere.
@@ -65,6 +68,8 @@ With a site file, carrier and script also say what the controller of that site c
 ignores and answers, and which frame ends a connection:
   dmr_decode carrier --site site.toml HEX..
   dmr_decode script --site site.toml
+and journal prints each event that the site takes, and what the site does for it:
+  dmr_decode journal --site site.toml
 
 Status: 0 it was said; 1 the input is not what was named, or a file; 2 the words; 4 memory, with a site file.
 ";
@@ -86,7 +91,7 @@ struct Words<'a> {
 
 /// Returns whether a task can judge its input by a site.
 fn is_judged(task: &str) -> bool {
-    task == "carrier" || task == "script"
+    task == "carrier" || task == "script" || task == "journal"
 }
 
 /// Reads the words of the command line. `None` if there is no task, no path after `--site`, or a site for a task that

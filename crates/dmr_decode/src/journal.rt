@@ -1,0 +1,192 @@
+//! The journal of a judged site in words: each event that the site took, with its answer.
+
+use crate::acts_in_words::{show_acts, show_reply};
+use crate::desk::SiteDesk;
+use crate::judge::Judge;
+use crate::judged_carrier::memory_error;
+use crate::octet_wire::OctetWire;
+use dmr_console::print;
+use dmr_core::{Entry, Event};
+use dmr_link::{Deposit, Desk};
+use dmr_pdu::{CarrierNo, OutOfMemory, Slot};
+use dmr_plan::Plan;
+use dmr_recording::{Carriers, RecordingFault, record_journal};
+use dmr_replay::ScriptInput;
+use std::alloc::Global;
+use std::io;
+use std::io::Write;
+
+/// Prints the entries of a journal, and counts them.
+#[derive(Drop)]
+pub struct EntryPrinter<'a> {
+    alloc: Global,
+    plan: &'a Plan,
+    count: u64,
+}
+
+impl<'a> EntryPrinter<'a> {
+    /// Begins with no entries, for the site of this plan.
+    pub fn new(alloc: Global, plan: &'a Plan) -> EntryPrinter<'a> {
+        EntryPrinter {
+            alloc,
+            plan,
+            count: 0,
+        }
+    }
+
+    /// Prints the events that a desk keeps, as the next entries. The desk forgets them.
+    fn show_taken<W: Write>(&mut self, desk: &mut SiteDesk, out: &mut W) -> io::Result<()> {
+        for deposit in desk.taken() {
+            self.show_entry(deposit, out)?;
+        }
+        desk.forget();
+        Ok(())
+    }
+
+    /// Prints an event and its answer, as the next entry.
+    fn show_entry<W: Write>(&mut self, deposit: &Deposit, out: &mut W) -> io::Result<()> {
+        self.count = self.count.saturating_add(1);
+        let number = self.count;
+        write!(out, "entry {number}: ")?;
+        self.show_event(deposit, out)?;
+        show_acts(deposit.acts.list.as_slice(), out)?;
+        match &deposit.acts.said {
+            Some(reply) => show_reply(print(reply).as_str(), out),
+            None => Ok(()),
+        }
+    }
+
+    /// Prints an event, and ends the line.
+    fn show_event<W: Write>(&self, deposit: &Deposit, out: &mut W) -> io::Result<()> {
+        match &deposit.event {
+            Event::Up(carrier) => writeln!(out, "carrier {carrier} is up"),
+            Event::Lost(carrier) => writeln!(out, "carrier {carrier} is lost"),
+            Event::Heard(slot, pdu) => {
+                let Slot { carrier, slot } = *slot;
+                writeln!(out, "heard on carrier {carrier} slot {slot}: {pdu}")
+            }
+            Event::Noise(slot) => {
+                let Slot { carrier, slot } = *slot;
+                writeln!(out, "noise on carrier {carrier} slot {slot}")
+            }
+            Event::Active(slot) => {
+                let Slot { carrier, slot } = *slot;
+                writeln!(out, "activity on carrier {carrier} slot {slot}")
+            }
+            Event::Poll(carrier) => writeln!(out, "carrier {carrier} polls"),
+            Event::Tick => writeln!(out, "a tick"),
+            Event::Say(_) => self.show_command(deposit, out),
+        }
+    }
+
+    /// Prints the line of an operator's command, as a recording has it.
+    fn show_command<W: Write>(&self, deposit: &Deposit, out: &mut W) -> io::Result<()> {
+        let entry = Entry {
+            actor: 0,
+            event: deposit.event,
+            acts: deposit.acts,
+        };
+        let mut text = String::new(self.alloc);
+        let mut up = Carriers::none_up();
+        match record_journal(self.alloc, self.plan, &mut up, &[entry], &mut text) {
+            Ok(()) => write!(out, "{}", text.as_str()),
+            Err(RecordingFault::OutOfMemory) => Err(memory_error(OutOfMemory)),
+            Err(fault) => writeln!(out, "{fault}"),
+        }
+    }
+}
+
+impl Judge {
+    /// Processes the input of a line of a script, and prints the entries that it adds to the journal.
+    pub fn show_entries<W: Write>(
+        &mut self,
+        input: &ScriptInput,
+        entries: &mut EntryPrinter<'_>,
+        out: &mut W,
+    ) -> io::Result<()> {
+        match input {
+            ScriptInput::Open(carrier) => self.journal_open(*carrier, entries, out),
+            ScriptInput::Bytes(carrier, octets) => {
+                self.journal_octets(*carrier, octets.as_slice(), entries, out)
+            }
+            ScriptInput::Cut(carrier) => self.journal_cut(*carrier, entries, out),
+            ScriptInput::Tick(times) => self.journal_ticks(*times, entries, out),
+            ScriptInput::Text(octets) => self.journal_text(octets.as_slice(), entries, out),
+        }
+    }
+
+    /// Begins a connection of a carrier. An entry says so if the one before ends with it.
+    fn journal_open<W: Write>(
+        &mut self,
+        carrier: CarrierNo,
+        entries: &mut EntryPrinter<'_>,
+        out: &mut W,
+    ) -> io::Result<()> {
+        if let Some(Some(judged)) = self.carriers.get_mut(carrier.get() as usize) {
+            judged.open(&mut self.desk);
+        }
+        entries.show_taken(&mut self.desk, out)
+    }
+
+    /// Cuts a carrier's connection.
+    fn journal_cut<W: Write>(
+        &mut self,
+        carrier: CarrierNo,
+        entries: &mut EntryPrinter<'_>,
+        out: &mut W,
+    ) -> io::Result<()> {
+        if let Some(Some(judged)) = self.carriers.get_mut(carrier.get() as usize) {
+            judged.cut(&mut self.desk);
+        }
+        entries.show_taken(&mut self.desk, out)
+    }
+
+    /// Processes octets of a carrier.
+    fn journal_octets<W: Write>(
+        &mut self,
+        carrier: CarrierNo,
+        octets: &[u8],
+        entries: &mut EntryPrinter<'_>,
+        out: &mut W,
+    ) -> io::Result<()> {
+        if let Some(Some(judged)) = self.carriers.get_mut(carrier.get() as usize) {
+            for octet in octets {
+                if judged.is_live() {
+                    judged.serve_octet(*octet, &mut self.desk);
+                    entries.show_taken(&mut self.desk, out)?;
+                }
+            }
+        }
+        Ok(())
+    }
+
+    /// Processes ticks.
+    fn journal_ticks<W: Write>(
+        &mut self,
+        times: u32,
+        entries: &mut EntryPrinter<'_>,
+        out: &mut W,
+    ) -> io::Result<()> {
+        for _ in 0..times {
+            let _ = self.desk.deposit(Event::Tick);
+            entries.show_taken(&mut self.desk, out)?;
+        }
+        Ok(())
+    }
+
+    /// Processes octets of an operator.
+    fn journal_text<W: Write>(
+        &mut self,
+        octets: &[u8],
+        entries: &mut EntryPrinter<'_>,
+        out: &mut W,
+    ) -> io::Result<()> {
+        let mut wire = OctetWire::new(entries.alloc, false);
+        for octet in octets {
+            wire.offer(*octet);
+            let _ = self.console.serve(&mut wire, &mut self.desk);
+            entries.show_taken(&mut self.desk, out)?;
+        }
+        Ok(())
+    }
+}

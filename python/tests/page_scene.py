@@ -76,11 +76,11 @@ class Player(threading.Thread):
 
 
 class Scene:
-    """The controller, the hub with an HTTP port, and the player. `base` is the address of the page."""
+    """The controller, which keeps records, the hub with an HTTP port, and the player. `base` is the address of the page."""
 
     def __init__(self, program: str, site: Site, state_seconds: float = 0.25) -> None:
         self.folder = tempfile.mkdtemp()
-        self.controller = Controller(program, site)
+        self.controller = Controller(program, site, variables={"STATE_DIRECTORY": self.folder})
         self.controller.wait_until_served()
         with socket.create_server(("127.0.0.1", 0)) as free:
             self.port = int(free.getsockname()[1])
@@ -96,7 +96,8 @@ class Scene:
             it.write(site.text())
         with open(config, "w", encoding="utf-8") as it:
             it.write(f'[controller]\nsite_file = "{plan}"\nreconnect_seconds = 0.5\n[poll]\nstate_seconds = {state_seconds}\nradios_seconds = 1\n[http]\nport = {self.port}\n'
-                     f'[line_port]\nsocket = "{self.folder}/console.sock"\n[audit]\nfile = "{self.folder}/audit.jsonl"\n')
+                     f'[line_port]\nsocket = "{self.folder}/console.sock"\n[audit]\nfile = "{self.folder}/audit.jsonl"\n'
+                     f'[records]\nfile = "{self.folder}/site.db"\nread_seconds = 1\n')
         hub = subprocess.Popen(tool_words("hub", "--config", config), stderr=subprocess.DEVNULL, preexec_fn=ends_with_parent())
         until = time.monotonic() + 30
         while True:

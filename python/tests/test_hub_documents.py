@@ -12,6 +12,7 @@ from temzaar.hub.counts import Histogram
 from temzaar.hub.lines import OWN
 from temzaar.hub.moment import Moment
 from temzaar.hub.pagefiles import load_page
+from temzaar.hub.recordsamples import KINDS, RecordSamples
 from temzaar.hub.samples import FIGURES, Samples
 from temzaar.hub.seencalls import MOST_ENDED, CallLog, SeenCall
 from temzaar.hub.session import HELP
@@ -62,14 +63,16 @@ class Documented(unittest.TestCase):
         """Queries, keys and figures of the page's paths, and how much memory they take."""
         self.assertEqual([(row[0], row[1]) for row in table_rows(HUB, "| key of the query")], [(name, kind.says) for name, kind in CALL_KEYS.items()])
         self.assertEqual([row[0] for row in table_rows(HUB, "| figure | what it is")], [*FIGURES])
+        self.assertEqual([name for row in table_rows(HUB, "| count | what it is") for name in row[0].split(", ")], [*KINDS])
         call = call_view(SeenCall(1, (0, 1), Parties("group", 91, 1001), Moment(0, 0), False))
         named = " ".join(cell for row in table_rows(HUB[HUB.index("### Seen calls"):], "| key | value") for cell in row)
         self.assertEqual([name for name in call if not re.search(rf"\b{name}\b", named)], [])
         samples = sum(span.octets() for span in Samples().spans.values())
-        for text in (f"The samples take {samples:,} octets", f"The last {MOST_ENDED:,} calls that ended take {len(CallLog().ended.octets):,} octets", f"at most, {MOST_ENDED:,}"):
+        counts = sum(span.octets() for span in RecordSamples().spans.values())
+        for text in (f"their counts take {counts:,} octets", f"The samples take {samples:,} octets", f"The last {MOST_ENDED:,} calls that ended take {len(CallLog().ended.octets):,} octets", f"at most, {MOST_ENDED:,}"):
             self.assertIn(text, HUB)
-        self.assertEqual(round(sum(len(it.body) for it in load_page().values()), -4), 50_000)
-        self.assertIn("The page's files, about 50,000 octets", HUB.replace("\n", " "))
+        self.assertEqual(round(sum(len(it.body) for it in load_page().values()), -4), 60_000)
+        self.assertIn("The page's files, about 60,000 octets", HUB.replace("\n", " "))
 
     def test_own_commands(self) -> None:
         self.assertEqual({row[0].split()[0].rstrip(",") for row in table_rows(HUB, "| line | reply")}, set(OWN))

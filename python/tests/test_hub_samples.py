@@ -86,3 +86,15 @@ class Figures(unittest.TestCase):
         span = model.samples.spans["day"]
         self.assertEqual([next(span.summaries(name, [place])) for name in ("slots_in_use", "slots_up", "carriers_up") for place in [span.places(at(0))[-1]]],
                          [Summary(0, 0, 0), Summary(1, 1, 1), Summary(1, 1, 1)])
+
+    def test_how_long_requests_waited(self) -> None:
+        """A request counts when it leaves the queue, unless it was there at the first picture."""
+        model, console = SiteModel(), Written()
+        model.take_picture(take_picture(console), at(0))
+        console.replies["lines 1"] = ["line 1 group 94 from 1004", "line 2 group 95 from 1001"]
+        console.replies["status"] = ["status carriers 2 radios 4 asks 0 lines 2 calls 2 fill aloha"]
+        model.take_picture(take_picture(console), at(10))
+        console.replies["lines 1"] = []
+        console.replies["status"] = ["status carriers 2 radios 4 asks 0 lines 0 calls 2 fill aloha"]
+        model.take_picture(take_picture(console), at(14.5))
+        self.assertEqual((sum(model.waits.counts), model.waits.sum), (1, 4.5))

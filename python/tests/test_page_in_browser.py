@@ -12,6 +12,8 @@ from tests.page_scene import Scene
 from tests.support import TWO_CARRIERS, program
 
 PORT = 17700
+# A term of so few entries ends each six seconds.
+ENTRIES = 300
 # Everything that is shown in text of a colour too near to that of its background: less than 4.5 to 1 (WCAG 2.2, 1.4.3).
 FAINT_TEXTS = """(() => {
   const parse = (colour) => { const found = colour.match(/[\\d.]+/g).map(Number); return found.length > 3 ? found : [...found, 1]; };
@@ -39,7 +41,7 @@ class InBrowser(unittest.TestCase):
 
     def setUp(self) -> None:
         built, found = program("dmr_trunk"), find_chromium()
-        self.scene = Scene(built, Site(TWO_CARRIERS, first_port=PORT, hang=8))
+        self.scene = Scene(built, Site(TWO_CARRIERS, first_port=PORT, hang=8, term_entries=ENTRIES))
         self.addCleanup(self.scene.close)
         self.browser = Chromium(found)
         self.addCleanup(self.browser.close)
@@ -100,6 +102,10 @@ class InBrowser(unittest.TestCase):
         self.wait_for_text("#figure-slots", "^Slots in use 0 of 3$")
         self.wait_for_text("#calls-rows", r"^\d\d:\d\d:\d\d group 91 1001 carrier \d ?, slot ?/ ?\d 0:\d\d$")
         self.assertNotIn("group 91", self.browser.text("#carriers-rows"))
+        # once the term has ended, the call is that of the records, with its cause
+        self.browser.wait_for("document.querySelector('#calls-rows span[title=\"ended: hang time\"]')")
+        self.wait_for_text("#chart-calls_ended .summary", r"^1 call: 1 hang time; up to \d\d:\d\d:\d\d$")
+        self.assertEqual(self.browser.text("#chart-refused .summary")[:10], "0 requests")
 
     def check_the_history_by_keyboard(self) -> None:
         """Enter on a party opens its history, Escape closes it, and the focus returns."""

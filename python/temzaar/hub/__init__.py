@@ -10,6 +10,10 @@ Modules, lowest first:
     link       the connection to the controller's console
     seencalls  the calls that the hub has seen, in memory of a fixed size
     samples    figures of the last hour and the last day, in memory of a fixed size
+    newrecords what is new in the controller's file of records
+    recordcounts   counters of the records, and the calls that are recorded
+    recordsamples  counts of the records over the last hour and the last day
+    recordreader   looks at the file every few seconds
     model      the state of the site, as the last answers had it
     poller     keeps the model up to date
     lines      the lines of operators

@@ -6,6 +6,8 @@ from temzaar.hub.keys import Choice, Whole
 from temzaar.hub.model import SiteModel
 from temzaar.hub.moment import Moment, utc_text
 from temzaar.hub.query import read_query
+from temzaar.hub.recordreader import RecordReader
+from temzaar.hub.recordsamples import KINDS
 from temzaar.hub.samples import FIGURES, SPANS, Span, Summary
 from temzaar.hub.seencalls import CallFilter, SeenCall
 from temzaar.hub.views import MISSED_POLLS, Views, json_octets, rounded
@@ -60,7 +62,10 @@ class BoardViews:
     def history_json(self, request: Request) -> Response:
         """The samples of a span. BadRequest: the query is refused."""
         name = read_query(request.query, HISTORY_KEYS).get("span", next(iter(SPANS)))
-        return Response(json_octets(span_view(name, self.model.samples.spans[name], Moment.now())), JSON)
+        now = Moment.now()
+        view = span_view(name, self.model.samples.spans[name], now)
+        view["recorded"] = recorded_view(self.views.records, name, now.wall)
+        return Response(json_octets(view), JSON)
 
 
 def call_view(call: SeenCall) -> dict[str, Any]:
@@ -78,6 +83,14 @@ def span_view(name: str, span: Span, now: Moment) -> dict[str, Any]:
     return {"time": utc_text(now.wall, decimals=True), "span": name, "step_seconds": span.step, "begins": utc_text(span.begins(now), decimals=True),
             "pictures": [0 if at is None else span.pictures[at] for at in places],
             "figures": {figure: columns_view([*span.summaries(figure, places)]) for figure in FIGURES}}
+
+
+def recorded_view(records: RecordReader | None, name: str, now: float) -> dict[str, Any] | None:
+    """The counts of a span by the records, oldest first; None if no term was read."""
+    if records is None or records.log.until is None:
+        return None
+    span = records.samples.spans[name]
+    return {"begins": utc_text(span.oldest(now) * span.step), "until": utc_text(records.log.until, decimals=True), "counts": {kind: span.of(kind, now) for kind in KINDS}}
 
 
 def columns_view(summaries: list[Summary | None]) -> dict[str, list[float | None]]:

@@ -1,11 +1,14 @@
 """What is new in the controller's file of records since a term: sums, counts and the newest calls. It is read in a thread of its own, into memory of a fixed size."""
 import bisect
 import os
+import time
 from collections import Counter
 from collections.abc import Iterable
 from dataclasses import dataclass, field
 
 from temzaar import pdus
+from temzaar.hub.recordsamples import Happened
+from temzaar.hub.samples import SPANS
 from temzaar.hub.seencalls import MOST_ENDED
 from temzaar.records import LOG, RecordedCall, RecordedTerm, Records, opened_records
 
@@ -34,7 +37,7 @@ class Durations:
 @dataclass
 class NewRecords:
     """What is new. `last` is the newest term, None if there is none; `terms` is how many are new. Calls are counted by kind and cause, refusals by reason.
-    `newest` are the newest calls, in their order."""
+    `newest` are the newest calls, in their order, and `happened` has counts for the samples of each span."""
     last: RecordedTerm | None = None
     terms: int = 0
     sums: dict[str, int] = field(default_factory=lambda: dict.fromkeys(SUMMED, 0))
@@ -42,6 +45,7 @@ class NewRecords:
     durations: Durations = field(default_factory=Durations)
     refusals: Counter[str] = field(default_factory=Counter)
     newest: list[RecordedCall] = field(default_factory=list)
+    happened: dict[str, list[Happened]] = field(default_factory=dict)
 
 
 def signature(path: str) -> Signature:
@@ -82,6 +86,18 @@ def count_calls(rows: Iterable[tuple[int, str, int]], new: NewRecords) -> None:
         new.durations.add(max(0, milliseconds) / 1000)
 
 
+def happened_since(records: Records, since: int, span: str) -> list[Happened]:
+    """How often things happened in each sample of a span, in the rows of the terms after `since`. The noise of a term is counted at its end."""
+    step, count = SPANS[span]
+    step_ms, begins_ms = 1000 * step, 1000 * step * (int(time.time() // step) - count + 1)
+    found: list[Happened] = []
+    for statement in ("SELECT cause, ended_ms / ?, count(*) FROM calls WHERE term > ? AND ended_ms >= ? GROUP BY 1, 2",
+                      "SELECT 'refused', at_ms / ?, count(*) FROM events WHERE kind = 'refused' AND term > ? AND at_ms >= ? GROUP BY 2",
+                      "SELECT 'noise', ended_ms / ?, sum(noise) FROM terms WHERE number > ? AND ended_ms >= ? GROUP BY 2"):
+        found += records.conn.execute(statement, (step_ms, since, begins_ms))
+    return found
+
+
 def read_new(path: str, last: RecordedTerm | None) -> NewRecords:
     """What is new in a file since a term, or all of it. RecordsFault: it cannot be read now."""
     new = NewRecords()
@@ -94,4 +110,5 @@ def read_new(path: str, last: RecordedTerm | None) -> NewRecords:
         for reason, count in records.conn.execute("SELECT reason, count(*) FROM events WHERE kind = 'refused' AND term > ? GROUP BY reason", (since,)):
             new.refusals[reason_text(reason)] += count
         new.newest = records.calls(("term > ?", [since]), last=MOST_ENDED)
+        new.happened = {span: happened_since(records, since, span) for span in SPANS}
     return new

@@ -7,15 +7,16 @@ from temzaar.hub.config import RecordsKeys
 from temzaar.hub.newrecords import NewRecords, Signature, read_new, signature
 from temzaar.hub.notes import note, warn
 from temzaar.hub.recordcounts import RecordCounts, RecordedLog
+from temzaar.hub.recordsamples import RecordSamples
 from temzaar.records import RecordedTerm
 
 
 class RecordReader:
-    """The file's new rows, as counters and calls."""
+    """The file's new rows, as counters, calls, and counts of the last hour and day."""
 
     def __init__(self, keys: RecordsKeys) -> None:
         self.keys = keys
-        self.counts, self.log = RecordCounts(), RecordedLog()
+        self.counts, self.log, self.samples = RecordCounts(), RecordedLog(), RecordSamples()
         self.last: RecordedTerm | None = None
         # the file at the last look that succeeded, and the fault of the last look
         self.known: Signature | None = None
@@ -41,6 +42,7 @@ class RecordReader:
             self.last = new.last
             self.counts.take(new)
             self.log.take(new)
+            self.samples.take(new.happened)
 
     def _read(self) -> tuple[Signature, NewRecords] | None:
         """What is new, and the file as it was before it was read; None if it has not changed. It runs in a thread, and changes nothing."""

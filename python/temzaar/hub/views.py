@@ -94,7 +94,7 @@ class Views:
     def all_series(self) -> list[Series | Histogram]:
         """All metrics, in the order in which they are shown."""
         of_records = self.records.counts.all_series() if self.records else []
-        return [*self._site_series(), *of_records, *self._process_series(), *self.counts.all_series()]
+        return [*self._site_series(), self.model.waits, *of_records, *self._process_series(), *self.counts.all_series()]
 
     def _site_series(self) -> Iterator[Series]:
         """Gauges of the site. While the controller is away there are only its name and the one that says so."""

@@ -26,6 +26,18 @@ const CHARTS = [
   { figure: "carriers_up", title: "Carriers up", text: asCount },
 ];
 
+// The charts of the controller's records: the counts that are drawn one on top of the other, each with its name.
+const RECORD_CHARTS = [
+  { figure: "calls_ended", title: "Calls that ended, by cause", text: asCount, what: ["call", "calls"], parts: [
+    { count: "hang_time", name: "hang time" }, { count: "maximum", name: "maximum" }, { count: "radio_left", name: "radio left" },
+    { count: "dropped", name: "dropped" }, { count: "ended_by_operator", name: "ended by operator" }, { count: "carrier_lost", name: "carrier lost" },
+  ] },
+  { figure: "refused", title: "Refused requests", text: asCount, what: ["request", "requests"], parts: [{ count: "refused", name: "refused" }] },
+  { figure: "noise", title: "Noise", text: asCount, what: ["burst", "bursts"], parts: [{ count: "noise", name: "noise" }] },
+];
+// How many samples a bar is of: a minute of the last hour, 24 minutes of the last day.
+const SAMPLES_A_BAR = 12;
+
 const charts = new Map();
 let history = null;
 
@@ -53,6 +65,16 @@ class Chart {
     return history.pictures.length;
   }
 
+  /** The seconds of a sample. */
+  get step() {
+    return history.step_seconds;
+  }
+
+  /** When the first sample begins. */
+  get begins() {
+    return Date.parse(history.begins);
+  }
+
   get innerWidth() {
     return this.width - LEFT - RIGHT;
   }
@@ -66,22 +88,26 @@ class Chart {
   }
 
   timeOf(place) {
-    return new Date(Date.parse(history.begins) + place * history.step_seconds * 1000);
+    return new Date(this.begins + place * this.step * 1000);
   }
 
   /** Draws all of it. */
   draw() {
     this.width = Math.max(LEAST_WIDTH, this.plot.clientWidth);
-    const limits = this.spec.limit ? history.figures[this.spec.limit].max : [];
-    this.top = niceTop(Math.max(0, ...this.values.max.filter(isKnown), ...limits.filter(isKnown)));
-    this.runs = knownRuns(this.values.mean);
     this.pointer = makeSvg("g", { class: "cursor" });
-    const svg = makeSvg("svg", { viewBox: `0 0 ${this.width} ${HEIGHT}`, width: this.width, height: HEIGHT, "aria-hidden": "true" },
-      ...this.gaps(), ...this.grid(), ...this.times(), ...this.bands(), ...this.lines(limits), this.pointer);
+    const svg = makeSvg("svg", { viewBox: `0 0 ${this.width} ${HEIGHT}`, width: this.width, height: HEIGHT, "aria-hidden": "true" }, ...this.shapes(), this.pointer);
     this.plot.replaceChildren(svg);
     this.plot.setAttribute("aria-valuemax", this.count - 1);
     setText(this.summary, this.summaryText());
     this.moveTo(this.cursor);
+  }
+
+  /** What is drawn. */
+  shapes() {
+    const limits = this.spec.limit ? history.figures[this.spec.limit].max : [];
+    this.top = niceTop(Math.max(0, ...this.values.max.filter(isKnown), ...limits.filter(isKnown)));
+    this.runs = knownRuns(this.values.mean);
+    return [...this.gaps(), ...this.grid(), ...this.times(), ...this.bands(), ...this.lines(limits)];
   }
 
   /** Grey, where there was no picture. */
@@ -107,7 +133,7 @@ class Chart {
 
   /** The marks of the axis of time. */
   times() {
-    const minutes = (this.count * history.step_seconds) / 60;
+    const minutes = (this.count * this.step) / 60;
     const fitting = Math.max(1, Math.floor(this.innerWidth / LABEL_WIDTH));
     const every = MINUTES.find((it) => minutes / it <= fitting) || MINUTES[MINUTES.length - 1];
     const marks = [];
@@ -218,6 +244,101 @@ class Chart {
   }
 }
 
+/** A chart of counts of the controller's records, as bars. A bar is of some samples. */
+class BarChart extends Chart {
+  constructor(spec) {
+    super(spec);
+    if (spec.parts.length > 1) {
+      const names = spec.parts.map((part, place) => makeElement("li", {}, makeElement("span", { class: `swatch bar-${place}`, "aria-hidden": "true" }), part.name));
+      this.element.append(makeElement("ul", { class: "legend" }, ...names));
+    }
+  }
+
+  get count() {
+    return Math.ceil(history.pictures.length / SAMPLES_A_BAR);
+  }
+
+  get step() {
+    return history.step_seconds * SAMPLES_A_BAR;
+  }
+
+  get begins() {
+    return Date.parse(history.recorded.begins);
+  }
+
+  draw() {
+    this.element.hidden = !history.recorded;
+    if (history.recorded) {
+      this.bars = this.spec.parts.map((part) => sums(history.recorded.counts[part.count]));
+      this.totals = this.bars[0].map((_, place) => this.bars.reduce((sum, bars) => sum + bars[place], 0));
+      super.draw();
+    }
+  }
+
+  /** How many bars begin before the end of the last recorded term. */
+  get known() {
+    return Math.min(this.count, Math.max(0, Math.ceil((Date.parse(history.recorded.until) - this.begins) / (this.step * 1000))));
+  }
+
+  shapes() {
+    this.top = niceTop(Math.max(0, ...this.totals));
+    this.runs = [[0, this.known]];
+    return [...this.gaps(), ...this.grid(), ...this.times(), ...this.rectangles()];
+  }
+
+  rectangles() {
+    const shapes = [];
+    for (let place = 0; place < this.known; place += 1) {
+      let below = 0;
+      this.bars.forEach((bars, part) => {
+        if (bars[place]) {
+          const [from, to] = [this.y(below + bars[place]), this.y(below)];
+          shapes.push(makeSvg("rect", { class: `bar-${part}`, x: this.x(place) + 0.5, y: from, width: Math.max(1, this.x(1) - this.x(0) - 1), height: to - from }));
+          below += bars[place];
+        }
+      });
+    }
+    return shapes;
+  }
+
+  /** A number of calls, requests or bursts, with the parts that it is of. */
+  countText(counts) {
+    const all = counts.reduce((sum, count) => sum + count, 0);
+    const parts = this.spec.parts.map((part, place) => [counts[place], part.name]).filter(([count]) => count);
+    const said = `${all} ${this.spec.what[all === 1 ? 0 : 1]}`;
+    return this.spec.parts.length > 1 && parts.length ? `${said}: ${parts.map(([count, name]) => `${count} ${name}`).join(", ")}` : said;
+  }
+
+  summaryText() {
+    return `${this.countText(this.bars.map((bars) => bars.reduce((sum, count) => sum + count, 0)))}; up to ${clockText(new Date(history.recorded.until))}`;
+  }
+
+  sampleText(place) {
+    return place < this.known ? this.countText(this.bars.map((bars) => bars[place])) : "not recorded yet";
+  }
+
+  moveTo(place) {
+    if (history && history.recorded) {
+      super.moveTo(place);
+    }
+  }
+
+  pressKey(event) {
+    if (history && history.recorded) {
+      super.pressKey(event);
+    }
+  }
+}
+
+/** The sums of the samples of each bar. */
+function sums(counts) {
+  const found = [];
+  for (let place = 0; place < counts.length; place += SAMPLES_A_BAR) {
+    found.push(counts.slice(place, place + SAMPLES_A_BAR).reduce((sum, count) => sum + count, 0));
+  }
+  return found;
+}
+
 function isKnown(value) {
   return value !== null;
 }
@@ -249,6 +370,11 @@ function knownRuns(values) {
 export function makeCharts() {
   for (const spec of CHARTS) {
     charts.set(spec.figure, new Chart(spec));
+  }
+  for (const spec of RECORD_CHARTS) {
+    const chart = new BarChart(spec);
+    chart.element.hidden = true;
+    charts.set(spec.figure, chart);
   }
   byId("charts-grid").append(...[...charts.values()].map((chart) => chart.element));
   new ResizeObserver(() => drawCharts()).observe(byId("charts-grid"));

@@ -1,0 +1,92 @@
+"""Counts of the controller's records over the last hour and the last day. The rows are those of `made_records`, and the counts were made in them by hand."""
+import pathlib
+import tempfile
+import unittest
+from unittest import mock
+
+from temzaar.hub.newrecords import read_new
+from temzaar.hub.recordsamples import KINDS, CountSpan, Happened, RecordSamples
+from tests.made_records import NOON, add_term, make_records
+
+STEP, COUNT = 5, 4
+# The number of the sample of the hour that begins at noon, and of that of the day.
+NOON_OF_HOUR, NOON_OF_DAY = NOON // 5_000, NOON // 120_000
+# Of all three terms: what ended, was refused, or came as noise, by the samples after noon.
+IN_SAMPLES_OF_5_SECONDS = {
+    ("hang_time", -10, 1), ("ended_by_operator", -8, 1), ("carrier_lost", 1, 1), ("radio_left", 4, 1), ("maximum", 29, 1),
+    ("refused", -6, 1), ("refused", 2, 1), ("refused", 24, 1), ("noise", 0, 3), ("noise", 32, 1),
+}
+IN_SAMPLES_OF_2_MINUTES = {
+    ("hang_time", -1, 1), ("ended_by_operator", -1, 1), ("carrier_lost", 0, 1), ("radio_left", 0, 1), ("maximum", 1, 1),
+    ("refused", -1, 1), ("refused", 0, 1), ("refused", 1, 1), ("noise", 0, 3), ("noise", 1, 1),
+}
+
+
+class Counted(unittest.TestCase):
+    """A span of four samples of five seconds."""
+
+    def setUp(self) -> None:
+        self.span = CountSpan(STEP, COUNT)
+
+    def test_counts(self) -> None:
+        self.span.add([("noise", 20, 2), ("noise", 22, 1), ("refused", 22, 4), ("noise", 22, 5)])
+        # 114 s is in the sample of number 22, the newest of those from 19 on
+        self.assertEqual((self.span.of("noise", 114), self.span.of("refused", 114)), ([0, 2, 0, 6], [0, 0, 0, 4]))
+        self.assertEqual(self.span.oldest(114), 19)
+
+    def test_what_is_too_old_or_not_known(self) -> None:
+        self.span.add([("noise", 24, 1)])
+        self.span.add([("noise", 20, 9), ("a later cause", 24, 9)])
+        self.assertEqual(self.span.of("noise", 124), [0, 0, 0, 1])
+        self.assertEqual(self.span.of("noise", 124 + STEP * COUNT), [0] * COUNT)
+
+    def test_memory(self) -> None:
+        """docs/HUB.md names this number."""
+        samples = RecordSamples()
+        self.assertEqual(sum(span.octets() for span in samples.spans.values()), 103_680)
+
+
+class Read(unittest.TestCase):
+    """What is read from a file of records, two minutes and a half after noon and ten seconds later."""
+
+    def setUp(self) -> None:
+        folder = tempfile.TemporaryDirectory()
+        self.addCleanup(folder.cleanup)
+        self.path = pathlib.Path(folder.name, "site.db")
+        clock = mock.patch("temzaar.hub.newrecords.time.time", return_value=NOON / 1000 + 160)
+        clock.start()
+        self.addCleanup(clock.stop)
+
+    def counted(self, rows: list[Happened], noon: int) -> set[Happened]:
+        """The rows with a count, by the samples after noon."""
+        return {(kind, number - noon, times) for kind, number, times in rows if times}
+
+    def test_all_at_once(self) -> None:
+        new = read_new(str(make_records(self.path)), None)
+        self.assertEqual(self.counted(new.happened["hour"], NOON_OF_HOUR), IN_SAMPLES_OF_5_SECONDS)
+        self.assertEqual(self.counted(new.happened["day"], NOON_OF_DAY), IN_SAMPLES_OF_2_MINUTES)
+
+    def test_term_by_term(self) -> None:
+        make_records(self.path, terms=1)
+        samples, last = RecordSamples(), None
+        for number in (1, 2, 3):
+            if number > 1:
+                add_term(self.path, number)
+            new = read_new(str(self.path), last)
+            samples.take(new.happened)
+            last = new.last
+        now = NOON / 1000 + 160
+        self.assertEqual({kind: sum(samples.spans["hour"].of(kind, now)) for kind in KINDS},
+                         {"hang_time": 1, "maximum": 1, "radio_left": 1, "dropped": 0, "ended_by_operator": 1, "carrier_lost": 1, "refused": 3, "noise": 4})
+
+    def test_what_is_older_than_the_span(self) -> None:
+        make_records(self.path)
+        with mock.patch("temzaar.hub.newrecords.time.time", return_value=NOON / 1000 + 3600):
+            new = read_new(str(self.path), None)
+        # the hour begins five seconds after noon, since the sample of now is one of its 720
+        self.assertEqual({it for it in self.counted(new.happened["hour"], NOON_OF_HOUR)}, {it for it in IN_SAMPLES_OF_5_SECONDS if it[1] >= 1})
+        self.assertEqual(self.counted(new.happened["day"], NOON_OF_DAY), IN_SAMPLES_OF_2_MINUTES)
+
+
+if __name__ == "__main__":
+    unittest.main()

@@ -3,9 +3,11 @@
  * radios too and looks at each answer; this one looks at the frames alone, and disturbs the machine less.
  *
  *     load_generator [-p BASE_PORT] [-n CARRIERS] [-l FIRST_LPCN] [-L LPCN_STEP] [-v VERSION] [-s SECONDS] [-u MICROSECONDS]
- *                    [-f] [-S] [-T THREADS] [-P PID] [-a ACTIVES] [-r POLLS] [-c CONTROL]
+ *                    [-o OFFSET] [-f] [-S] [-T THREADS] [-P PID] [-a ACTIVES] [-r POLLS] [-c CONTROL]
  *
  *     -u N   each carrier polls each N microseconds (60,000, the rate of the air), the carriers spread evenly
+ *     -o N   the first carrier's polls are due N microseconds after a whole number of periods of the machine's clock, so that
+ *            generators which run at once poll at times of their own (without it: from when the carriers are connected)
  *     -f     as fast as possible: the next POLL follows the DONE of the last
  *     -S     asks the system in a loop instead of waiting, so that no wake-up of its own is part of a figure
  *     -a N   N frames ACTIVE before each POLL, in the same write
@@ -43,9 +45,9 @@ static const uint8_t REGISTRATION[25] = {0x0E, 0xB4, 0x9C, 0xDF, 0x34, 0xF2, 0x7
 
 static struct {
     int base_port, carriers, first_lpcn, lpcn_step, version, seconds, threads, actives, rx_every, control, server;
-    long period; /* microseconds */
+    long period, offset; /* microseconds; no offset: -1 */
     bool fast, spins;
-} options = {7101, 16, 101, 2, 1, 10, 1, 0, 0, 0, 0, 60000, false, false};
+} options = {7101, 16, 101, 2, 1, 10, 1, 0, 0, 0, 0, 60000, -1, false, false};
 
 static __attribute__((noreturn)) void die(const char *what) {
     perror(what);
@@ -223,10 +225,17 @@ static uint64_t send_due_polls(Player *player, uint64_t end) {
     return soonest;
 }
 
+/* When the first carrier's first poll is due: 2 ms after the start, or as soon after that as the offset says. */
+static uint64_t first_due(uint64_t start) {
+    uint64_t soonest = start + 2000000, period = options.period * 1000ull, offset = options.offset * 1000ull;
+    if (options.offset < 0) return soonest;
+    return soonest + (period + offset % period - soonest % period) % period;
+}
+
 static void *play(void *argument) {
     Player *player = argument;
     int epoll = epoll_create1(0);
-    uint64_t start, end;
+    uint64_t start, end, due;
     for (int i = 0; i < player->count; i++) {
         struct epoll_event event = {.events = EPOLLIN, .data.ptr = &player->carrier[i]};
         come_up(&player->carrier[i]);
@@ -234,9 +243,10 @@ static void *play(void *argument) {
     }
     start = nanoseconds_now();
     end = start + options.seconds * SECOND;
+    due = first_due(start);
     for (int i = 0; i < player->count; i++) {
         Carrier *c = &player->carrier[i];
-        c->next = start + 2000000 + (uint64_t)options.period * 1000 * c->carrier / options.carriers;
+        c->next = due + (uint64_t)options.period * 1000 * c->carrier / options.carriers;
         if (options.fast) send_poll(c, start);
     }
     for (uint64_t now; (now = nanoseconds_now()) < end;) {
@@ -308,7 +318,7 @@ static void print_usage(const Usage *before, const Usage *after, double seconds,
 
 static int read_options(int argc, char **argv) {
     int option;
-    while ((option = getopt(argc, argv, "p:n:l:L:v:s:u:fST:P:a:r:c:")) != -1) switch (option) {
+    while ((option = getopt(argc, argv, "p:n:l:L:v:s:u:o:fST:P:a:r:c:")) != -1) switch (option) {
         case 'p': options.base_port = atoi(optarg); break;
         case 'n': options.carriers = atoi(optarg); break;
         case 'l': options.first_lpcn = atoi(optarg); break;
@@ -316,6 +326,7 @@ static int read_options(int argc, char **argv) {
         case 'v': options.version = atoi(optarg); break;
         case 's': options.seconds = atoi(optarg); break;
         case 'u': options.period = atol(optarg); break;
+        case 'o': options.offset = atol(optarg); break;
         case 'f': options.fast = true; break;
         case 'S': options.spins = true; break;
         case 'T': options.threads = atoi(optarg); break;

@@ -17,6 +17,8 @@ from temzaar.script import SessionFault  # noqa: E402
 from temzaar.sitefile import Site  # noqa: E402
 
 FIRST_PORT = 17800
+# How often a carrier polls, in microseconds.
+PERIOD = 60_000
 CARRIERS, FIRST_LPCN, LPCN_STEP, CONTROL = 16, 101, 2, 3
 # One poll in four of the control carrier has a registration before it.
 REGISTRATIONS = 4
@@ -41,9 +43,9 @@ def site_of(number: int, **keys: int) -> Site:
     return site
 
 
-def start_carriers(generator: str, site: Site, seconds: int) -> subprocess.Popen[str]:
-    """Starts the carriers of a site."""
-    words = {"-p": site.console_port + 1, "-n": CARRIERS, "-l": FIRST_LPCN, "-L": LPCN_STEP, "-s": seconds, "-c": CONTROL, "-r": REGISTRATIONS, "-v": site.link_version}
+def start_carriers(generator: str, site: Site, seconds: int, offset: int) -> subprocess.Popen[str]:
+    """Starts the carriers of a site. Their polls are due this many microseconds after those of a site with offset 0."""
+    words = {"-u": PERIOD, "-o": offset, "-p": site.console_port + 1, "-n": CARRIERS, "-l": FIRST_LPCN, "-L": LPCN_STEP, "-s": seconds, "-c": CONTROL, "-r": REGISTRATIONS, "-v": site.link_version}
     command = [generator, *(str(it) for pair in words.items() for it in pair)]
     return subprocess.Popen(command, stdin=subprocess.DEVNULL, stdout=subprocess.PIPE, stderr=subprocess.STDOUT, text=True)
 
@@ -58,9 +60,11 @@ def answers_of(carriers: subprocess.Popen[str], name: str) -> Answers:
 
 
 def play(generator: str, controllers: list[Controller], sites: list[Site], names: Sequence[str], seconds: int) -> tuple[list[Answers], list[float]]:
-    """Plays the carriers of all sites at once. Their answers, and the share of a processor that each controller took. SessionFault: one was not served."""
+    """Plays the carriers of all sites at once. Their polls are due at evenly spread times, so no site always polls just after another. Their answers,
+    and the share of a processor that each controller took. SessionFault: one was not served."""
     before, began = [it.seconds() for it in controllers], time.monotonic()
-    carriers = [start_carriers(generator, site, seconds) for site in sites]
+    step = PERIOD // CARRIERS // len(sites)
+    carriers = [start_carriers(generator, site, seconds, number * step) for number, site in enumerate(sites)]
     try:
         answers = [answers_of(it, name) for it, name in zip(carriers, names, strict=True)]
     finally:

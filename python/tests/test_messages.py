@@ -87,7 +87,9 @@ def messages() -> list[str]:
     others = [stations, *(unopened.replace("{0}", it) for it in errors["OpenFault"] if it != "out of memory")]
     words = [*literals(source("dmr_command/src/words.rt"), r"report_refused_words\(err, "), *literals(source("dmr_trunk/src/main.rt"), r"report_refused_words\(\s*err,\s*")]
     texts = [*replay, *(it for it in own if it != "{other}"), *others]
-    environment = [it for it in literals(source("dmr_trunk/src/serving.rt"), r"writeln!\(\s*err,\s*") if "{" not in it]
+    variables = [*literals(source("dmr_trunk/src/store.rt"), "const STATE_DIRECTORY: &str = "), *literals(source("dmr_trunk/src/script.rt"), "const RECORD: &str = ")]
+    formats = [it for it in literals(source("dmr_trunk/src/serving.rt"), r"writeln!\(\s*err,\s*") if "{variable}" in it]
+    environment = [it.replace("{variable}", name) for it in formats for name in variables]
     return [*dict.fromkeys(PROGRAM + it for it in texts), *words, *environment]
 
 

@@ -32,6 +32,42 @@ pub trait Observer<S, T, C> {
         ensures { Sees (seen self.old) (term.now.report.journal ∷ []) (seen self.new) };
 }
 
+impl<P, G, T, C> Term<Station<P, G>, T, ConsoleStation<C>>
+where
+    P: Port + Drop,
+    G: Gate + Drop,
+    T: Pacer + Drop,
+    C: Port + Drop,
+{
+    /// Returns the state that the term left, with its lists for the next term.
+    pub fn into_service(self) -> Service<P, G, T, C>
+        ensures site { result.site ≡ self.report.site }
+        ensures stations { result.stations ≡ self.stations }
+        ensures pacer { result.pacer ≡ self.pacer }
+        ensures console { result.console ≡ self.console }
+    {
+        let Term {
+            report,
+            stations,
+            pacer,
+            console,
+            ..
+        } = self;
+        let Report {
+            site,
+            journal,
+            views,
+        } = report;
+        Service {
+            site,
+            stations,
+            pacer,
+            console,
+            spare: SpareLists::of_term(journal, views),
+        }
+    }
+}
+
 /// Has the observer see a term. Returns the state that the term left, with its lists for the next term.
 fn leave_term<P, G, T, C, O>(
     term: Term<Station<P, G>, T, ConsoleStation<C>>,
@@ -50,25 +86,7 @@ where
     ensures seen { Sees (O.seen observer.old) (term.report.journal ∷ []) (O.seen observer.new) }
 {
     observer.ended(&term);
-    let Term {
-        report,
-        stations,
-        pacer,
-        console,
-        ..
-    } = term;
-    let Report {
-        site,
-        journal,
-        views,
-    } = report;
-    Service {
-        site,
-        stations,
-        pacer,
-        console,
-        spare: SpareLists::of_term(journal, views),
-    }
+    term.into_service()
 }
 
 /// Runs one term, as [`try_term`] does, and has the observer see it. Returns the state that the term left. On an error

@@ -1,3 +1,4 @@
 pub mod RunLemmas
 pub mod ScriptLemmas
 pub mod ServingLemmas
+pub mod StoredLemmas

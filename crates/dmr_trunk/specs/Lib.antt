@@ -2,5 +2,6 @@ pub mod Beat
 pub mod Replay
 pub mod Serving
 pub mod Tally
-pub mod Recording
 pub mod Scripts
+pub mod Stored
+pub mod Served

@@ -1,26 +1,19 @@
 //! Keeping the records of terms: a store receives them in a thread of its own, while terms go on.
 
-ghost use Rattle.std.specs.Prelude.{◌≡◌, [], ◌∷◌, ◌++◌, None, IfSome};
+ghost use Rattle.std.specs.Prelude.{◌≡◌, ◌++◌, [], true, Option, List, None, IfErr, IfOk, IfSome, IsOk};
+ghost use Rattle.dmr_keeper.specs.declared.time.TimedRecords.{TimedRecords as TermRecords};
 ghost use Rattle.dmr_keeper.specs.Handing.{AreHandedOver, IsRefused, newest};
+ghost use Rattle.dmr_keeper.specs.Kept.{Kept};
+ghost use Rattle.dmr_trunk.specs.Stored.{ArePassedOn, GoOn, IsAtEnd, held, is_idle, waiting_with};
 
+use crate::holding::{HandOver, Keeping, Writer};
 use crate::notes::Notes;
 use dmr_keeper::{KeepFault, Keeper, Outbox, TimedRecords};
 use log::Log;
 use std::snapshot::Snapshot;
 use std::sync::Wait;
 use std::sync::atomic::{AtomicBool, Ordering};
-use std::thread::{Promise, PromisedHandle, Scope, Threads};
-
-/// A store, and the records that it is to keep next.
-#[derive(Drop)]
-pub struct Keeping<K> {
-    /// The store.
-    pub keeper: K,
-    /// The records, oldest term first.
-    pub outbox: Outbox,
-    /// Why the store refused records the last time. `None` if it refused none.
-    pub fault: Option<KeepFault>,
-}
+use std::thread::{Scope, Threads};
 
 impl<K: Keeper + Drop> Keeping<K> {
     /// Hands the store what waits, oldest term first, until it refuses some. If there is no fault then, nothing waits.
@@ -45,33 +38,11 @@ impl<K: Keeper + Drop> Keeping<K> {
     }
 }
 
-/// The promise that a thread hands the store what waits.
-#[derive(Drop)]
-pub struct HandOver<K>(pub Snapshot<Keeping<K>>);
-
-impl<K: Keeper> Promise<Keeping<K>> for HandOver<K> {
-    ghost use Rattle.std.specs.Prelude.{◌≡◌, [], None, IfSome};
-    ghost use Rattle.dmr_keeper.specs.Handing.{AreHandedOver, IsRefused};
-
-    ghost kept_by = { λ p r. AreHandedOver (K.kept p.0.value.keeper) p.0.value.outbox r.outbox
-        (K.kept r.keeper) × (r.fault ≡ None → r.outbox ≡ [])
-        × IfSome r.fault (IsRefused K.kept K.refuses p.0.value.keeper p.0.value.outbox r.outbox) };
-}
-
-/// The store: it is here, or a thread writes to it.
-#[derive(Drop)]
-pub enum Writer<K: Keeper> {
-    /// The store is here.
-    Idle(Keeping<K>),
-    /// A thread has it, and returns it.
-    Busy(PromisedHandle<Keeping<K>, HandOver<K>>),
-}
-
 /// The records of the terms that have ended since the store was last handed some.
 #[derive(Drop)]
 pub struct Waiting {
     /// The records, oldest term first.
-    outbox: Outbox,
+    pub outbox: Outbox,
     /// Why the store last refused records, as far as it was noted.
     noted: Option<KeepFault>,
     /// Of how many terms the records were lost since the store last took some.
@@ -100,13 +71,15 @@ impl Waiting {
         self.lost = self.lost.saturating_add(lost);
     }
 
-    /// Adds the records of a term. If there is no room for them, the oldest are lost.
-    pub fn add<R: Log>(&mut self, term: TimedRecords, notes: &mut Notes<'_, R>)
-        ensures { self.new.outbox ≡ newest (self.old.outbox ++ term ∷ []) }
+    /// Adds the records of a term, if there are any. If there is no room for them, the oldest are lost.
+    pub fn add<R: Log>(&mut self, made: Option<TimedRecords>, notes: &mut Notes<'_, R>)
+        ensures { self.new.outbox ≡ waiting_with self.old.outbox made }
     {
-        if let Some(oldest) = self.outbox.add(term) {
-            drop(oldest);
-            self.count_lost(1, notes);
+        if let Some(term) = made {
+            if let Some(oldest) = self.outbox.add(term) {
+                drop(oldest);
+                self.count_lost(1, notes);
+            }
         }
     }
 
@@ -147,6 +120,10 @@ fn start_writing<'s, E, K>(
 ) -> Writer<K>
 where
     K: Keeper + Send + Drop + 's,
+    ensures goes_on { GoOn keeping.outbox (K.kept keeping.keeper) (held result).outbox
+        (K.kept (held result).keeper) }
+    ensures starts { is_idle result ≡ true → (held result).fault ≡ None
+        → (held result).outbox ≡ [] }
 {
     if keeping.outbox.is_empty() {
         return Writer::Idle(keeping);
@@ -171,6 +148,41 @@ where
     }
 }
 
+/// Takes the store back, unless a thread still writes to it: then the writer is as it was.
+fn take_back<K, R>(rt: &R, written: &AtomicBool, writer: Writer<K>) -> Result<Keeping<K>, Writer<K>>
+where
+    K: Keeper + Send + Drop,
+    R: Threads,
+    ensures back { IfOk result (λ keeping. AreHandedOver (K.kept (held writer).keeper)
+        (held writer).outbox keeping.outbox (K.kept keeping.keeper)) }
+    ensures busy { IfErr result (λ busy. busy ≡ writer) }
+    ensures idle { is_idle writer ≡ true → IsOk result }
+{
+    match writer {
+        Writer::Idle(keeping) => Ok(keeping),
+        Writer::Busy(child) => {
+            if !written.load(Ordering::SeqCst) {
+                return Err(Writer::Busy(child));
+            }
+            Ok(child.join(rt))
+        }
+    }
+}
+
+/// Waits until no thread writes to the store, and takes it back.
+fn wait_for<K, R>(rt: &R, writer: Writer<K>) -> Keeping<K>
+where
+    K: Keeper + Send + Drop,
+    R: Threads,
+    ensures { AreHandedOver (K.kept (held writer).keeper) (held writer).outbox result.outbox
+        (K.kept result.keeper) }
+{
+    match writer {
+        Writer::Idle(keeping) => keeping,
+        Writer::Busy(child) => child.join(rt),
+    }
+}
+
 /// Goes on at the end of a term, with the records that wait. If the thread that writes has ended, or there is none, a
 /// thread is started for what waits now. Nobody waits for a thread here.
 pub fn go_on<'s, E, K, R>(
@@ -184,19 +196,21 @@ pub fn go_on<'s, E, K, R>(
 where
     K: Keeper + Send + Drop + 's,
     R: Log + Threads,
+    ensures goes_on { GoOn ((held writer).outbox ++ waiting.old.outbox)
+        (K.kept (held writer).keeper) ((held result).outbox ++ waiting.new.outbox)
+        (K.kept (held result).keeper) }
+    ensures moved { is_idle writer ≡ true → waiting.new.outbox ≡ [] }
+    ensures starts { is_idle result ≡ true → (held result).fault ≡ None
+        → (held result).outbox ≡ [] }
 {
-    let mut keeping = match writer {
-        Writer::Idle(keeping) => keeping,
-        Writer::Busy(child) => {
-            if !written.load(Ordering::SeqCst) {
-                return Writer::Busy(child);
-            }
-            child.join(rt)
+    match take_back(rt, written, writer) {
+        Err(busy) => busy,
+        Ok(mut keeping) => {
+            waiting.note(keeping.fault, notes);
+            waiting.move_to(&mut keeping.outbox, notes);
+            start_writing(scope, written, keeping)
         }
-    };
-    waiting.note(keeping.fault, notes);
-    waiting.move_to(&mut keeping.outbox, notes);
-    start_writing(scope, written, keeping)
+    }
 }
 
 /// Hands the store all that waits at the end, after the thread that writes has ended. It waits for both.
@@ -209,11 +223,14 @@ pub fn hand_over_rest<K, R>(
 where
     K: Keeper + Send + Drop,
     R: Log + Threads,
+    ensures goes_on { GoOn ((held writer).outbox ++ waiting.outbox) (K.kept (held writer).keeper)
+        result.outbox (K.kept result.keeper) }
+    ensures end { (before : Option Kept) (all : List TermRecords)
+        → ArePassedOn before all ((held writer).outbox ++ waiting.outbox)
+        (K.kept (held writer).keeper)
+        → IsAtEnd K.kept K.refuses before all result.outbox result.fault }
 {
-    let mut keeping = match writer {
-        Writer::Idle(keeping) => keeping,
-        Writer::Busy(child) => child.join(rt),
-    };
+    let mut keeping = wait_for(rt, writer);
     waiting.move_to(&mut keeping.outbox, notes);
     let keeping = keeping.hand_over();
     waiting.note(keeping.fault, notes);

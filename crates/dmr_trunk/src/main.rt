@@ -21,6 +21,7 @@ mod beat;
 mod clock;
 mod ends;
 mod files;
+mod holding;
 mod keeping;
 mod mio_sockets;
 mod notes;

@@ -1,21 +1,22 @@
 //! A row of terms, as serving runs it: as many as were asked for, or without end. If there is no memory for a term, it
 //! is tried again. Meanwhile the records of earlier terms are handed to a store.
 
-ghost use Rattle.std.specs.Prelude.{◌≡◌, ◌↔◌, IfErr, IfOk, IsSome, IsTrue, None, OnErr, Some, map};
+ghost use Rattle.std.specs.Prelude.{◌≡◌, ◌↔◌, IfErr, IfOk, IsSome, IsTrue, OnOk, Some, option_map};
 ghost use Rattle.dmr_desk.specs.declared.fault.OpenFault.TheVariants.{OutOfMemory};
 ghost use Rattle.dmr_desk.specs.declared.fault.TermFault.TheVariants.{Open};
 ghost use Rattle.dmr_desk.specs.Refusing.{IsTermFault};
-ghost use Rattle.dmr_desk.specs.Term.{start_of_term};
-ghost use Rattle.dmr_desk.specs.Terms.{HaveRun, HaveStopped};
-ghost use Rattle.dmr_desk.specs.Work.{station_state};
-ghost use Rattle.dmr_trunk.specs.Serving.{terms_asked};
+ghost use Rattle.dmr_desk.specs.Term.{IsTerm};
+ghost use Rattle.dmr_desk.specs.Terms.{Fits};
+ghost use Rattle.dmr_trunk.specs.Served.{HaveServed, HaveStoppedServing};
+ghost use Rattle.dmr_trunk.specs.Serving.{end_at, start_at, terms_asked};
 
-use crate::keeping::{Keeping, Waiting, Writer, go_on, hand_over_rest};
+use crate::holding::{Keeping, Writer};
+use crate::keeping::{Waiting, go_on, hand_over_rest};
 use crate::notes::Notes;
-use crate::recorded::Recorded;
+use crate::recorded::{RecordMaker, records_of_term};
 use dmr_desk::{
-    ConsoleStation, Observer, OpenFault, Pacer, Refused, Service, Station, TermFault, terms_go_on,
-    try_next,
+    ConsoleStation, Observer, OpenFault, Pacer, Refused, Service, Station, Term, TermFault,
+    try_term,
 };
 use dmr_keeper::Keeper;
 use dmr_link::Gate;
@@ -83,69 +84,42 @@ fn service_to_retry<P: Drop, G: Drop, T: Drop, C: Drop>(
     }
 }
 
-/// What became of a term or of a row of terms: the service that it left, or why there is none, and the observer of its
-/// terms.
-#[derive(Drop)]
-pub struct Ran<S, E, O> {
-    /// The service, or the fault.
-    pub result: Result<S, E>,
-    /// The observer.
-    pub observer: O,
-}
-
 /// Runs the next term, after `done` terms. If there is no memory for it, notes so and tries it again each second, until
 /// there is; ports are not served meanwhile. Only the first term is not tried again.
-fn run_next<'a, P, G, T, C, O, R>(
+fn run_next<P, G, T, C, R>(
     rt: &R,
     alloc: Global,
     limit: usize,
     mut service: Service<P, G, T, C>,
-    mut observer: O,
-    notes: &mut Notes<'a, R>,
+    notes: &mut Notes<'_, R>,
     done: u64,
-) -> Ran<Service<P, G, T, C>, TermFault, O>
+) -> Result<Term<Station<P, G>, T, ConsoleStation<C>>, TermFault>
 where
     P: Port + Send + Drop,
     G: Gate + Send + Drop,
     T: Pacer + Send + Drop,
     C: Port + Send + Drop,
-    O: Observer<Station<P, G>, T, ConsoleStation<C>> + Drop,
     R: Log + Clock + Wait + Threads + Sync,
-    ensures run { IfOk result.result (λ next. HaveRun (start_of_term service.site limit
-        (map (λ s. station_state s.link (P.reported s.port) (G.passed s.gate))
-        service.stations.items) (T.paced service.pacer)
-        (station_state service.console.link (C.reported service.console.port) None))
-        1 (start_of_term next.site limit
-        (map (λ s. station_state s.link (P.reported s.port) (G.passed s.gate)) next.stations.items)
-        (T.paced next.pacer) (station_state next.console.link (C.reported next.console.port) None))
-        (O.seen observer) (O.seen result.observer)) }
-    ensures fault { IfErr result.result (IsTermFault (start_of_term service.site limit
-        (map (λ s. station_state s.link (P.reported s.port) (G.passed s.gate))
-        service.stations.items) (T.paced service.pacer)
-        (station_state service.console.link (C.reported service.console.port) None))) }
-    ensures unseen { OnErr result.result (O.seen result.observer ≡ O.seen observer) }
-    ensures memory { IfErr result.result (λ fault. fault ≡ Open OutOfMemory → done ≡ 0) }
+    ensures term { IfOk result (λ term. IsTerm
+        (start_at P.reported G.passed T.paced C.reported limit service)
+        (end_at P.reported G.passed T.paced C.reported term)) }
+    ensures fits { OnOk result (Fits (start_at P.reported G.passed T.paced C.reported limit service)) }
+    ensures fault { IfErr result
+        (IsTermFault (start_at P.reported G.passed T.paced C.reported limit service)) }
+    ensures memory { IfErr result (λ fault. fault ≡ Open OutOfMemory → done ≡ 0) }
 {
     let mut tries = 0u64;
     for _ in rt.forever() {
-        service = match try_next(rt, alloc, limit, service, &mut observer) {
-            Ok(next) => {
+        service = match try_term(rt, alloc, limit, service) {
+            Ok(term) => {
                 if tries > 0 {
                     notes.note_memory(tries);
                 }
-                return Ran {
-                    result: Ok(next),
-                    observer,
-                };
+                return Ok(term);
             }
             Err(refused) => match service_to_retry(refused, done) {
                 Ok(left) => left,
-                Err(fault) => {
-                    return Ran {
-                        result: Err(fault),
-                        observer,
-                    };
-                }
+                Err(fault) => return Err(fault),
             },
         };
         if tries == 0 {
@@ -157,6 +131,28 @@ where
     unreachable!()
 }
 
+/// What becomes of the records of terms.
+#[derive(Drop)]
+pub struct Books<'a, K, R> {
+    /// What makes them. `None` if the store keeps none.
+    pub maker: Option<RecordMaker<'a, R>>,
+    /// Those that wait.
+    pub waiting: Waiting,
+    /// The store.
+    pub keeping: Keeping<K>,
+}
+
+/// What became of a row of terms.
+#[derive(Drop)]
+pub struct Ran<S, O, K> {
+    /// The service that the last term left, or why there is none.
+    pub result: Result<S, Stopped>,
+    /// The observer of the terms.
+    pub observer: O,
+    /// The store, with the records that it refused.
+    pub keeping: Keeping<K>,
+}
+
 /// Does what [`serve_service`] does, with threads of a scope for the store. `written` is set while none runs.
 fn serve_in<'a, 's, E, P, G, T, C, O, K, R>(
     rt: &'s R,
@@ -164,12 +160,11 @@ fn serve_in<'a, 's, E, P, G, T, C, O, K, R>(
     written: &'s AtomicBool,
     alloc: &Global,
     mut service: Service<P, G, T, C>,
-    mut observer: Recorded<'a, O, R>,
-    keeping: Keeping<K>,
-    mut waiting: Waiting,
+    mut observer: O,
+    books: Books<'a, K, R>,
     notes: &mut Notes<'a, R>,
     terms: u32,
-) -> Ran<Service<P, G, T, C>, Stopped, Recorded<'a, O, R>>
+) -> Ran<Service<P, G, T, C>, O, K>
 where
     P: Port + Send + Drop,
     G: Gate + Send + Drop,
@@ -178,53 +173,51 @@ where
     O: Observer<Station<P, G>, T, ConsoleStation<C>> + Drop,
     K: Keeper + Send + Drop + 's,
     R: Log + Clock + Wait + Threads + Sync,
-    ensures run { IfOk result.result (λ next. HaveRun (start_of_term service.site
-        service.site.plan.term_entries
-        (map (λ s. station_state s.link (P.reported s.port) (G.passed s.gate))
-        service.stations.items) (T.paced service.pacer)
-        (station_state service.console.link (C.reported service.console.port) None))
-        (terms_asked terms) (start_of_term next.site service.site.plan.term_entries
-        (map (λ s. station_state s.link (P.reported s.port) (G.passed s.gate)) next.stations.items)
-        (T.paced next.pacer) (station_state next.console.link (C.reported next.console.port) None))
-        (O.seen observer.entry.observer) (O.seen result.observer.observer)) }
-    ensures fault { IfErr result.result (λ stopped. HaveStopped (start_of_term service.site
-        service.site.plan.term_entries
-        (map (λ s. station_state s.link (P.reported s.port) (G.passed s.gate))
-        service.stations.items) (T.paced service.pacer)
-        (station_state service.console.link (C.reported service.console.port) None))
+    ensures run { IfOk result.result (λ next. HaveServed K.kept K.refuses
+        (start_at P.reported G.passed T.paced C.reported service.site.plan.term_entries service)
+        (terms_asked terms)
+        (start_at P.reported G.passed T.paced C.reported service.site.plan.term_entries next)
+        (O.seen observer) (O.seen result.observer)
+        (option_map (λ m. m.recorder.carried) books.entry.maker)
+        books.entry.keeping books.entry.waiting.outbox result.keeping) }
+    ensures fault { IfErr result.result (λ stopped. HaveStoppedServing K.kept K.refuses
+        (start_at P.reported G.passed T.paced C.reported service.site.plan.term_entries service)
         (terms_asked terms) (record { done = stopped.done; fault = stopped.fault })
-        (O.seen observer.entry.observer) (O.seen result.observer.observer)) }
+        (O.seen observer) (O.seen result.observer)
+        (option_map (λ m. m.recorder.carried) books.entry.maker)
+        books.entry.keeping books.entry.waiting.outbox result.keeping) }
     ensures memory { IfErr result.result (λ stopped. stopped.fault ≡ Open OutOfMemory
         → stopped.done ≡ 0) }
 {
-    let limit = service.site.plan().term_entries() as usize;
+    let plan = *service.site.plan();
+    let limit = plan.term_entries() as usize;
+    let Books {
+        mut maker,
+        mut waiting,
+        keeping,
+    } = books;
     let mut writer = Writer::Idle(keeping);
     for done in 0..terms_asked(terms) {
-        terms_go_on();
-        let Ran {
-            result,
-            observer: back,
-        } = run_next(rt, *alloc, limit, service, observer, notes, done);
-        observer = back;
-        service = match result {
-            Ok(next) => next,
+        let term = match run_next(rt, *alloc, limit, service, notes, done) {
+            Ok(term) => term,
             Err(fault) => {
-                drop(hand_over_rest(rt, writer, waiting, notes));
                 return Ran {
                     result: Err(Stopped { done, fault }),
                     observer,
+                    keeping: hand_over_rest(rt, writer, waiting, notes),
                 };
             }
         };
-        if let Some(term) = observer.take_records() {
-            waiting.add(term, notes);
-        }
+        observer.ended(&term);
+        let made = records_of_term(&mut maker, &plan, term.report.journal.as_slice());
+        service = term.into_service();
+        waiting.add(made, notes);
         writer = go_on(rt, scope, written, writer, &mut waiting, notes);
     }
-    drop(hand_over_rest(rt, writer, waiting, notes));
     Ran {
         result: Ok(service),
         observer,
+        keeping: hand_over_rest(rt, writer, waiting, notes),
     }
 }
 
@@ -234,12 +227,11 @@ fn serve_beside<'a, P, G, T, C, O, K, R>(
     written: &AtomicBool,
     alloc: Global,
     service: Service<P, G, T, C>,
-    observer: Recorded<'a, O, R>,
-    keeping: Keeping<K>,
-    waiting: Waiting,
+    observer: O,
+    books: Books<'a, K, R>,
     notes: &mut Notes<'a, R>,
     terms: u32,
-) -> Ran<Service<P, G, T, C>, Stopped, Recorded<'a, O, R>>
+) -> Ran<Service<P, G, T, C>, O, K>
 where
     P: Port + Send + Drop,
     G: Gate + Send + Drop,
@@ -248,22 +240,19 @@ where
     O: Observer<Station<P, G>, T, ConsoleStation<C>> + Drop,
     K: Keeper + Send + Drop,
     R: Log + Clock + Wait + Threads + Sync,
-    ensures run { IfOk result.result (λ next. HaveRun (start_of_term service.site
-        service.site.plan.term_entries
-        (map (λ s. station_state s.link (P.reported s.port) (G.passed s.gate))
-        service.stations.items) (T.paced service.pacer)
-        (station_state service.console.link (C.reported service.console.port) None))
-        (terms_asked terms) (start_of_term next.site service.site.plan.term_entries
-        (map (λ s. station_state s.link (P.reported s.port) (G.passed s.gate)) next.stations.items)
-        (T.paced next.pacer) (station_state next.console.link (C.reported next.console.port) None))
-        (O.seen observer.entry.observer) (O.seen result.observer.observer)) }
-    ensures fault { IfErr result.result (λ stopped. HaveStopped (start_of_term service.site
-        service.site.plan.term_entries
-        (map (λ s. station_state s.link (P.reported s.port) (G.passed s.gate))
-        service.stations.items) (T.paced service.pacer)
-        (station_state service.console.link (C.reported service.console.port) None))
+    ensures run { IfOk result.result (λ next. HaveServed K.kept K.refuses
+        (start_at P.reported G.passed T.paced C.reported service.site.plan.term_entries service)
+        (terms_asked terms)
+        (start_at P.reported G.passed T.paced C.reported service.site.plan.term_entries next)
+        (O.seen observer) (O.seen result.observer)
+        (option_map (λ m. m.recorder.carried) books.entry.maker)
+        books.entry.keeping books.entry.waiting.outbox result.keeping) }
+    ensures fault { IfErr result.result (λ stopped. HaveStoppedServing K.kept K.refuses
+        (start_at P.reported G.passed T.paced C.reported service.site.plan.term_entries service)
         (terms_asked terms) (record { done = stopped.done; fault = stopped.fault })
-        (O.seen observer.entry.observer) (O.seen result.observer.observer)) }
+        (O.seen observer) (O.seen result.observer)
+        (option_map (λ m. m.recorder.carried) books.entry.maker)
+        books.entry.keeping books.entry.waiting.outbox result.keeping) }
     ensures memory { IfErr result.result (λ stopped. stopped.fault ≡ Open OutOfMemory
         → stopped.done ≡ 0) }
 {
@@ -271,27 +260,24 @@ where
         thread::scope_env(),
         rt,
         move |scope|
-            ensures run { IfOk result.result (λ next. HaveRun (start_of_term service.site
-                service.site.plan.term_entries
-                (map (λ s. station_state s.link (P.reported s.port) (G.passed s.gate))
-                service.stations.items) (T.paced service.pacer)
-                (station_state service.console.link (C.reported service.console.port) None))
-                (terms_asked terms) (start_of_term next.site service.site.plan.term_entries
-                (map (λ s. station_state s.link (P.reported s.port) (G.passed s.gate)) next.stations.items)
-                (T.paced next.pacer) (station_state next.console.link (C.reported next.console.port) None))
-                (O.seen observer.entry.observer) (O.seen result.observer.observer)) }
-            ensures fault { IfErr result.result (λ stopped. HaveStopped (start_of_term service.site
-                service.site.plan.term_entries
-                (map (λ s. station_state s.link (P.reported s.port) (G.passed s.gate))
-                service.stations.items) (T.paced service.pacer)
-                (station_state service.console.link (C.reported service.console.port) None))
+            ensures run { IfOk result.result (λ next. HaveServed K.kept K.refuses
+                (start_at P.reported G.passed T.paced C.reported service.site.plan.term_entries service)
+                (terms_asked terms)
+                (start_at P.reported G.passed T.paced C.reported service.site.plan.term_entries next)
+                (O.seen observer) (O.seen result.observer)
+                (option_map (λ m. m.recorder.carried) books.entry.maker)
+                books.entry.keeping books.entry.waiting.outbox result.keeping) }
+            ensures fault { IfErr result.result (λ stopped. HaveStoppedServing K.kept K.refuses
+                (start_at P.reported G.passed T.paced C.reported service.site.plan.term_entries service)
                 (terms_asked terms) (record { done = stopped.done; fault = stopped.fault })
-                (O.seen observer.entry.observer) (O.seen result.observer.observer)) }
+                (O.seen observer) (O.seen result.observer)
+                (option_map (λ m. m.recorder.carried) books.entry.maker)
+                books.entry.keeping books.entry.waiting.outbox result.keeping) }
             ensures memory { IfErr result.result (λ stopped. stopped.fault ≡ Open OutOfMemory
                 → stopped.done ≡ 0) }
         {
             serve_in(
-                rt, scope, written, &alloc, service, observer, keeping, waiting, notes, terms,
+                rt, scope, written, &alloc, service, observer, books, notes, terms,
             )
         },
     )
@@ -300,21 +286,20 @@ where
 /// Runs `terms` terms in a row from a service; 0 means forever. Each term has at most the plan's number of entries. The
 /// call stops at the first term that fails, and the error has the number of the terms before it. If there is no memory
 /// for a term after the first, it is tried again each second. The function is generic in all that reports a record, so
-/// the clauses speak of what the ports, the gates, the pacer and the observer report.
+/// the clauses speak of what the ports, the gates, the pacer, the observer and the store report.
 ///
-/// The records of a term, if the observer makes them, wait in `waiting` from its end on. A thread hands them to the
-/// store while later terms run, so a slow store delays no term. What the store refuses it is handed again after the
-/// next term. Before the call returns, it is handed what still waits.
+/// The observer sees each term. Then its records are made from its journal, if there is a maker, and wait. A thread hands
+/// them to the store while later terms run, so a slow store delays no term. What the store refuses it is handed again
+/// after the next term. Before the call returns, it is handed what still waits.
 pub fn serve_service<'a, P, G, T, C, O, K, R>(
     rt: &R,
     alloc: Global,
     service: Service<P, G, T, C>,
-    observer: Recorded<'a, O, R>,
-    keeping: Keeping<K>,
-    waiting: Waiting,
+    observer: O,
+    books: Books<'a, K, R>,
     notes: &mut Notes<'a, R>,
     terms: u32,
-) -> Ran<Service<P, G, T, C>, Stopped, Recorded<'a, O, R>>
+) -> Ran<Service<P, G, T, C>, O, K>
 where
     P: Port + Send + Drop,
     G: Gate + Send + Drop,
@@ -323,27 +308,22 @@ where
     O: Observer<Station<P, G>, T, ConsoleStation<C>> + Drop,
     K: Keeper + Send + Drop,
     R: Log + Clock + Wait + Threads + Sync,
-    ensures run { IfOk result.result (λ next. HaveRun (start_of_term service.site
-        service.site.plan.term_entries
-        (map (λ s. station_state s.link (P.reported s.port) (G.passed s.gate))
-        service.stations.items) (T.paced service.pacer)
-        (station_state service.console.link (C.reported service.console.port) None))
-        (terms_asked terms) (start_of_term next.site service.site.plan.term_entries
-        (map (λ s. station_state s.link (P.reported s.port) (G.passed s.gate)) next.stations.items)
-        (T.paced next.pacer) (station_state next.console.link (C.reported next.console.port) None))
-        (O.seen observer.entry.observer) (O.seen result.observer.observer)) }
-    ensures fault { IfErr result.result (λ stopped. HaveStopped (start_of_term service.site
-        service.site.plan.term_entries
-        (map (λ s. station_state s.link (P.reported s.port) (G.passed s.gate))
-        service.stations.items) (T.paced service.pacer)
-        (station_state service.console.link (C.reported service.console.port) None))
+    ensures run { IfOk result.result (λ next. HaveServed K.kept K.refuses
+        (start_at P.reported G.passed T.paced C.reported service.site.plan.term_entries service)
+        (terms_asked terms)
+        (start_at P.reported G.passed T.paced C.reported service.site.plan.term_entries next)
+        (O.seen observer) (O.seen result.observer)
+        (option_map (λ m. m.recorder.carried) books.entry.maker)
+        books.entry.keeping books.entry.waiting.outbox result.keeping) }
+    ensures fault { IfErr result.result (λ stopped. HaveStoppedServing K.kept K.refuses
+        (start_at P.reported G.passed T.paced C.reported service.site.plan.term_entries service)
         (terms_asked terms) (record { done = stopped.done; fault = stopped.fault })
-        (O.seen observer.entry.observer) (O.seen result.observer.observer)) }
+        (O.seen observer) (O.seen result.observer)
+        (option_map (λ m. m.recorder.carried) books.entry.maker)
+        books.entry.keeping books.entry.waiting.outbox result.keeping) }
     ensures memory { IfErr result.result (λ stopped. stopped.fault ≡ Open OutOfMemory
         → stopped.done ≡ 0) }
 {
     let written = AtomicBool::new(true);
-    serve_beside(
-        rt, &written, alloc, service, observer, keeping, waiting, notes, terms,
-    )
+    serve_beside(rt, &written, alloc, service, observer, books, notes, terms)
 }

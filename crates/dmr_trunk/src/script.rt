@@ -14,7 +14,7 @@ use std::{env, io};
 use thiserror::Error;
 
 /// The variable that names the file of a recording.
-const RECORD: &str = "DMR_TRUNK_RECORD";
+pub const RECORD: &str = "DMR_TRUNK_RECORD";
 
 /// The most octets of a recording: 1 GiB.
 pub const MOST_OCTETS: u64 = 1 << 30;

@@ -1,17 +1,19 @@
 //! Serving: a site over TCP, term by term.
 
-ghost use Rattle.std.specs.Prelude.{◌≡◌, ◌*◌, IfOk, None, vec_len};
+ghost use Rattle.std.specs.Prelude.{◌≡◌, ◌*◌, [], IfOk, IfSome, None, vec_len};
 ghost use Rattle.dmr_core.specs.Restored.{facts_with, restored};
+ghost use Rattle.dmr_keeper.specs.Carried.{starting_with};
 ghost use Rattle.dmr_link.specs.Identities.{greatest_of};
 
 use crate::ends::Connections;
-use crate::keeping::{Keeping, Waiting};
+use crate::holding::Keeping;
+use crate::keeping::Waiting;
 use crate::mio_sockets::{ListenFault, MioSockets};
 use crate::notes::Notes;
 use crate::pacer::ClockPacer;
 use crate::port_watch::PortWatch;
-use crate::recorded::{RecordMaker, Recorded};
-use crate::row::{Ran, serve_service};
+use crate::recorded::RecordMaker;
+use crate::row::{Books, Ran, serve_service};
 use crate::script::{RecordingFile, Script};
 use crate::scripted::{Recording, Scripted};
 use crate::tally::tally_of;
@@ -313,12 +315,15 @@ fn make_records<'a, R: Net + Log + Clock + Wait>(
     rt: &'a R,
     alloc: Global,
     site: &Site,
-) -> Result<RecordMaker<'a, R>, ServeFault> {
+) -> Result<RecordMaker<'a, R>, ServeFault>
+    ensures { IfOk result
+        (λ maker. maker.recorder.carried ≡ starting_with site.now.facts.registered) }
+{
     match Carried::with_registered(alloc, site.registered()) {
         Ok(carried) => {
             let recorder = Recorder::new(carried);
             let notes = open_notes(rt, alloc)?;
-            Ok(RecordMaker::new(rt, alloc, *site.plan(), recorder, notes))
+            Ok(RecordMaker::new(rt, alloc, recorder, notes))
         }
         Err(OutOfMemory) => Err(ServeFault::OutOfMemory),
     }
@@ -344,42 +349,62 @@ fn begin_recording<'a, W: Script + Drop, R: Net + Log>(
 /// The log of a site's terms, and what records them.
 type LogAndScript<'a, W, R> = Scripted<'a, TermLog<'a, R>, W, R>;
 
-/// The observer of a site's terms: the log, what records them if there is a script, and what makes records if the store
-/// asks for them.
+/// The observer of a site's terms: the log, and what records them if there is a script.
 fn observe<'a, W, R>(
     rt: &'a R,
     alloc: Global,
     service: &SiteService<'a, R>,
-    with_records: bool,
     script: Option<W>,
-) -> Result<Recorded<'a, LogAndScript<'a, W, R>, R>, ServeFault>
+) -> Result<LogAndScript<'a, W, R>, ServeFault>
 where
     W: Script + Drop,
     R: Net + Log + Clock + Wait,
 {
     let mut log = TermLog::new(rt, open_notes(rt, alloc)?);
     note_listening(service, &mut log);
-    let maker = if with_records {
-        Some(make_records(rt, alloc, &service.site)?)
-    } else {
-        None
-    };
     let recording = begin_recording(rt, alloc, &service.site, script)?;
-    Ok(Recorded {
-        observer: Scripted {
-            observer: log,
-            recording,
-        },
-        maker,
+    Ok(Scripted {
+        observer: log,
+        recording,
     })
 }
 
 /// Allocates room for the records of terms that wait for a store.
-fn open_outbox(alloc: Global) -> Result<Outbox, ServeFault> {
+fn open_outbox(alloc: Global) -> Result<Outbox, ServeFault>
+    ensures { IfOk result (λ outbox. outbox ≡ []) }
+{
     match Outbox::new(alloc) {
         Ok(outbox) => Ok(outbox),
         Err(OutOfMemory) => Err(ServeFault::OutOfMemory),
     }
+}
+
+/// What becomes of the records of a site's terms: they are made if the store keeps any, and none wait yet.
+fn open_books<'a, K: Keeper + Drop, R: Net + Log + Clock + Wait>(
+    rt: &'a R,
+    alloc: Global,
+    site: &Site,
+    keeper: K,
+) -> Result<Books<'a, K, R>, ServeFault>
+    ensures waiting { IfOk result (λ books. (books.keeping.outbox ≡ []) × (books.waiting.outbox ≡ [])) }
+    ensures keeper { IfOk result (λ books. books.keeping.keeper ≡ keeper) }
+    ensures carried { IfOk result (λ books. IfSome books.maker
+        (λ maker. maker.recorder.carried ≡ starting_with site.now.facts.registered)) }
+{
+    let maker = if keeper.wants_records() {
+        Some(make_records(rt, alloc, site)?)
+    } else {
+        None
+    };
+    Ok(Books {
+        maker,
+        waiting: Waiting::new(open_outbox(alloc)?),
+        keeping: Keeping {
+            keeper,
+            outbox: open_outbox(alloc)?,
+            fault: None,
+        },
+    })
 }
 
 /// Serves the site of a plan, whose ports and clock have these polls and wakers. Opens the ports, and runs the terms.
@@ -399,19 +424,16 @@ where
     R: Net + Log + Clock + Wait + Threads + Sync,
 {
     let mut notes = open_notes(rt, alloc)?;
-    let with_records = keeper.wants_records();
-    let keeping = Keeping {
-        keeper,
-        outbox: open_outbox(alloc)?,
-        fault: None,
-    };
-    let waiting = Waiting::new(open_outbox(alloc)?);
     let service = open_service(rt, alloc, &mut polls, plan, radios)?;
-    let observer = observe(rt, alloc, &service, with_records, script)?;
-    let Ran { result, observer } = serve_service(
-        rt, alloc, service, observer, keeping, waiting, &mut notes, terms,
-    );
+    let books = open_books(rt, alloc, &service.site, keeper)?;
+    let observer = observe(rt, alloc, &service, script)?;
+    let Ran {
+        result,
+        observer,
+        keeping,
+    } = serve_service(rt, alloc, service, observer, books, &mut notes, terms);
     drop(observer);
+    drop(keeping);
     match result {
         Ok(_last) => Ok(()),
         Err(stopped) => {

@@ -7,7 +7,7 @@ use crate::notes::Notes;
 use crate::restart::read_registered;
 use crate::script::Script;
 use crate::serve::{open_notes, serve, serve_kept};
-use crate::store::{Kept, Store, Stored};
+use crate::store::{Kept, Store};
 use dmr_command::ServeFault;
 use dmr_keeper::Forget;
 use dmr_plan::Plan;
@@ -100,80 +100,6 @@ where
     }
 }
 
-/// Serves the site of a plan with the store that the environment names, and returns the exit status.
-fn serve_stored<K, F, R, E>(
-    rt: &R,
-    alloc: Global,
-    site_name: &str,
-    plan: Plan,
-    terms: u32,
-    store: Stored<K>,
-    script: Option<F>,
-    err: &mut E,
-) -> u8
-where
-    K: Store + Send + Drop,
-    F: Script + Drop,
-    R: Net + Log + Clock + Wait + Threads + Sync,
-    E: Write,
-    ensures status { IsStatus result }
-{
-    match store {
-        Stored::Nowhere => {
-            serve_plan::<K, F, R, E>(rt, alloc, site_name, plan, terms, None, script, err)
-        }
-        Stored::In(store) => {
-            serve_plan(rt, alloc, site_name, plan, terms, Some(store), script, err)
-        }
-        Stored::NotText => {
-            let _ = writeln!(err, "dmr_trunk: STATE_DIRECTORY is not UTF-8");
-            FAULT
-        }
-    }
-}
-
-/// Serves the site of a plan, keeps what the environment asks for, and returns the exit status.
-fn serve_keeping<K, F, R, E>(
-    rt: &R,
-    alloc: Global,
-    site_name: &str,
-    plan: Plan,
-    terms: u32,
-    kept: Kept<K, F>,
-    err: &mut E,
-) -> u8
-where
-    K: Store + Send + Drop,
-    F: Script + Drop,
-    R: Net + Log + Clock + Wait + Threads + Sync,
-    E: Write,
-    ensures status { IsStatus result }
-{
-    let Kept { records, recording } = kept;
-    match recording {
-        Stored::Nowhere => {
-            serve_stored::<K, F, R, E>(rt, alloc, site_name, plan, terms, records, None, err)
-        }
-        Stored::In(script) => {
-            serve_stored(
-                rt,
-                alloc,
-                site_name,
-                plan,
-                terms,
-                records,
-                Some(script),
-                err,
-            )
-        }
-        Stored::NotText => {
-            drop(records);
-            let _ = writeln!(err, "dmr_trunk: DMR_TRUNK_RECORD is not UTF-8");
-            FAULT
-        }
-    }
-}
-
 /// Serves the site of a site file, and returns the exit status. `site` has the file's octets, or `None` if the file
 /// could not be read; `site_name` is its name in a fault's text. `kept` says what is kept. A fault is written to `err`
 /// as one line; an error of `err` is ignored.
@@ -195,11 +121,18 @@ where
     // At status 0 the file has a plan.
     ensures ok { result ≡ OK → IsPlanned (option_map (λ o. o.now) site.entry) }
 {
-    match plan_in(alloc, site_name, site) {
-        Ok(plan) => serve_keeping(rt, alloc, site_name, plan, terms, kept, err),
+    let plan = match plan_in(alloc, site_name, site) {
+        Ok(plan) => plan,
         Err(fault) => {
             let _ = writeln!(err, "dmr_trunk: {fault}");
-            fault.status()
+            return fault.status();
+        }
+    };
+    match kept.asked_for() {
+        Ok((store, script)) => serve_plan(rt, alloc, site_name, plan, terms, store, script, err),
+        Err(variable) => {
+            let _ = writeln!(err, "dmr_trunk: {variable} is not UTF-8");
+            FAULT
         }
     }
 }

@@ -1,5 +1,6 @@
 //! The store of records: a file in the folder for the program's state, if the environment names one.
 
+use crate::script::RECORD;
 use dmr_keeper::{KeepFault, Keeper};
 use dmr_pdu::{Address, OutOfMemory};
 use dmr_records::{RecordsFile, keep_fault_of};
@@ -41,6 +42,17 @@ pub enum Stored<K> {
     NotText,
 }
 
+impl<K> Stored<K> {
+    /// Returns the store if one is named. If its name is not UTF-8, the error is the variable that names it.
+    fn named_by(self, variable: &'static str) -> Result<Option<K>, &'static str> {
+        match self {
+            Stored::Nowhere => Ok(None),
+            Stored::In(store) => Ok(Some(store)),
+            Stored::NotText => Err(variable),
+        }
+    }
+}
+
 /// What is kept of a served site, as the environment asks for it.
 #[derive(Drop)]
 pub struct Kept<K, W> {
@@ -48,6 +60,22 @@ pub struct Kept<K, W> {
     pub records: Stored<K>,
     /// Its recording, in a script.
     pub recording: Stored<W>,
+}
+
+impl<K: Drop, W: Drop> Kept<K, W> {
+    /// Returns the store and the script that are named. If the name of one is not UTF-8, the error is the variable that
+    /// names it; the script's comes first.
+    pub fn asked_for(self) -> Result<(Option<K>, Option<W>), &'static str> {
+        let Kept { records, recording } = self;
+        let script = recording.named_by(RECORD)?;
+        match records.named_by(STATE_DIRECTORY) {
+            Ok(store) => Ok((store, script)),
+            Err(variable) => {
+                drop(script);
+                Err(variable)
+            }
+        }
+    }
 }
 
 /// Reads the path of the file of records: `site.db` in the folder that `STATE_DIRECTORY` names. No folder is named if

@@ -5,5 +5,4 @@ use Rattle.dmr_trunk.proofs.recorded.RecordMaker.record.Given as goal
 abbrev pub invariant-loop : goal.invariant-loop
 invariant-loop g l =
     (goal.iterator-loop g).can_next l.iterator' × (goal.iterator-loop g).is_finite l.iterator'
-    × (l.self.plan ≡ l.initial.self.plan)
     × (l.self.recorder ≡ l.initial.self.recorder)

@@ -1,0 +1,18 @@
+use Rattle.std.proofs.Common.{◌≡◌, ◌++◌, List, ap, ◌∙◌}
+use Rattle.dmr_keeper.specs.declared.time.TimedRecords.{TimedRecords}
+use Rattle.dmr_keeper.specs.Handing.{newest}
+use Rattle.dmr_trunk.specs.Stored.{held}
+use Rattle.dmr_trunk.proofs.StoredLemmas.{goes_handed, goes_moved, goes_on, goes_to_all}
+use Rattle.dmr_trunk.proofs.keeping.go_on.Goals as goal
+
+pub returns-in-Ok-clause-goes_on : goal.returns-in-Ok-clause-goes_on
+returns-in-Ok-clause-goes_on g c =
+    let kept = g.K.Keeper.kept in
+    let old = held c.args.writer in
+    let back = c.in-Ok.keeping in
+    let waits = c.args.waiting.now.outbox in
+    let then = held c.start_writing.result in
+    let moved : c.move_to.new.outbox ≡ newest (back.outbox ++ waits) = c.move_to.ensures.moved ∙ ap (λ (terms : List TimedRecords). newest (back.outbox ++ terms)) c.note.ensures in
+    goes_to_all (kept old.keeper) (kept then.keeper) (old.outbox ++ waits) then.outbox c.move_to.new.self.outbox c.move_to.ensures.none
+    (goes_on (kept old.keeper) (kept back.keeper) (kept then.keeper) (old.outbox ++ waits) (back.outbox ++ waits) then.outbox (goes_handed (kept old.keeper) (kept back.keeper) old.outbox back.outbox waits c.in-Ok.ensures.back)
+    (goes_on (kept back.keeper) (kept back.keeper) (kept then.keeper) (back.outbox ++ waits) c.move_to.new.outbox then.outbox (goes_moved (kept back.keeper) back.outbox waits c.move_to.new.outbox moved) c.start_writing.ensures.goes_on))

@@ -1,0 +1,31 @@
+-- Terms that are served in a row, and what the store received of them.
+use Rattle.std.specs.Prelude.{ℕ, List, ◌++◌, Option}
+use Rattle.dmr_core.specs.declared.entry.Entry.{Entry}
+use Rattle.dmr_desk.specs.declared.fault.TermsFault.{TermsFault}
+use Rattle.dmr_desk.specs.Term.{Start}
+use Rattle.dmr_desk.specs.Terms.{HaveRun, HaveStopped, journals_of}
+use Rattle.dmr_keeper.specs.declared.keeper.KeepFault.{KeepFault}
+use Rattle.dmr_keeper.specs.declared.time.TimedRecords.{TimedRecords}
+use Rattle.dmr_keeper.specs.Carried.{Carry}
+use Rattle.dmr_keeper.specs.Kept.{Kept}
+use Rattle.dmr_trunk.specs.declared.holding.Keeping.{Keeping}
+use Rattle.dmr_trunk.specs.Stored.{AreServed}
+
+-- this many terms have run. An observer saw their journals, and the store received the records of the same journals
+abbrev pub HaveServed : {K : Type 0} → (K → Option Kept) → (K → TimedRecords → KeepFault → Type 0)
+    → Start → ℕ → Start → Option (List (List Entry)) → Option (List (List Entry)) → Option Carry
+    → Keeping K → List TimedRecords → Keeping K → Type 0
+HaveServed kept refuses start terms next seen seen_then carried first waiting last =
+    (run : HaveRun start terms next seen seen_then)
+    × AreServed kept refuses start.site.plan carried (journals_of run.ends)
+    (first.outbox ++ waiting) first.keeper last.outbox last.fault last.keeper
+
+-- fewer terms have run, and there is not another for this reason. The store received the records of those that have run
+abbrev pub HaveStoppedServing : {K : Type 0} → (K → Option Kept)
+    → (K → TimedRecords → KeepFault → Type 0) → Start → ℕ → TermsFault
+    → Option (List (List Entry)) → Option (List (List Entry)) → Option Carry
+    → Keeping K → List TimedRecords → Keeping K → Type 0
+HaveStoppedServing kept refuses start terms fault seen seen_then carried first waiting last =
+    (stopped : HaveStopped start terms fault seen seen_then)
+    × AreServed kept refuses start.site.plan carried (journals_of stopped.run.ends)
+    (first.outbox ++ waiting) first.keeper last.outbox last.fault last.keeper

@@ -3,7 +3,7 @@
  *
  *     stop     17 workers that wait in parts of 25 ms and look whether the term is over, or are woken; all are joined
  *     audit    18 views compared with a journal of N entries: a pass over the journal for each view, or one pass for all;
- *              with entries of 1,304 octets, or of 64
+ *              with entries of 568 octets, as the desk has them, or of 64
  *     memory   what it takes to give the journal and the views back to the system
  *
  * It models these parts alone: there is no site, no lock, and no entry that means anything. Nothing in it is proved.
@@ -21,7 +21,7 @@
 #include <time.h>
 #include <unistd.h>
 
-enum { WORKERS = 17, VIEWS = 18, PART_MS = 25, STOPS = 40, AUDITS = 5, LARGE_ENTRY = 1304, SMALL_ENTRY = 64 };
+enum { WORKERS = 17, VIEWS = 18, PART_MS = 25, STOPS = 40, AUDITS = 5, LARGE_ENTRY = 568, SMALL_ENTRY = 64 };
 
 static volatile bool is_over;
 static int wake_up[WORKERS];

@@ -9,8 +9,8 @@ from temzaar.sitekeys import CARRIER_KEYS, KEYS, SITE_KEYS, WAIT_MS, Content, Si
 
 # A base station polls once in a TDMA frame (docs/LINK.md, "Timing").
 POLL_MS = 60
-# docs/OPERATING.md, "What to watch": memory grows up to 1.3 KiB for each entry of a term, and for each port and two more.
-ENTRY_KIB, MORE_PORTS = 1.3, 2
+# docs/OPERATING.md, "What to watch": memory grows up to 568 octets for each entry of a term, and for each port and two more.
+ENTRY_OCTETS, MORE_PORTS = 568, 2
 SLOTS = 2
 # Keys whose values are mostly written so.
 HEXADECIMAL = ("system", "regi", "tsi")
@@ -93,7 +93,7 @@ class Figures:
     def memory_mib(self) -> float | None:
         """The memory that terms may take, in MiB, if base stations flood the site."""
         entries, ports = self.number("term_entries"), len(self.rows()) + 1
-        return None if entries is None else ENTRY_KIB * entries * (ports + MORE_PORTS) / 1024
+        return None if entries is None else ENTRY_OCTETS * entries * (ports + MORE_PORTS) / (1 << 20)
 
     def term_ms(self) -> float | None:
         """How long a term lasts while base stations only poll."""

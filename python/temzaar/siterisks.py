@@ -18,7 +18,7 @@ FIRST_OPEN_PORT = 1024
 FEW_POLLS = 10
 # An operator's time to type is as long as the time for which a dead connection keeps a port.
 LONGEST_SILENCE_MS = 60_000
-LARGE_TERMS_MIB = 512
+LARGE_TERMS_MIB = 256
 SHORTEST_TERM_MS = 5_000
 FAST_TICK_MS = 30
 # The pause at the end of a term of 10,000 and of 100,000 entries (docs/OPERATING.md, "Terms").

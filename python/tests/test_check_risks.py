@@ -38,8 +38,8 @@ CHANGES: list[tuple[str, str, str, Place | None, str]] = [
     ("silence = 100", "silence = 5", "short-silence", Place(14, 11), "500 ms"),
     ("silence = 100", "silence = 601", "long-silence", Place(14, 11), "60.1 s"),
     ("backoff_low = 1", "backoff_low = 8", "narrow-backoff", Place(12, 16), "both 8"),
-    # 1.3 KiB x 100,000 x 5 are 635 MiB
-    ("control = 0", "control = 0\nterm_entries = 100000", "large-terms", Place(19, 16), "635 MiB"),
+    # 568 octets x 100,000 x 5 are 271 MiB
+    ("control = 0", "control = 0\nterm_entries = 100000", "large-terms", Place(19, 16), "271 MiB"),
     # two carriers that poll each 60 ms, and ticks of 60 ms: 50 entries a second
     ("control = 0", "control = 0\nterm_entries = 249", "short-terms", Place(19, 16), "5.0 s"),
     ("tick_ms = 60", "tick_ms = 29", "fast-tick", Place(13, 11), "29 ms"),
@@ -48,8 +48,8 @@ CHANGES: list[tuple[str, str, str, Place | None, str]] = [
 RIGHT = [
     ("console_port = 7100", "console_port = 1024"), ("maximum = 3000", "maximum = 101"), ("hang = 100", "hang = 10"), ("ahoy_wait = 8", "ahoy_wait = 2"),
     ("silence = 100", "silence = 6"), ("silence = 100", "silence = 600"), ("backoff_low = 1", "backoff_low = 7"),
-    # 1.3 KiB x 80,000 x 5 are 508 MiB
-    ("control = 0", "control = 0\nterm_entries = 80000"), ("control = 0", "control = 0\nterm_entries = 250"), ("tick_ms = 60", "tick_ms = 30"),
+    # 568 octets x 94,000 x 5 are 255 MiB
+    ("control = 0", "control = 0\nterm_entries = 94000"), ("control = 0", "control = 0\nterm_entries = 250"), ("tick_ms = 60", "tick_ms = 30"),
     ("[91, 92, 93, 94]", "[999, 2000]"), ("control = 0", "control = 0\naddress = [127, 0, 0, 9]"), ("control = 0", "control = 0\nlink_version = 2"),
 ]
 
@@ -89,7 +89,7 @@ class Risks(unittest.TestCase):
 
     def test_the_examples(self) -> None:
         named = {path.name: [it.name for it in risks_of(path.read_text(encoding="utf-8"))] for path in SITES.glob("*.toml")}
-        # 1.3 KiB x 50,000 x 19 are 1206 MiB; its address is of another network, and its talkgroups are numbers of its first fleet
+        # 568 octets x 50,000 x 19 are 515 MiB; its address is of another network, and its talkgroups are numbers of its first fleet
         self.assertEqual(named, {"two_carriers.toml": [], "sixteen_carriers.toml": ["large-terms", "foreign-address", "group-in-radios"]})
 
     def test_no_warnings_without_values(self) -> None:
@@ -125,9 +125,9 @@ class Explained(unittest.TestCase):
         self.assertEqual(lines["maximum"].amounts, "18 h 12 min")
 
     def test_terms(self) -> None:
-        # OPERATING: 63 MiB for two carriers and 241 for sixteen with 10,000 entries, which sixteen carriers fill in about 35 seconds
-        self.assertEqual(self.amounts(SITE)["term_entries"].amounts, "3 min 20 s of polls; up to 63 MiB")
-        self.assertEqual(self.amounts(SITE.replace(ROWS, SIXTEEN))["term_entries"].amounts, "35.3 s of polls; up to 241 MiB")
+        # OPERATING: 27 MiB for two carriers and 103 for sixteen with 10,000 entries, which sixteen carriers fill in about 35 seconds
+        self.assertEqual(self.amounts(SITE)["term_entries"].amounts, "3 min 20 s of polls; up to 27 MiB")
+        self.assertEqual(self.amounts(SITE.replace(ROWS, SIXTEEN))["term_entries"].amounts, "35.3 s of polls; up to 103 MiB")
 
     def test_counts(self) -> None:
         lines = self.amounts(SITE.replace("[[1000, 1999]]", "[[20, 40], [10, 30], [15, 16], [100, 100]]").replace("control = 0", "control = 1"))

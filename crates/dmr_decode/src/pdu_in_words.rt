@@ -2,7 +2,7 @@
 
 ghost use Rattle.std.specs.Prelude.{◌<◌};
 
-use dmr_pdu::{Address, Kind, Lpcn, Number, Pdu, Reason, SlotNo};
+use dmr_pdu::{Address, Kind, Lpcn, Number, Pdu, Reason, SlotNo, SystemCode};
 use thiserror::Error;
 
 /// The fault of words that are not a PDU.
@@ -186,7 +186,7 @@ fn aloha<'a>(words: &[&'a str]) -> Result<Pdu, WordFault<'a>> {
         nrand_wait: Number::new(fields.number("nrand_wait", 16)),
         register: fields.flag("register"),
         backoff: Number::new(fields.number("backoff", 16)),
-        system: Number::new(fields.number("system", 65536)),
+        system: SystemCode::new(fields.number("system", 65536)),
         address: fields.address("address"),
     };
     fields.checked(pdu)

@@ -10,7 +10,7 @@ ghost use Rattle.dmr_pdu.specs.Rows.{HasOpcode, HasNumber};
 ghost use Rattle.dmr_pdu.specs.Reading.{read_as, bit_of, channel};
 
 use crate::display::{FieldValue, show_all, show_octets};
-use crate::numbers::{Address, Kind, Number, Reason};
+use crate::numbers::{Address, Kind, Number, Reason, SystemCode};
 use crate::pdu::Pdu;
 use crate::slots::{Lpcn, SlotNo};
 use dmr_bits::Octets10;
@@ -42,7 +42,7 @@ macro_rules! layouts {
                 31, 4 => nrand_wait: Number;
                 35, 1 => register: bool;
                 36, 4 => backoff: Number;
-                40, 16 => system: Number;
+                40, 16 => system: SystemCode;
                 56, 24 => address: Address;
             }
             Ahoy = 0x9C {

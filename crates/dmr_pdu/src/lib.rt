@@ -17,7 +17,7 @@ mod slots;
 
 pub use bounded_list::{Blank, BoundedList};
 pub use law::octets_mean_one_pdu;
-pub use numbers::{Address, Kind, Number, Options, Reason};
+pub use numbers::{Address, Kind, Number, Options, Reason, SystemCode};
 pub use pdu::Pdu;
 pub use slots::{CarrierNo, Lpcn, Slot, SlotNo};
 

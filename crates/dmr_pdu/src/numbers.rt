@@ -1,16 +1,16 @@
 //! The numbers in PDUs, each with its range. Contracts see each of them as a natural number.
 
-ghost use Rattle.std.specs.Prelude.{◌≡◌, ◌<◌, ◌^◌, ℕ};
+ghost use Rattle.std.specs.Prelude.{◌≡◌, ◌<◌, ◌≤◌, ◌^◌, ℕ};
 ghost use Rattle.std.specs.Option.{SomeIff};
 
 use crate::bounded_list::Blank;
 use std::fmt;
 use std::marker::Model;
 
-/// A number of `WIDTH` bits, at most 32.
+/// A number of `WIDTH` bits, at most 8.
 #[derive(Clone, Copy, Debug, PartialEq, Eq)]
 pub struct Number<const WIDTH: u32> {
-    value: u32,
+    value: u8,
 }
 
 impl<const WIDTH: u32> Model for Number<WIDTH> {
@@ -28,10 +28,13 @@ impl<const WIDTH: u32> Model for Number<WIDTH> {
 impl<const WIDTH: u32> Number<WIDTH> {
     /// Returns this number, which must be below 2 to the power of `WIDTH`.
     pub fn new(number: u32) -> Self
-        requires { number < 2 ^ WIDTH }
+        requires fits { number < 2 ^ WIDTH }
+        requires narrow { WIDTH ≤ 8 }
         ensures { result ≡ number }
     {
-        Number { value: number }
+        Number {
+            value: number as u8,
+        }
     }
 
     /// Returns the number as an integer.
@@ -39,12 +42,50 @@ impl<const WIDTH: u32> Number<WIDTH> {
         ensures value { result ≡ self.now }
         ensures range { result < 2 ^ WIDTH }
     {
-        self.value
+        u32::from(self.value)
     }
 }
 
 /// The service options of a request: 7 bits (TS 102 361-4, clause 7.2).
 pub type Options = Number<7>;
+
+/// The system identity code of a site: 16 bits (TS 102 361-4, clause 7.2). The site does not look into it.
+#[derive(Clone, Copy, Debug, PartialEq, Eq)]
+pub struct SystemCode {
+    code: u16,
+}
+
+impl Model for SystemCode {
+    ghost use Rattle.std.specs.Prelude.{ℕ, ◌<◌, ◌^◌};
+
+    ghost Value = { ℕ };
+
+    ghost view = { λ n. n.code };
+
+    ghost invariant = { λ n. n.code < 2 ^ 16 };
+
+    ghost inverse = { λ n. record { code = n } };
+}
+
+impl SystemCode {
+    /// Returns the code with this number, which must be below 2 to the power of 16.
+    pub fn new(number: u32) -> Self
+        requires { number < 2 ^ 16 }
+        ensures { result ≡ number }
+    {
+        SystemCode {
+            code: number as u16,
+        }
+    }
+
+    /// Returns the code as an integer.
+    pub fn get(&self) -> u32
+        ensures value { result ≡ self.now }
+        ensures range { result < 2 ^ 16 }
+    {
+        u32::from(self.code)
+    }
+}
 
 /// An address of 24 bits: a radio, a talkgroup or a service of the site (TS 102 361-4, clause 7.2).
 #[derive(Clone, Copy, Debug, PartialEq, Eq, PartialOrd, Ord, Hash)]

@@ -7,7 +7,7 @@ ghost use Rattle.dmr_pdu.specs.Layout.{SpellsPdu, Agrees};
 ghost use Rattle.dmr_pdu.specs.Functions.{octets_of, pdu_of};
 
 use crate::layouts::{read_pdu, write_pdu};
-use crate::numbers::{Address, Kind, Number, Options, Reason};
+use crate::numbers::{Address, Kind, Number, Options, Reason, SystemCode};
 use crate::slots::{Lpcn, SlotNo};
 use dmr_bits::Octets10;
 
@@ -36,7 +36,7 @@ pub enum Pdu {
         /// The number of slots over which radios spread their tries.
         backoff: Number<4>,
         /// The system identity code.
-        system: Number<16>,
+        system: SystemCode,
         /// The address that `mask` applies to.
         address: Address,
     },

@@ -12,7 +12,7 @@ ghost use Rattle.dmr_plan.specs.Numbers.{number_unlike_in};
 
 use crate::fault::PlanFault;
 use crate::key::{Fallback, Key};
-use dmr_pdu::{Address, Number};
+use dmr_pdu::{Address, Number, SystemCode};
 use toml::{Table, Value};
 
 /// Returns the value at a key, if there is one.
@@ -103,12 +103,23 @@ pub fn optional_number(table: &Table, key: Key) -> Result<Option<u32>, PlanFault
 
 /// Reads the number at a key. `WIDTH` bits hold each number of the key's range.
 pub fn field<const WIDTH: u32>(table: &Table, key: Key) -> Result<Number<WIDTH>, PlanFault>
-    requires { (limits_of key).range.most < 2 ^ WIDTH }
+    requires fits { (limits_of key).range.most < 2 ^ WIDTH }
+    requires narrow { WIDTH ≤ 8 }
     ensures gives { result ≡ number_at_key (table_view table.now) key }
     ensures within { IfOk result (IsNumberOf key) }
     ensures of_key { IfErr result IsOfKey }
 {
     Ok(Number::new(number(table, key)?))
+}
+
+/// Reads the system identity code at a key. Each number of the key's range is one.
+pub fn system_code(table: &Table, key: Key) -> Result<SystemCode, PlanFault>
+    requires { (limits_of key).range.most < 2 ^ 16 }
+    ensures gives { result ≡ number_at_key (table_view table.now) key }
+    ensures within { IfOk result (IsNumberOf key) }
+    ensures of_key { IfErr result IsOfKey }
+{
+    Ok(SystemCode::new(number(table, key)?))
 }
 
 /// Reads the address at a key. Each number of the key's range is an address.

@@ -13,7 +13,7 @@ use crate::carriers::{CarrierRow, row_numbered};
 use crate::fault::PlanFault;
 use crate::lists::RadioRange;
 use crate::settings::{Settings, settings_in};
-use dmr_pdu::{Address, CarrierNo, Number};
+use dmr_pdu::{Address, CarrierNo, Number, SystemCode};
 use std::alloc::Global;
 use std::marker::Model;
 
@@ -92,7 +92,7 @@ impl Plan {
     }
 
     /// The system identity code that C_ALOHA announces: 0 to 65535.
-    pub fn system(&self) -> Number<16>
+    pub fn system(&self) -> SystemCode
         ensures { result ≡ self.now.system }
     {
         self.settings.system

@@ -14,14 +14,16 @@ use crate::carriers::{CarrierRow, carriers_in, has_number};
 use crate::fault::PlanFault;
 use crate::key::{Key, MOST_CARRIERS, MOST_GROUPS, MOST_RANGES};
 use crate::lists::{RadioRange, address_in, groups_in, radios_in};
-use crate::numbers::{address, address_unlike, bit, field, number, number_from, optional_number};
-use dmr_pdu::{Address, BoundedList, CarrierNo, Number};
+use crate::numbers::{
+    address, address_unlike, bit, field, number, number_from, optional_number, system_code,
+};
+use dmr_pdu::{Address, BoundedList, CarrierNo, Number, SystemCode};
 use toml::Table;
 
 /// The system, its services, and how a radio leaves.
 #[derive(Clone, Copy)]
 pub(crate) struct SystemSection {
-    pub(crate) system: Number<16>,
+    pub(crate) system: SystemCode,
     pub(crate) regi: Address,
     pub(crate) tsi: Address,
     pub(crate) leave_bit: Option<u8>,
@@ -90,7 +92,7 @@ pub(crate) fn system_in(table: &Table) -> Result<SystemSection, PlanFault>
     ensures of_key { IfErr result IsOfKey }
 {
     Ok(SystemSection {
-        system: field(table, Key::System)?,
+        system: system_code(table, Key::System)?,
         regi: address(table, Key::Regi)?,
         tsi: address_unlike(table, Key::Tsi, Key::Regi)?,
         leave_bit: leave_bit_in(table)?,

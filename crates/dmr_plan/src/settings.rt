@@ -11,14 +11,14 @@ use crate::fault::PlanFault;
 use crate::key::{MOST_CARRIERS, MOST_GROUPS, MOST_RANGES};
 use crate::lists::RadioRange;
 use crate::sections::{aloha_in, calls_in, lists_in, serving_in, system_in};
-use dmr_pdu::{Address, BoundedList, CarrierNo, Number};
+use dmr_pdu::{Address, BoundedList, CarrierNo, Number, SystemCode};
 use toml::Table;
 
 /// The contents of a site file, a field for each key. Contracts see a plan as its settings.
 #[derive(Clone, Copy, Debug, PartialEq, Eq)]
 pub struct Settings {
     /// The system identity code.
-    pub system: Number<16>,
+    pub system: SystemCode,
     /// The address of the registration service.
     pub regi: Address,
     /// The address of the site itself.

@@ -2,7 +2,7 @@
 
 use crate::lines::{expect_same, expect_true};
 use dmr_bits::Octets10;
-use dmr_pdu::{Address, Kind, Lpcn, Number, Pdu, Reason, SlotNo, octets_mean_one_pdu};
+use dmr_pdu::{Address, Kind, Lpcn, Number, Pdu, Reason, SlotNo, SystemCode, octets_mean_one_pdu};
 use std::process::Abort;
 
 /// Checks that octets are read as a PDU, and that the PDU is written as these octets.
@@ -27,7 +27,7 @@ fn broadcasts(rt: HostRuntime) {
                 nrand_wait: Number::new(0),
                 register: true,
                 backoff: Number::new(1),
-                system: Number::new(4660),
+                system: SystemCode::new(4660),
                 address: Address::new(0),
             },
         ),
@@ -43,7 +43,7 @@ fn broadcasts(rt: HostRuntime) {
                 nrand_wait: Number::new(7),
                 register: true,
                 backoff: Number::new(15),
-                system: Number::new(52357),
+                system: SystemCode::new(52357),
                 address: Address::new(16711880),
             },
         ),
@@ -59,7 +59,7 @@ fn broadcasts(rt: HostRuntime) {
                 nrand_wait: Number::new(7),
                 register: false,
                 backoff: Number::new(10),
-                system: Number::new(24413),
+                system: SystemCode::new(24413),
                 address: Address::new(10013063),
             },
         ),
@@ -75,7 +75,7 @@ fn broadcasts(rt: HostRuntime) {
                 nrand_wait: Number::new(14),
                 register: true,
                 backoff: Number::new(10),
-                system: Number::new(36104),
+                system: SystemCode::new(36104),
                 address: Address::new(15760808),
             },
         ),

@@ -7,3 +7,4 @@ mod EventsAreMeant
 mod NoiseMeansNothing
 mod EventsInARow
 mod JournalLemmas
+mod SessionLemmas

@@ -22,6 +22,6 @@ mod restored;
 
 pub use carriers::Carriers;
 pub use fault::RecordingFault;
-pub use laws::recordings_mean;
+pub use laws::{a_session_registers, recordings_mean};
 pub use recording::record_journal;
 pub use restored::record_restored;

@@ -96,8 +96,8 @@ fn session_of(alloc: Global, plan: &Plan, radios: &[Address]) -> Result<Vec<Entr
 /// Appends a session of the control carrier in which radios register, as lines of a script. The carrier comes up, each
 /// radio registers and its acknowledgement is sent, and the carrier is lost.
 ///
-/// A site that has just started registers these radios in the session, in their order; that is tested, and no clause
-/// says it. No carrier is up before the session, and none is up after it. The error is `OutOfMemory`, or the fault of
+/// After the session a site that had just started is the site that starts with these radios registered
+/// ([`a_session_registers`](crate::a_session_registers)). No carrier is up before the session, and none is up after it. The error is `OutOfMemory`, or the fault of
 /// an event of the session, counted from its Up; then the text is unchanged.
 pub fn record_restored(
     alloc: Global,

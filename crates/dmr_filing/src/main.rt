@@ -16,7 +16,7 @@ use crate::story::{TERMS, end_of, journal_of, plan};
 use dmr_keeper::{Carried, Recorder, TimedRecords};
 use dmr_pdu::Address;
 use dmr_plan::Plan;
-use dmr_records::{FileFault, MOST_ROWS, RecordsFile};
+use dmr_records::{FileFault, MOST_ROWS, RecordsFile, RecordsIn, RecordsPath};
 use std::alloc::Global;
 use std::process::ExitCode;
 use std::{env, io};
@@ -42,14 +42,14 @@ fn print_radios(rt: &HostRuntime, found: &Result<Vec<Address>, FileFault>) -> io
 }
 
 /// Reads the registered radios, and prints them.
-fn show_registered(rt: &HostRuntime, file: &RecordsFile<'_>) -> io::Result<()> {
-    print_radios(rt, &file.registered())
+fn show_registered(rt: &HostRuntime, file: &mut RecordsFile<'_>) -> io::Result<()> {
+    print_radios(rt, &file.registered(rt.alloc()))
 }
 
 /// Writes the records of a term, and prints what came of it.
 fn write_term(
     rt: &HostRuntime,
-    file: &RecordsFile<'_>,
+    file: &mut RecordsFile<'_>,
     number: usize,
     term: &TimedRecords,
 ) -> io::Result<()> {
@@ -74,7 +74,7 @@ fn records_of_term(
 }
 
 /// Writes the terms, one after another. The exit status.
-fn write_terms(rt: &HostRuntime, file: &RecordsFile<'_>, plan: &Plan) -> io::Result<u8> {
+fn write_terms(rt: &HostRuntime, file: &mut RecordsFile<'_>, plan: &Plan) -> io::Result<u8> {
     let alloc = rt.alloc();
     let mut recorder = Recorder::new(Carried::new(alloc));
     for number in 1..=TERMS {
@@ -91,9 +91,9 @@ fn write_session(rt: &HostRuntime, path: &str, most: u32) -> io::Result<u8> {
     let Some(plan) = plan(rt.alloc()) else {
         return Ok(MEMORY);
     };
-    let file = RecordsFile::with_most_rows(rt, path, most);
-    let status = write_terms(rt, &file, &plan)?;
-    show_registered(rt, &file)?;
+    let mut file = RecordsIn::with_most_rows(RecordsPath::new(rt, path), most);
+    let status = write_terms(rt, &mut file, &plan)?;
+    show_registered(rt, &mut file)?;
     Ok(status)
 }
 
@@ -110,7 +110,7 @@ fn do_words(rt: &HostRuntime, path: &str, word: Option<&String>) -> io::Result<u
     match word {
         None => write_session(rt, path, MOST_ROWS),
         Some(word) if word.as_str() == "radios" => {
-            show_registered(rt, &RecordsFile::new(rt, path))?;
+            show_registered(rt, &mut RecordsIn::new(RecordsPath::new(rt, path)))?;
             Ok(0)
         }
         Some(word) => write_few(rt, path, word.as_str()),

@@ -1,30 +1,12 @@
--- What a store kept in steps, and records that are handed over one term at a time.
+-- Records that are handed over to a store one term at a time.
 use Rattle.std.proofs.Common.{◌≡◌, ◌<◌, List, [], ◌∷◌, ◌++◌, Option, length, get_or, refl, sym, ◌∙◌, ap, append_assoc}
 use Rattle.std.specs.List.{remove}
 use Rattle.dmr_keeper.specs.declared.time.TimedRecords.{TimedRecords}
-use Rattle.dmr_keeper.specs.Kept.{Kept, Keeps, kept_with, kept_with_all}
+use Rattle.dmr_keeper.specs.Kept.{Kept, Keeps}
 use Rattle.dmr_keeper.specs.declared.keeper.KeepFault.{KeepFault}
 use Rattle.dmr_keeper.specs.Handing.{AreHandedOver, IsRefused}
+use Rattle.dmr_keeper.proofs.KeepsLaws.{keeps_nothing, keeps_more}
 use Rattle.dmr_keeper.proofs.LoopLemmas.{rest_is}
-
--- ---- what a store kept
-
-pub keeps_nothing : (before : Option Kept) → Keeps before [] before
-keeps_nothing before = record { follows = λ whole same. (whole, same, refl) }
-
-kept_on : (kept : Kept) (first second : List TimedRecords) → kept_with_all kept (first ++ second) ≡ kept_with_all (kept_with_all kept first) second
-kept_on kept [] second = refl
-kept_on kept (term ∷ first) second = kept_on (kept_with kept term) first second
-
-keeps_more : (before between after : Option Kept) (first second : List TimedRecords) → Keeps before first between → Keeps between second after → Keeps before (first ++ second) after
-keeps_more before between after first second one two = record {
-  follows = λ whole same.
-      let last = two.follows whole same in
-      let begun = one.follows last.0 last.1 in
-      (begun.0, begun.1, last.2 ∙ ap (λ (kept : Kept). kept_with_all kept second) begun.2 ∙ sym (kept_on begun.0 first second));
-}
-
--- ---- records that are handed over
 
 -- the oldest is the one that is read, and the others are those that stay
 pub oldest_of : (old new : List TimedRecords) (term : TimedRecords) → 0 < length old → term ≡ get_or old 0 term → new ≡ remove old 0 → old ≡ term ∷ new

@@ -1,6 +1,6 @@
 //! Stores of records.
 
-ghost use Rattle.std.specs.Prelude.{◌≡◌, [], ◌∷◌, IfErr, IsOk, IsFalse, OnErr, OnOk, Option, None};
+ghost use Rattle.std.specs.Prelude.{◌≡◌, [], ◌∷◌, Bool, false, IfErr, IsOk, OnErr, OnOk, Option, None};
 ghost use Rattle.dmr_keeper.specs.declared.keeper.KeepFault.{KeepFault as AFault};
 ghost use Rattle.dmr_keeper.specs.declared.time.TimedRecords.{TimedRecords as TermRecords};
 ghost use Rattle.dmr_keeper.specs.Kept.{Keeps, Kept};
@@ -45,8 +45,12 @@ pub trait Keeper {
     // What holds if the keeper refuses the records of this term with this fault.
     ghost refuses: { Self → TermRecords → AFault → Type 0 };
 
+    // Whether the keeper asks for records.
+    ghost wants: { Self → Bool };
+
     /// Reports whether records are wanted. If they are not, a caller need not make any.
-    fn wants_records(&self) -> bool;
+    fn wants_records(&self) -> bool
+        ensures { result ≡ wants self.now };
 
     /// Keeps the records of a term. On an error it keeps none of them, and the same call can be made again.
     fn keep(&mut self, term: &TimedRecords) -> Result<(), KeepFault>
@@ -64,9 +68,11 @@ impl Keeper for Forget {
 
     ghost refuses = { λ store term fault. ⊥ };
 
+    ghost wants = { λ store. false };
+
     /// Reports that no records are wanted.
     fn wants_records(&self) -> bool
-        ensures { IsFalse result }
+        ensures { result ≡ false }
     {
         false
     }

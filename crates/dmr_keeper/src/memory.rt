@@ -1,6 +1,6 @@
 //! A store of records in memory.
 
-ghost use Rattle.std.specs.Prelude.{◌≡◌, [], ◌∷◌, IfErr, IsTrue, OnErr, OnOk, Some};
+ghost use Rattle.std.specs.Prelude.{◌≡◌, [], ◌∷◌, true, IfErr, OnErr, OnOk, Some};
 ghost use Rattle.dmr_keeper.specs.declared.keeper.KeepFault.TheVariants.{OutOfMemory as MemoryRanOut};
 ghost use Rattle.dmr_keeper.specs.Kept.{Keeps, kept_with, nothing_kept};
 
@@ -132,9 +132,11 @@ impl Keeper for InMemory {
 
     ghost refuses = { λ store term fault. fault ≡ MemoryRanOut };
 
+    ghost wants = { λ store. true };
+
     /// Reports that records are wanted.
     fn wants_records(&self) -> bool
-        ensures { IsTrue result }
+        ensures { result ≡ true }
     {
         true
     }

@@ -1,7 +1,6 @@
 -- A transaction that writes the records of a term.
 use Rattle.std.proofs.Common.{◌≡◌, ℕ, true, [], ◌∷◌, arith, refl, subst}
 use Rattle.sqlite.specs.Store.{Ghosts}
-use Rattle.sqlite.specs.Effect.{Database}
 use Rattle.sqlite.specs.State.{HasCleanDisk, Survives}
 use Rattle.sqlite.specs.Held.{Held, state}
 use Rattle.sqlite.proofs.StateLemmas.{survives_then}

@@ -1,2 +1,3 @@
 pub mod RanLemmas
 pub mod CommitLemmas
+pub mod ReachedLemmas

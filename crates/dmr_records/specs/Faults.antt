@@ -1,5 +1,4 @@
 -- What an error of the library means for the file.
-use Rattle.std.specs.Prelude.{ℤ, Result, Ok, Err, Bool, true, false, ◌≡◌}
 use Rattle.sqlite.specs.declared.error.Error.{Error}
 use Rattle.sqlite.specs.declared.error.Error.TheVariants.{SqliteFailure}
 use Rattle.sqlite.specs.declared.error.ErrorCode.{ErrorCode}

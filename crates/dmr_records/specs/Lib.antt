@@ -5,3 +5,4 @@ pub mod Ran
 pub mod Written
 pub mod Faults
 pub mod Reading
+pub mod Reached

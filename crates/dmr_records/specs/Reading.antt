@@ -1,10 +1,9 @@
 -- The registered radios, as they are read from the file.
-use Rattle.std.specs.Prelude.{◌≡◌, ℕ, List, [], ◌∷◌, map, codes}
+use Rattle.std.specs.Prelude.{◌≡◌, ℕ, List, [], map, codes}
 use Rattle.sqlite.specs.Order.{Row, column}
 use Rattle.sqlite.specs.Store.{Ghosts}
 use Rattle.sqlite.specs.State.{Shown}
 use Rattle.sqlite.specs.Held.{Held, state}
-use Rattle.sqlite.specs.declared.types.Value.{Value}
 use Rattle.dmr_records.specs.Statements.{number}
 
 -- the query

@@ -1,26 +1,22 @@
-//! The file of records.
+//! The file of records, as a database that is reached by its path.
 
-ghost use Rattle.std.specs.Prelude.{◌≡◌, ⊤, false, IfOk, IsTrue, None};
+ghost use Rattle.std.specs.Prelude.{◌≡◌, ⊤, false, IfErr, IfOk};
 
-use crate::commit;
-use crate::fault::{FileFault, fault_of, keep_fault_of};
-use crate::reading::read_radios;
+use crate::fault::{FileFault, fault_of};
+use crate::reach::Reach;
+use crate::store::RecordsIn;
 use crate::tables::prepare_tables;
-use dmr_keeper::{KeepFault, Keeper, TimedRecords};
-use dmr_pdu::Address;
 use sqlite::{Connection, File, FileStore};
 
-/// The newest rows that are kept of each table of calls, events and terms, if the caller does not choose another
-/// number.
-pub const MOST_ROWS: u32 = 100_000;
-
-/// The file of records at a path. It is opened for each call, and closed before the call returns.
+/// A file of records at a path. It is opened for each call, and closed before the call returns.
 #[derive(Clone, Copy)]
-pub struct RecordsFile<'a> {
+pub struct RecordsPath<'a> {
     rt: &'a HostRuntime,
     path: &'a str,
-    most: u32,
 }
+
+/// The records in a file.
+pub type RecordsFile<'a> = RecordsIn<FileStore<File>, RecordsPath<'a>>;
 
 /// Opens the file at a path, or makes it, and prepares its tables.
 fn open_prepared(rt: &HostRuntime, path: &str) -> Result<Connection<FileStore<File>>, FileFault>
@@ -34,65 +30,35 @@ fn open_prepared(rt: &HostRuntime, path: &str) -> Result<Connection<FileStore<Fi
     Ok(conn)
 }
 
-impl<'a> RecordsFile<'a> {
-    /// Names the file at this path, of which [`MOST_ROWS`] rows of each table are kept. Nothing is opened yet.
-    pub fn new(rt: &'a HostRuntime, path: &'a str) -> RecordsFile<'a> {
-        RecordsFile::with_most_rows(rt, path, MOST_ROWS)
-    }
-
-    /// Names the file at this path, of which this many rows of each table of calls, events and terms are kept.
-    pub fn with_most_rows(rt: &'a HostRuntime, path: &'a str, most: u32) -> RecordsFile<'a> {
-        RecordsFile { rt, path, most }
-    }
-
-    /// Reads the registered radios, in the order in which they joined. A file that does not exist is made, and has
-    /// none.
-    ///
-    /// # Errors
-    ///
-    /// Each [`FileFault`] says what is wrong with the file. The file is then as it was before.
-    pub fn registered(&self) -> Result<Vec<Address>, FileFault> {
-        let mut conn = open_prepared(self.rt, self.path)?;
-        let radios = read_radios(self.rt.alloc(), &mut conn);
-        // what was read stays right if the log cannot be copied into the file
-        let _ = conn.close();
-        radios
-    }
-
-    /// Writes the records of a term, in one transaction.
-    ///
-    /// # Errors
-    ///
-    /// Each [`FileFault`] says why nothing was written. The file then has the records that it had before.
-    pub fn write_term(&self, term: &TimedRecords) -> Result<(), FileFault> {
-        let mut conn = open_prepared(self.rt, self.path)?;
-        let written = commit::write_term(&mut conn, self.most, term);
-        // the records are safe in the log if it cannot be copied into the file, and the next call tries again
-        let _ = conn.close();
-        written
+impl<'a> RecordsPath<'a> {
+    /// Names the file at this path. Nothing is opened yet. A file that does not exist is made when it is opened.
+    pub fn new(rt: &'a HostRuntime, path: &'a str) -> RecordsPath<'a> {
+        RecordsPath { rt, path }
     }
 }
 
-/// The file does not report what it has kept, since other programs may write it too.
-impl Keeper for RecordsFile<'_> {
-    ghost kept = { λ file. None };
+/// A file reports nothing, since other programs use it and the disk too.
+impl Reach<Connection<FileStore<File>>> for RecordsPath<'_> {
+    ghost use Rattle.std.specs.Prelude.{⊤};
 
-    // Other programs use the file and the disk, so any write may be refused.
-    ghost refuses = { λ file term fault. ⊤ };
+    ghost opens = { λ before conn after. ⊤ };
 
-    /// Reports that records are wanted.
-    fn wants_records(&self) -> bool
-        ensures { IsTrue result }
+    ghost refuses = { λ before fault after. ⊤ };
+
+    ghost closes = { λ before conn after. ⊤ };
+
+    fn open(&mut self) -> Result<Connection<FileStore<File>>, FileFault>
+        ensures opens { IfOk result (λ conn. ⊤) }
+        ensures refuses { IfErr result (λ fault. ⊤) }
     {
-        true
+        open_prepared(self.rt, self.path)
     }
 
-    /// Writes the records of a term, as [`RecordsFile::write_term`] does. After an error the file has the records that
-    /// it had before.
-    fn keep(&mut self, term: &TimedRecords) -> Result<(), KeepFault> {
-        match self.write_term(term) {
-            Ok(()) => Ok(()),
-            Err(fault) => Err(keep_fault_of(fault)),
-        }
+    /// Closes the file. If the log cannot be copied into it, what was committed is safe in the log, and the next call
+    /// tries again.
+    fn close(&mut self, conn: Connection<FileStore<File>>)
+        ensures { ⊤ }
+    {
+        let _ = conn.close();
     }
 }

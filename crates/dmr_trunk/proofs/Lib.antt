@@ -2,3 +2,4 @@ pub mod RunLemmas
 pub mod ScriptLemmas
 pub mod ServingLemmas
 pub mod StoredLemmas
+pub mod RestartLemmas

@@ -1,5 +1,5 @@
 -- Records on their way from terms to the store.
-use Rattle.std.proofs.Common.{◌≡◌, ℕ, zero, suc, ◌+◌, ◌-◌, ◌≤◌, ◌<◌, ◌^◌, List, [], ◌∷◌, ◌++◌, Option, None, Some, IfSome, IsSomeAnd, length, drop, append_assoc, refl, sym, ◌∙◌, ap, subst, arith}
+use Rattle.std.proofs.Common.{◌≡◌, ℕ, zero, suc, ◌+◌, ◌-◌, ◌≤◌, ◌<◌, ◌^◌, List, [], ◌∷◌, ◌++◌, Option, None, Some, IfSome, IsSomeAnd, false, true, IsOk, Result, Err, length, drop, append_assoc, refl, sym, ◌∙◌, ap, subst, arith}
 use Rattle.std.proofs.lemmas.List.{append-nil}
 use Rattle.dmr_core.specs.declared.entry.Entry.{Entry}
 use Rattle.dmr_plan.specs.declared.settings.Settings.{Settings}
@@ -8,9 +8,10 @@ use Rattle.dmr_keeper.specs.declared.time.TermTime.{TermTime}
 use Rattle.dmr_keeper.specs.declared.time.TimedRecords.{TimedRecords}
 use Rattle.dmr_keeper.specs.Carried.{Carry, carried_after}
 use Rattle.dmr_keeper.specs.Handing.{AreHandedOver, IsRefused, newest}
-use Rattle.dmr_keeper.specs.Kept.{Kept, Keeps, kept_with, kept_with_all}
+use Rattle.dmr_keeper.specs.Kept.{Kept}
 use Rattle.dmr_keeper.specs.Records.{AreRecords}
 use Rattle.dmr_keeper.specs.Ticks.{ticks_in}
+use Rattle.dmr_keeper.proofs.KeepsLaws.{keeps_nothing, keeps_more}
 use Rattle.dmr_trunk.specs.Stored.{IsRecordOf, HasMadeIfWanted, carried_after_all, AreRecordsOf, Passage, at_first, made, handed_over, lost, ArePassedOn, GoOn, waiting_with, HaveStored, IsAtEnd}
 
 -- ---- records that are made
@@ -47,21 +48,6 @@ made_wait all handed earlier later term way =
     newest_wait (all ++ term ∷ []) handed earlier (later ++ term ∷ []) (subst P (append_assoc earlier later (term ∷ [])) (made all handed (earlier ++ later) term way))
 
 -- ---- records that the store keeps
-
-keeps_nothing : (before : Option Kept) → Keeps before [] before
-keeps_nothing before = record { follows = λ whole same. (whole, same, refl) }
-
-kept_on : (kept : Kept) (first second : List TimedRecords) → kept_with_all kept (first ++ second) ≡ kept_with_all (kept_with_all kept first) second
-kept_on kept [] second = refl
-kept_on kept (term ∷ first) second = kept_on (kept_with kept term) first second
-
-keeps_more : (before between after : Option Kept) (first second : List TimedRecords) → Keeps before first between → Keeps between second after → Keeps before (first ++ second) after
-keeps_more before between after first second one two = record {
-  follows = λ whole same.
-      let last = two.follows whole same in
-      let begun = one.follows last.0 last.1 in
-      (begun.0, begun.1, last.2 ∙ ap (λ (kept : Kept). kept_with_all kept second) begun.2 ∙ sym (kept_on begun.0 first second));
-}
 
 -- none were handed over
 pub passed_at_first : (kept : Option Kept) (waiting : List TimedRecords) → ArePassedOn kept waiting waiting kept
@@ -105,6 +91,13 @@ pub goes_to_all : (kept after : Option Kept) (waiting left none : List TimedReco
 goes_to_all kept after waiting left none is goes before all passed =
     let P : List TimedRecords → Type 0 = λ terms. ArePassedOn before all terms after in
     subst P (sym (append-nil left) ∙ ap (λ (terms : List TimedRecords). left ++ terms) (sym is)) (goes before all passed)
+
+-- what failed did not go well
+pub err_is_not_ok : {A E : Type 0} (result : Result A E) (fault : E) → result ≡ Err fault → IsOk result → ⊥
+err_is_not_ok {A = A} {E = E} result fault is ok =
+    let P : Result A E → Type 0 = λ r. IsOk r in
+    let no : false ≡ true = subst P is ok in
+    cc no
 
 -- ---- the end
 

@@ -1,11 +1,11 @@
 -- What becomes of the records of terms: they are made from the journals, they wait, and they are handed to the store.
-use Rattle.std.specs.Prelude.{◌≡◌, ◌+◌, ◌≤◌, ◌<◌, ◌^◌, List, [], ◌∷◌, ◌++◌, length}
+use Rattle.std.specs.Prelude.{◌≡◌, ℕ, ◌+◌, ◌≤◌, ◌<◌, ◌^◌, List, [], ◌∷◌, ◌++◌, length}
 use Rattle.std.specs.Prelude.{Bool, true, false, Option, None, Some, IfSome, IsSomeAnd}
 use Rattle.dmr_core.specs.declared.entry.Entry.{Entry}
 use Rattle.dmr_plan.specs.declared.settings.Settings.{Settings}
 use Rattle.dmr_keeper.specs.declared.keeper.KeepFault.{KeepFault}
 use Rattle.dmr_keeper.specs.declared.time.TimedRecords.{TimedRecords}
-use Rattle.dmr_keeper.specs.Carried.{Carry, carried_after}
+use Rattle.dmr_keeper.specs.Carried.{Carry, carried_after, starting_with}
 use Rattle.dmr_keeper.specs.Handing.{newest}
 use Rattle.dmr_keeper.specs.Kept.{Kept, Keeps}
 use Rattle.dmr_keeper.specs.Records.{AreRecords}
@@ -20,6 +20,11 @@ use Rattle.dmr_trunk.specs.declared.holding.Writer.TheVariants.{Idle, Busy}
 abbrev pub IsRecordOf : Settings → Carry → List Entry → TimedRecords → Type 0
 IsRecordOf plan before journal term =
     AreRecords plan before journal term.records × (term.time.tick_ms ≡ plan.tick_ms)
+
+-- what is carried to the first term of a site with these radios, if the store asks for records
+abbrev pub carried_if_wanted : Bool → List ℕ → Option Carry
+carried_if_wanted true radios = Some (starting_with radios)
+carried_if_wanted false radios = None
 
 -- what a term hands to the store and to the next term, as long as the ticks of all terms fit in 64 bits
 pub record HasMade (plan : Settings) (before : Carry) (journal : List Entry)

@@ -16,6 +16,18 @@ use std::sync::atomic::{AtomicBool, Ordering};
 use std::thread::{Scope, Threads};
 
 impl<K: Keeper + Drop> Keeping<K> {
+    /// The store when nothing waits for it: it refused nothing.
+    fn at_rest(self) -> Keeping<K>
+        ensures { result ≡ record { keeper = self.keeper; outbox = self.outbox; fault = None } }
+    {
+        let Keeping { keeper, outbox, .. } = self;
+        Keeping {
+            keeper,
+            outbox,
+            fault: None,
+        }
+    }
+
     /// Hands the store what waits, oldest term first, until it refuses some. If there is no fault then, nothing waits.
     pub fn hand_over(self) -> Keeping<K>
         ensures handed { AreHandedOver (K.kept self.keeper) self.outbox result.outbox
@@ -122,11 +134,12 @@ where
     K: Keeper + Send + Drop + 's,
     ensures goes_on { GoOn keeping.outbox (K.kept keeping.keeper) (held result).outbox
         (K.kept (held result).keeper) }
-    ensures starts { is_idle result ≡ true → (held result).fault ≡ None
-        → (held result).outbox ≡ [] }
+    ensures idle { is_idle result ≡ true → (before : Option Kept) (all : List TermRecords)
+        → ArePassedOn before all keeping.outbox (K.kept keeping.keeper)
+        → IsAtEnd K.kept K.refuses before all (held result).outbox (held result).fault }
 {
     if keeping.outbox.is_empty() {
-        return Writer::Idle(keeping);
+        return Writer::Idle(keeping.at_rest());
     }
     written.store(false, Ordering::SeqCst);
     let promise = HandOver(Snapshot::of(&keeping));
@@ -184,7 +197,8 @@ where
 }
 
 /// Goes on at the end of a term, with the records that wait. If the thread that writes has ended, or there is none, a
-/// thread is started for what waits now. Nobody waits for a thread here.
+/// thread is started for what waits now. Nobody waits for a thread here. If no thread writes then, no records wait, or
+/// the store has just refused them.
 pub fn go_on<'s, E, K, R>(
     rt: &R,
     scope: &'s Scope<'s, E>,
@@ -200,8 +214,10 @@ where
         (K.kept (held writer).keeper) ((held result).outbox ++ waiting.new.outbox)
         (K.kept (held result).keeper) }
     ensures moved { is_idle writer ≡ true → waiting.new.outbox ≡ [] }
-    ensures starts { is_idle result ≡ true → (held result).fault ≡ None
-        → (held result).outbox ≡ [] }
+    ensures idle { is_idle result ≡ true → (before : Option Kept) (all : List TermRecords)
+        → ArePassedOn before all ((held writer).outbox ++ waiting.old.outbox)
+        (K.kept (held writer).keeper)
+        → IsAtEnd K.kept K.refuses before all (held result).outbox (held result).fault }
 {
     match take_back(rt, written, writer) {
         Err(busy) => busy,

@@ -49,9 +49,10 @@ use crate::serving::serve_file;
 use crate::store::{Kept, Store, Stored, records_path};
 use dmr_command::{Job, choose, report_out_of_memory, report_refused_words};
 use dmr_pdu::OutOfMemory;
-use dmr_records::RecordsFile;
+use dmr_records::{Reach, RecordsIn, RecordsPath};
 use dmr_replay::replay;
 use log::Log;
+use sqlite::{Alter, Connection, File, FileStore};
 use std::alloc::Global;
 use std::io::Write;
 use std::net::Net;
@@ -225,13 +226,42 @@ where
     }
 }
 
-/// The file of records at a path, which is not opened yet.
-fn file_at<'a>(rt: &'a HostRuntime, path: &'a Stored<String>) -> Stored<RecordsFile<'a>> {
+/// The way to the file of records at a path, which is not opened yet.
+fn way_to<'a>(rt: &'a HostRuntime, path: &'a Stored<String>) -> Stored<RecordsPath<'a>> {
     match path {
         Stored::Nowhere => Stored::Nowhere,
-        Stored::In(path) => Stored::In(RecordsFile::new(rt, path.as_str())),
+        Stored::In(path) => Stored::In(RecordsPath::new(rt, path.as_str())),
         Stored::NotText => Stored::NotText,
     }
+}
+
+/// Does what [`run_program`] does, with records in a database that is reached so.
+fn run_over<R, A, S, D, F, W, E>(
+    rt: &R,
+    files: &A,
+    records: Stored<D>,
+    recording: Stored<F>,
+    out: &mut W,
+    err: &mut E,
+) -> u8
+where
+    R: AllocGlobal + Env + Net + Log + Clock + Wait + Threads + Sync,
+    A: FileSource,
+    S: Alter + Send + Drop,
+    D: Reach<Connection<S>> + Send + Drop,
+    F: Script + Drop,
+    W: Write,
+    E: Write,
+    ensures status { IsStatus result }
+    ensures ok { result ≡ 0
+        → IsReplayedBySome (A.gave files.now) (W.contents out.old) (W.contents out.new) }
+{
+    let records = match records {
+        Stored::Nowhere => Stored::Nowhere,
+        Stored::In(way) => Stored::In(RecordsIn::<S, D>::new(way)),
+        Stored::NotText => Stored::NotText,
+    };
+    run_program(rt, files, Kept { records, recording }, out, err)
 }
 
 /// The recording at a path, whose file is not made yet.
@@ -253,9 +283,9 @@ fn main(rt: HostRuntime) -> ExitCode {
     let Ok(recording) = recording_path(&rt) else {
         return ExitCode::from(report_out_of_memory(&mut err));
     };
-    let kept = Kept {
-        records: file_at(&rt, &path),
-        recording: recording_at(&rt, &recording),
-    };
-    ExitCode::from(run_program(&rt, &files, kept, &mut out, &mut err))
+    let records = way_to(&rt, &path);
+    let recording = recording_at(&rt, &recording);
+    ExitCode::from(run_over::<_, _, FileStore<File>, _, _, _, _>(
+        &rt, &files, records, recording, &mut out, &mut err,
+    ))
 }

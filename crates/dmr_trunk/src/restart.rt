@@ -1,5 +1,8 @@
 //! The start of a site that was served before: the radios that were registered.
 
+ghost use Rattle.std.specs.Prelude.{IfErr, IfOk};
+ghost use Rattle.dmr_trunk.specs.Restart.{AreFound, AreNotFound, AreRestored};
+
 use crate::notes::Notes;
 use crate::store::Store;
 use dmr_keeper::KeepFault;
@@ -15,20 +18,25 @@ const TRIES: u32 = 50;
 /// How many milliseconds pass between two tries.
 const PAUSE: u64 = 100;
 
-/// Reads the radios that were registered. While another program has the file open, the store is asked again, for 5
+/// Reads the radios that were registered. While another program has the file open, the store is asked again, for about 5
 /// seconds.
 fn registered_in<K: Store, R: Clock>(
     rt: &R,
     alloc: Global,
-    store: &K,
-) -> Result<Vec<Address>, KeepFault> {
-    for _ in 0..TRIES {
+    store: &mut K,
+) -> Result<Vec<Address>, KeepFault>
+    ensures found { IfOk result
+        (λ radios. AreFound K.reads K.cannot_read store.old radios.items store.new) }
+    ensures not_found { IfErr result
+        (λ fault. AreNotFound K.cannot_read store.old fault store.new) }
+{
+    for _ in 1..TRIES {
         match store.registered(alloc) {
             Err(KeepFault::InUse) => thread::sleep(rt, Duration::from_millis(PAUSE)),
             found => return found,
         }
     }
-    Err(KeepFault::InUse)
+    store.registered(alloc)
 }
 
 /// Returns the radios that were registered at the end of the last term that the store has. Notes how many there are, or
@@ -36,9 +44,11 @@ fn registered_in<K: Store, R: Clock>(
 pub fn read_registered<K: Store, R: Log + Clock>(
     rt: &R,
     alloc: Global,
-    store: &K,
+    store: &mut K,
     notes: &mut Notes<'_, R>,
-) -> Vec<Address> {
+) -> Vec<Address>
+    ensures { AreRestored K.reads K.cannot_read store.old result.items store.new }
+{
     match registered_in(rt, alloc, store) {
         Ok(radios) => {
             notes.restored(radios.len());

@@ -1,9 +1,10 @@
 //! Serving: a site over TCP, term by term.
 
-ghost use Rattle.std.specs.Prelude.{◌≡◌, ◌*◌, [], IfOk, IfSome, None, vec_len};
+ghost use Rattle.std.specs.Prelude.{◌≡◌, ◌*◌, [], IfOk, None, option_map, vec_len};
 ghost use Rattle.dmr_core.specs.Restored.{facts_with, restored};
 ghost use Rattle.dmr_keeper.specs.Carried.{starting_with};
 ghost use Rattle.dmr_link.specs.Identities.{greatest_of};
+ghost use Rattle.dmr_trunk.specs.Stored.{carried_if_wanted};
 
 use crate::ends::Connections;
 use crate::holding::Keeping;
@@ -379,7 +380,24 @@ fn open_outbox(alloc: Global) -> Result<Outbox, ServeFault>
     }
 }
 
-/// What becomes of the records of a site's terms: they are made if the store keeps any, and none wait yet.
+/// What makes the records of a site's terms, if the store asks for any.
+fn maker_if_wanted<'a, K: Keeper, R: Net + Log + Clock + Wait>(
+    rt: &'a R,
+    alloc: Global,
+    site: &Site,
+    keeper: &K,
+) -> Result<Option<RecordMaker<'a, R>>, ServeFault>
+    ensures { IfOk result (λ maker. option_map (λ m. m.recorder.carried) maker
+        ≡ carried_if_wanted (K.wants keeper.now) site.now.facts.registered) }
+{
+    if keeper.wants_records() {
+        Ok(Some(make_records(rt, alloc, site)?))
+    } else {
+        Ok(None)
+    }
+}
+
+/// What becomes of the records of a site's terms: they are made if the store asks for any, and none wait yet.
 fn open_books<'a, K: Keeper + Drop, R: Net + Log + Clock + Wait>(
     rt: &'a R,
     alloc: Global,
@@ -388,14 +406,10 @@ fn open_books<'a, K: Keeper + Drop, R: Net + Log + Clock + Wait>(
 ) -> Result<Books<'a, K, R>, ServeFault>
     ensures waiting { IfOk result (λ books. (books.keeping.outbox ≡ []) × (books.waiting.outbox ≡ [])) }
     ensures keeper { IfOk result (λ books. books.keeping.keeper ≡ keeper) }
-    ensures carried { IfOk result (λ books. IfSome books.maker
-        (λ maker. maker.recorder.carried ≡ starting_with site.now.facts.registered)) }
+    ensures carried { IfOk result (λ books. option_map (λ m. m.recorder.carried) books.maker
+        ≡ carried_if_wanted (K.wants keeper) site.now.facts.registered) }
 {
-    let maker = if keeper.wants_records() {
-        Some(make_records(rt, alloc, site)?)
-    } else {
-        None
-    };
+    let maker = maker_if_wanted(rt, alloc, site, &keeper)?;
     Ok(Books {
         maker,
         waiting: Waiting::new(open_outbox(alloc)?),

@@ -62,8 +62,8 @@ where
 {
     let mut notes = note_start(rt, alloc, site_name, &plan)?;
     match store {
-        Some(store) => {
-            let radios = read_registered(rt, alloc, &store, &mut notes);
+        Some(mut store) => {
+            let radios = read_registered(rt, alloc, &mut store, &mut notes);
             serve_kept(rt, alloc, plan, terms, store, radios.as_slice(), script)
         }
         None => match script {

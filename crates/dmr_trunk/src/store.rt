@@ -1,9 +1,14 @@
 //! The store of records: a file in the folder for the program's state, if the environment names one.
 
+ghost use Rattle.std.specs.Prelude.{ℕ, List, IfErr, IfOk};
+ghost use Rattle.dmr_keeper.specs.declared.keeper.KeepFault.{KeepFault as AFault};
+ghost use Rattle.dmr_records.specs.Reached.{AreReadBack, CannotRead};
+
 use crate::script::RECORD;
 use dmr_keeper::{KeepFault, Keeper};
 use dmr_pdu::{Address, OutOfMemory};
-use dmr_records::{RecordsFile, keep_fault_of};
+use dmr_records::{Reach, RecordsIn, keep_fault_of};
+use sqlite::{Alter, Connection};
 use std::alloc::Global;
 use std::env;
 use std::env::VarError;
@@ -17,14 +22,33 @@ const FILE: &str = "/site.db";
 
 /// A store that can say which radios were registered.
 pub trait Store: Keeper {
+    // What holds if these radios are read.
+    ghost reads: { Self → List ℕ → Self → Type 0 };
+
+    // What holds if they cannot be read, with this fault.
+    ghost cannot_read: { Self → AFault → Self → Type 0 };
+
     /// Reads the radios that were registered at the end of the last term that the store has, in the order in which they
     /// joined.
-    fn registered(&self, alloc: Global) -> Result<Vec<Address>, KeepFault>;
+    fn registered(&mut self, alloc: Global) -> Result<Vec<Address>, KeepFault>
+        ensures reads { IfOk result (λ radios. reads self.old radios.items self.new) }
+        ensures cannot_read { IfErr result (λ fault. cannot_read self.old fault self.new) };
 }
 
-impl Store for RecordsFile<'_> {
-    fn registered(&self, _alloc: Global) -> Result<Vec<Address>, KeepFault> {
-        match RecordsFile::registered(self) {
+impl<S: Alter, D: Reach<Connection<S>>> Store for RecordsIn<S, D> {
+    ghost reads = { λ before radios after. AreReadBack S.Store D.opens D.closes radios
+        before.reach after.reach };
+
+    ghost cannot_read = { λ before fault after. CannotRead S.Store D.opens D.refuses D.closes
+        before.reach after.reach fault };
+
+    fn registered(&mut self, alloc: Global) -> Result<Vec<Address>, KeepFault>
+        ensures reads { IfOk result (λ radios. AreReadBack S.Store D.opens D.closes radios.items
+            self.old.reach self.new.reach) }
+        ensures cannot_read { IfErr result (CannotRead S.Store D.opens D.refuses D.closes
+            self.old.reach self.new.reach) }
+    {
+        match RecordsIn::registered(self, alloc) {
             Ok(radios) => Ok(radios),
             Err(fault) => Err(keep_fault_of(fault)),
         }

@@ -1,6 +1,6 @@
 use Rattle.std.proofs.Common.{◌≡◌, sym, subst, arith, rules}
 use Rattle.sqlite.specs.State.{HasCleanDisk, Survives}
-use Rattle.sqlite.specs.Held.{Held, state}
+use Rattle.sqlite.specs.Held.{state}
 use Rattle.dmr_records.specs.Written.{HoldsTerm, MayLeave}
 use Rattle.dmr_records.proofs.RanLemmas.{ok_then}
 use Rattle.dmr_records.proofs.CommitLemmas.{holds, may_leave}

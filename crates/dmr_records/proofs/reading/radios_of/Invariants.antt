@@ -1,4 +1,4 @@
-use Rattle.std.proofs.Common.{◌≡◌, ◌++◌, drop, take, map}
+use Rattle.std.proofs.Common.{◌≡◌, take, map}
 use Rattle.sqlite.specs.Order.{column}
 use Rattle.dmr_records.specs.Statements.{number}
 use Rattle.dmr_records.proofs.reading.radios_of.Given as goal

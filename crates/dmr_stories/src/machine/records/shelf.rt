@@ -1,6 +1,6 @@
 //! A store for the stories of records.
 
-ghost use Rattle.std.specs.Prelude.{⊤, None};
+ghost use Rattle.std.specs.Prelude.{◌≡◌, ⊤, true, None};
 
 use dmr_keeper::{InMemory, KeepFault, Keeper, TimedRecords};
 
@@ -18,7 +18,11 @@ impl Keeper for Shelf {
 
     ghost refuses = { λ shelf term fault. ⊤ };
 
-    fn wants_records(&self) -> bool {
+    ghost wants = { λ shelf. true };
+
+    fn wants_records(&self) -> bool
+        ensures { result ≡ true }
+    {
         self.store.wants_records()
     }
 

@@ -97,8 +97,9 @@ fn session_of(alloc: Global, plan: &Plan, radios: &[Address]) -> Result<Vec<Entr
 /// radio registers and its acknowledgement is sent, and the carrier is lost.
 ///
 /// After the session a site that had just started is the site that starts with these radios registered
-/// ([`a_session_registers`](crate::a_session_registers)). No carrier is up before the session, and none is up after it. The error is `OutOfMemory`, or the fault of
-/// an event of the session, counted from its Up; then the text is unchanged.
+/// ([`a_session_registers`](crate::a_session_registers)). No carrier is up before the session, and none is up after it.
+/// The error is `OutOfMemory`, or the fault of an event of the session, counted from its Up; then the text is
+/// unchanged.
 pub fn record_restored(
     alloc: Global,
     plan: &Plan,

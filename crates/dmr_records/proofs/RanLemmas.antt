@@ -1,5 +1,5 @@
 -- Statements that run one after another: one, more, and each of a loop.
-use Rattle.std.proofs.Common.{◌≡◌, ◌+◌, ◌<◌, ◌≤◌, inl, inr, ℕ, Bool, true, false, IsTrue, List, [], ◌∷◌, ◌++◌, map, length, drop, get_or, Result, Ok, Err, OnOk, arith, refl, sym, ap, subst, ◌∙◌}
+use Rattle.std.proofs.Common.{◌≡◌, ◌+◌, ◌<◌, ◌≤◌, inl, inr, ℕ, Bool, true, false, IsTrue, List, [], ◌∷◌, ◌++◌, map, length, drop, get_or, Result, Ok, Err, arith, refl, sym, ap, subst, ◌∙◌}
 use Rattle.std.proofs.lemmas.List.{drop_more, drop_all}
 use Rattle.sqlite.specs.Store.{Ghosts}
 use Rattle.sqlite.specs.Order.{Row}
@@ -14,48 +14,70 @@ use Rattle.sqlite.specs.State.{State, HasCleanDisk, ExecutesInside, KeepsCommit,
 use Rattle.sqlite.specs.Held.{Held, state}
 use Rattle.sqlite.proofs.StateLemmas.{survives_then}
 use Rattle.dmr_records.specs.Statements.{Statement, put_registration, put_registrations}
-use Rattle.dmr_records.specs.Ran.{Ran, RanAll, ExecutedAll, Keeps}
-
--- one statement
-pub ran_one : {S : Type 0} (g : Ghosts S) (it : Statement) (old new : Held S) → Ran g it old new → RanAll g (it ∷ []) old new
-ran_one g it old new ran = (new, ran, refl)
+use Rattle.dmr_records.specs.Ran.{Executed, ExecutedAll, Failed, Keeps, RanAll, Within}
 
 -- some statements, and then others
-pub ran_then : {S : Type 0} (g : Ghosts S) (first second : List Statement) (old mid new : Held S) → RanAll g first old mid → RanAll g second mid new → RanAll g (first ++ second) old new
-ran_then {S} g [] second old mid new is more = subst (λ (h : Held S). RanAll g second h new) is more
-ran_then g (it ∷ later) second old mid new ran more =
-    (ran.0, ran.1, ran_then g later second ran.0 mid new ran.2 more)
+pub ran_then : {S : Type 0} (g : Ghosts S) (first second : List Statement) (old mid new : Held S) (r : Result (Unit {0}) Error) → RanAll g first old mid (Ok tt) → RanAll g second mid new r → RanAll g (first ++ second) old new r
+ran_then {S} g [] second old mid new r done more = subst (λ (h : Held S). RanAll g second h new r) done.1 more
+ran_then g (it ∷ later) second old mid new r (inl (e, is, failed)) more = absurd cc
+ran_then g (it ∷ later) second old mid new r (inr (next, ran, rest)) more = inr (next, ran, ran_then g later second next mid new r rest more)
+
+-- some statements, of which one failed, and so no others
+pub ran_short : {S : Type 0} (g : Ghosts S) (first second : List Statement) (old new : Held S) (e : Error) → RanAll g first old new (Err e) → RanAll g (first ++ second) old new (Err e)
+ran_short g [] second old new e done = absurd (let is = done.0 in cc)
+ran_short g (it ∷ later) second old new e (inl failed) = inl failed
+ran_short g (it ∷ later) second old new e (inr (next, ran, rest)) = inr (next, ran, ran_short g later second next new e rest)
+
+-- what one statement did
+pub one_ok : {S : Type 0} (g : Ghosts S) (it : Statement) (old new : Held S) → RanAll g (it ∷ []) old new (Ok tt) → Within g old new (Executed g it old new)
+one_ok {S} g it old new (inl (e, is, failed)) = absurd cc
+one_ok {S} g it old new (inr (mid, ran, done)) = subst (λ (h : Held S). Within g old h (Executed g it old h)) (sym done.1) ran
+
+pub one_err : {S : Type 0} (g : Ghosts S) (it : Statement) (old new : Held S) (e : Error) → RanAll g (it ∷ []) old new (Err e) → Within g old new (Failed g it old new e)
+one_err {S} g it old new e (inl (other, is, failed)) = let same : other ≡ e = cc in subst (λ (x : Error). Within g old new (Failed g it old new x)) same failed
+one_err {S} g it old new e (inr (mid, ran, done)) = absurd (let is = done.0 in cc)
 
 -- the elements that are left begin with the one that is read
 rest_is : {X : Type 0} (xs : List X) (i : ℕ) (x : X) → i < length xs → x ≡ get_or xs i x → drop i xs ≡ x ∷ drop (i + 1) xs
 rest_is xs i x within read = drop_more xs i x within ∙ ap (λ y. y ∷ drop (i + 1) xs) (sym read)
 
--- In a loop that runs one statement for each element: if the statements that are left lead to some state, those of all
--- elements lead there from the start. So it is at the start ..
+-- In a loop that runs one statement for each element: whatever the statements that are left lead to, those of all
+-- elements lead to from the start. So it is at the start ..
 -- .. after one more element ..
-pub ran_on : {S X : Type 0} (g : Ghosts S) (put : X → Statement) (xs : List X) (i : ℕ) (x : X) (start now next : Held S) → i < length xs → x ≡ get_or xs i x → Ran g (put x) now next
-    → ((last : Held S) → RanAll g (map put (drop i xs)) now last → RanAll g (map put xs) start last)
-    → (last : Held S) → RanAll g (map put (drop (i + 1) xs)) next last → RanAll g (map put xs) start last
-ran_on {S} {X} g put xs i x start now next within read ran all last rest =
-    all last (subst (λ (ys : List X). RanAll g (map put ys) now last) (sym (rest_is xs i x within read)) (next, ran, rest))
+pub ran_on : {S X : Type 0} (g : Ghosts S) (put : X → Statement) (xs : List X) (i : ℕ) (x : X) (start now next : Held S) → i < length xs → x ≡ get_or xs i x → RanAll g (put x ∷ []) now next (Ok tt)
+    → ((last : Held S) (r : Result (Unit {0}) Error) → RanAll g (map put (drop i xs)) now last r → RanAll g (map put xs) start last r)
+    → (last : Held S) (r : Result (Unit {0}) Error) → RanAll g (map put (drop (i + 1) xs)) next last r → RanAll g (map put xs) start last r
+ran_on {S} {X} g put xs i x start now next within read ran all last r rest =
+    all last r (subst (λ (ys : List X). RanAll g (map put ys) now last r) (sym (rest_is xs i x within read)) (ran_then g (put x ∷ []) (map put (drop (i + 1) xs)) now next last r ran rest))
+
+-- .. if one fails ..
+pub ran_off : {S X : Type 0} (g : Ghosts S) (put : X → Statement) (xs : List X) (i : ℕ) (x : X) (start now next : Held S) (e : Error) → i < length xs → x ≡ get_or xs i x → RanAll g (put x ∷ []) now next (Err e)
+    → ((last : Held S) (r : Result (Unit {0}) Error) → RanAll g (map put (drop i xs)) now last r → RanAll g (map put xs) start last r) → RanAll g (map put xs) start next (Err e)
+ran_off {S} {X} g put xs i x start now next e within read ran all =
+    all next (Err e) (subst (λ (ys : List X). RanAll g (map put ys) now next (Err e)) (sym (rest_is xs i x within read)) (ran_short g (put x ∷ []) (map put (drop (i + 1) xs)) now next e ran))
 
 -- .. and at the end
 pub ran_out : {S X : Type 0} (g : Ghosts S) (put : X → Statement) (xs : List X) (i : ℕ) (start now : Held S) → length xs ≤ i
-    → ((last : Held S) → RanAll g (map put (drop i xs)) now last → RanAll g (map put xs) start last) → RanAll g (map put xs) start now
+    → ((last : Held S) (r : Result (Unit {0}) Error) → RanAll g (map put (drop i xs)) now last r → RanAll g (map put xs) start last r) → RanAll g (map put xs) start now (Ok tt)
 ran_out {S} {X} g put xs i start now over all =
-    all now (subst (λ (ys : List X). RanAll g (map put ys) now now) (sym (drop_all i xs over)) refl)
+    all now (Ok tt) (subst (λ (ys : List X). RanAll g (map put ys) now now (Ok tt)) (sym (drop_all i xs over)) (refl, refl))
 
 -- the same of registrations, whose places are counted
-pub placed_on : {S : Type 0} (g : Ghosts S) (radios : List ℕ) (i place radio : ℕ) (start now next : Held S) → i < length radios → radio ≡ get_or radios i radio → Ran g (put_registration place radio) now next
-    → ((last : Held S) → RanAll g (put_registrations place (drop i radios)) now last → RanAll g (put_registrations 1 radios) start last)
-    → (last : Held S) → RanAll g (put_registrations (place + 1) (drop (i + 1) radios)) next last → RanAll g (put_registrations 1 radios) start last
-placed_on {S} g radios i place radio start now next within read ran all last rest =
-    all last (subst (λ (ys : List ℕ). RanAll g (put_registrations place ys) now last) (sym (rest_is radios i radio within read)) (next, ran, rest))
+pub placed_on : {S : Type 0} (g : Ghosts S) (radios : List ℕ) (i place radio : ℕ) (start now next : Held S) → i < length radios → radio ≡ get_or radios i radio → RanAll g (put_registration place radio ∷ []) now next (Ok tt)
+    → ((last : Held S) (r : Result (Unit {0}) Error) → RanAll g (put_registrations place (drop i radios)) now last r → RanAll g (put_registrations 1 radios) start last r)
+    → (last : Held S) (r : Result (Unit {0}) Error) → RanAll g (put_registrations (place + 1) (drop (i + 1) radios)) next last r → RanAll g (put_registrations 1 radios) start last r
+placed_on {S} g radios i place radio start now next within read ran all last r rest =
+    all last r (subst (λ (ys : List ℕ). RanAll g (put_registrations place ys) now last r) (sym (rest_is radios i radio within read)) (ran_then g (put_registration place radio ∷ []) (put_registrations (place + 1) (drop (i + 1) radios)) now next last r ran rest))
+
+pub placed_off : {S : Type 0} (g : Ghosts S) (radios : List ℕ) (i place radio : ℕ) (start now next : Held S) (e : Error) → i < length radios → radio ≡ get_or radios i radio → RanAll g (put_registration place radio ∷ []) now next (Err e)
+    → ((last : Held S) (r : Result (Unit {0}) Error) → RanAll g (put_registrations place (drop i radios)) now last r → RanAll g (put_registrations 1 radios) start last r) → RanAll g (put_registrations 1 radios) start next (Err e)
+placed_off {S} g radios i place radio start now next e within read ran all =
+    all next (Err e) (subst (λ (ys : List ℕ). RanAll g (put_registrations place ys) now next (Err e)) (sym (rest_is radios i radio within read)) (ran_short g (put_registration place radio ∷ []) (put_registrations (place + 1) (drop (i + 1) radios)) now next e ran))
 
 pub placed_out : {S : Type 0} (g : Ghosts S) (radios : List ℕ) (i place : ℕ) (start now : Held S) → length radios ≤ i
-    → ((last : Held S) → RanAll g (put_registrations place (drop i radios)) now last → RanAll g (put_registrations 1 radios) start last) → RanAll g (put_registrations 1 radios) start now
+    → ((last : Held S) (r : Result (Unit {0}) Error) → RanAll g (put_registrations place (drop i radios)) now last r → RanAll g (put_registrations 1 radios) start last r) → RanAll g (put_registrations 1 radios) start now (Ok tt)
 placed_out {S} g radios i place start now over all =
-    all now (subst (λ (ys : List ℕ). RanAll g (put_registrations place ys) now now) (sym (drop_all i radios over)) refl)
+    all now (Ok tt) (subst (λ (ys : List ℕ). RanAll g (put_registrations place ys) now now (Ok tt)) (sym (drop_all i radios over)) (refl, refl))
 
 -- a statement within a transaction commits nothing
 kept_by : (sql : List ℕ) (params : Row) (old new : State) (r : Result ℕ Error) → ExecutesInside 0 sql params old new r → KeepsCommit old new
@@ -100,33 +122,35 @@ keeps_then g a b c one two = record {
 }
 
 -- if the disk has returned what was written up to the end, it has up to the beginning
-pub clean_before : {S : Type 0} (g : Ghosts S) (its : List Statement) (old new : Held S) → RanAll g its old new → HasCleanDisk (state g new) → HasCleanDisk (state g old)
-clean_before {S} g [] old new is clean = subst (λ (h : Held S). HasCleanDisk (state g h)) is clean
-clean_before g (it ∷ later) old new ran clean =
-    let late : HasCleanDisk (state g ran.0) = clean_before g later ran.0 new ran.2 clean in
-    let kept = ran.1.survives.clean in
-    omega arith
+pub clean_before : {S : Type 0} (g : Ghosts S) (its : List Statement) (old new : Held S) (r : Result (Unit {0}) Error) → RanAll g its old new r → HasCleanDisk (state g new) → HasCleanDisk (state g old)
+clean_before {S} g [] old new r done clean = subst (λ (h : Held S). HasCleanDisk (state g h)) done.1 clean
+clean_before g (it ∷ later) old new r (inl (e, is, failed)) clean = omega (arith, failed.survives.clean)
+clean_before g (it ∷ later) old new r (inr (mid, ran, rest)) clean =
+    let late : HasCleanDisk (state g mid) = clean_before g later mid new r rest clean in
+    omega (arith, ran.survives.clean)
 
 -- statements that ran were executed, if the disk has returned what was written
-pub executed : {S : Type 0} (g : Ghosts S) (its : List Statement) (old new : Held S) → RanAll g its old new → HasCleanDisk (state g new) → IsTrue (state g old).in_transaction
-    → ExecutedAll g its old new × IsTrue (state g new).in_transaction
-executed {S} g [] old new is clean inside = (is, subst (λ (h : Held S). IsTrue h.in_transaction) (sym is) inside)
-executed g (it ∷ later) old new ran clean inside =
-    let did = ran.1.runs (clean_before g later ran.0 new ran.2 clean) inside in
-    let more = executed g later ran.0 new ran.2 clean did.executes.1.mode in
-    ((ran.0, did, more.0), more.1)
+pub executed : {S : Type 0} (g : Ghosts S) (its : List Statement) (old new : Held S) (r : Result (Unit {0}) Error) → RanAll g its old new r → HasCleanDisk (state g new) → IsTrue (state g old).in_transaction → ExecutedAll g its old new r
+executed g [] old new r done clean inside = done
+executed g (it ∷ later) old new r (inl (e, is, failed)) clean inside = inl (e, is, failed.fact clean inside)
+executed g (it ∷ later) old new r (inr (mid, ran, rest)) clean inside =
+    let did = ran.fact (clean_before g later mid new r rest clean) inside in
+    inr (mid, did, executed g later mid new r rest clean did.1.1.mode)
 
--- the same statement, written otherwise
-pub ran_as : {S : Type 0} (g : Ghosts S) (it : Statement) (text : List ℕ) (params : Row) (old new : Held S) (r : Result (Unit {0}) Error) → OnOk r (Ran g (record { text = text; params = params }) old new)
-    → text ≡ it.text → params ≡ it.params → OnOk r (Ran g it old new)
+-- one statement, as the library ran it
+pub ran_as : {S : Type 0} (g : Ghosts S) (it : Statement) (text : List ℕ) (params : Row) (old new : Held S) (r : Result (Unit {0}) Error) → RanAll g (record { text = text; params = params } ∷ []) old new r
+    → text ≡ it.text → params ≡ it.params → RanAll g (it ∷ []) old new r
 ran_as g it text params old new r ran same_text same_params =
-    subst (λ (p : Row). OnOk r (Ran g (record { text = it.text; params = p }) old new)) same_params
-    (subst (λ (t : List ℕ). OnOk r (Ran g (record { text = t; params = params }) old new)) same_text ran)
+    subst (λ (p : Row). RanAll g (record { text = it.text; params = p } ∷ []) old new r) same_params
+    (subst (λ (t : List ℕ). RanAll g (record { text = t; params = params } ∷ []) old new r) same_text ran)
 
--- a fact of success follows from another
-pub ok_then : {X E A B : Type 0} (r : Result X E) → (A → B) → OnOk r A → OnOk r B
-ok_then (Ok x) f a = f a
-ok_then (Err e) f a = tt
+pub ran_ok : {S : Type 0} (g : Ghosts S) (it : Statement) (old new : Held S) (count : ℕ) → (HasCleanDisk (state g new) → IsTrue (state g old).in_transaction → ExecutesInside 0 it.text it.params (state g old) (state g new) (Ok count)) → Survives (state g old) (state g new) (λ _. ⊥)
+    → RanAll g (it ∷ []) old new (Ok tt)
+ran_ok g it old new count runs survives = inr (new, record { fact = λ clean inside. (count, runs clean inside); survives = survives }, (refl, refl))
+
+pub ran_err : {S : Type 0} (g : Ghosts S) (it : Statement) (old new : Held S) (e : Error) → (HasCleanDisk (state g new) → IsTrue (state g old).in_transaction → ExecutesInside 0 it.text it.params (state g old) (state g new) (Err e)) → Survives (state g old) (state g new) (λ _. ⊥)
+    → RanAll g (it ∷ []) old new (Err e)
+ran_err g it old new e runs survives = inl (e, refl, record { fact = runs; survives = survives })
 
 -- the values that are bound, one by one
 bound_cons : (v : ValueRef) (vs : List ValueRef) (x : Value) (xs : Row) → bound_value (owned v) ≡ x → bound vs ≡ xs → bound (v ∷ vs) ≡ x ∷ xs

@@ -4,5 +4,6 @@ pub mod Statements
 pub mod Ran
 pub mod Written
 pub mod Faults
+pub mod Tables
 pub mod Reading
 pub mod Reached

@@ -145,8 +145,8 @@ prune_terms = record {
 abbrev pub prune : ℕ → List Statement
 prune most = mark_removed most ∷ prune_calls ∷ prune_events ∷ prune_terms ∷ []
 
--- the oldest rows are removed after some terms alone, since that takes long: a table has at most a thousandth more rows,
--- in terms. If few rows stay, it is after each term
+-- the oldest rows are removed after some terms alone, since that takes long: a table has at most a thousandth more
+-- rows, in terms. If few rows stay, it is after each term
 abbrev pub prune_after : ℕ → ℕ → List Statement
 prune_after most number = if number % (most / 1000 + 1) == 0 then prune most else []
 

@@ -1,9 +1,9 @@
 //! The transaction that writes the records of a term.
 
-ghost use Rattle.std.specs.Prelude.{◌≡◌, false, IsTrue, OnErr, OnOk};
+ghost use Rattle.std.specs.Prelude.{◌≡◌, false, IfErr, OnErr, OnOk};
 ghost use Rattle.sqlite.specs.Held.{state};
-ghost use Rattle.sqlite.specs.State.{HasCleanDisk, Survives};
-ghost use Rattle.dmr_records.specs.Written.{HoldsTerm, MayLeave};
+ghost use Rattle.sqlite.specs.State.{HasCleanDisk, KeepsCommit, Survives};
+ghost use Rattle.dmr_records.specs.Written.{FailsToWrite, HoldsTerm, IsNotWritten, MayLeave};
 
 use crate::fault::{FileFault, fault_of};
 use crate::written::put_records;
@@ -21,9 +21,10 @@ fn commit_term<S: Alter>(
     ensures idle { conn.new.in_transaction ≡ false }
     ensures all { HasCleanDisk (state S.Store conn.new) → OnOk result
         (HoldsTerm S.Store most term.now conn.old (state S.Store conn.new).committed) }
+    ensures failed { HasCleanDisk (state S.Store conn.new) → IfErr result
+        (FailsToWrite S.Store most term.now conn.old conn.new) }
     ensures nothing { HasCleanDisk (state S.Store conn.new)
-        → IsTrue (state S.Store conn.new).is_open
-        → OnErr result ((state S.Store conn.new).committed ≡ (state S.Store conn.old).committed) }
+        → OnErr result (KeepsCommit (state S.Store conn.old) (state S.Store conn.new)) }
     ensures crash { Survives (state S.Store conn.old) (state S.Store conn.new)
         (MayLeave S.Store most term.now conn.old) }
 {
@@ -48,9 +49,10 @@ pub fn write_term<S: Alter>(
     ensures idle { conn.new.in_transaction ≡ false }
     ensures all { HasCleanDisk (state S.Store conn.new) → OnOk result
         (HoldsTerm S.Store most term.now conn.old (state S.Store conn.new).committed) }
+    ensures failed { HasCleanDisk (state S.Store conn.new) → IfErr result
+        (IsNotWritten S.Store most term.now conn.old conn.new) }
     ensures nothing { HasCleanDisk (state S.Store conn.new)
-        → IsTrue (state S.Store conn.new).is_open
-        → OnErr result ((state S.Store conn.new).committed ≡ (state S.Store conn.old).committed) }
+        → OnErr result (KeepsCommit (state S.Store conn.old) (state S.Store conn.new)) }
     ensures crash { Survives (state S.Store conn.old) (state S.Store conn.new)
         (MayLeave S.Store most term.now conn.old) }
 {

@@ -8,7 +8,7 @@ use crate::fault::FileFault;
 /// How the database of the records is reached, by connections `C`. It is opened for each call, and closed before the
 /// call returns.
 pub trait Reach<C> {
-    // What holds of a connection that `open` returns, whose tables are prepared.
+    // What holds of a connection that `open` returns.
     ghost opens: { Self → C → Self → Type 0 };
 
     // What holds if the database cannot be opened, with this fault.
@@ -17,7 +17,7 @@ pub trait Reach<C> {
     // What closing a connection leaves.
     ghost closes: { Self → C → Self → Type 0 };
 
-    /// Opens the database, and prepares its tables. Each [`FileFault`] says why it cannot.
+    /// Opens the database. Each [`FileFault`] says why it cannot.
     fn open(&mut self) -> Result<C, FileFault>
         ensures opens { IfOk result (λ conn. opens self.old conn self.new) }
         ensures refuses { IfErr result (λ fault. refuses self.old fault self.new) };

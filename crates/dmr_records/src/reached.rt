@@ -1,18 +1,64 @@
 //! Writing to and reading from a database that is opened for it.
 
 ghost use Rattle.std.specs.Prelude.{IfErr, IfOk, OnOk};
-ghost use Rattle.dmr_records.specs.Reached.{AreReadBack, IsKept, IsNotKept, IsNotRead};
+ghost use Rattle.sqlite.specs.Held.{state};
+ghost use Rattle.sqlite.specs.State.{HasCleanDisk, Survives};
+ghost use Rattle.dmr_records.specs.Reached.{AreReadBack, FailsOver, IsKept, IsNotKept, IsNotRead};
+ghost use Rattle.dmr_records.specs.Reached.{MayKeep, ReadsRadios, WritesTerm};
+ghost use Rattle.dmr_records.specs.Reading.{AreNotRead};
+ghost use Rattle.dmr_records.specs.Tables.{MayPrepare};
+ghost use Rattle.dmr_records.specs.Written.{IsNotWritten};
 
 use crate::commit::write_term;
 use crate::fault::FileFault;
 use crate::reach::Reach;
 use crate::reading::read_radios;
+use crate::tables::prepare_tables;
 use dmr_keeper::TimedRecords;
 use dmr_pdu::Address;
 use sqlite::{Alter, Connection};
 use std::alloc::Global;
 
-/// Opens the database, writes the records of a term in one transaction, and closes it.
+/// Prepares the tables, and writes the records of a term.
+fn prepare_and_write<S: Alter>(
+    conn: &mut Connection<S>,
+    most: u32,
+    term: &TimedRecords,
+) -> Result<(), FileFault>
+    ensures written { HasCleanDisk (state S.Store conn.new)
+        → OnOk result (WritesTerm S.Store most term.now conn.old conn.new) }
+    ensures not_written { HasCleanDisk (state S.Store conn.new)
+        → IfErr result (FailsOver S.Store (IsNotWritten S.Store most term.now) conn.old conn.new) }
+    ensures crash { Survives (state S.Store conn.old) (state S.Store conn.new)
+        (MayKeep S.Store most term.now conn.old) }
+{
+    if !conn.is_autocommit() {
+        return Err(FileFault::NotRecords);
+    }
+    prepare_tables(conn)?;
+    write_term(conn, most, term)
+}
+
+/// Prepares the tables, and reads the registered radios.
+fn prepare_and_read<S: Alter>(
+    alloc: Global,
+    conn: &mut Connection<S>,
+) -> Result<Vec<Address>, FileFault>
+    ensures read { HasCleanDisk (state S.Store conn.new)
+        → IfOk result (λ radios. ReadsRadios S.Store radios.items conn.old conn.new) }
+    ensures not_read { HasCleanDisk (state S.Store conn.new)
+        → IfErr result (FailsOver S.Store (AreNotRead S.Store) conn.old conn.new) }
+    ensures crash { Survives (state S.Store conn.old) (state S.Store conn.new)
+        (MayPrepare S.Store conn.old) }
+{
+    if !conn.is_autocommit() {
+        return Err(FileFault::NotRecords);
+    }
+    prepare_tables(conn)?;
+    read_radios(alloc, conn)
+}
+
+/// Opens the database, makes its tables if it has none, writes the records of a term in one transaction, and closes it.
 ///
 /// Of each table of calls, events and terms, the newest `most` rows stay.
 ///
@@ -30,16 +76,13 @@ pub fn keep_term<S: Alter, D: Reach<Connection<S>>>(
         reach.old reach.new) }
 {
     let mut conn = reach.open()?;
-    if !conn.is_autocommit() {
-        reach.close(conn);
-        return Err(FileFault::NotRecords);
-    }
-    let written = write_term(&mut conn, most, term);
+    let written = prepare_and_write(&mut conn, most, term);
     reach.close(conn);
     written
 }
 
-/// Opens the database, reads the registered radios, and closes it. They are in the order in which they joined.
+/// Opens the database, makes its tables if it has none, reads the registered radios, and closes it. The radios are in
+/// the order in which they joined.
 ///
 /// # Errors
 ///
@@ -53,7 +96,7 @@ pub fn read_registered<S: Alter, D: Reach<Connection<S>>>(
     ensures not_read { IfErr result (IsNotRead S.Store D.opens D.refuses D.closes reach.old reach.new) }
 {
     let mut conn = reach.open()?;
-    let radios = read_radios(alloc, &mut conn);
+    let radios = prepare_and_read(alloc, &mut conn);
     reach.close(conn);
     radios
 }

@@ -3,9 +3,9 @@
 //! Each function runs one statement in a transaction. If the statement fails or is refused, the transaction is as the
 //! library leaves it, and its owner drops it, which rolls it back.
 
-ghost use Rattle.std.specs.Prelude.{◌≡◌, OnOk};
+ghost use Rattle.std.specs.Prelude.{◌≡◌, [], ◌∷◌};
 ghost use Rattle.sqlite.specs.Values.{bound};
-ghost use Rattle.dmr_records.specs.Ran.{Keeps, Ran};
+ghost use Rattle.dmr_records.specs.Ran.{Keeps, RanAll};
 ghost use Rattle.dmr_records.specs.Statements.{cut_registrations as statement_of_cut};
 ghost use Rattle.dmr_records.specs.Statements.{mark_removed as statement_of_mark};
 ghost use Rattle.dmr_records.specs.Statements.{prune_calls as statement_of_calls};
@@ -60,8 +60,8 @@ fn run<S: Alter>(
     params: &[ValueRef<'_>],
 ) -> Result<(), Error>
     ensures same_reference { tx.new.conn.ghost_name ≡ tx.old.conn.ghost_name }
-    ensures ran { OnOk result (Ran S.Store (record { text = text.now; params = bound params.now })
-        tx.old.conn.now tx.new.conn.now) }
+    ensures ran { RanAll S.Store (record { text = text.now; params = bound params.now } ∷ [])
+        tx.old.conn.now tx.new.conn.now result }
     ensures keeps { Keeps S.Store tx.old.conn.now tx.new.conn.now }
 {
     match tx.execute(text, params) {
@@ -79,8 +79,8 @@ pub fn put_term<S: Alter>(
     counts: &TermCounts,
 ) -> Result<(), Error>
     ensures same_reference { tx.new.conn.ghost_name ≡ tx.old.conn.ghost_name }
-    ensures ran { OnOk result
-        (Ran S.Store (statement_of_term time ticks counts.now) tx.old.conn.now tx.new.conn.now) }
+    ensures ran { RanAll S.Store (statement_of_term time ticks counts.now ∷ [])
+        tx.old.conn.now tx.new.conn.now result }
     ensures keeps { Keeps S.Store tx.old.conn.now tx.new.conn.now }
 {
     run(
@@ -116,8 +116,8 @@ pub fn put_call<S: Alter>(
     call: &EndedCall,
 ) -> Result<(), Error>
     ensures same_reference { tx.new.conn.ghost_name ≡ tx.old.conn.ghost_name }
-    ensures ran { OnOk result
-        (Ran S.Store (statement_of_call term call.now) tx.old.conn.now tx.new.conn.now) }
+    ensures ran { RanAll S.Store (statement_of_call term call.now ∷ [])
+        tx.old.conn.now tx.new.conn.now result }
     ensures keeps { Keeps S.Store tx.old.conn.now tx.new.conn.now }
 {
     run(
@@ -146,8 +146,8 @@ pub fn put_event<S: Alter>(
     event: &EventRow,
 ) -> Result<(), Error>
     ensures same_reference { tx.new.conn.ghost_name ≡ tx.old.conn.ghost_name }
-    ensures ran { OnOk result
-        (Ran S.Store (statement_of_event term event.now) tx.old.conn.now tx.new.conn.now) }
+    ensures ran { RanAll S.Store (statement_of_event term event.now ∷ [])
+        tx.old.conn.now tx.new.conn.now result }
     ensures keeps { Keeps S.Store tx.old.conn.now tx.new.conn.now }
 {
     run(
@@ -176,8 +176,8 @@ pub fn put_registration<S: Alter>(
     radio: &Address,
 ) -> Result<(), Error>
     ensures same_reference { tx.new.conn.ghost_name ≡ tx.old.conn.ghost_name }
-    ensures ran { OnOk result
-        (Ran S.Store (statement_of_registration place radio.now) tx.old.conn.now tx.new.conn.now) }
+    ensures ran { RanAll S.Store (statement_of_registration place radio.now ∷ [])
+        tx.old.conn.now tx.new.conn.now result }
     ensures keeps { Keeps S.Store tx.old.conn.now tx.new.conn.now }
 {
     run(tx, PUT_REGISTRATION, &[count(place), number(radio.get())])
@@ -186,8 +186,8 @@ pub fn put_registration<S: Alter>(
 /// Removes the registrations after this place.
 pub fn cut_registrations<S: Alter>(tx: &mut Transaction<'_, S>, last: usize) -> Result<(), Error>
     ensures same_reference { tx.new.conn.ghost_name ≡ tx.old.conn.ghost_name }
-    ensures ran { OnOk result
-        (Ran S.Store (statement_of_cut last) tx.old.conn.now tx.new.conn.now) }
+    ensures ran { RanAll S.Store (statement_of_cut last ∷ [])
+        tx.old.conn.now tx.new.conn.now result }
     ensures keeps { Keeps S.Store tx.old.conn.now tx.new.conn.now }
 {
     run(tx, CUT_REGISTRATIONS, &[size(last)])
@@ -196,8 +196,8 @@ pub fn cut_registrations<S: Alter>(tx: &mut Transaction<'_, S>, last: usize) -> 
 /// Notes up to which number the rows of each table are removed next, so that at most this many stay.
 pub fn mark_removed<S: Alter>(tx: &mut Transaction<'_, S>, most: u32) -> Result<(), Error>
     ensures same_reference { tx.new.conn.ghost_name ≡ tx.old.conn.ghost_name }
-    ensures ran { OnOk result
-        (Ran S.Store (statement_of_mark most) tx.old.conn.now tx.new.conn.now) }
+    ensures ran { RanAll S.Store (statement_of_mark most ∷ [])
+        tx.old.conn.now tx.new.conn.now result }
     ensures keeps { Keeps S.Store tx.old.conn.now tx.new.conn.now }
 {
     run(tx, MARK_REMOVED, &[number(most)])
@@ -206,8 +206,8 @@ pub fn mark_removed<S: Alter>(tx: &mut Transaction<'_, S>, most: u32) -> Result<
 /// Removes the calls up to the noted number.
 pub fn prune_calls<S: Alter>(tx: &mut Transaction<'_, S>) -> Result<(), Error>
     ensures same_reference { tx.new.conn.ghost_name ≡ tx.old.conn.ghost_name }
-    ensures ran { OnOk result
-        (Ran S.Store statement_of_calls tx.old.conn.now tx.new.conn.now) }
+    ensures ran { RanAll S.Store (statement_of_calls ∷ [])
+        tx.old.conn.now tx.new.conn.now result }
     ensures keeps { Keeps S.Store tx.old.conn.now tx.new.conn.now }
 {
     run(tx, PRUNE_CALLS, &[])
@@ -216,8 +216,8 @@ pub fn prune_calls<S: Alter>(tx: &mut Transaction<'_, S>) -> Result<(), Error>
 /// Removes the events up to the noted number.
 pub fn prune_events<S: Alter>(tx: &mut Transaction<'_, S>) -> Result<(), Error>
     ensures same_reference { tx.new.conn.ghost_name ≡ tx.old.conn.ghost_name }
-    ensures ran { OnOk result
-        (Ran S.Store statement_of_events tx.old.conn.now tx.new.conn.now) }
+    ensures ran { RanAll S.Store (statement_of_events ∷ [])
+        tx.old.conn.now tx.new.conn.now result }
     ensures keeps { Keeps S.Store tx.old.conn.now tx.new.conn.now }
 {
     run(tx, PRUNE_EVENTS, &[])
@@ -226,8 +226,8 @@ pub fn prune_events<S: Alter>(tx: &mut Transaction<'_, S>) -> Result<(), Error>
 /// Removes the terms up to the noted number.
 pub fn prune_terms<S: Alter>(tx: &mut Transaction<'_, S>) -> Result<(), Error>
     ensures same_reference { tx.new.conn.ghost_name ≡ tx.old.conn.ghost_name }
-    ensures ran { OnOk result
-        (Ran S.Store statement_of_terms tx.old.conn.now tx.new.conn.now) }
+    ensures ran { RanAll S.Store (statement_of_terms ∷ [])
+        tx.old.conn.now tx.new.conn.now result }
     ensures keeps { Keeps S.Store tx.old.conn.now tx.new.conn.now }
 {
     run(tx, PRUNE_TERMS, &[])

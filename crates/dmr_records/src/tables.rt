@@ -1,12 +1,23 @@
 //! The tables, and their version.
 
-ghost use Rattle.std.specs.Prelude.{◌≡◌, ◌↔◌, ◌<ℤ◌, false, pos, Err, IsOk};
+ghost use Rattle.std.specs.Prelude.{◌≡◌, false, pos, IfErr, IfOk, IsTrue, OnErr, OnOk};
+ghost use Rattle.sqlite.specs.Held.{state};
+ghost use Rattle.sqlite.specs.State.{HasCleanDisk, KeepsCommit, Survives};
+ghost use Rattle.dmr_records.specs.Ran.{Looks};
+ghost use Rattle.dmr_records.specs.Tables.{AreMade, AreNotPrepared, ArePrepared, FailsToMake};
+ghost use Rattle.dmr_records.specs.Tables.{FindsNoVersion, FindsVersion, HasNoVersion, HasVersion};
+ghost use Rattle.dmr_records.specs.Tables.{IsOtherVersion, MayLeaveTables, MayPrepare};
+ghost use Rattle.dmr_records.specs.Tables.{ShowsNoNumber, ShowsNumber};
 
 use crate::fault::{FileFault, fault_of};
-use sqlite::{Alter, Connection, Error};
+use sqlite::{Alter, Connection, Error, Transaction};
 
 /// The version of the tables that this crate makes and reads.
 pub const VERSION: i64 = 1;
+
+const COUNT_TABLES: &str = "SELECT count(*) FROM sqlite_schema";
+
+const SELECT_VERSION: &str = "SELECT max(version) FROM schema_version";
 
 /// The tables of version 1. `docs/RECORDS.md` describes them.
 const TABLES: &str = "\
@@ -64,31 +75,55 @@ const TABLES: &str = "\
     INSERT INTO removed (calls, events, terms) VALUES (0, 0, 0);\
     INSERT INTO schema_version (version) VALUES (1)";
 
-/// Reports whether the database has no table yet.
-fn is_new<S: Alter>(conn: &mut Connection<S>) -> Result<bool, Error>
-    requires idle { conn.old.in_transaction ≡ false }
-    ensures idle { conn.new.in_transaction ≡ false }
+/// The number with which the first row of a query's answer begins.
+fn read_number<S: Alter>(tx: &mut Transaction<'_, S>, query: &str) -> Result<i64, Error>
+    ensures same_reference { tx.new.conn.ghost_name ≡ tx.old.conn.ghost_name }
+    ensures shown { HasCleanDisk (state S.Store tx.new.conn.now)
+        → IfOk result (ShowsNumber S.Store query.now tx.old.conn.now tx.new.conn.now) }
+    ensures not_shown { HasCleanDisk (state S.Store tx.new.conn.now)
+        → IfErr result (ShowsNoNumber S.Store query.now tx.old.conn.now tx.new.conn.now) }
+    ensures looks { Looks S.Store tx.old.conn.now tx.new.conn.now }
+    ensures inside { HasCleanDisk (state S.Store tx.new.conn.now) → IsTrue tx.old.conn.now.in_transaction
+        → OnOk result (IsTrue tx.new.conn.now.in_transaction) }
 {
-    let tables: i64 = conn
-        .query_row("SELECT count(*) FROM sqlite_schema", &[])?
-        .get(0)?;
-    Ok(tables == 0)
+    tx.query_row(query, &[])?.get(0)
 }
 
-/// The version of the tables.
-fn find_version<S: Alter>(conn: &mut Connection<S>) -> Result<i64, Error>
+/// The version of the tables, or `None` if there is no table.
+fn read_version<S: Alter>(tx: &mut Transaction<'_, S>) -> Result<Option<i64>, Error>
+    ensures same_reference { tx.new.conn.ghost_name ≡ tx.old.conn.ghost_name }
+    ensures found { HasCleanDisk (state S.Store tx.new.conn.now)
+        → IfOk result (FindsVersion S.Store tx.old.conn.now tx.new.conn.now) }
+    ensures not_found { HasCleanDisk (state S.Store tx.new.conn.now)
+        → IfErr result (FindsNoVersion S.Store tx.old.conn.now tx.new.conn.now) }
+    ensures looks { Looks S.Store tx.old.conn.now tx.new.conn.now }
+{
+    if read_number(tx, COUNT_TABLES)? == 0 {
+        return Ok(None);
+    }
+    Ok(Some(read_number(tx, SELECT_VERSION)?))
+}
+
+/// The same, in a transaction of its own, in which nothing is written.
+fn find_version<S: Alter>(conn: &mut Connection<S>) -> Result<Option<i64>, Error>
     requires idle { conn.old.in_transaction ≡ false }
     ensures idle { conn.new.in_transaction ≡ false }
+    ensures found { HasCleanDisk (state S.Store conn.new)
+        → IfOk result (HasVersion S.Store conn.old conn.new) }
+    ensures not_found { HasCleanDisk (state S.Store conn.new)
+        → IfErr result (HasNoVersion S.Store conn.old conn.new) }
+    ensures nothing { HasCleanDisk (state S.Store conn.new)
+        → KeepsCommit (state S.Store conn.old) (state S.Store conn.new) }
+    ensures survives { Survives (state S.Store conn.old) (state S.Store conn.new) (λ _. ⊥) }
 {
-    conn.query_row("SELECT max(version) FROM schema_version", &[])?
-        .get(0)
+    let mut tx = conn.transaction();
+    read_version(&mut tx)
 }
 
 /// Accepts this crate's version.
 fn check_version(found: i64) -> Result<(), FileFault>
-    ensures known { IsOk result ↔ (found ≡ pos 1) }
-    ensures newer { pos 1 <ℤ found → result ≡ Err (FileFault.Newer found) }
-    ensures other { found <ℤ pos 1 → result ≡ Err FileFault.NotRecords }
+    ensures known { OnOk result (found ≡ pos 1) }
+    ensures other { IfErr result (IsOtherVersion found) }
 {
     if found == VERSION {
         Ok(())
@@ -103,6 +138,13 @@ fn check_version(found: i64) -> Result<(), FileFault>
 fn make_tables<S: Alter>(conn: &mut Connection<S>) -> Result<(), Error>
     requires idle { conn.old.in_transaction ≡ false }
     ensures idle { conn.new.in_transaction ≡ false }
+    ensures made { HasCleanDisk (state S.Store conn.new) → OnOk result (AreMade S.Store conn.old conn.new) }
+    ensures not_made { HasCleanDisk (state S.Store conn.new)
+        → IfErr result (FailsToMake S.Store conn.old conn.new) }
+    ensures nothing { HasCleanDisk (state S.Store conn.new)
+        → OnErr result (KeepsCommit (state S.Store conn.old) (state S.Store conn.new)) }
+    ensures crash { Survives (state S.Store conn.old) (state S.Store conn.new)
+        (MayLeaveTables S.Store conn.old) }
 {
     let mut tx = conn.transaction();
     tx.execute_batch(TABLES)?;
@@ -121,13 +163,21 @@ fn make_tables<S: Alter>(conn: &mut Connection<S>) -> Result<(), Error>
 pub fn prepare_tables<S: Alter>(conn: &mut Connection<S>) -> Result<(), FileFault>
     requires idle { conn.old.in_transaction ≡ false }
     ensures idle { conn.new.in_transaction ≡ false }
+    ensures prepared { HasCleanDisk (state S.Store conn.new)
+        → OnOk result (ArePrepared S.Store conn.old conn.new) }
+    ensures not_prepared { HasCleanDisk (state S.Store conn.new)
+        → IfErr result (AreNotPrepared S.Store conn.old conn.new) }
+    ensures nothing { HasCleanDisk (state S.Store conn.new)
+        → OnErr result (KeepsCommit (state S.Store conn.old) (state S.Store conn.new)) }
+    ensures crash { Survives (state S.Store conn.old) (state S.Store conn.new)
+        (MayPrepare S.Store conn.old) }
 {
-    match is_new(conn) {
-        Ok(true) => make_tables(conn).map_err(fault_of),
-        Ok(false) => match find_version(conn) {
-            Ok(found) => check_version(found),
+    match find_version(conn) {
+        Ok(None) => match make_tables(conn) {
+            Ok(()) => Ok(()),
             Err(error) => Err(fault_of(error)),
         },
+        Ok(Some(found)) => check_version(found),
         Err(error) => Err(fault_of(error)),
     }
 }

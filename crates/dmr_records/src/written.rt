@@ -1,6 +1,6 @@
 //! The statements that write the records of a term, one after another.
 
-ghost use Rattle.std.specs.Prelude.{◌≡◌, OnOk};
+ghost use Rattle.std.specs.Prelude.{◌≡◌};
 ghost use Rattle.dmr_records.specs.Ran.{Keeps, RanAll};
 ghost use Rattle.dmr_records.specs.Statements.{prune as statements_of_pruning};
 ghost use Rattle.dmr_records.specs.Statements.{prune_after as statements_after};
@@ -11,7 +11,7 @@ ghost use Rattle.dmr_records.specs.Statements.{put_radios as statements_of_radio
 ghost use Rattle.dmr_records.specs.Statements.{put_registrations as statements_of_registrations};
 ghost use Rattle.dmr_records.specs.Statements.{put_rest as statements_of_rest};
 ghost use Rattle.dmr_records.specs.Statements.{row_number};
-ghost use Rattle.dmr_records.specs.Written.{IsWritten};
+ghost use Rattle.dmr_records.specs.Written.{RunsTerm};
 ghost use Rattle.sqlite.specs.Held.{state};
 
 use crate::events::{event_of_change, event_of_note};
@@ -31,8 +31,8 @@ fn put_calls<S: Alter>(
     calls: &[EndedCall],
 ) -> Result<(), Error>
     ensures same_reference { tx.new.conn.ghost_name ≡ tx.old.conn.ghost_name }
-    ensures ran { OnOk result
-        (RanAll S.Store (statements_of_calls term calls.now) tx.old.conn.now tx.new.conn.now) }
+    ensures ran { RanAll S.Store (statements_of_calls term calls.now)
+        tx.old.conn.now tx.new.conn.now result }
     ensures keeps { Keeps S.Store tx.old.conn.now tx.new.conn.now }
 {
     for call in calls {
@@ -48,8 +48,8 @@ fn put_changes<S: Alter>(
     changes: &[Change],
 ) -> Result<(), Error>
     ensures same_reference { tx.new.conn.ghost_name ≡ tx.old.conn.ghost_name }
-    ensures ran { OnOk result
-        (RanAll S.Store (statements_of_changes term changes.now) tx.old.conn.now tx.new.conn.now) }
+    ensures ran { RanAll S.Store (statements_of_changes term changes.now)
+        tx.old.conn.now tx.new.conn.now result }
     ensures keeps { Keeps S.Store tx.old.conn.now tx.new.conn.now }
 {
     for change in changes {
@@ -65,8 +65,8 @@ fn put_notes<S: Alter>(
     notes: &[Note],
 ) -> Result<(), Error>
     ensures same_reference { tx.new.conn.ghost_name ≡ tx.old.conn.ghost_name }
-    ensures ran { OnOk result
-        (RanAll S.Store (statements_of_notes term notes.now) tx.old.conn.now tx.new.conn.now) }
+    ensures ran { RanAll S.Store (statements_of_notes term notes.now)
+        tx.old.conn.now tx.new.conn.now result }
     ensures keeps { Keeps S.Store tx.old.conn.now tx.new.conn.now }
 {
     for note in notes {
@@ -78,8 +78,8 @@ fn put_notes<S: Alter>(
 /// Writes radios in their order, from the first place on.
 fn put_registrations<S: Alter>(tx: &mut Transaction<'_, S>, radios: &[Address]) -> Result<(), Error>
     ensures same_reference { tx.new.conn.ghost_name ≡ tx.old.conn.ghost_name }
-    ensures ran { OnOk result (RanAll S.Store
-        (statements_of_registrations 1 radios.now) tx.old.conn.now tx.new.conn.now) }
+    ensures ran { RanAll S.Store (statements_of_registrations 1 radios.now)
+        tx.old.conn.now tx.new.conn.now result }
     ensures keeps { Keeps S.Store tx.old.conn.now tx.new.conn.now }
 {
     let mut place = 1u64;
@@ -93,8 +93,8 @@ fn put_registrations<S: Alter>(tx: &mut Transaction<'_, S>, radios: &[Address]) 
 /// Writes the registered radios, and removes the rows after the last of them.
 fn put_radios<S: Alter>(tx: &mut Transaction<'_, S>, radios: &[Address]) -> Result<(), Error>
     ensures same_reference { tx.new.conn.ghost_name ≡ tx.old.conn.ghost_name }
-    ensures ran { OnOk result
-        (RanAll S.Store (statements_of_radios radios.now) tx.old.conn.now tx.new.conn.now) }
+    ensures ran { RanAll S.Store (statements_of_radios radios.now)
+        tx.old.conn.now tx.new.conn.now result }
     ensures keeps { Keeps S.Store tx.old.conn.now tx.new.conn.now }
 {
     put_registrations(tx, radios)?;
@@ -104,8 +104,8 @@ fn put_radios<S: Alter>(tx: &mut Transaction<'_, S>, radios: &[Address]) -> Resu
 /// Removes the oldest calls, events and terms, so that at most this many of each stay.
 fn prune<S: Alter>(tx: &mut Transaction<'_, S>, most: u32) -> Result<(), Error>
     ensures same_reference { tx.new.conn.ghost_name ≡ tx.old.conn.ghost_name }
-    ensures ran { OnOk result
-        (RanAll S.Store (statements_of_pruning most) tx.old.conn.now tx.new.conn.now) }
+    ensures ran { RanAll S.Store (statements_of_pruning most)
+        tx.old.conn.now tx.new.conn.now result }
     ensures keeps { Keeps S.Store tx.old.conn.now tx.new.conn.now }
 {
     mark_removed(tx, most)?;
@@ -117,8 +117,8 @@ fn prune<S: Alter>(tx: &mut Transaction<'_, S>, most: u32) -> Result<(), Error>
 /// Removes the oldest rows after the term with this number, if it is time for that.
 fn prune_after<S: Alter>(tx: &mut Transaction<'_, S>, most: u32, number: u64) -> Result<(), Error>
     ensures same_reference { tx.new.conn.ghost_name ≡ tx.old.conn.ghost_name }
-    ensures ran { OnOk result
-        (RanAll S.Store (statements_after most number) tx.old.conn.now tx.new.conn.now) }
+    ensures ran { RanAll S.Store (statements_after most number)
+        tx.old.conn.now tx.new.conn.now result }
     ensures keeps { Keeps S.Store tx.old.conn.now tx.new.conn.now }
 {
     if number % (u64::from(most) / 1000 + 1) == 0 {
@@ -135,8 +135,8 @@ fn put_rest<S: Alter>(
     records: &Records,
 ) -> Result<(), Error>
     ensures same_reference { tx.new.conn.ghost_name ≡ tx.old.conn.ghost_name }
-    ensures ran { OnOk result (RanAll S.Store
-        (statements_of_rest most term records.now) tx.old.conn.now tx.new.conn.now) }
+    ensures ran { RanAll S.Store (statements_of_rest most term records.now)
+        tx.old.conn.now tx.new.conn.now result }
     ensures keeps { Keeps S.Store tx.old.conn.now tx.new.conn.now }
 {
     put_calls(tx, term, records.calls.as_slice())?;
@@ -164,8 +164,7 @@ pub fn put_records<S: Alter>(
     term: &TimedRecords,
 ) -> Result<(), Error>
     ensures same_reference { tx.new.conn.ghost_name ≡ tx.old.conn.ghost_name }
-    ensures written { OnOk result
-        (IsWritten S.Store most term.now tx.old.conn.now tx.new.conn.now) }
+    ensures ran { RunsTerm S.Store most term.now tx.old.conn.now tx.new.conn.now result }
     ensures keeps { Keeps S.Store tx.old.conn.now tx.new.conn.now }
 {
     let records = &term.records;

@@ -18,8 +18,8 @@ const TRIES: u32 = 50;
 /// How many milliseconds pass between two tries.
 const PAUSE: u64 = 100;
 
-/// Reads the radios that were registered. While another program has the file open, the store is asked again, for about 5
-/// seconds.
+/// Reads the radios that were registered. While another program has the file open, the store is asked again, for about
+/// 5 seconds.
 fn registered_in<K: Store, R: Clock>(
     rt: &R,
     alloc: Global,

@@ -1,7 +1,28 @@
-use Rattle.dmr_records.specs.Statements.{prune_terms}
-use Rattle.dmr_records.proofs.RanLemmas.{ok_then, ran_one}
+use Rattle.std.proofs.Common.{◌≡◌, [], ◌∷◌, Err, rules}
+use Rattle.dmr_records.specs.Statements.{mark_removed, prune_calls, prune_events, prune_terms}
+use Rattle.dmr_records.proofs.RanLemmas.{ran_short, ran_then}
 use Rattle.dmr_records.proofs.written.prune.Goals as goal
+
+pub returns-in_err-mark_removed-clause-ran : goal.returns-in_err-mark_removed-clause-ran
+returns-in_err-mark_removed-clause-ran g c =
+    let is : c.from_residual.result ≡ Err c.in_err-mark_removed.field-0.0 = search rules in
+    rw is (ran_short g.S.Store (mark_removed c.args.most ∷ []) (prune_calls ∷ prune_events ∷ prune_terms ∷ []) _ _ _ c.in_err-mark_removed.ensures.ran)
+
+pub returns-in_err-prune_calls-clause-ran : goal.returns-in_err-prune_calls-clause-ran
+returns-in_err-prune_calls-clause-ran g c =
+    let is : c.from_residual-in_err-prune_calls.result ≡ Err c.in_err-prune_calls.field-0.0 = search rules in
+    rw is (ran_then g.S.Store (mark_removed c.args.most ∷ []) (prune_calls ∷ prune_events ∷ prune_terms ∷ []) _ _ _ _ c.in_ok-mark_removed.ensures.ran
+    (ran_short g.S.Store (prune_calls ∷ []) (prune_events ∷ prune_terms ∷ []) _ _ _ c.in_err-prune_calls.ensures.ran))
+
+pub returns-in_err-prune_events-clause-ran : goal.returns-in_err-prune_events-clause-ran
+returns-in_err-prune_events-clause-ran g c =
+    let is : c.from_residual-in_err-prune_events.result ≡ Err c.in_err-prune_events.field-0.0 = search rules in
+    rw is (ran_then g.S.Store (mark_removed c.args.most ∷ []) (prune_calls ∷ prune_events ∷ prune_terms ∷ []) _ _ _ _ c.in_ok-mark_removed.ensures.ran
+    (ran_then g.S.Store (prune_calls ∷ []) (prune_events ∷ prune_terms ∷ []) _ _ _ _ c.in_ok-prune_calls.ensures.ran
+    (ran_short g.S.Store (prune_events ∷ []) (prune_terms ∷ []) _ _ _ c.in_err-prune_events.ensures.ran)))
 
 pub returns-clause-ran : goal.returns-clause-ran
 returns-clause-ran g c =
-    ok_then c.prune_terms.result (λ last. (_, c.in_ok-mark_removed.ensures.ran, (_, c.in_ok-prune_calls.ensures.ran, (_, c.in_ok-prune_events.ensures.ran, ran_one g.S.Store prune_terms _ _ last)))) c.prune_terms.ensures.ran
+    ran_then g.S.Store (mark_removed c.args.most ∷ []) (prune_calls ∷ prune_events ∷ prune_terms ∷ []) _ _ _ _ c.in_ok-mark_removed.ensures.ran
+    (ran_then g.S.Store (prune_calls ∷ []) (prune_events ∷ prune_terms ∷ []) _ _ _ _ c.in_ok-prune_calls.ensures.ran
+    (ran_then g.S.Store (prune_events ∷ []) (prune_terms ∷ []) _ _ _ _ c.in_ok-prune_events.ensures.ran c.prune_terms.ensures.ran))

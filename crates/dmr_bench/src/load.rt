@@ -32,7 +32,7 @@ const ACTIVE: [&[u8]; 2] = [&[0x04, 0x01, 0x00], &[0x04, 0x01, 0x01]];
 /// The number of frames whose bursts are made in advance. After them, the bursts begin again.
 pub const BURSTS: u32 = 4_096;
 
-/// The number of frames after which the outputs are dropped.
+/// The number of frames after which the outputs are emptied.
 const KEPT: u32 = 256;
 
 /// The common part of all site files. Carrier 0 is the control carrier. Calls end after 100 ticks of 60 ms at the
@@ -196,7 +196,6 @@ fn sum_of(octets: &[u8]) -> u64 {
 /// A site in operation, with counts of its input and output.
 #[derive(Drop)]
 pub struct BenchSite {
-    alloc: Global,
     engine: Engine,
     outputs: Outputs,
     carriers: u32,
@@ -216,7 +215,6 @@ impl BenchSite {
         };
         match Engine::new(alloc, plan) {
             Ok(engine) => Ok(Some(BenchSite {
-                alloc,
                 engine,
                 outputs: Outputs::new(alloc),
                 carriers: carriers.min(16),
@@ -237,7 +235,8 @@ impl BenchSite {
             self.take(0, &registration(radio.wrapping_add(1)))?;
             self.take(0, POLL)?;
         }
-        self.begin()
+        self.count_outputs();
+        Ok(())
     }
 
     /// Has a carrier come up.
@@ -250,15 +249,14 @@ impl BenchSite {
         )
     }
 
-    /// Counts and sums the octets of the outputs, and drops them.
-    fn begin(&mut self) -> Result<(), OutOfMemory> {
+    /// Counts and sums the octets of the outputs, and empties them.
+    fn count_outputs(&mut self) {
         for number in 0..16u32 {
             let put_out = self.outputs.carrier(CarrierNo::new(number));
             self.octets = self.octets.wrapping_add(put_out.len() as u64);
             self.sum = self.sum.wrapping_add(sum_of(put_out));
         }
-        self.outputs = Outputs::new(self.alloc);
-        Ok(())
+        self.outputs.clear();
     }
 
     /// Opens a carrier's connection.
@@ -326,9 +324,10 @@ impl BenchSite {
                 self.frame(load, burst)?;
             }
             if frame % KEPT == 0 {
-                self.begin()?;
+                self.count_outputs();
             }
         }
-        self.begin()
+        self.count_outputs();
+        Ok(())
     }
 }

@@ -131,6 +131,15 @@ zeros-cons x octets = either (x == 0) (filter (λ octet. octet == 0) octets)
     either true rest = omega arith
     either false rest = omega arith
 
+-- there are no more zeros than octets
+pub zeros_within : (octets : List ℕ) → zeros_in octets ≤ length octets
+zeros_within [] = omega arith
+zeros_within (x ∷ octets) = omega (arith, zeros-cons x octets, zeros_within octets, one (x == 0))
+  where
+    one : (b : Bool) → length (cond b (x ∷ []) []) ≤ 1
+    one true = omega arith
+    one false = omega arith
+
 -- an event that is not answered, or a repeat
 unanswered : (numbered repeat : Bool) (e : Event) → most_at numbered e ≡ 0 → most_in numbered (list_of_notice (if repeat then None else Some (Happened e))) ≡ 0
 unanswered numbered true e none = refl

@@ -97,6 +97,13 @@ fn zeros(octets: &[u8]) -> usize
     octets.iter().filter(|octet| **octet == 0).count()
 }
 
+/// Reports whether at most `most` octets are 0. They are counted only if there are more octets than that.
+fn has_few_zeros(octets: &[u8], most: usize) -> bool
+    ensures { result ≡ nat_le (zeros_in octets.now) most }
+{
+    octets.len() <= most || zeros(octets) <= most
+}
+
 /// Reports whether a text surely has room for the octets that answer these, without a look at their frames. A carrier
 /// that is up is answered for its POLLs alone, the last octet of a POLL is 0, and at most 60 octets answer it. If the
 /// result is `false`, there may still be room: [`room_for`] has the exact number.
@@ -108,7 +115,7 @@ pub fn has_room(text: &Vec<u8>, connection: &Connection, octets: &[u8]) -> bool
         ≤ vec_capacity text.now }
 {
     let spare = text.capacity() - text.len();
-    connection.is_up_between() && zeros(octets) <= spare / MOST_FOR_POLL
+    connection.is_up_between() && has_few_zeros(octets, spare / MOST_FOR_POLL)
 }
 
 /// Makes room for `octets` more octets at the end of a text.

@@ -77,7 +77,8 @@ fn engine(alloc: Global) -> Result<Engine, Fail> {
     Ok(Engine::new(alloc, plan_of(alloc, SMALL)?)?)
 }
 
-/// Checks the octets that an engine writes if it takes the inputs in steps.
+/// Checks the octets that an engine writes if it takes the inputs in steps, and that none are left once the outputs are
+/// cleared.
 fn check_steps(
     rt: &(impl Abort + AllocGlobal),
     name: &str,
@@ -87,7 +88,10 @@ fn check_steps(
     let mut engine = engine(rt.alloc())?;
     let outputs = outputs_by_steps(rt.alloc(), &mut engine, came.as_slice());
     drop(engine);
-    check_written(rt, name, input, &outputs?)?;
+    let mut outputs = outputs?;
+    check_written(rt, name, input, &outputs)?;
+    outputs.clear();
+    check_written(rt, name, &[], &outputs)?;
     Ok(())
 }
 

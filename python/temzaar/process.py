@@ -14,6 +14,9 @@ from typing import Any
 from temzaar.script import SessionFault
 from temzaar.sitefile import Site
 
+# What deploy/dmr_trunk.service has the C library do: give large pieces of memory back at once, and keep the stacks of threads that have ended.
+UNIT_VARIABLES = {"MALLOC_MMAP_THRESHOLD_": "262144", "GLIBC_TUNABLES": "glibc.pthread.stack_cache_size=268435456"}
+
 
 class Process:
     """The system's figures of a process that runs."""
@@ -76,8 +79,7 @@ class Controller(Process):
         with open(path, "w", encoding="utf-8") as it:
             it.write(site.text())
         self.notes: list[str] = []
-        # as deploy/dmr_trunk.service has it: the memory of a term goes back to the system when the term ends
-        environment = {**os.environ, "MALLOC_MMAP_THRESHOLD_": "262144", **(variables or {})}
+        environment = {**os.environ, **UNIT_VARIABLES, **(variables or {})}
         command = [program, "--site", path, "--serve", *words]
         more: dict[str, Any] = {"stdin": subprocess.DEVNULL, "process_group": 0, "preexec_fn": ends_with_parent(), **options}
         try:

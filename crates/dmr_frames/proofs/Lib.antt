@@ -11,3 +11,4 @@ pub mod ReadingLemmas
 pub mod WholeFrameLemmas
 pub mod OneFrameLemmas
 pub mod VersionLaws
+pub mod PartLemmas

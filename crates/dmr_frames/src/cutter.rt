@@ -1,6 +1,6 @@
 //! Cuts a carrier's octets into frames.
 
-ghost use Rattle.std.specs.Prelude.{◌≡◌, ℕ, ◌<◌, ◌≤◌, List, [], ◌∷◌, ◌++◌, length, take, IfSome};
+ghost use Rattle.std.specs.Prelude.{◌≡◌, ℕ, ◌+◌, ◌-◌, ◌<◌, ◌≤◌, List, [], ◌∷◌, ◌++◌, drop, length, take, IfSome};
 ghost use Rattle.std.specs.Prelude.{None};
 ghost use Rattle.dmr_bits.specs.Bits.{field_of};
 ghost use Rattle.dmr_bits.specs.Words.{word_of};
@@ -136,7 +136,40 @@ impl Cutter {
                 return (count, Step::Frame(frame));
             }
         }
+        if let Some(taken) = self.feed_part(octets) {
+            return taken;
+        }
         self.feed_one_by_one(octets)
+    }
+
+    /// Takes octets with which a frame goes on, up to its end, if it is a frame with some octets after these. If the
+    /// result is `None`, nothing was taken.
+    fn feed_part(&mut self, octets: &[u8]) -> Option<(usize, Step)>
+        requires { 0 < length octets.now }
+        ensures count { IfSome result (λ r. r.0 ≤ length octets.now) }
+        ensures all { IfSome result (λ r. r.1 ≡ Step.Need → r.0 ≡ length octets.now) }
+        ensures step { IfSome result (λ r. ProduceAtLast self.old (take r.0 octets.now) r.1) }
+        ensures rest { IfSome result
+            (λ r. self.new ≡ rest_after_octets self.old (take r.0 octets.now)) }
+        ensures none { result ≡ None → self.new ≡ self.old }
+    {
+        if self.fault.is_some() {
+            return None;
+        }
+        let kept = self.count;
+        write_after(&mut self.octets, kept, octets);
+        let (length, frame) = read_frame(self.table.version(), &self.octets)?;
+        if length <= kept {
+            return None;
+        }
+        let more = length - kept;
+        if more > octets.len() {
+            self.count = kept + octets.len();
+            return Some((octets.len(), Step::Need));
+        }
+        self.count = 0;
+        self.table = self.table.next_table(&frame);
+        Some((more, Step::Frame(frame)))
     }
 
     /// Takes the POLL or the ACTIVE that octets begin with, if no frame has begun and there was no fault. Returns how
@@ -203,6 +236,17 @@ impl Cutter {
             }
         }
     }
+}
+
+/// Writes octets after those that are kept, as far as there is room.
+fn write_after(frame: &mut [u8; LONGEST_FRAME], kept: usize, octets: &[u8])
+    requires { kept ≤ LONGEST_FRAME }
+    ensures { frame.new ≡ take kept frame.old
+        ++ (take (LONGEST_FRAME - kept) octets.now ++ drop (kept + length octets.now) frame.old) }
+{
+    let room = LONGEST_FRAME - kept;
+    let count = octets.len().min(room);
+    frame[kept..kept + count].copy_from_slice(&octets[..count]);
 }
 
 /// Returns the short frame that octets begin with, and how many octets it has.

@@ -9,6 +9,6 @@ pub mod StepLemmas
 pub mod StreamLemmas
 pub mod ReadingLemmas
 pub mod WholeFrameLemmas
+pub mod PartLemmas
 pub mod OneFrameLemmas
 pub mod VersionLaws
-pub mod PartLemmas

@@ -89,9 +89,12 @@ fn check_steps(
     let outputs = outputs_by_steps(rt.alloc(), &mut engine, came.as_slice());
     drop(engine);
     let mut outputs = outputs?;
-    check_written(rt, name, input, &outputs)?;
+    let written = check_written(rt, name, input, &outputs);
     outputs.clear();
-    check_written(rt, name, &[], &outputs)?;
+    let cleared = check_written(rt, name, &[], &outputs);
+    drop(outputs);
+    written?;
+    cleared?;
     Ok(())
 }
 

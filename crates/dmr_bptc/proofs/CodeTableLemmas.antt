@@ -1,5 +1,5 @@
 -- The table of codewords is that of the equations, the interleaving and the information's cells.
-use Rattle.std.proofs.Common.{◌≡◌, ◌==◌, ℕ, zero, suc, ◌+◌, ◌-◌, ◌*◌, ◌/◌, ◌%◌, ◌^◌, ◌<◌, ◌≤◌, Bool, true, false, ◌&&◌, List, [], ◌∷◌, length, get_or, refl, sym, ap, ◌∙◌, arith, ⊎_elim}
+use Rattle.std.proofs.Common.{◌≡◌, ◌==◌, ℕ, ◌+◌, ◌-◌, ◌*◌, ◌/◌, ◌%◌, ◌^◌, ◌<◌, ◌≤◌, Bool, true, false, ◌&&◌, List, length, get_or, refl, sym, ap, ◌∙◌, arith, ⊎_elim}
 use Rattle.std.specs.Int.{bit_at}
 use Rattle.std.proofs.Math.Nat.{zero-div}
 use Rattle.std.proofs.lemmas.Bool.{agree_below, agree_below_at, eqb-true, cases_lt}
@@ -7,22 +7,22 @@ use Rattle.std.proofs.lemmas.List.{get_or_past}
 use Rattle.dmr_bits.specs.Bits.{octet_bit}
 use Rattle.dmr_bits.specs.Words.{word_bit}
 use Rattle.dmr_bits.specs.Packed.{packed_bit}
+use Rattle.dmr_bptc.specs.Groups.{added, number_at, number_of_bit, AreSumsOfBits, numbers_added}
 use Rattle.dmr_bptc.specs.declared.encoding.TheConstants.{ENCODED}
 use Rattle.dmr_bptc.specs.Bptc.{row_equations, column_equations, cell, place_of, IsEncoding}
 use Rattle.dmr_bptc.specs.Mending.{syndrome}
-use Rattle.dmr_bptc.proofs.LineLemmas.{satisfies-from_syndrome, row_indices, column_indices}
-use Rattle.dmr_bptc.proofs.ParityLemmas.{satisfies-same}
-use Rattle.dmr_bptc.proofs.OddSumLemmas.{odd_below, odd_below-same, odd_below-none, odd_below-one, and_false, satisfies-odd_below, added, added-bit, added_by}
+use Rattle.dmr_bptc.proofs.CodewordSumLemmas.{bit-of_sum, codeword-from_sum}
+use Rattle.dmr_bptc.proofs.OddSumLemmas.{odd_below, odd_below-same, odd_below-none, odd_below-one, and_false, added_by}
 
 -- ---- the entries
 
 -- one number of an entry
 unfoldable pub code_entry : ℕ → ℕ → ℕ → ℕ
-code_entry part k value = get_or (get_or (get_or ENCODED.entries k []) value []) part 0
+code_entry part k value = number_at ENCODED.entries part k value
 
 -- the number that one information bit adds
 unfoldable pub code_number : ℕ → ℕ → ℕ
-code_number part k = get_or (get_or (get_or ENCODED.entries (k / 4) []) (2 ^ (3 - k % 4)) []) part 0
+code_number part k = number_of_bit ENCODED.entries part k
 
 -- the entries of a group of four add the same as its bits one by one
 unfoldable entries_agree : ℕ → ℕ → ℕ → Bool
@@ -36,12 +36,16 @@ entries_agree-at : (part k count value : ℕ) → entries_agree part k count ≡
 unfolding entries_agree
 entries_agree-at part k count value all lt = eqb-true _ _ (agree_below_at (λ value. code_entry part k value == added_by (code_number part) k value) (λ _. true) count value all lt)
 
-pub code_entry-is : (part k value : ℕ) → part < 4 → k < 24 → value < 16 → code_entry part k value ≡ added_by (code_number part) k value
+code_entry-is : (part k value : ℕ) → part < 4 → k < 24 → value < 16 → code_entry part k value ≡ added_by (code_number part) k value
 code_entry-is part k value part_lt k_lt lt =
     let of_part : part ≡ (4 * k + part) % 4 = omega arith in
     let of_group : k ≡ (4 * k + part) / 4 = omega arith in
     entries_agree-at part k 16 value
     ((λ i. entries_agree (of_part i) (of_group i) 16) ∙ agree_below_at (λ n. entries_agree (n % 4) (n / 4) 16) (λ _. true) 96 (4 * k + part) entries_right (omega arith)) lt
+
+pub encoded-sums : AreSumsOfBits ENCODED.entries
+unfolding code_entry code_number added_by
+encoded-sums part group value part_lt group_lt lt = code_entry-is part group value part_lt group_lt lt
 
 -- ---- the codeword of one information bit
 
@@ -112,22 +116,13 @@ sum_bit octets place = odd_below (λ k. octet_bit octets k && code_bit k place) 
 none : (octets : List ℕ) (place : ℕ) → none_has place 96 ≡ true → sum_bit octets place ≡ false
 none octets place is = odd_below-none (λ k. octet_bit octets k && code_bit k place) 96 (λ k lt. ap (λ b. octet_bit octets k && b) (none_has-at place 96 k is lt) ∙ and_false (octet_bit octets k))
 
-four_words : (f : ℕ → ℕ) (n : ℕ) → n < 4 → get_or (f 0 ∷ f 1 ∷ f 2 ∷ f 3 ∷ []) n 0 ≡ f n
-four_words f zero lt = refl
-four_words f (suc zero) lt = refl
-four_words f (suc (suc zero)) lt = refl
-four_words f (suc (suc (suc zero))) lt = refl
-four_words f (suc (suc (suc (suc n)))) lt = absurd (omega arith)
-
 -- the four numbers that the table's entries add up to
 abbrev pub code_words : List ℕ → List ℕ
-code_words octets = added (octet_bit octets) (code_number 0) 96 ∷ added (octet_bit octets) (code_number 1) 96 ∷ added (octet_bit octets) (code_number 2) 96 ∷ added (octet_bit octets) (code_number 3) 96 ∷ []
+code_words octets = numbers_added ENCODED.entries octets 96
 
 packed_bit-code_words : (octets : List ℕ) (place : ℕ) → place < 256 → packed_bit (code_words octets) place ≡ sum_bit octets place
-unfolding code_bit
-packed_bit-code_words octets place lt =
-    ap (λ n. n / 2 ^ (63 - place % 64) % 2 == 1) (four_words (λ part. added (octet_bit octets) (code_number part) 96) (place / 64) (omega arith))
-    ∙ added-bit (octet_bit octets) (code_number (place / 64)) (63 - place % 64) 96
+unfolding code_bit code_number
+packed_bit-code_words octets place lt = bit-of_sum ENCODED.entries octets 96 place lt
 
 pub code_words-after : (octets : List ℕ) (q : ℕ) → 196 ≤ q → packed_bit (code_words octets) q ≡ false
 code_words-after octets q le =
@@ -144,15 +139,9 @@ pub encoding-is : (octets : List ℕ) (word : List Bool) → length word ≡ 196
 encoding-is octets word len bits =
     let is : (row column : ℕ) → cell word row column ≡ sum_bit octets (place_of row column) = λ row column. bits (place_of row column) ∙ packed_bit-code_words octets (place_of row column) (omega arith) in
     record {
-      is_codeword = record {
-        len = len;
-        rows = λ row lt. satisfies-same row_equations (λ column. cell word row column) (λ column. sum_bit octets (place_of row column)) 15 row_indices (λ column _. is row column)
-            (satisfies-odd_below row_equations (octet_bit octets) (λ k column. code_bit k (place_of row column)) 96 (λ k k_lt.
-            satisfies-from_syndrome row_equations (λ column. code_bit k (place_of row column)) (rows_agree-at k 13 row (agree_below_at (λ k. rows_agree k 13) (λ _. true) 96 k rows_right k_lt) lt)));
-        columns = λ column lt. satisfies-same column_equations (λ row. cell word row column) (λ row. sum_bit octets (place_of row column)) 13 column_indices (λ row _. is row column)
-            (satisfies-odd_below column_equations (octet_bit octets) (λ k row. code_bit k (place_of row column)) 96 (λ k k_lt.
-            satisfies-from_syndrome column_equations (λ row. code_bit k (place_of row column)) (columns_agree-at k 15 column (agree_below_at (λ k. columns_agree k 15) (λ _. true) 96 k columns_right k_lt) lt)));
-      };
+      is_codeword = codeword-from_sum (octet_bit octets) code_bit 96 word len is
+          (λ k row k_lt lt. rows_agree-at k 13 row (agree_below_at (λ k. rows_agree k 13) (λ _. true) 96 k rows_right k_lt) lt)
+          (λ k column k_lt lt. columns_agree-at k 15 column (agree_below_at (λ k. columns_agree k 15) (λ _. true) 96 k columns_right k_lt) lt);
       information = λ j lt. sym (
           is ((j + 3) / 11) ((j + 3) % 11)
           ∙ odd_below-same (λ k. octet_bit octets k && code_bit k (place_of ((j + 3) / 11) ((j + 3) % 11))) (λ k. octet_bit octets k && (j == k)) 96

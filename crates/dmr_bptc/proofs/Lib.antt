@@ -7,10 +7,13 @@ pub mod CodewordLemmas
 pub mod MeaningLemmas
 pub mod FunctionLemmas
 pub mod OddSumLemmas
+pub mod GroupLemmas
 pub mod SumTableLemmas
 pub mod SyndromeLemmas
 pub mod WordSumLemmas
 pub mod FlipLemmas
 pub mod MendingLemmas
+pub mod CodewordSumLemmas
 pub mod CodeTableLemmas
 pub mod MaskTableLemmas
+pub mod Laws

@@ -8,6 +8,7 @@ use Rattle.std.proofs.lemmas.Nat.Bits.{bit_at_xor, bit_at-zero}
 use Rattle.dmr_bits.specs.Bits.{bits_value}
 use Rattle.dmr_bits.proofs.Laws.{bits_value-bit}
 use Rattle.dmr_bptc.specs.Bptc.{add_bits, parity, Satisfies}
+use Rattle.dmr_bptc.specs.Groups.{added}
 use Rattle.dmr_bptc.proofs.BitSumLemmas.{add_bits-false, add_bits_middle}
 
 -- whether an odd number of the first n places pass
@@ -85,11 +86,6 @@ satisfies-odd_below (e ∷ es) bit f n each = (
 )
 
 -- ---- exclusive ors of numbers
-
--- the exclusive or of the numbers of the set bits among the first n
-unfoldable pub added : (ℕ → Bool) → (ℕ → ℕ) → ℕ → ℕ
-added bit number zero = 0
-added bit number (suc n) = bit_xor (added bit number n) (cond (bit n) (number n) 0)
 
 pub odd_pair : (x y : ℕ) → x < 2 → y < 2 → ((x + y) % 2 == 1) ≡ add_bits (y == 1) (x == 1)
 odd_pair zero zero x_lt y_lt = refl

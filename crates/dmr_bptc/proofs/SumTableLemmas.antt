@@ -5,6 +5,7 @@ use Rattle.std.proofs.lemmas.Bool.{agree_below, agree_below_at, eqb-true, ltb-tr
 use Rattle.std.proofs.lemmas.Nat.{shr-shr}
 use Rattle.dmr_bits.specs.Words.{word_bit}
 use Rattle.dmr_bits.specs.Packed.{packed_bit}
+use Rattle.dmr_bptc.specs.Groups.{added}
 use Rattle.dmr_bptc.specs.declared.layout.GridLine.{GridLine}
 use Rattle.dmr_bptc.specs.declared.layout.GridLine.TheVariants.{Row, Column}
 use Rattle.dmr_bptc.specs.declared.sum_table.TheConstants.{SUMS}
@@ -12,7 +13,7 @@ use Rattle.dmr_bptc.specs.Bptc.{parity, row_equations, column_equations, cell, p
 use Rattle.dmr_bptc.specs.Lines.{line_place, line_bit, equations_of}
 use Rattle.dmr_bptc.specs.Mending.{fails, syndrome}
 use Rattle.dmr_bptc.proofs.ParityLemmas.{equation_at}
-use Rattle.dmr_bptc.proofs.OddSumLemmas.{odd_below-same, odd_below-one, odd_below-parity, added, added-bit, added-lt, added_by}
+use Rattle.dmr_bptc.proofs.OddSumLemmas.{odd_below-same, odd_below-one, odd_below-parity, added-bit, added-lt, added_by}
 
 -- ---- the entries
 

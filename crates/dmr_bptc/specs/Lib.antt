@@ -3,3 +3,4 @@ pub mod Mending
 pub mod Lines
 pub mod Functions
 pub mod Sums
+pub mod Groups

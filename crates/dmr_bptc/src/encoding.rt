@@ -15,19 +15,7 @@ pub fn encode(octets: &Octets12) -> Word196
     ensures alone { (word : List Bool) → IsEncoding octets.now word → word ≡ result }
     ensures encoding { result ≡ encoding_of octets.now }
 {
-    let mut first = 0;
-    let mut second = 0;
-    let mut third = 0;
-    let mut fourth = 0;
-    for k in 0..12 {
-        let upper = &ENCODED.entries[2 * k][usize::from(octets[k] >> 4)];
-        let lower = &ENCODED.entries[2 * k + 1][usize::from(octets[k] & 0xF)];
-        first ^= upper[0] ^ lower[0];
-        second ^= upper[1] ^ lower[1];
-        third ^= upper[2] ^ lower[2];
-        fourth ^= upper[3] ^ lower[3];
-    }
-    Word196::from_words([first, second, third, fourth])
+    Word196::from_words(ENCODED.sum_of(octets))
 }
 
 /// What four information bits add to the codeword, for each of the 24 groups of four and each of their values.

@@ -27,3 +27,4 @@ pub use decoding::decode;
 pub use encoding::encode;
 pub use equations::{column_ok, row_ok};
 pub use law::{codewords_are_apart, nearest_codeword};
+pub use table::GroupTable;

@@ -94,7 +94,11 @@ pub fn room_for(
 fn zeros(octets: &[u8]) -> usize
     ensures { result ≡ zeros_in octets.now }
 {
-    octets.iter().filter(|octet| **octet == 0).count()
+    let mut count = 0;
+    for octet in octets {
+        count += usize::from(*octet == 0);
+    }
+    count
 }
 
 /// Reports whether at most `most` octets are 0. They are counted only if there are more octets than that.

@@ -1,6 +1,6 @@
 use Rattle.std.proofs.Common.{◌≡◌, ◌+◌, ◌*◌}
 use Rattle.dmr_bits.specs.Words.{word_bit}
-use Rattle.dmr_bptc.proofs.OddSumLemmas.{added}
+use Rattle.dmr_bptc.specs.Groups.{added}
 use Rattle.dmr_bptc.proofs.SumTableLemmas.{sum_number}
 use Rattle.dmr_bptc.proofs.sums.sums_of.Given as goal
 

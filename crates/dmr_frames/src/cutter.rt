@@ -3,7 +3,7 @@
 ghost use Rattle.std.specs.Prelude.{◌≡◌, ℕ, ◌+◌, ◌-◌, ◌<◌, ◌≤◌, List, [], ◌∷◌, ◌++◌, drop, length, take, IfSome};
 ghost use Rattle.std.specs.Prelude.{None};
 ghost use Rattle.dmr_bits.specs.Bits.{field_of};
-ghost use Rattle.dmr_bits.specs.Words.{word_of};
+ghost use Rattle.dmr_bits.specs.Words.{word_octets, word_of};
 ghost use Rattle.dmr_frames.specs.Between.{is_between};
 ghost use Rattle.dmr_frames.specs.Rest.{Open};
 ghost use Rattle.dmr_frames.specs.Versions.{has_numbers};
@@ -12,7 +12,7 @@ ghost use Rattle.dmr_frames.specs.Shape.{IsActiveBody};
 ghost use Rattle.dmr_frames.specs.declared.frame.FrameIn.{FrameIn};
 ghost use Rattle.dmr_frames.specs.declared.version.FrameTable.{FrameTable};
 ghost use Rattle.dmr_frames.specs.declared.version.Version.{Version};
-ghost use Rattle.dmr_frames.specs.Short.{frame_of_short};
+ghost use Rattle.dmr_frames.specs.Short.{frame_of_rx, frame_of_short};
 ghost use Rattle.dmr_frames.specs.Stream.{Reads};
 ghost use Rattle.dmr_frames.specs.Reading.{ProduceAtLast, frame_of, step_from, rest_after_octet};
 ghost use Rattle.dmr_frames.specs.Reading.{rest_after_octets};
@@ -20,7 +20,7 @@ ghost use Rattle.dmr_frames.specs.Frames.{IsFrame, spelling, whole_step, hello_s
 ghost use Rattle.dmr_frames.specs.Frames.{burst_step, active_step};
 ghost use Rattle.dmr_frames.specs.Reading.{step_at, length_step, body_step};
 
-use crate::frame::{Cause, FrameIn, LONGEST_FRAME, ShortFrame};
+use crate::frame::{Cause, FrameIn, LONGEST_FRAME, RxFrame, ShortFrame};
 use crate::table::FrameKind;
 use crate::version::{FrameTable, Version};
 use dmr_bits::Word196;
@@ -192,6 +192,27 @@ impl Cutter {
         None
     }
 
+    /// Takes the RX that octets begin with, if no frame has begun and there was no fault. Returns how many octets it
+    /// took, and the RX. The result is that of [`Cutter::feed`], which costs more: it reads any frame. If the result is
+    /// `None`, nothing was taken, and [`Cutter::feed`] takes what comes.
+    pub fn feed_rx(&mut self, octets: &[u8]) -> Option<(usize, RxFrame)>
+        ensures count { IfSome result (λ r. (0 < r.0) × (r.0 ≤ length octets.now)) }
+        ensures step { IfSome result (λ r. ProduceAtLast self.old (take r.0 octets.now)
+            (Step.Frame (frame_of_rx r.1))) }
+        ensures rest { IfSome result
+            (λ r. self.new ≡ rest_after_octets self.old (take r.0 octets.now)) }
+        ensures none { result ≡ None → self.new ≡ self.old }
+    {
+        if self.fault.is_some() || self.count > 0 {
+            return None;
+        }
+        let FrameTable::Later(version) = self.table else {
+            return None;
+        };
+        let (count, rx) = read_rx_frame(version, octets)?;
+        Some((count, rx))
+    }
+
     /// Does the same as [`Cutter::feed`], one octet after another.
     fn feed_one_by_one(&mut self, octets: &[u8]) -> (usize, Step)
         requires { 0 < length octets.now }
@@ -247,6 +268,37 @@ fn write_after(frame: &mut [u8; LONGEST_FRAME], kept: usize, octets: &[u8])
     let room = LONGEST_FRAME - kept;
     let count = octets.len().min(room);
     frame[kept..kept + count].copy_from_slice(&octets[..count]);
+}
+
+/// Returns the RX of this version that octets begin with, and how many octets it has.
+fn read_rx_frame(version: Version, octets: &[u8]) -> Option<(usize, RxFrame)>
+    ensures count { IfSome result (λ r. (0 < r.0) × (r.0 ≤ length octets.now)) }
+    ensures frame { IfSome result (λ r. IsFrame version (frame_of_rx r.1)) }
+    // The octets below are those of the table of frames.
+    ensures octets { IfSome result (λ r. take r.0 octets.now ≡ spelling (frame_of_rx r.1)) }
+{
+    match (version, octets) {
+        (Version::V1, [0x02, 26, burst @ ..]) => Some((28, read_slot_and_word(None, burst)?)),
+        (Version::V2, [0x02, 27, number, burst @ ..]) => {
+            Some((29, read_slot_and_word(Some(*number), burst)?))
+        }
+        _ => None,
+    }
+}
+
+/// Returns the RX with this number whose slot and word octets begin with.
+fn read_slot_and_word(number: Option<u8>, octets: &[u8]) -> Option<RxFrame>
+    ensures frame { IfSome result (λ rx. (rx.number ≡ number) × (rx.slot < 2) × (length rx.word ≡ 196)) }
+    ensures octets { IfSome result (λ rx. (26 ≤ length octets.now)
+        × (take 26 octets.now ≡ rx.slot ∷ word_octets rx.word)) }
+{
+    let (slot, rest) = octets.split_first()?;
+    let slot = SlotNo::try_new(u32::from(*slot))?;
+    let (word, _) = rest.split_first_chunk::<25>()?;
+    match Word196::from_octets(word) {
+        Ok(word) => Some(RxFrame { number, slot, word }),
+        Err(_) => None,
+    }
 }
 
 /// Returns the short frame that octets begin with, and how many octets it has.

@@ -49,6 +49,17 @@ pub enum ShortFrame {
     Active(SlotNo),
 }
 
+/// An RX: a burst was received on a slot. It has a number in version 2 of the link format, and none in version 1.
+#[derive(Clone, Copy)]
+pub struct RxFrame {
+    /// The number of the RX, if it has one.
+    pub number: Option<u8>,
+    /// The slot.
+    pub slot: SlotNo,
+    /// The burst.
+    pub word: Word196,
+}
+
 /// The frame's name and its fields, except the word of an RX.
 impl fmt::Display for FrameIn {
     fn fmt<W: fmt::Write>(&self, f: &mut fmt::Formatter<W>) -> fmt::Result {

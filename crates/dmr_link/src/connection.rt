@@ -3,9 +3,10 @@
 ghost use Rattle.std.specs.Prelude.{◌≡◌, ◌<◌, ◌≤◌, Some, None, false, true, length, option_map};
 ghost use Rattle.std.specs.Prelude.{take, IfErr, IfOk, IfSome, [], ◌∷◌};
 ghost use Rattle.dmr_burst.specs.Functions.{meaning_of};
-ghost use Rattle.dmr_frames.specs.Short.{frame_of_short};
+ghost use Rattle.dmr_frames.specs.Short.{frame_of_rx, frame_of_short};
 ghost use Rattle.dmr_frames.specs.Versions.{chosen_by};
 ghost use Rattle.dmr_core.specs.declared.event.Event.TheVariants.{Lost};
+ghost use Rattle.dmr_frames.specs.declared.cutter.Step.TheVariants as step;
 ghost use Rattle.dmr_frames.specs.declared.frame.FrameIn.TheVariants as frame;
 ghost use Rattle.dmr_link.specs.Meaning.{list_of_notice, event_of, event_of_burst as burst_event};
 ghost use Rattle.dmr_link.specs.Meaning.{is_accepted, is_repeat as is_newest_repeat};
@@ -26,7 +27,7 @@ use dmr_bits::Word196;
 use dmr_burst::read;
 use dmr_core::Event;
 use dmr_frames::laws::one_reading;
-use dmr_frames::{Cause, Cutter, FrameIn, Refusal, ShortFrame, Step, Version};
+use dmr_frames::{Cause, Cutter, FrameIn, Refusal, RxFrame, ShortFrame, Step, Version};
 use dmr_pdu::{CarrierNo, Lpcn, Slot};
 use dmr_wire::{Closing, Hello};
 use std::mem::replace;
@@ -276,6 +277,21 @@ fn outcome_of_step(
     }
 }
 
+/// Returns the notice of an RX of a carrier that is up. There is none if the RX repeats the newest.
+fn notice_of_rx(carrier: CarrierNo, newest: Option<u8>, rx: &RxFrame) -> Option<Notice>
+    ensures { option_map notice_meant result
+        ≡ running_produces carrier newest (step.Frame (frame_of_rx rx.now)) }
+{
+    if is_repeat(newest, rx.number) {
+        return None;
+    }
+    let slot = Slot {
+        carrier,
+        slot: rx.slot,
+    };
+    Some(Notice::Site(SiteNotice::Happened(event_of_burst(slot, &rx.word))))
+}
+
 /// Returns the event of a short frame of a carrier that is up.
 fn event_of_short(carrier: CarrierNo, short: ShortFrame) -> Event
     ensures { result ≡ event_of carrier (frame_of_short short) }
@@ -358,8 +374,11 @@ impl Connection {
             → IsConnectionSound who.now.greatest self.new }
     {
         one_reading();
-        match self.receive_short(who, octets) {
-            Some((count, event)) => (count, Some(Notice::Site(SiteNotice::Happened(event)))),
+        if let Some((count, event)) = self.receive_short(who, octets) {
+            return (count, Some(Notice::Site(SiteNotice::Happened(event))));
+        }
+        match self.receive_rx(who, octets) {
+            Some((count, notice)) => (count, notice),
             None => self.receive_any(who, octets),
         }
     }
@@ -380,6 +399,32 @@ impl Connection {
                 Some((count, short)) => Some((count, event_of_short(who.carrier, short))),
                 None => None,
             },
+            Connection::Closed | Connection::Waiting(_) => None,
+        }
+    }
+
+    /// Takes the RX that octets begin with, if the carrier is up and no frame has begun. Returns how many octets it
+    /// took, and the notice of its burst; there is none if the RX is a repeat. If the result is `None`, nothing was
+    /// taken, and [`Connection::receive_any`] takes what comes.
+    fn receive_rx(
+        &mut self,
+        who: &CarrierIdentity,
+        octets: &[u8],
+    ) -> Option<(usize, Option<Notice>)>
+        ensures count { IfSome result (λ r. (0 < r.0) × (r.0 ≤ length octets.now)) }
+        ensures notice { IfSome result (λ r. notices_of_octets who.now self.old (take r.0 octets.now)
+            ≡ list_of_notice (option_map notice_meant r.1)) }
+        ensures connection { IfSome result (λ r. self.new
+            ≡ connection_after_octets who.now self.old (take r.0 octets.now)) }
+        ensures none { result ≡ None → self.new ≡ self.old }
+    {
+        match self {
+            Connection::Running { cutter, newest } => {
+                let (count, rx) = cutter.feed_rx(octets)?;
+                let notice = notice_of_rx(who.carrier, *newest, &rx);
+                *newest = rx.number;
+                Some((count, notice))
+            }
             Connection::Closed | Connection::Waiting(_) => None,
         }
     }

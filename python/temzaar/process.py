@@ -35,6 +35,11 @@ class Process:
         with open(f"/proc/{self.pid}/status", encoding="utf-8") as it:
             return int(re.findall(r"VmRSS:\s+(\d+)", it.read())[0])
 
+    def page_faults(self) -> int:
+        """How often it has touched a page of memory that it did not have yet."""
+        with open(f"/proc/{self.pid}/stat", encoding="utf-8") as it:
+            return int(it.read().rpartition(")")[2].split()[7])
+
     def addresses(self) -> int:
         """The octets of its address space."""
         with open(f"/proc/{self.pid}/status", encoding="utf-8") as it:

@@ -1,0 +1,57 @@
+"""The memory of a term, which the next term takes over. All of it is skipped if the program was not built."""
+import contextlib
+import threading
+import time
+import unittest
+
+from temzaar.frames import active, hello
+from temzaar.process import Controller, connect
+from temzaar.sitefile import Site
+from tests.support import TWO_CARRIERS, program
+
+PORT = 17560
+ENTRIES = 4000
+# pages of the system, of 4,096 octets, that the entries of one journal take
+PAGES = ENTRIES * 568 // 4096
+
+
+class TermMemory(unittest.TestCase):
+    """A site of two carriers that send nothing but ACTIVE frames, as fast as their ports read. A term ends after less than a second."""
+
+    def setUp(self) -> None:
+        self.site = Site(TWO_CARRIERS, first_port=PORT, tick_ms=60, term_entries=ENTRIES)
+
+    def flood(self, number: int) -> None:
+        """Sends ACTIVE frames of a carrier until the controller has stopped."""
+        row = self.site.row(number)
+        with connect(self.site.address, row["port"]) as stream, contextlib.suppress(OSError):
+            stream.sendall(hello(number, row["lpcn"]))
+            while True:
+                stream.sendall(active(1) * 100)
+
+    def wait_for_terms(self, controller: Controller, count: int) -> None:
+        """Waits until so many terms have ended."""
+        until = time.monotonic() + 60
+        while self.terms(controller) < count and time.monotonic() < until:
+            time.sleep(0.02)
+        self.assertGreaterEqual(self.terms(controller), count, controller.notes)
+
+    @staticmethod
+    def terms(controller: Controller) -> int:
+        """How many terms have ended, by the notes."""
+        return sum("term ended" in note for note in controller.notes)
+
+    def test_a_term_takes_over_the_lists_of_the_term_before(self) -> None:
+        """Once each list has had its length, the end of a term touches fewer new pages than one journal has."""
+        with Controller(program("dmr_trunk"), self.site) as controller:
+            controller.wait_until_served()
+            senders = [threading.Thread(target=self.flood, args=(number,), daemon=True) for number in (0, 1)]
+            for sender in senders:
+                sender.start()
+            self.wait_for_terms(controller, 4)
+            before, first = controller.page_faults(), self.terms(controller)
+            self.wait_for_terms(controller, first + 5)
+            faults, ends = controller.page_faults() - before, self.terms(controller) - first
+        for sender in senders:
+            sender.join(10)
+        self.assertLess(faults / ends, PAGES / 2, f"{faults} page faults at {ends} ends of terms of {PAGES} pages")

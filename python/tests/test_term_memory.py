@@ -30,7 +30,7 @@ class TermMemory(unittest.TestCase):
                 stream.sendall(active(1) * 100)
 
     def wait_for_terms(self, controller: Controller, count: int) -> None:
-        """Waits until so many terms have ended."""
+        """Waits until `count` terms have ended."""
         until = time.monotonic() + 60
         while self.terms(controller) < count and time.monotonic() < until:
             time.sleep(0.02)

@@ -8,8 +8,9 @@ import subprocess
 from collections.abc import Sequence
 from typing import NamedTuple
 
+from releasing.progress import Run
 from releasing.promises import Promise
-from releasing.steps import Outcome, log_name
+from releasing.steps import Outcome, Step, log_name
 
 
 class Source(NamedTuple):
@@ -21,6 +22,34 @@ class Source(NamedTuple):
     digest: str
     # the number of files
     count: int
+
+
+class Made(NamedTuple):
+    """What was made of the sources: by which toolchain, in which runs, which of the steps were done, and whether the programs were the same from two folders."""
+    source: Source
+    short: bool
+    toolchain: str
+    runs: Sequence[Run]
+    steps: Sequence[Step]
+    outcomes: Sequence[Outcome]
+    same_twice: bool | None
+
+    def failed(self) -> list[Outcome]:
+        """The steps that failed."""
+        return [it for it in self.outcomes if it.status]
+
+    def left_out(self) -> list[Outcome]:
+        """The steps that were left out."""
+        return [it for it in self.outcomes if it.status is None]
+
+    def to_do(self) -> list[Step]:
+        """The steps that no run has done yet."""
+        done = {it.step.name for it in self.outcomes}
+        return [it for it in self.steps if it.name not in done]
+
+    def is_release(self) -> bool:
+        """Whether it is a release: no step failed, none is left, and the programs were the same twice. A short run is none, but may have gone well too."""
+        return bool(self.same_twice) and not self.failed() and not self.to_do()
 
 
 def digest_of(path: pathlib.Path) -> str:
@@ -64,13 +93,19 @@ def minutes(seconds: float) -> str:
     return f"{seconds:.0f} s" if seconds < 120 else f"{seconds / 60:.0f} min"
 
 
-def table_of(outcomes: Sequence[Outcome]) -> list[str]:
+def table_of(made: Made) -> list[str]:
     """The table of the steps."""
-    rows = ["| step | outcome | time | its last line | log |", "|---|---|---|---|---|"]
-    for number, it in enumerate(outcomes, 1):
-        log = "" if it.status is None else f"`logs/{log_name(number, it.step)}`"
-        rows.append(f"| {it.step.name} | {it.word()} | {minutes(it.seconds)} | {it.last[:160].replace('|', '/')} | {log} |")
-    return rows
+    rows = ["| step | outcome | time | run | its last line | log |", "|---|---|---|---|---|---|"]
+    numbers = {it.name: number for number, it in enumerate(made.steps, 1)}
+    for it in made.outcomes:
+        log = "" if it.status is None else f"`logs/{log_name(numbers[it.step.name], it.step)}`"
+        rows.append(f"| {it.step.name} | {it.word()} | {minutes(it.seconds)} | {it.run} | {it.last[:160].replace('|', '/')} | {log} |")
+    return rows + [f"| {it.name} | to do | | | | |" for it in made.to_do()]
+
+
+def runs_of(made: Made) -> list[str]:
+    """The rows that say when, and on which machine, each run worked on the release."""
+    return [f"| run {number}, {it.day} | {'; '.join(it.machine)} |" for number, it in enumerate(made.runs, 1)]
 
 
 def theorems_of(promises: Sequence[Promise]) -> list[str]:
@@ -81,28 +116,36 @@ def theorems_of(promises: Sequence[Promise]) -> list[str]:
     return lines
 
 
-def record_of(source: Source, short: bool, toolchain: str, outcomes: Sequence[Outcome], same_twice: bool | None, promises: Sequence[Promise]) -> str:
-    """The text of RECORD.md."""
-    failed = [it for it in outcomes if it.status]
-    left_out = [it for it in outcomes if it.status is None]
-    twice = {True: "yes", False: "NO", None: "not tried: a step before it failed"}[same_twice]
-    lines = [f"# dmr_trunk {source.version}: the record of its making", ""]
-    if short:
+def why_not(made: Made) -> list[str]:
+    """Why it is not a release, if it is none."""
+    lines = []
+    if made.short:
         lines += ["**This was a short run, and is not a release.** Steps that take hours took a minute, and the proof may have been kept from an earlier run.", ""]
-    if failed or same_twice is False:
-        lines += [f"**This is not a release: {len(failed)} steps failed.**", ""]
-    lines += [
+    if made.failed() or made.same_twice is False:
+        lines += [f"**This is not a release: {len(made.failed())} steps failed.**", ""]
+    if made.to_do():
+        lines += [f"**This is not a release yet: {len(made.to_do())} steps are to do.** `ci/release --go-on` does them.", ""]
+    return lines
+
+
+def record_of(made: Made, promises: Sequence[Promise]) -> str:
+    """The text of RECORD.md."""
+    source, passed = made.source, sum(it.passed() for it in made.outcomes)
+    twice = {True: "yes", False: "NO", None: "not tried: a step before it failed or is to do"}[made.same_twice]
+    lines = [
+        f"# dmr_trunk {source.version}: the record of its making", "",
+        *why_not(made),
         "| | |", "|---|---|",
         f"| commit | `{source.commit}`, {source.date} |",
         f"| sources | {source.count} files; the SHA-256 of `SOURCES.sha256`, which has that of each, is `{source.digest}` |",
-        f"| toolchain | {toolchain} |",
-        *(f"| machine | {it} |" for it in describe_machine()),
+        f"| toolchain | {made.toolchain} |",
+        *runs_of(made),
         f"| the same programs from two folders | {twice} |",
-        f"| steps | {sum(it.passed() for it in outcomes)} passed, {len(failed)} failed, {len(left_out)} left out |",
+        f"| steps | {passed} passed, {len(made.failed())} failed, {len(made.left_out())} left out, {len(made.to_do())} to do |",
         "",
         "`SHA256SUMS` has the digests of the programs, the package and these files. `docs/RELEASING.md` in the sources says how a third party checks a release.",
         "", "## The steps", "",
-        *table_of(outcomes),
+        *table_of(made),
         "", "## What was proved", "",
         "The gate proved each crate: each function meets its contract, for every input. These are the contracts of the functions that carry the promises. `docs/TRUSTED.md`"
         " lists the definitions that they depend on, and `docs/GUARANTEES.md` says in words what they mean.", "",

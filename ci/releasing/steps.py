@@ -3,7 +3,7 @@ import os
 import pathlib
 import subprocess
 import time
-from collections.abc import Iterator, Sequence
+from collections.abc import Iterator, Mapping, Sequence
 from typing import NamedTuple
 
 # a soak plays as many inputs for each of two sites, in both versions of the link
@@ -11,21 +11,25 @@ SOAK_INPUTS = 10_000_000
 SOAKS = 4
 SITE = "sites/sixteen_carriers.toml"
 HOUR = 3600
+# the number of steps that try the wrong bodies outside the gate, of some twenty minutes each
+WRONG_BODY_PARTS = 8
 
 
 class Step(NamedTuple):
-    """A step: its name, its command in the clone, and whether it needs root."""
+    """A step: its name, its command in the clone, whether it needs root, and whether later steps need what it builds in the clone."""
     name: str
     words: Sequence[str]
     needs_root: bool = False
+    builds: bool = False
 
 
 class Outcome(NamedTuple):
-    """What a step did. `status` is None if it was left out; then `last` says why."""
+    """What a step did. `status` is None if it was left out; then `last` says why. `run` is the number of the run that did it, from 1."""
     step: Step
     status: int | None
     seconds: float
     last: str
+    run: int = 1
 
     def passed(self) -> bool:
         """Whether the step was done, and ended with status 0."""
@@ -43,17 +47,22 @@ def carriers(*words: str) -> list[str]:
     return ["tools/carriers", "--site", SITE, "--program", "build/dmr_trunk", *words]
 
 
+def wrong_bodies(part: int, short: bool) -> Step:
+    """The step that tries a part of the wrong bodies outside the gate. A short run tries one in a hundred of each part."""
+    asked = f"{part * 100}/{WRONG_BODY_PARTS * 100}" if short else f"{part}/{WRONG_BODY_PARTS}"
+    return Step(f"wrong bodies outside the gate, part {part} of {WRONG_BODY_PARTS}", ["ci/wrong-bodies", "--outside", "--part", asked])
+
+
 def all_steps(short: bool) -> list[Step]:
     """The steps, in order. A short run has the same steps; those that take hours take a minute."""
     seconds = str(60 if short else HOUR)
     inputs = (SOAK_INPUTS // 100 if short else SOAK_INPUTS) // SOAKS
-    wrong_bodies = ["ci/wrong-bodies", "--outside", *(["--part", "1/100"] if short else [])]
     return [
         Step("checks without a proof", ["ci/check", "fast"]),
         Step("the prover's gate, from nothing", ["ci/gate", *([] if short else ["--anew"])]),
-        Step("the programs", ["make", "build"]),
+        Step("the programs", ["make", "build"], builds=True),
         Step("checks over the programs", ["ci/check", "programs"]),
-        Step("wrong bodies outside the gate", wrong_bodies),
+        *(wrong_bodies(part, short) for part in range(1, WRONG_BODY_PARTS + 1)),
         Step(f"a soak of {inputs * SOAKS:,} inputs", ["build/dmr_soak", "--inputs", str(inputs), "--counts"]),
         Step(f"served for {seconds} s", carriers("--seconds", seconds)),
         Step(f"served in trouble for {seconds} s", carriers("--faults", "--seconds", seconds)),
@@ -71,11 +80,11 @@ def log_name(number: int, step: Step) -> str:
     return f"{number:02}-" + "".join(it if it.isalnum() else "-" for it in step.name.lower()).strip("-") + ".txt"
 
 
-def run_step(step: Step, clone: pathlib.Path, log: pathlib.Path) -> Outcome:
+def run_step(step: Step, clone: pathlib.Path, log: pathlib.Path, run: int = 1) -> Outcome:
     """Runs a step in the clone. What it prints goes to the log."""
     began = time.monotonic()
     if step.needs_root and os.geteuid():
-        return Outcome(step, None, 0, "it needs root")
+        return Outcome(step, None, 0, "it needs root", run)
     with log.open("w", encoding="utf-8") as out:
         try:
             status = subprocess.run(step.words, cwd=clone, stdin=subprocess.DEVNULL, stdout=out, stderr=subprocess.STDOUT, check=False).returncode
@@ -83,10 +92,19 @@ def run_step(step: Step, clone: pathlib.Path, log: pathlib.Path) -> Outcome:
             out.write(f"{step.words[0]}: {fault.strerror}\n")
             status = 127
     lines = log.read_text(encoding="utf-8", errors="replace").strip().splitlines()
-    return Outcome(step, status, time.monotonic() - began, lines[-1] if lines else "")
+    return Outcome(step, status, time.monotonic() - began, lines[-1] if lines else "", run)
 
 
-def run_all(steps: Sequence[Step], clone: pathlib.Path, logs: pathlib.Path) -> Iterator[Outcome]:
-    """Runs the steps one after another, and yields the outcome of each. A step that fails does not end the run."""
+def run_all(steps: Sequence[Step], clone: pathlib.Path, logs: pathlib.Path, done: Mapping[str, Outcome], run: int, most_seconds: float) -> Iterator[Outcome]:
+    """Runs the steps one after another, and yields the outcome of each. A step that fails does not end the run.
+
+    `done` has the steps that passed in earlier runs, by their names. Their outcomes are yielded as they are. What a step builds is not in this clone then, so
+    it is built again, as long as anything is to do. No step begins after `most_seconds`; those that are left yield nothing.
+    """
+    began = time.monotonic()
+    complete = all(it.name in done for it in steps)
     for number, step in enumerate(steps, 1):
-        yield run_step(step, clone, logs / log_name(number, step))
+        if step.name in done and (complete or not step.builds):
+            yield done[step.name]
+        elif time.monotonic() - began < most_seconds:
+            yield run_step(step, clone, logs / log_name(number, step), run)

@@ -1,6 +1,7 @@
-"""How a release is made: its steps, its record, its list of components, and the refusal of changed files."""
+"""How a release is made: its steps, the runs that make it, its record, and its list of components."""
 import hashlib
-import importlib
+import importlib.machinery
+import importlib.util
 import json
 import pathlib
 import subprocess
@@ -11,11 +12,18 @@ import unittest
 TOP = pathlib.Path(__file__).resolve().parent.parent.parent
 sys.path.insert(0, str(TOP / "ci"))
 steps = importlib.import_module("releasing.steps")
+progress = importlib.import_module("releasing.progress")
 record = importlib.import_module("releasing.record")
 components = importlib.import_module("releasing.components")
 promises = importlib.import_module("releasing.promises")
 
 SOURCE = record.Source("1.2.3", "0123456789abcdef", "2026-01-02", "d" * 64, 7)
+
+
+loader = importlib.machinery.SourceFileLoader("release", str(TOP / "ci/release"))
+command = importlib.util.module_from_spec(importlib.util.spec_from_loader("release", loader))
+loader.exec_module(command)
+RUN = progress.Run("2026-01-02", ["2 processors", "8 GiB of memory"])
 
 
 def outcome(name: str, status: int | None, last: str = "a last line") -> object:
@@ -59,25 +67,110 @@ class Steps(unittest.TestCase):
                     self.assertEqual((got.status, got.last), (status, last))
 
 
+class Runs(unittest.TestCase):
+    """A release that several runs make."""
+
+    def setUp(self) -> None:
+        room = tempfile.TemporaryDirectory()
+        self.addCleanup(room.cleanup)
+        self.folder = pathlib.Path(room.name)
+        (self.folder / "logs").mkdir()
+        self.steps = [steps.Step(name, ["sh", "-c", f"echo {name} >>done; echo {name}"], builds=name == "builds") for name in ("first", "builds", "last")]
+
+    def run_all(self, done: dict[str, object], seconds: float = 60) -> tuple[list[str], list[tuple[str, int]]]:
+        """Runs the steps as run 2: which were run, and the outcomes, each with the number of its run."""
+        (self.folder / "done").write_text("", encoding="ascii")
+        outcomes = list(steps.run_all(self.steps, self.folder, self.folder / "logs", done, 2, seconds))
+        return (self.folder / "done").read_text(encoding="ascii").split(), [(it.step.name, it.run) for it in outcomes]
+
+    def done(self, *names: str) -> dict[str, object]:
+        """The outcomes of these steps in run 1."""
+        return {it.name: steps.Outcome(it, 0, 1.0, it.name) for it in self.steps if it.name in names}
+
+    def test_later_run(self) -> None:
+        """What passed is not done again, but what it built is built again as long as a step is to do."""
+        self.assertEqual(self.run_all({}), (["first", "builds", "last"], [("first", 2), ("builds", 2), ("last", 2)]))
+        self.assertEqual(self.run_all(self.done("first", "builds")), (["builds", "last"], [("first", 1), ("builds", 2), ("last", 2)]))
+        self.assertEqual(self.run_all(self.done("first", "builds", "last")), ([], [("first", 1), ("builds", 1), ("last", 1)]))
+
+    def test_time_is_over(self) -> None:
+        """No step begins after the time is over."""
+        self.assertEqual(self.run_all(self.done("first"), 0), ([], [("first", 1)]))
+
+    def test_progress(self) -> None:
+        """What is written is read again. Only steps that passed count as done. Any other text is refused."""
+        outcomes = {"first": steps.Outcome(self.steps[0], 0, 1.5, "well", 1), "last": steps.Outcome(self.steps[2], 3, 2.0, "why", 2)}
+        written = progress.Progress("c0ffee", False, [RUN, RUN], outcomes)
+        written.write(self.folder)
+        read = progress.Progress.read(self.folder, self.steps)
+        self.assertEqual((read.commit, read.short, len(read.runs), read.outcomes), ("c0ffee", False, 2, outcomes))
+        self.assertEqual(list(read.passed()), ["first"])
+        for text in ("", "{}", '{"commit": "c0ffee", "short": false, "runs": [], "steps": [{"step": "unknown"}]}'):
+            with self.subTest(text), self.assertRaises(ValueError):
+                (self.folder / progress.NAME).write_text(text, encoding="ascii")
+                progress.Progress.read(self.folder, self.steps)
+
+
+class Begins(unittest.TestCase):
+    """The folder of a release, at the beginning of a run."""
+
+    def setUp(self) -> None:
+        room = tempfile.TemporaryDirectory()
+        self.addCleanup(room.cleanup)
+        self.folder = pathlib.Path(room.name) / "release"
+
+    def test_new_folder(self) -> None:
+        """The first run makes the folder, and a later one goes on with it."""
+        first = command.begin(self.folder, False, False)
+        self.assertEqual((len(first.runs), first.outcomes), (1, {}))
+        first.write(self.folder)
+        self.assertEqual(len(command.begin(self.folder, False, True).runs), 2)
+
+    def test_refused(self) -> None:
+        """A folder that is not there, or that has a release of another commit or of another kind, is refused."""
+        with self.assertRaises(OSError):
+            command.begin(self.folder, False, True)
+        first = command.begin(self.folder, False, False)
+        for other in (first._replace(commit="c0ffee"), first._replace(short=True)):
+            other.write(self.folder)
+            with self.subTest(other), self.assertRaises(ValueError):
+                command.begin(self.folder, False, True)
+
+    def test_programs(self) -> None:
+        """Programs that a later run builds have to be those of the first."""
+        clone = pathlib.Path(self.folder.parent / "clone")
+        for folder in (clone / "build", self.folder):
+            folder.mkdir(parents=True)
+        for text, others in (("a", False), ("a", False), ("b", True)):
+            for name in command.PROGRAMS:
+                (clone / "build" / name).write_text(text, encoding="ascii")
+            self.assertEqual(command.copy_built(clone, self.folder), (list(command.PROGRAMS), others))
+            self.assertEqual({(self.folder / name).read_text(encoding="ascii") for name in command.PROGRAMS}, {"a"})
+
+
 class Records(unittest.TestCase):
     """RECORD.md, and the digests."""
 
-    def text(self, outcomes: list[object], short: bool = False, twice: bool | None = True) -> str:
-        """The record of these outcomes."""
-        return record.record_of(SOURCE, short, "a toolchain", outcomes, twice, [promises.Promise("dmr_x::run", "Runs", "pub fn run()\n    ensures { x }")])
+    def text(self, outcomes: list[object], short: bool = False, twice: bool | None = True, more: tuple[object, ...] = ()) -> str:
+        """The record of these outcomes, and of more steps that are to do."""
+        made = record.Made(SOURCE, short, "a toolchain", [RUN], [*(it.step for it in outcomes), *more], outcomes, twice)
+        return record.record_of(made, [promises.Promise("dmr_x::run", "Runs", "pub fn run()\n    ensures { x }")])
 
     def test_whole(self) -> None:
         """A record of a release names sources, toolchain, steps and theorems."""
         text = self.text([outcome("a step", 0), outcome("another", None, "it needs root")])
         self.assertNotIn("not a release", text)
-        for part in ("# dmr_trunk 1.2.3", SOURCE.commit, SOURCE.digest, "a toolchain", "1 passed, 0 failed, 1 left out", "| another | left out |", "### `dmr_x::run`\n\nRuns.", "    ensures { x }\n```"):
+        for part in ("# dmr_trunk 1.2.3", SOURCE.commit, SOURCE.digest, "a toolchain", "1 passed, 0 failed, 1 left out, 0 to do", "| another | left out |", "| run 1, 2026-01-02 | 2 processors; 8 GiB of memory |", "### `dmr_x::run`\n\nRuns.", "    ensures { x }\n```"):
             self.assertIn(part, text)
 
     def test_what_is_not_a_release(self) -> None:
-        """A failed step, other programs from another folder, and a short run: the record says so at its beginning."""
-        for outcomes, short, twice in (([outcome("a step", 2)], False, True), ([outcome("a step", 0)], False, False), ([outcome("a step", 0)], True, True)):
-            with self.subTest(short=short, twice=twice):
-                self.assertIn("not a release", self.text(outcomes, short, twice).partition("| commit |")[0])
+        """A failed step, other programs from another folder, a short run, and a step that is to do: the record says so at its beginning."""
+        to_do = (steps.Step("another", ["true"]),)
+        for status, short, twice, more in ((2, False, True, ()), (0, False, False, ()), (0, True, True, ()), (0, False, None, to_do)):
+            with self.subTest(status=status, short=short, twice=twice):
+                text = self.text([outcome("a step", status)], short, twice, more)
+                self.assertIn("not a release", text.partition("| commit |")[0])
+        self.assertIn("| another | to do |", text)
 
     def test_sums(self) -> None:
         """`sha256sum -c` accepts the digests."""

@@ -1,5 +1,5 @@
 -- What the journal of a term shows, in numbers.
-use Rattle.std.specs.Prelude.{◌/◌, ◌==◌, List, Bool, true, false, length}
+use Rattle.std.specs.Prelude.{◌/◌, ◌==◌, if◌then◌else◌, List, Bool, true, false, length}
 use Rattle.std.specs.List.{count_by, list_any}
 use Rattle.dmr_pdu.specs.declared.pdu.Pdu.TheVariants.{Ackd}
 use Rattle.dmr_core.specs.declared.act.Act.{Act}
@@ -32,13 +32,17 @@ abbrev pub is_refusal : Act → Bool
 is_refusal (Queue slot (Ackd info reason spare target additional)) = reason / 16 == 2
 is_refusal other = false
 
--- how many entries there are of each kind; registrations and refusals are entries whose answer has such an act
+-- a burst whose answer has such an act
+abbrev pub is_burst_with : (Act → Bool) → Entry → Bool
+is_burst_with is_such e = if is_burst e.event then list_any is_such e.acts.list else false
+
+-- how many entries there are of each kind
 abbrev pub tally_of : List Entry → Tally
 tally_of entries = record {
   entries = length entries;
   polls = count_by (λ e. is_poll e.event) entries;
   bursts = count_by (λ e. is_burst e.event) entries;
   noises = count_by (λ e. is_noise e.event) entries;
-  registrations = count_by (λ e. list_any is_registration e.acts.list) entries;
-  refusals = count_by (λ e. list_any is_refusal e.acts.list) entries;
+  registrations = count_by (is_burst_with is_registration) entries;
+  refusals = count_by (is_burst_with is_refusal) entries;
 }

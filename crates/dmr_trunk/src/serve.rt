@@ -354,6 +354,7 @@ type LogAndScript<'a, W, R> = Scripted<'a, TermLog<'a, R>, W, R>;
 fn observe<'a, W, R>(
     rt: &'a R,
     alloc: Global,
+    wakers: &'a Wakers,
     service: &SiteService<'a, R>,
     script: Option<W>,
 ) -> Result<LogAndScript<'a, W, R>, ServeFault>
@@ -361,7 +362,7 @@ where
     W: Script + Drop,
     R: Net + Log + Clock + Wait,
 {
-    let mut log = TermLog::new(rt, open_notes(rt, alloc)?);
+    let mut log = TermLog::new(rt, open_notes(rt, alloc)?, wakers);
     note_listening(service, &mut log);
     let recording = begin_recording(rt, alloc, &service.site, script)?;
     Ok(Scripted {
@@ -440,7 +441,7 @@ where
     let mut notes = open_notes(rt, alloc)?;
     let service = open_service(rt, alloc, &mut polls, plan, radios)?;
     let books = open_books(rt, alloc, &service.site, keeper)?;
-    let observer = observe(rt, alloc, &service, script)?;
+    let observer = observe(rt, alloc, polls.wakers, &service, script)?;
     let Ran {
         result,
         observer,

@@ -5,8 +5,8 @@
 
 ghost use Rattle.std.specs.Prelude.{◌≡◌, ◌+◌, ◌^◌, ◌<◌, ◌/◌, ◌==◌, if◌then◌else◌};
 ghost use Rattle.std.specs.List.{list_any};
-ghost use Rattle.dmr_trunk.specs.Tally.{is_burst, is_noise, is_poll, is_refusal as refuses};
-ghost use Rattle.dmr_trunk.specs.Tally.{is_registration as registers, tally_of as tally_in};
+ghost use Rattle.dmr_trunk.specs.Tally.{is_refusal as refuses, is_registration as registers};
+ghost use Rattle.dmr_trunk.specs.Tally.{tally_of as tally_in};
 
 use dmr_core::{Act, Acts, Entry, Event};
 use dmr_pdu::Pdu;
@@ -22,9 +22,9 @@ pub struct Tally {
     pub bursts: usize,
     /// Bursts in which no PDU could be read.
     pub noises: usize,
-    /// Events that registered a radio.
+    /// Bursts that registered a radio.
     pub registrations: usize,
-    /// Events that the site answered with a refusal: a C_ACKD with a reason from 0x20 to 0x2F.
+    /// Bursts that the site answered with a refusal: a C_ACKD with a reason from 0x20 to 0x2F.
     pub refusals: usize,
 }
 
@@ -47,18 +47,6 @@ impl Tally {
         self.noises = self.noises.saturating_add(other.noises);
         self.registrations = self.registrations.saturating_add(other.registrations);
         self.refusals = self.refusals.saturating_add(other.refusals);
-    }
-}
-
-/// Returns the kinds of an event that are counted: a poll, a burst, noise.
-fn kinds(event: &Event) -> (bool, bool, bool)
-    ensures { result ≡ (is_poll event.now, is_burst event.now, is_noise event.now) }
-{
-    match event {
-        Event::Poll(_) => (true, false, false),
-        Event::Heard(_, _) => (false, true, false),
-        Event::Noise(_) => (false, false, true),
-        _ => (false, false, false),
     }
 }
 
@@ -101,7 +89,7 @@ fn counted(count: usize, is_one: bool) -> usize
     if is_one { count + 1 } else { count }
 }
 
-/// Counts the entries of a journal.
+/// Counts the entries of a journal. It reads the answers of bursts alone: no other event registers or refuses a radio.
 pub fn tally_of(entries: &[Entry]) -> Tally
     ensures { result ≡ tally_in entries.now }
 {
@@ -111,12 +99,16 @@ pub fn tally_of(entries: &[Entry]) -> Tally
     let mut registrations = 0;
     let mut refusals = 0;
     for entry in entries {
-        let (is_poll, is_burst, is_noise) = kinds(&entry.event);
-        polls = counted(polls, is_poll);
-        bursts = counted(bursts, is_burst);
-        noises = counted(noises, is_noise);
-        registrations = counted(registrations, has_registration(&entry.acts));
-        refusals = counted(refusals, has_refusal(&entry.acts));
+        match &entry.event {
+            Event::Poll(_) => polls += 1,
+            Event::Noise(_) => noises += 1,
+            Event::Heard(_, _) => {
+                bursts += 1;
+                registrations = counted(registrations, has_registration(&entry.acts));
+                refusals = counted(refusals, has_refusal(&entry.acts));
+            }
+            _ => {}
+        }
     }
     Tally {
         entries: entries.len(),

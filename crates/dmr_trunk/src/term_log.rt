@@ -5,6 +5,7 @@ use crate::ends::Connections;
 use crate::notes::Notes;
 use crate::port_watch::PortWatch;
 use crate::tally::Tally;
+use crate::wakers::Wakers;
 use dmr_port::{NoteLimit, Verdict};
 use log::Log;
 use std::fmt;
@@ -55,11 +56,13 @@ impl fmt::Display for TermCounts {
     }
 }
 
-/// Notes the end of each term, at most twenty in a minute. The counts of those after them go into one note.
+/// Notes the end of each term, at most twenty in a minute. The counts of those after them go into one note. It also makes
+/// the wakers ready for the next term.
 #[derive(Drop)]
 pub struct TermLog<'a, R> {
     rt: &'a R,
     notes: Notes<'a, R>,
+    wakers: &'a Wakers,
     limit: NoteLimit,
     // The counts of the terms that were not noted, together.
     dropped: TermCounts,
@@ -69,10 +72,11 @@ pub struct TermLog<'a, R> {
 
 impl<'a, R: Log + Clock> TermLog<'a, R> {
     /// Makes a log in which no term has been noted.
-    pub fn new(rt: &'a R, notes: Notes<'a, R>) -> TermLog<'a, R> {
+    pub fn new(rt: &'a R, notes: Notes<'a, R>, wakers: &'a Wakers) -> TermLog<'a, R> {
         TermLog {
             rt,
             notes,
+            wakers,
             limit: NoteLimit::new(),
             dropped: TermCounts::NONE,
             before: Connections::NONE,
@@ -88,6 +92,7 @@ impl<'a, R: Log + Clock> TermLog<'a, R> {
 
     /// Notes that a term was audited. `connections` are all of its ports so far, in earlier terms too.
     pub fn note_term(&mut self, tally: Tally, connections: &Connections) {
+        self.wakers.make_ready();
         let term = TermCounts {
             tally,
             connections: connections.since(&self.before),

@@ -4,6 +4,7 @@
 use mio::{Events, Poll, Token, Waker};
 use std::alloc::Global;
 use std::net::Net;
+use std::sync::atomic::{AtomicBool, Ordering};
 use std::time::{Clock, Duration};
 use std::{io, thread};
 
@@ -26,15 +27,26 @@ pub enum PollFault {
 #[derive(Drop)]
 pub struct Wakers {
     wakers: Vec<Waker>,
+    /// Whether they were used in this term.
+    used: AtomicBool,
 }
 
 impl Wakers {
-    /// Ends the wait that is under way in each poll, or else its next one.
+    /// Ends the wait that is under way in each poll, or else its next one. Every worker that finds the term over calls
+    /// it, and the first call of a term does it.
     pub fn wake_all(&self) {
+        if self.used.swap(true, Ordering::SeqCst) {
+            return;
+        }
         for waker in self.wakers.iter() {
             // A wait that cannot be ended lasts until its time is over.
             let _ = waker.wake();
         }
+    }
+
+    /// Makes them ready for the next term. No worker may run meanwhile.
+    pub fn make_ready(&self) {
+        self.used.store(false, Ordering::SeqCst);
     }
 }
 
@@ -71,7 +83,8 @@ pub fn open_polls<R: Net>(
             return Err(PollFault::OutOfMemory);
         }
     }
-    Ok((Wakers { wakers }, polls))
+    let used = AtomicBool::new(false);
+    Ok((Wakers { wakers, used }, polls))
 }
 
 /// Sleeps in place of a wait of at most this long, if the system cannot wait.

@@ -2,13 +2,13 @@
 use Rattle.std.proofs.Common.{◌≡◌, ◌≢◌, ℕ, ◌+◌, ◌-◌, ◌<◌, ◌≤◌, Bool, true, false, not, eqb, cond, List, [], ◌∷◌, length, drop, map, Option, Some, None, inl, inr, refl, sym, ap, ◌∙◌, subst, arith, slice_index_or, slice_set, replicate}
 use Rattle.std.specs.Prelude.{filter, slice_get, ◌==◌}
 use Rattle.std.specs.Option.{option_eq}
-use Rattle.std.proofs.lemmas.Bool.{eq-eqb, ne_eqb, eqb-true, cases_eq}
+use Rattle.std.proofs.lemmas.Bool.{eq-eqb, ne_eqb, eqb-true, cases_eq, cases_lt}
 use Rattle.std.proofs.lemmas.List.{drop_all, drop_more, length-drop, length-set, get_or-set_same, get_or-set_other, get_or-replicate}
 use Rattle.std.proofs.lemmas.Option.{none-some, same_Some, slice_get-get_or, slice_get_within, get_or_from_slice_get}
 use Rattle.dmr_core.specs.declared.entry.Entry.{Entry}
 use Rattle.dmr_link.specs.declared.desk.Deposit.{Deposit}
 use Rattle.dmr_desk.specs.Views.{deposit_in, view_of, IsRest, Follows}
-use Rattle.dmr_desk.specs.Audited.{AllFollow}
+use Rattle.dmr_desk.specs.Audited.{AllFollow, IsDiffering, IsFirstDiffering, SameBelow, SameBetween}
 use Rattle.dmr_desk.proofs.SeatLemmas.{at_place}
 
 pub view_here : (actor : ℕ) (e : Entry) (es : List Entry) → e.actor ≡ actor → view_of actor (e ∷ es) ≡ deposit_in e ∷ view_of actor es
@@ -96,9 +96,8 @@ at_another turns k j turn t other has =
     slice_get-get_or (slice_set turns k turn) j t (let e = length-set turns k turn in omega arith) ∙ ap (λ (x : Option ℕ). Some x) (get_or-set_other turns k j turn t other ∙ get_or_from_slice_get turns j t t has)
 
 -- no entry has been compared
-pub all_begin : (views : List (List Deposit)) (journal : List Entry) → length views ≤ 18 → AllFollow views journal 0 (replicate 18 (Some 0))
-all_begin views journal few actor view has =
-    let within = slice_get_within views actor view has in
+pub all_begin : (from to : ℕ) (views : List (List Deposit)) (journal : List Entry) → to ≤ 18 → AllFollow from to views journal 0 (replicate 18 (Some 0))
+all_begin from to views journal few actor view low high has =
     let long : length (replicate {A = Option ℕ} 18 (Some 0)) ≡ 18 = refl in (
       Some 0,
       slice_get-get_or (replicate 18 (Some 0)) actor None (omega arith) ∙ ap (λ (t : Option ℕ). Some t) (get_or-replicate 18 actor (Some 0) None (omega arith)),
@@ -106,11 +105,11 @@ all_begin views journal few actor view has =
     )
 
 -- an entry was compared with the view of its actor, which is k
-pub all_follow_one : (views : List (List Deposit)) (journal : List Entry) (place : ℕ) (turns : List (Option ℕ)) (e : Entry) (k : ℕ) (view : List Deposit) (d turn : Option ℕ) → AllFollow views journal place turns → place < length journal → e ≡ slice_index_or journal place e → k ≡ e.actor → slice_get views k ≡ Some view → (Follows view e.actor journal place (slice_index_or turns k d) → Follows view e.actor journal (place + 1) turn) → AllFollow views journal (place + 1) (slice_set turns k turn)
-all_follow_one views journal place turns e k view d turn all within is of here step actor view' has =
+pub all_follow_one : (from to : ℕ) (views : List (List Deposit)) (journal : List Entry) (place : ℕ) (turns : List (Option ℕ)) (e : Entry) (k : ℕ) (view : List Deposit) (d turn : Option ℕ) → from ≤ k → k < to → AllFollow from to views journal place turns → place < length journal → e ≡ slice_index_or journal place e → k ≡ e.actor → slice_get views k ≡ Some view → (Follows view e.actor journal place (slice_index_or turns k d) → Follows view e.actor journal (place + 1) turn) → AllFollow from to views journal (place + 1) (slice_set turns k turn)
+all_follow_one from to views journal place turns e k view d turn low_k high_k all within is of here step actor view' low high has =
     elim (cases_eq actor k) [
       | inl same ↦
-          let found = all k view here in
+          let found = all k view low_k high_k here in
           let read : slice_index_or turns k d ≡ found.0 = get_or_from_slice_get turns k found.0 d found.1 in
           let at_k : Follows view k journal place (slice_index_or turns k d) = subst (λ (t : Option ℕ). Follows view k journal place t) (sym read) found.2 in
           let before : Follows view e.actor journal place (slice_index_or turns k d) = subst (λ (n : ℕ). Follows view n journal place (slice_index_or turns k d)) of at_k in
@@ -121,16 +120,15 @@ all_follow_one views journal place turns e k view d turn all within is of here s
             subst (λ (n : ℕ). Follows view' n journal (place + 1) turn) (sym (same ∙ of)) after,
           )
       | inr other ↦
-          let found = all actor view' has in
+          let found = all actor view' low high has in
           (found.0, at_another turns k actor turn found.0 other found.1, passes view' actor journal place found.0 e found.2 within is (λ own. other (sym own ∙ sym of)))
     ]
 
--- no view is that of the entry's actor
-pub all_pass : (views : List (List Deposit)) (journal : List Entry) (place : ℕ) (turns : List (Option ℕ)) (e : Entry) → AllFollow views journal place turns → place < length journal → e ≡ slice_index_or journal place e → length views ≤ e.actor → AllFollow views journal (place + 1) turns
-all_pass views journal place turns e all within is none actor view has =
-    let found = all actor view has in
-    let below = slice_get_within views actor view has in
-    (found.0, found.1, passes view actor journal place found.0 e found.2 within is (λ own. omega arith))
+-- the entry's actor is not among them
+pub all_pass : (from to : ℕ) (views : List (List Deposit)) (journal : List Entry) (place : ℕ) (turns : List (Option ℕ)) (e : Entry) → AllFollow from to views journal place turns → place < length journal → e ≡ slice_index_or journal place e → ¬ ((from ≤ e.actor) × (e.actor < to)) → AllFollow from to views journal (place + 1) turns
+all_pass from to views journal place turns e all within is none actor view low high has =
+    let found = all actor view low high has in
+    (found.0, found.1, passes view actor journal place found.0 e found.2 within is (λ own. none (omega (arith, own, low), omega (arith, own, high))))
 
 -- the view that is read at a place
 pub view_at : (views read : List (List Deposit)) (k : ℕ) (view deposits : List Deposit) → read ≡ views → k < length views → view ≡ slice_index_or read k view → deposits ≡ view → slice_get views k ≡ Some deposits
@@ -152,14 +150,39 @@ turn_differs turn n e is =
     let no : true ≡ false = e ∙ same in cc
 
 -- all entries have been compared
-pub same_at : (views : List (List Deposit)) (journal : List Entry) (turns : List (Option ℕ)) (actor : ℕ) (view : List Deposit) (d : Option ℕ) → AllFollow views journal (length journal) turns → slice_get views actor ≡ Some view → false ≡ not (option_eq eqb (slice_index_or turns actor d) (Some (length view))) → slice_get views actor ≡ Some (view_of actor journal)
-same_at views journal turns actor view d all here equal =
-    let found = all actor view here in
+pub same_at : (from to : ℕ) (views : List (List Deposit)) (journal : List Entry) (turns : List (Option ℕ)) (actor : ℕ) (view : List Deposit) (d : Option ℕ) → from ≤ actor → actor < to → AllFollow from to views journal (length journal) turns → slice_get views actor ≡ Some view → false ≡ not (option_eq eqb (slice_index_or turns actor d) (Some (length view))) → slice_get views actor ≡ Some (view_of actor journal)
+same_at from to views journal turns actor view d low high all here equal =
+    let found = all actor view low high here in
     let read = get_or_from_slice_get turns actor found.0 d found.1 in
     here ∙ ap (λ (v : List Deposit). Some v) (ends_so view actor journal found.0 found.2 (sym read ∙ turn_is (slice_index_or turns actor d) (length view) equal))
 
-pub differs_at : (views : List (List Deposit)) (journal : List Entry) (turns : List (Option ℕ)) (actor : ℕ) (view : List Deposit) (d : Option ℕ) → AllFollow views journal (length journal) turns → slice_get views actor ≡ Some view → true ≡ not (option_eq eqb (slice_index_or turns actor d) (Some (length view))) → slice_get views actor ≢ Some (view_of actor journal)
-differs_at views journal turns actor view d all here unequal same =
-    let found = all actor view here in
+pub differs_at : (from to : ℕ) (views : List (List Deposit)) (journal : List Entry) (turns : List (Option ℕ)) (actor : ℕ) (view : List Deposit) (d : Option ℕ) → from ≤ actor → actor < to → AllFollow from to views journal (length journal) turns → slice_get views actor ≡ Some view → true ≡ not (option_eq eqb (slice_index_or turns actor d) (Some (length view))) → slice_get views actor ≢ Some (view_of actor journal)
+differs_at from to views journal turns actor view d low high all here unequal same =
+    let found = all actor view low high here in
     let read = get_or_from_slice_get turns actor found.0 d found.1 in
     ends_otherwise view actor journal found.0 found.2 (λ is. turn_differs (slice_index_or turns actor d) (length view) unequal (read ∙ is)) (same_Some view (view_of actor journal) (sym here ∙ same))
+
+-- ---- halves
+
+-- the least that differs among the first is the least among all
+pub among_first : (from middle to : ℕ) (views : List (List Deposit)) (journal : List Entry) (actor : ℕ) → middle ≤ to → IsFirstDiffering from middle views journal (Some actor) → IsFirstDiffering from to views journal (Some actor)
+among_first from middle to views journal actor within is = (is.0, omega (arith, is.1), is.2, is.3)
+
+same_on : (from middle to : ℕ) (views : List (List Deposit)) (journal : List Entry) → SameBetween from middle views journal → SameBetween middle to views journal → SameBetween from to views journal
+same_on from middle to views journal first second actor low high =
+    elim (cases_lt actor middle) [
+      | inl before ↦ first actor low before
+      | inr after ↦ second actor (omega (arith, after)) high
+    ]
+
+-- if none of the first differs, it is the least among the others
+pub among_second : (from middle to : ℕ) (views : List (List Deposit)) (journal : List Entry) (second : Option ℕ) → from ≤ middle → IsFirstDiffering from middle views journal None → IsFirstDiffering middle to views journal second → IsFirstDiffering from to views journal second
+among_second from middle to views journal None order first second = same_on from middle to views journal first second
+among_second from middle to views journal (Some actor) order first second = (omega (arith, second.0), second.1, second.2, same_on from middle actor views journal first second.3)
+
+-- all actors
+pub least_of_all : (views : List (List Deposit)) (journal : List Entry) (actor : ℕ) → IsFirstDiffering 0 (length views) views journal (Some actor) → IsDiffering views journal actor
+least_of_all views journal actor is = (is.1, is.2, λ other below. is.3 other (omega arith) below)
+
+pub same_for_all : (views : List (List Deposit)) (journal : List Entry) → IsFirstDiffering 0 (length views) views journal None → SameBelow (length views) views journal
+same_for_all views journal same actor below = same actor (omega arith) below

@@ -1,6 +1,6 @@
 -- The result of closing a desk: its report, or why there is none.
 use Rattle.std.specs.Prelude.{◌≡◌, ◌≢◌, ◌⊎◌, ◌<◌, ◌≤◌, ◌+◌, ℕ, List, [], ◌∷◌, length, reverse}
-use Rattle.std.specs.Prelude.{slice_get, Option, Some, Contains, All}
+use Rattle.std.specs.Prelude.{slice_get, Option, Some, None, Contains, All}
 use Rattle.dmr_core.specs.declared.entry.Entry.{Entry}
 use Rattle.dmr_core.specs.Journal.{IsLegal}
 use Rattle.dmr_core.specs.State.{SiteState}
@@ -105,9 +105,23 @@ pub record IsOutOf (seats : List SeatState) (seat : SeatState)
   pub others : (other : SeatState) → Contains seats other → (other ≡ seat) ⊎ Contains left other
   pub counted : deposits_of_seats left + length seat.deposits ≡ deposits_of_seats seats
 
--- each actor's view follows the first entries of the journal, this many
-abbrev pub AllFollow : List (List Deposit) → List Entry → ℕ → List (Option ℕ) → Type 0
-AllFollow views journal place turns =
-    (actor : ℕ) (view : List Deposit) → slice_get views actor ≡ Some view
-    → (turn : Option ℕ) × (slice_get turns actor ≡ Some turn)
+-- ---- on the way
+
+-- the view of each actor from one number to below another is the journal's list for it
+abbrev pub SameBetween : ℕ → ℕ → List (List Deposit) → List Entry → Type 0
+SameBetween from to views journal =
+    (actor : ℕ) → from ≤ actor → actor < to → slice_get views actor ≡ Some (view_of actor journal)
+
+-- the least actor, from one number to below another, whose view differs from the journal's list for it; None: none does
+abbrev pub IsFirstDiffering : ℕ → ℕ → List (List Deposit) → List Entry → Option ℕ → Type 0
+IsFirstDiffering from to views journal None = SameBetween from to views journal
+IsFirstDiffering from to views journal (Some actor) =
+    (from ≤ actor) × (actor < to) × (slice_get views actor ≢ Some (view_of actor journal))
+    × SameBetween from actor views journal
+
+-- the view of each actor from one number to below another follows the first entries of the journal, this many
+abbrev pub AllFollow : ℕ → ℕ → List (List Deposit) → List Entry → ℕ → List (Option ℕ) → Type 0
+AllFollow from to views journal place turns =
+    (actor : ℕ) (view : List Deposit) → from ≤ actor → actor < to
+    → slice_get views actor ≡ Some view → (turn : Option ℕ) × (slice_get turns actor ≡ Some turn)
     × Follows view actor journal place turn

@@ -2,18 +2,19 @@
 
 ghost use Rattle.std.specs.Prelude.{◌≡◌, ◌≤◌, ◌+◌, ◌↔◌, ◌⊎◌, length, true, false, IsTrue, IfOk};
 ghost use Rattle.std.specs.Prelude.{IfErr, OnOk};
-ghost use Rattle.dmr_desk.specs.BookState.{answer_to, book_with_entry};
+ghost use Rattle.dmr_desk.specs.BookState.{IsSoundBook, answer_to, book_with_entry};
 ghost use Rattle.dmr_desk.specs.Seats.{seat_with_deposit, empty_seats};
 ghost use Rattle.dmr_desk.specs.Limits.{most_actors};
 ghost use Rattle.dmr_desk.specs.Opening.{IsLimit, IsNumber, IsRefused};
-ghost use Rattle.dmr_desk.specs.Audited.{IsAudited, IsFault};
+ghost use Rattle.dmr_desk.specs.Audited.{AreGathered, IsAudited, IsFault, IsLeastMissing};
+ghost use Rattle.dmr_desk.specs.Audited.{count_of_deposits, deposits_of_seats};
 
-use crate::audit::{audit_book, gather_views};
+use crate::audit::{audit_book, first_differing_alone, first_differing_in_threads, gather_views};
 use crate::book::Book;
 use crate::desk_ledger::DeskLedger;
 use crate::fault::{CloseFault, OpenFault};
 use crate::limits::{MOST_ACTORS, MOST_ENTRIES};
-use crate::report::Report;
+use crate::report::{Report, Views};
 use crate::seat::Seat;
 use crate::spare::SpareLists;
 use dmr_core::{Acts, Event, Site};
@@ -23,6 +24,7 @@ use std::alloc::Global;
 use std::marker::Model;
 use std::sync::ledger::{Blank, Ledger, Share};
 use std::sync::{Mutex, Wait, ledger};
+use std::thread::Threads;
 
 /// The content of the lock. `total` is the ledger's total, which is the number of the book's entries. `rest` has the
 /// parts of the ledger that no seat has. `actors` is the number of seats. By its type, the content belongs to the desk
@@ -83,16 +85,19 @@ impl<L: DeskLedger> Locked<L> {
         self.abandoned = true;
     }
 
-    /// Returns the report of the book and these seats. On an error a seat is missing, and the error names the least
-    /// such actor. If none is missing, a seat differs from the journal, and the error names the least such actor.
-    fn audit_seats(self, seats: Vec<Seat<L>>) -> Result<Report, CloseFault>
+    /// Returns the book, and the view of each actor, moved out of its seat. The error is the least actor whose seat is
+    /// missing.
+    fn gather(self, seats: Vec<Seat<L>>) -> Result<(Book, Views), u8>
         requires { L.parts ≡ most_actors }
-        ensures ok { IfOk result (λ report. IsAudited
-            (record { site = self.book.opening; limit = self.book.limit; actors = self.actors })
-            seats.items report) }
-        ensures fault { IfErr result (λ fault. IsFault
-            (record { site = self.book.opening; limit = self.book.limit; actors = self.actors })
-            seats.items fault) }
+        ensures book { IfOk result (λ gathered. gathered.0 ≡ self.book) }
+        ensures views { IfOk result (λ gathered. AreGathered seats.items gathered.1.items) }
+        ensures actors { IfOk result (λ gathered. length gathered.1.items ≡ self.actors) }
+        ensures counted { IfOk result
+            (λ gathered. length self.book.entries ≡ count_of_deposits gathered.1.items) }
+        ensures seats { IfOk result
+            (λ gathered. count_of_deposits gathered.1.items ≡ deposits_of_seats seats.items) }
+        ensures sound { IsSoundBook self.book }
+        ensures missing { IfErr result (λ actor. IsLeastMissing seats.items self.actors actor) }
     {
         let Locked {
             book,
@@ -105,15 +110,61 @@ impl<L: DeskLedger> Locked<L> {
         match gather_views(seats, rest, actors) {
             Ok((views, mut all)) => {
                 total.audit(&mut all);
-                match audit_book(book, views) {
+                Ok((book, views))
+            }
+            Err(actor) => {
+                drop(book);
+                Err(actor)
+            }
+        }
+    }
+
+    /// Returns the report of the book and these seats. On an error a seat is missing, and the error names the least
+    /// such actor. If none is missing, a seat differs from the journal, and the error names the least such actor.
+    fn audit_seats(self, seats: Vec<Seat<L>>) -> Result<Report, CloseFault>
+        requires { L.parts ≡ most_actors }
+        ensures ok { IfOk result (λ report. IsAudited
+            (record { site = self.book.opening; limit = self.book.limit; actors = self.actors })
+            seats.items report) }
+        ensures fault { IfErr result (λ fault. IsFault
+            (record { site = self.book.opening; limit = self.book.limit; actors = self.actors })
+            seats.items fault) }
+    {
+        match self.gather(seats) {
+            Ok((book, views)) => {
+                let differing = first_differing_alone(&views, book.as_slice());
+                match audit_book(book, views, differing) {
                     Ok(report) => Ok(report),
                     Err(actor) => Err(CloseFault::Differs(actor)),
                 }
             }
-            Err(actor) => {
-                drop(book);
-                Err(CloseFault::SeatMissing(actor))
+            Err(actor) => Err(CloseFault::SeatMissing(actor)),
+        }
+    }
+
+    /// Does the same as [`audit_seats`](Locked::audit_seats). If the journal is long, several threads compare it.
+    fn audit_seats_in_threads<R: Threads + Sync>(
+        self,
+        rt: &R,
+        seats: Vec<Seat<L>>,
+    ) -> Result<Report, CloseFault>
+        requires { L.parts ≡ most_actors }
+        ensures ok { IfOk result (λ report. IsAudited
+            (record { site = self.book.opening; limit = self.book.limit; actors = self.actors })
+            seats.items report) }
+        ensures fault { IfErr result (λ fault. IsFault
+            (record { site = self.book.opening; limit = self.book.limit; actors = self.actors })
+            seats.items fault) }
+    {
+        match self.gather(seats) {
+            Ok((book, views)) => {
+                let differing = first_differing_in_threads(rt, &views, book.as_slice());
+                match audit_book(book, views, differing) {
+                    Ok(report) => Ok(report),
+                    Err(actor) => Err(CloseFault::Differs(actor)),
+                }
             }
+            Err(actor) => Err(CloseFault::SeatMissing(actor)),
         }
     }
 }
@@ -282,5 +333,19 @@ impl<L: DeskLedger> SharedDesk<L> {
     {
         let SharedDesk { locked } = self;
         locked.into_inner().audit_seats(seats)
+    }
+
+    /// Does the same as [`close`](SharedDesk::close). If the journal is long, several threads compare it with the seats.
+    pub(crate) fn close_in_threads<R: Threads + Sync>(
+        self,
+        rt: &R,
+        seats: Vec<Seat<L>>,
+    ) -> Result<Report, CloseFault>
+        requires { L.parts ≡ most_actors }
+        ensures ok { IfOk result (λ report. IsAudited self seats.items report) }
+        ensures fault { IfErr result (λ fault. IsFault self seats.items fault) }
+    {
+        let SharedDesk { locked } = self;
+        locked.into_inner().audit_seats_in_threads(rt, seats)
     }
 }

@@ -160,7 +160,7 @@ where
     T: Pacer + Drop,
     C: Serving + Drop,
     L: DeskLedger,
-    R: Wait,
+    R: Threads + Sync,
     requires whole { L.parts ≡ most_actors }
     requires limit { desk.limit ≡ limit }
     requires actors { desk.actors ≡ vec_len all.carriers + 2 }
@@ -203,7 +203,7 @@ where
         seats,
         ends,
     } = back;
-    let report = match desk.close(rt, seats) {
+    let report = match desk.close_in_threads(rt, seats) {
         Ok(report) => report,
         Err(fault) => return Err(TermFault::Audit(fault)),
     };

@@ -1,11 +1,11 @@
-use Rattle.std.proofs.Common.{◌≡◌, length, ◌∙◌, sym}
-use Rattle.dmr_desk.specs.Audited.{deposits_of_seats}
+use Rattle.std.proofs.Common.{◌∙◌, subst}
+use Rattle.dmr_desk.specs.BookState.{BookState}
+use Rattle.dmr_desk.specs.Audited.{IsDiffering}
 use Rattle.dmr_desk.proofs.ClosingLemmas.{differs_fault}
 use Rattle.dmr_desk.proofs.desk.Locked.audit_seats.Goals as goal
 
-pub returns-in-Ok-clause-fault : goal.returns-in-Ok-clause-fault
-returns-in-Ok-clause-fault g c =
-    let reported = c.in-Ok.ensures in
-    let all : c.in-Ok.all.amount ≡ c.args.self.total.total = c.audit.ensures.whole (reported.parts ∙ sym c.requires) in
-    let counted : length c.args.self.book.entries ≡ deposits_of_seats c.args.seats.items = c.args.self.counted ∙ sym all ∙ reported.amount ∙ reported.counted in
-    differs_fault c.args.self.book c.args.self.actors c.args.seats.items c.in-Ok.views.items c.in-Err-audit_book.actor c.use_invariant.ensures.kept reported.views reported.actors counted c.in-Err-audit_book.ensures.differs
+pub returns-in-Err-audit_book-clause-fault : goal.returns-in-Err-audit_book-clause-fault
+returns-in-Err-audit_book-clause-fault g c =
+    let gathered = c.in-Ok.ensures in
+    let P : BookState → Type 0 = λ book. IsDiffering c.in-Ok.views.items book.entries c.in-Err-audit_book.actor in
+    differs_fault c.args.self.book c.args.self.actors c.args.seats.items c.in-Ok.views.items c.in-Err-audit_book.actor gathered.sound gathered.views gathered.actors (gathered.counted ∙ gathered.seats) (subst P gathered.book c.in-Err-audit_book.ensures.differs)

@@ -28,6 +28,8 @@ help: ## this list
 	@echo "trials/serve-hostile plays carriers and strangers that behave badly"
 	@echo "trials/long-replay   how long a long replay takes"
 	@echo "trials/watch-hour    whether a site's observers delay its carriers"
+	@echo "trials/flood-cost    whether floods delay the other carriers of a site"
+	@echo "trials/records-cost  what records cost the carriers of a site"
 	@echo "trials/restart       kills a controller that keeps records, and starts it again"
 	@echo "trials/recording     records a served site, replays it, and compares what carriers received"
 	@echo "trials/refuse-memory refuses each allocation of the programs in turn"

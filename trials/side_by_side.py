@@ -1,4 +1,5 @@
-"""Sites of sixteen carriers that are served side by side, for `trials/watch-hour` and `trials/records-cost`: each with a load generator of its own, all at once."""
+"""Sites of sixteen carriers that are served side by side, for `trials/watch-hour`, `trials/records-cost` and `trials/flood-cost`: each with a load generator of its
+own, all at once."""
 import contextlib
 import os
 import pathlib
@@ -43,9 +44,9 @@ def site_of(number: int, **keys: int) -> Site:
     return site
 
 
-def start_carriers(generator: str, site: Site, seconds: int, offset: int) -> subprocess.Popen[str]:
-    """Starts the carriers of a site. Their polls are due this many microseconds after those of a site with offset 0."""
-    words = {"-u": PERIOD, "-o": offset, "-p": site.console_port + 1, "-n": CARRIERS, "-l": FIRST_LPCN, "-L": LPCN_STEP, "-s": seconds, "-c": CONTROL, "-r": REGISTRATIONS, "-v": site.link_version}
+def start_carriers(generator: str, site: Site, seconds: int, offset: int, carriers: int = CARRIERS) -> subprocess.Popen[str]:
+    """Starts the first carriers of a site. Their polls are due this many microseconds after those of a site with offset 0."""
+    words = {"-u": PERIOD, "-o": offset, "-p": site.console_port + 1, "-n": carriers, "-l": FIRST_LPCN, "-L": LPCN_STEP, "-s": seconds, "-c": CONTROL, "-r": REGISTRATIONS, "-v": site.link_version}
     command = [generator, *(str(it) for pair in words.items() for it in pair)]
     return subprocess.Popen(command, stdin=subprocess.DEVNULL, stdout=subprocess.PIPE, stderr=subprocess.STDOUT, text=True)
 
@@ -59,16 +60,16 @@ def answers_of(carriers: subprocess.Popen[str], name: str) -> Answers:
     return Answers(int(found[1]), *(float(it) for it in found.groups()[1:]))
 
 
-def play(generator: str, controllers: list[Controller], sites: list[Site], names: Sequence[str], seconds: int) -> tuple[list[Answers], list[float]]:
-    """Plays the carriers of all sites at once. Their polls are due at evenly spread times, so no site always polls just after another. Their answers,
+def play(generator: str, controllers: list[Controller], sites: list[Site], names: Sequence[str], seconds: int, carriers: int = CARRIERS) -> tuple[list[Answers], list[float]]:
+    """Plays the first carriers of all sites at once. Their polls are due at evenly spread times, so no site always polls just after another. Their answers,
     and the share of a processor that each controller took. SessionFault: one was not served."""
     before, began = [it.seconds() for it in controllers], time.monotonic()
     step = PERIOD // CARRIERS // len(sites)
-    carriers = [start_carriers(generator, site, seconds, number * step) for number, site in enumerate(sites)]
+    players = [start_carriers(generator, site, seconds, number * step, carriers) for number, site in enumerate(sites)]
     try:
-        answers = [answers_of(it, name) for it, name in zip(carriers, names, strict=True)]
+        answers = [answers_of(it, name) for it, name in zip(players, names, strict=True)]
     finally:
-        for it in carriers:
+        for it in players:
             it.kill()
             it.wait()
     passed = time.monotonic() - began

@@ -142,7 +142,7 @@ impl<L: DeskLedger> Locked<L> {
         }
     }
 
-    /// Does the same as [`audit_seats`](Locked::audit_seats). If the journal is long, two threads compare it.
+    /// Does the same as [`audit_seats`](Locked::audit_seats). If the journal is long, several threads compare it.
     fn audit_seats_in_threads<R: Threads + Sync>(
         self,
         rt: &R,
@@ -335,7 +335,7 @@ impl<L: DeskLedger> SharedDesk<L> {
         locked.into_inner().audit_seats(seats)
     }
 
-    /// Does the same as [`close`](SharedDesk::close). If the journal is long, two threads compare it with the seats.
+    /// Does the same as [`close`](SharedDesk::close). If the journal is long, several threads compare it with the seats.
     pub(crate) fn close_in_threads<R: Threads + Sync>(
         self,
         rt: &R,

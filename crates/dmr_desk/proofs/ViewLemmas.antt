@@ -8,7 +8,7 @@ use Rattle.std.proofs.lemmas.Option.{none-some, same_Some, slice_get-get_or, sli
 use Rattle.dmr_core.specs.declared.entry.Entry.{Entry}
 use Rattle.dmr_link.specs.declared.desk.Deposit.{Deposit}
 use Rattle.dmr_desk.specs.Views.{deposit_in, view_of, IsRest, Follows}
-use Rattle.dmr_desk.specs.Audited.{AllFollow, IsDiffering, IsFirstDiffering, SameBelow, SameBetween}
+use Rattle.dmr_desk.specs.Audited.{AllFollow, HasActors, IsDiffering, IsFirstDiffering, SameBelow, SameBetween}
 use Rattle.dmr_desk.proofs.SeatLemmas.{at_place}
 
 pub view_here : (actor : ℕ) (e : Entry) (es : List Entry) → e.actor ≡ actor → view_of actor (e ∷ es) ≡ deposit_in e ∷ view_of actor es
@@ -87,13 +87,24 @@ ends_otherwise deposits actor journal (Some n) follows other all =
 
 -- ---- all actors
 
-at_written : (turns : List (Option ℕ)) (k : ℕ) (turn : Option ℕ) → k < length turns → slice_get (slice_set turns k turn) k ≡ Some turn
-at_written turns k turn within = slice_get-get_or (slice_set turns k turn) k turn (let e = length-set turns k turn in omega arith) ∙ ap (λ (t : Option ℕ). Some t) (get_or-set_same turns k turn turn within)
+at_written : {X : Type 0} (xs : List X) (k : ℕ) (x : X) → k < length xs → slice_get (slice_set xs k x) k ≡ Some x
+at_written {X} xs k x within = slice_get-get_or (slice_set xs k x) k x (let e = length-set xs k x in omega arith) ∙ ap (λ (y : X). Some y) (get_or-set_same xs k x x within)
 
-at_another : (turns : List (Option ℕ)) (k j : ℕ) (turn t : Option ℕ) → j ≢ k → slice_get turns j ≡ Some t → slice_get (slice_set turns k turn) j ≡ Some t
-at_another turns k j turn t other has =
-    let within = slice_get_within turns j t has in
-    slice_get-get_or (slice_set turns k turn) j t (let e = length-set turns k turn in omega arith) ∙ ap (λ (x : Option ℕ). Some x) (get_or-set_other turns k j turn t other ∙ get_or_from_slice_get turns j t t has)
+at_another : {X : Type 0} (xs : List X) (k j : ℕ) (x y : X) → j ≢ k → slice_get xs j ≡ Some y → slice_get (slice_set xs k x) j ≡ Some y
+at_another {X} xs k j x y other has =
+    let within = slice_get_within xs j y has in
+    slice_get-get_or (slice_set xs k x) j y (let e = length-set xs k x in omega arith) ∙ ap (λ (z : X). Some z) (get_or-set_other xs k j x y other ∙ get_or_from_slice_get xs j y y has)
+
+-- the actor of one more entry is written down
+pub actors_more : (start place : ℕ) (journal : List Entry) (actors : List ℕ) (e : Entry) (actor : ℕ) → start ≤ place → place - start < length actors → slice_get journal place ≡ Some e → actor ≡ e.actor → HasActors start place journal actors → HasActors start (place + 1) journal (slice_set actors (place - start) actor)
+actors_more start place journal actors e actor order within here is before at e' low below has =
+    elim (cases_eq at place) [
+      | inl same ↦
+          let own : e ≡ e' = same_Some e e' (sym here ∙ ap (λ (n : ℕ). slice_get journal n) (sym same) ∙ has) in
+          ap (λ (n : ℕ). slice_get (slice_set actors (place - start) actor) (n - start)) same ∙ at_written actors (place - start) actor within ∙ ap (λ (n : ℕ). Some n) (is ∙ ap (λ (x : Entry). x.actor) own)
+      | inr other ↦
+          at_another actors (place - start) (at - start) actor e'.actor (λ equal. other (omega arith)) (before at e' low (omega arith) has)
+    ]
 
 -- no entry has been compared
 pub all_begin : (from to : ℕ) (views : List (List Deposit)) (journal : List Entry) → to ≤ 18 → AllFollow from to views journal 0 (replicate 18 (Some 0))

@@ -1,5 +1,5 @@
 -- The result of closing a desk: its report, or why there is none.
-use Rattle.std.specs.Prelude.{◌≡◌, ◌≢◌, ◌⊎◌, ◌<◌, ◌≤◌, ◌+◌, ℕ, List, [], ◌∷◌, length, reverse}
+use Rattle.std.specs.Prelude.{◌≡◌, ◌≢◌, ◌⊎◌, ◌<◌, ◌≤◌, ◌+◌, ◌-◌, ℕ, List, [], ◌∷◌, length, reverse}
 use Rattle.std.specs.Prelude.{slice_get, Option, Some, None, Contains, All}
 use Rattle.dmr_core.specs.declared.entry.Entry.{Entry}
 use Rattle.dmr_core.specs.Journal.{IsLegal}
@@ -125,3 +125,9 @@ AllFollow from to views journal place turns =
     (actor : ℕ) (view : List Deposit) → from ≤ actor → actor < to
     → slice_get views actor ≡ Some view → (turn : Option ℕ) × (slice_get turns actor ≡ Some turn)
     × Follows view actor journal place turn
+
+-- a list has the actors of the journal's entries from one place to below another, in order
+abbrev pub HasActors : ℕ → ℕ → List Entry → List ℕ → Type 0
+HasActors start end journal actors =
+    (place : ℕ) (entry : Entry) → start ≤ place → place < end → slice_get journal place ≡ Some entry
+    → slice_get actors (place - start) ≡ Some entry.actor

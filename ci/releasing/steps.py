@@ -4,6 +4,7 @@ import pathlib
 import subprocess
 import time
 from collections.abc import Iterator, Mapping, Sequence
+from concurrent.futures import ThreadPoolExecutor
 from typing import NamedTuple
 
 # a soak plays as many inputs for each of two sites, in both versions of the link
@@ -11,16 +12,21 @@ SOAK_INPUTS = 10_000_000
 SOAKS = 4
 SITE = "sites/sixteen_carriers.toml"
 HOUR = 3600
+# the console's port of the second of two sites that are served side by side; the ports of its carriers follow
+SECOND_PORT = "17200"
 # the number of steps that try the wrong bodies outside the gate, of some twenty minutes each
 WRONG_BODY_PARTS = 8
 
 
 class Step(NamedTuple):
-    """A step: its name, its command in the clone, whether it needs root, and whether later steps need what it builds in the clone."""
+    """A step: its name, and its command in the clone."""
     name: str
     words: Sequence[str]
     needs_root: bool = False
+    # whether later steps need what it builds in the clone
     builds: bool = False
+    # whether it runs side by side with the step before it
+    side_by_side: bool = False
 
 
 class Outcome(NamedTuple):
@@ -65,9 +71,10 @@ def all_steps(short: bool) -> list[Step]:
         *(wrong_bodies(part, short) for part in range(1, WRONG_BODY_PARTS + 1)),
         Step(f"a soak of {inputs * SOAKS:,} inputs", ["build/dmr_soak", "--inputs", str(inputs), "--counts"]),
         Step(f"served for {seconds} s", carriers("--seconds", seconds)),
-        Step(f"served in trouble for {seconds} s", carriers("--faults", "--seconds", seconds)),
+        Step(f"served in trouble for {seconds} s", carriers("--faults", "--seconds", seconds, "--port", SECOND_PORT), side_by_side=True),
         Step("each allocation refused", ["trials/refuse-memory"]),
         Step("served to peers that behave badly", ["trials/serve-hostile", "build/dmr_trunk"]),
+        Step("killed while it serves, and a file of records in trouble", ["trials/restart", "build/dmr_trunk"]),
         Step("times beside C", ["make", "bench"]),
         Step("instructions beside C", ["make", "bench-instructions"]),
         Step("the package", ["make", "package"]),
@@ -95,16 +102,32 @@ def run_step(step: Step, clone: pathlib.Path, log: pathlib.Path, run: int = 1) -
     return Outcome(step, status, time.monotonic() - began, lines[-1] if lines else "", run)
 
 
+def groups_of(steps: Sequence[Step]) -> list[list[Step]]:
+    """The steps in order, in groups of those that run side by side."""
+    groups: list[list[Step]] = []
+    for it in steps:
+        if it.side_by_side and groups:
+            groups[-1].append(it)
+        else:
+            groups.append([it])
+    return groups
+
+
 def run_all(steps: Sequence[Step], clone: pathlib.Path, logs: pathlib.Path, done: Mapping[str, Outcome], run: int, most_seconds: float) -> Iterator[Outcome]:
-    """Runs the steps one after another, and yields the outcome of each. A step that fails does not end the run.
+    """Runs the steps, those of a group side by side and one group after another, and yields the outcome of each. A step that fails does not end the run.
 
     `done` has the steps that passed in earlier runs, by their names. Their outcomes are yielded as they are. What a step builds is not in this clone then, so
     it is built again, as long as anything is to do. No step begins after `most_seconds`; those that are left yield nothing.
     """
     began = time.monotonic()
     complete = all(it.name in done for it in steps)
-    for number, step in enumerate(steps, 1):
-        if step.name in done and (complete or not step.builds):
-            yield done[step.name]
-        elif time.monotonic() - began < most_seconds:
-            yield run_step(step, clone, logs / log_name(number, step), run)
+    numbers = {it.name: number for number, it in enumerate(steps, 1)}
+    for group in groups_of(steps):
+        to_do = [it for it in group if it.name not in done or (it.builds and not complete)]
+        if time.monotonic() - began >= most_seconds:
+            to_do = []
+        with ThreadPoolExecutor(len(group)) as pool:
+            ran = dict(zip([it.name for it in to_do], pool.map(lambda it: run_step(it, clone, logs / log_name(numbers[it.name], it), run), to_do), strict=True))
+        for it in group:
+            if it.name in ran or it.name in done:
+                yield ran.get(it.name) or done[it.name]

@@ -4,10 +4,12 @@ import importlib.machinery
 import importlib.util
 import json
 import pathlib
+import re
 import subprocess
 import sys
 import tempfile
 import unittest
+import unittest.mock
 
 TOP = pathlib.Path(__file__).resolve().parent.parent.parent
 sys.path.insert(0, str(TOP / "ci"))
@@ -97,6 +99,15 @@ class Runs(unittest.TestCase):
         """No step begins after the time is over."""
         self.assertEqual(self.run_all(self.done("first"), 0), ([], [("first", 1)]))
 
+    def test_side_by_side(self) -> None:
+        """Two steps run side by side: each waits for the other. One that passed is not done again."""
+        meets = "touch {0}; for it in $(seq 500); do [ -e {1} ] && exit; sleep 0.01; done; exit 1"
+        pair = [steps.Step(mine, ["sh", "-c", meets.format(mine, other)], side_by_side=mine == "right") for mine, other in (("left", "right"), ("right", "left"))]
+        for done, runs in (({}, [2, 2]), ({"left": steps.Outcome(pair[0], 0, 1.0, "")}, [1, 2])):
+            with self.subTest(list(done)):
+                outcomes = list(steps.run_all(pair, self.folder, self.folder / "logs", done, 2, 60))
+                self.assertEqual([(it.step, it.status, it.run) for it in outcomes], [(it, 0, run) for it, run in zip(pair, runs, strict=True)])
+
     def test_progress(self) -> None:
         """What is written is read again. Only steps that passed count as done. Any other text is refused."""
         outcomes = {"first": steps.Outcome(self.steps[0], 0, 1.5, "well", 1), "last": steps.Outcome(self.steps[2], 3, 2.0, "why", 2)}
@@ -112,12 +123,15 @@ class Runs(unittest.TestCase):
 
 
 class Begins(unittest.TestCase):
-    """The folder of a release, at the beginning of a run."""
+    """The folder of a release, at the beginning of a run. The commit is a made one: a checkout may be without git."""
 
     def setUp(self) -> None:
         room = tempfile.TemporaryDirectory()
         self.addCleanup(room.cleanup)
         self.folder = pathlib.Path(room.name) / "release"
+        commit = unittest.mock.patch.object(command, "git", lambda *_: "0ddba11\n")
+        self.addCleanup(commit.stop)
+        commit.start()
 
     def test_new_folder(self) -> None:
         """The first run makes the folder, and a later one goes on with it."""
@@ -185,6 +199,19 @@ class Records(unittest.TestCase):
         """The record does not name the host."""
         host = pathlib.Path("/proc/sys/kernel/hostname").read_text(encoding="ascii").strip()
         self.assertFalse([it for it in record.describe_machine() if host and host in it])
+
+
+class Version(unittest.TestCase):
+    """The version that the documents name."""
+
+    def test_status(self) -> None:
+        """The README's status has the newest release in the list of changes, with its date, or says that there is none. The program's version is that or the next."""
+        version = subprocess.run([TOP / "ci/version"], check=True, capture_output=True, text=True).stdout.strip()
+        released = re.findall(r"^## (\d+\.\d+\.\d+), (\d{4}-\d\d-\d\d)$", (TOP / "CHANGELOG.md").read_text(encoding="utf-8"), re.M)
+        status = f"version {', '.join(released[0])}" if released else f"not released yet; the next version is {version}"
+        self.assertIn(f"\nStatus: {status}", (TOP / "README.md").read_text(encoding="utf-8"))
+        if released:
+            self.assertGreaterEqual([int(it) for it in version.split(".")], [int(it) for it in released[0][0].split(".")])
 
 
 class Components(unittest.TestCase):

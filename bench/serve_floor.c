@@ -12,7 +12,7 @@
  * It is not a controller: it has no site, ignores what a carrier says, and runs until it is killed.
  */
 #define _GNU_SOURCE
-#include <arpa/inet.h>
+#include "listener.h"
 #include <errno.h>
 #include <netinet/in.h>
 #include <netinet/tcp.h>
@@ -41,20 +41,6 @@ static bool takes_lock;
 static uint8_t answer_of[2][31]; /* by version: a TX and DONE */
 static pthread_mutex_t lock = PTHREAD_MUTEX_INITIALIZER;
 static volatile uint64_t polls;
-
-static void die(const char *what) {
-    perror(what);
-    exit(1);
-}
-
-static int listen_on(int port) {
-    int listener = socket(AF_INET, SOCK_STREAM, 0), one = 1;
-    struct sockaddr_in address = {
-        .sin_family = AF_INET, .sin_port = htons(port), .sin_addr = {htonl(INADDR_LOOPBACK)}};
-    setsockopt(listener, SOL_SOCKET, SO_REUSEADDR, &one, sizeof one);
-    if (bind(listener, (void *)&address, sizeof address) || listen(listener, 16)) die("listen");
-    return listener;
-}
 
 static int body_length(int type, int version) {
     switch (type) {

@@ -10,8 +10,8 @@
  * reads nothing: a write that is not taken whole ends the connection. It runs until it is killed.
  */
 #define _GNU_SOURCE
+#include "listener.h"
 #include "site_link.h"
-#include <arpa/inet.h>
 #include <errno.h>
 #include <netinet/in.h>
 #include <netinet/tcp.h>
@@ -30,20 +30,6 @@ typedef struct {
 static int base_port = 7101, carriers = 16, control, first_lpcn = 101, lpcn_step = 2;
 static bool has_journal;
 static Site *site;
-
-static void die(const char *what) {
-    perror(what);
-    exit(1);
-}
-
-static int listen_on(int port) {
-    int listener = socket(AF_INET, SOCK_STREAM, 0), one = 1;
-    struct sockaddr_in address = {
-        .sin_family = AF_INET, .sin_port = htons(port), .sin_addr = {htonl(INADDR_LOOPBACK)}};
-    setsockopt(listener, SOL_SOCKET, SO_REUSEADDR, &one, sizeof one);
-    if (bind(listener, (void *)&address, sizeof address) || listen(listener, 16)) die("listen");
-    return listener;
-}
 
 static void watch(int epoll, int operation, int stream, Connection *c) {
     struct epoll_event event = {.events = EPOLLIN, .data.ptr = c};

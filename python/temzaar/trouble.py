@@ -41,6 +41,16 @@ NO_FRAMES = (
 )
 
 
+def received_octets(stream: socket.socket) -> bytes | None:
+    """The octets that a connection has now; none if it has ended, and `None` if there are none yet."""
+    try:
+        return stream.recv(65536)
+    except BlockingIOError:
+        return None
+    except OSError:
+        return b""
+
+
 def kept_at_most() -> int:
     """The most octets that the system keeps for a connection until its peer reads them. With bbr as congestion control it keeps them even if the peer reads none."""
     try:
@@ -207,12 +217,9 @@ class TroubledCarrier:
         if self.trouble in ("deaf", "never reads"):
             return
         assert self.stream
-        try:
-            octets = self.stream.recv(65536)
-        except BlockingIOError:
+        octets = received_octets(self.stream)
+        if octets is None:
             return
-        except OSError:
-            octets = b""
         if not octets:
             self.controller_ended(now)
             return
@@ -330,12 +337,9 @@ class TroubledOperator:
         """Processes the octets received."""
         if self.deaf or self.stream is None:
             return
-        try:
-            octets = self.stream.recv(65536)
-        except BlockingIOError:
+        octets = received_octets(self.stream)
+        if octets is None:
             return
-        except OSError:
-            octets = b""
         if not octets:
             self.play.faults["operators' connections that the controller ended"] += 1
             self.close()

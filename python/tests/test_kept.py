@@ -9,11 +9,11 @@ from collections.abc import Sequence
 
 from temzaar.console import Console, Status
 from temzaar.faults import ToolFault
-from temzaar.process import Controller, connect
+from temzaar.process import Controller
 from temzaar.records import RecordedTerm, opened_records
 from temzaar.sitefile import Site
 from tests.support import TWO_CARRIERS, program
-from tests.test_served import ACKNOWLEDGED, REGISTRATION
+from tests.test_served import ACKNOWLEDGED, register_radio
 
 PORT = 17480
 # the radio of REGISTRATION
@@ -38,15 +38,6 @@ class Kept(unittest.TestCase):
         controller.wait_until_served()
         return controller
 
-    def register(self) -> bytes:
-        """Registers the radio. What the control carrier receives."""
-        with connect(self.site.address, self.site.row(0)["port"]) as stream:
-            stream.sendall(REGISTRATION)
-            answer = b""
-            while len(answer) < len(ACKNOWLEDGED) and (piece := stream.recv(4096)):
-                answer += piece
-            return answer
-
     def radios(self) -> int:
         """How many radios are registered, as the console says."""
         with Console(self.site.address, self.site.console_port) as console:
@@ -70,7 +61,7 @@ class Kept(unittest.TestCase):
     def test_a_radio_is_registered_again_after_a_kill(self) -> None:
         """A radio that had registered is so again. One that the site file no longer lists is not."""
         with self.serve() as controller:
-            self.assertEqual(self.register(), ACKNOWLEDGED)
+            self.assertEqual(register_radio(self.site), ACKNOWLEDGED)
             self.wait_for_radios([RADIO])
             controller.process.kill()
         with self.serve() as controller:
@@ -93,7 +84,7 @@ class Kept(unittest.TestCase):
     def test_a_file_that_cannot_be_opened(self) -> None:
         """The site is served all the same. One note says why nothing is registered again, and one why nothing is kept."""
         with self.serve(os.path.join(self.folder, "none")) as controller:
-            self.assertEqual(self.register(), ACKNOWLEDGED)
+            self.assertEqual(register_radio(self.site), ACKNOWLEDGED)
             self.assertTrue(controller.wait_for("term ended.*1 registrations"), controller.notes)
             self.assertTrue(controller.wait_for("records: not kept"), controller.notes)
             ended = len(controller.notes)

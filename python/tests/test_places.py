@@ -1,13 +1,15 @@
 """The links of documents to lines of the code: ci/check-documents finds a clause under its function, and says which line would be right."""
-import importlib.machinery
-import importlib.util
+import importlib
 import pathlib
 import sys
 import tempfile
-import types
 import unittest
+from unittest import mock
 
 from tests.support import TOP
+
+sys.path.insert(0, str(TOP / "ci"))
+places = importlib.import_module("documents.places")
 
 CODE = """\
 use x::Y;
@@ -53,24 +55,10 @@ IsOne n = Pair n
 """
 
 
-def tool() -> types.ModuleType:
-    """ci/check-documents as a module."""
-    loader = importlib.machinery.SourceFileLoader("check_documents", str(TOP / "ci" / "check-documents"))
-    spec = importlib.util.spec_from_loader("check_documents", loader)
-    assert spec
-    module = importlib.util.module_from_spec(spec)
-    sys.modules["check_documents"] = module
-    kept, sys.dont_write_bytecode = sys.dont_write_bytecode, True
-    loader.exec_module(module)
-    sys.dont_write_bytecode = kept
-    return module
-
-
 class Places(unittest.TestCase):
     """The lines that links name."""
 
     def setUp(self) -> None:
-        self.tool = tool()
         holder = tempfile.TemporaryDirectory()
         self.addCleanup(holder.cleanup)
         self.top = pathlib.Path(holder.name)
@@ -78,13 +66,17 @@ class Places(unittest.TestCase):
         (self.top / "docs").mkdir()
         (self.top / "crates/one/a.rt").write_text(CODE, encoding="utf-8")
         (self.top / "crates/one/a.antt").write_text(DEFINITIONS, encoding="utf-8")
-        self.tool.TOP = self.top
+        replaced = mock.patch.object(places, "TOP", self.top)
+        replaced.start()
+        self.addCleanup(replaced.stop)
+        places.code_at.cache_clear()
+        self.addCleanup(places.code_at.cache_clear)
 
     def lines_of(self, words: str, path: str, line: int = 1) -> list[list[int]]:
-        """The lines that the tool finds for the links of a document with these words."""
+        """The lines that are found for the links of a document with these words."""
         document = self.top / "docs" / "page.md"
         document.write_text("".join(f"[{it}](../crates/one/{path}#L{line}) " for it in words.split(" + ")), encoding="utf-8")
-        return [found for _, _, found in self.tool.places_in(document)]
+        return [found for _, _, found in places.places_in(document)]
 
     def test_clauses(self) -> None:
         self.assertEqual(self.lines_of("`First::run`, clause `ok`", "a.rt"), [[11]])
@@ -100,25 +92,25 @@ class Places(unittest.TestCase):
 
     def test_definitions(self) -> None:
         self.assertEqual(self.lines_of("`Pair`, field `ok` + field `other` + `IsOne` + field `ok`", "a.antt"), [[4], [5], [8], []])
-        self.assertEqual(self.tool.Code("crates/one/a.antt").text_of("IsOne"), "abbrev pub IsOne : ℕ → Type 0\nIsOne n = Pair n\n")
+        self.assertEqual(places.Code("crates/one/a.antt").text_of("IsOne"), "abbrev pub IsOne : ℕ → Type 0\nIsOne n = Pair n\n")
 
     def test_faults_and_mending(self) -> None:
         document = self.top / "docs" / "page.md"
         self.lines_of("`First::run`, clause `ok` + clause `fit`", "a.rt", 11)
-        self.assertEqual(list(self.tool.place_faults(document)),
+        self.assertEqual(list(places.place_faults(document)),
                          ["docs/page.md:1: First::run, fit: crates/one/a.rt has it at line 10, not 11 (--mend-lines writes it)"])
-        self.assertEqual(self.tool.mend_lines(document), 1)
-        self.assertEqual(list(self.tool.place_faults(document)), [])
+        self.assertEqual(places.mend_lines(document), 1)
+        self.assertEqual(list(places.place_faults(document)), [])
         self.assertIn("a.rt#L11) [clause `fit`](../crates/one/a.rt#L10) ", document.read_text(encoding="utf-8"))
 
     def test_shown_definitions(self) -> None:
         document = self.top / "docs" / "page.md"
-        shown = self.tool.Code("crates/one/a.antt").text_of("Pair")
+        shown = places.Code("crates/one/a.antt").text_of("Pair")
         block = f"<!-- check: definition Pair of crates/one/a.antt -->\n```\n{shown}```\n"
         document.write_text(block, encoding="utf-8")
-        self.assertEqual(list(self.tool.place_faults(document)), [])
+        self.assertEqual(list(places.place_faults(document)), [])
         document.write_text(block.replace("n ≡ 1", "n ≡ 2"), encoding="utf-8")
-        self.assertEqual(len(list(self.tool.place_faults(document))), 1)
+        self.assertEqual(len(list(places.place_faults(document))), 1)
 
 
 if __name__ == "__main__":

@@ -6,10 +6,10 @@ import tempfile
 import unittest
 from collections.abc import Mapping, Sequence
 
-from temzaar.process import Controller, connect
+from temzaar.process import Controller
 from temzaar.sitefile import Site
 from tests.support import TWO_CARRIERS, program
-from tests.test_served import ACKNOWLEDGED, REGISTRATION
+from tests.test_served import ACKNOWLEDGED, register_radio
 
 PORT = 17520
 # A term has so few entries that one ends each half of a second, if nothing but ticks comes.
@@ -33,15 +33,6 @@ class Recorded(unittest.TestCase):
         controller.wait_until_served()
         return controller
 
-    def register(self) -> bytes:
-        """Registers the radio. What the control carrier receives."""
-        with connect(self.site.address, self.site.row(0)["port"]) as stream:
-            stream.sendall(REGISTRATION)
-            answer = b""
-            while len(answer) < len(ACKNOWLEDGED) and (piece := stream.recv(4096)):
-                answer += piece
-            return answer
-
     def replayed(self) -> list[str]:
         """The lines that a replay of the recording prints."""
         site = pathlib.Path(self.folder, "site.toml")
@@ -53,7 +44,7 @@ class Recorded(unittest.TestCase):
     def test_a_replay_has_what_the_carrier_received(self) -> None:
         """Each octet that the carrier received is that of the replay, and nothing follows."""
         with self.serve(["--terms", "3"]) as controller:
-            received = self.register()
+            received = register_radio(self.site)
             self.assertEqual(controller.process.wait(60), 0, controller.notes)
         self.assertEqual(received, ACKNOWLEDGED)
         self.assertEqual(self.replayed(), [f"carrier 0 {ACKNOWLEDGED.hex().upper()}", "carrier 1 -"])
@@ -64,7 +55,7 @@ class Recorded(unittest.TestCase):
         """After a restart the recording begins with a session in which the radio registers."""
         more = {"STATE_DIRECTORY": self.folder}
         with self.serve(["--terms", "3"], more) as controller:
-            self.register()
+            register_radio(self.site)
             self.assertEqual(controller.process.wait(60), 0, controller.notes)
         self.path.unlink()
         with self.serve(["--terms", "1"], more) as controller:
@@ -83,7 +74,7 @@ class Recorded(unittest.TestCase):
         """The site is served all the same. One note says why nothing is recorded."""
         self.path.write_text("mine", encoding="utf-8")
         with self.serve(["--terms", "2"]) as controller:
-            self.assertEqual(self.register(), ACKNOWLEDGED)
+            self.assertEqual(register_radio(self.site), ACKNOWLEDGED)
             self.assertEqual(controller.process.wait(60), 0, controller.notes)
             said = [it.partition("recording: ")[2] for it in controller.notes if "recording: " in it]
         self.assertEqual(said, ["ended: there is such a file already"])

@@ -35,6 +35,16 @@ REGISTRATION = bytes.fromhex("010401000001 021A000EB49CDF34F2749CECBA5CB3B7C40E8
 ACKNOWLEDGED = bytes.fromhex("810101 821A0041C3028A48FC8F403DC06F00EDA0F783E497542E405CB83CB0 8300")
 
 
+def register_radio(site: Site) -> bytes:
+    """Registers the radio of REGISTRATION. What the control carrier receives."""
+    with connect(site.address, site.row(0)["port"]) as stream:
+        stream.sendall(REGISTRATION)
+        answer = b""
+        while len(answer) < len(ACKNOWLEDGED) and (piece := stream.recv(4096)):
+            answer += piece
+        return answer
+
+
 class Pictures(unittest.TestCase):
     """The pictures of the documents."""
 

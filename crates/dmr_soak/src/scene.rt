@@ -37,7 +37,34 @@ pub struct Scene {
 
 /// A site with three slots for calls.
 pub const TWO_CARRIERS: Scene = Scene {
-    text: "system = 0x1234\nregi = 0xFFFEC6\ntsi = 0xFFFECA\nleave_bit = 0\nhang = 100\nmaximum = 1000\nahoy_wait = 8\nahoy_tries = 3\ngrant_copies = 1\nclear_copies = 1\nbackoff_low = 1\nbackoff_high = 8\ntick_ms = 60\nsilence = 100\nconsole_port = 7100\nradios = [[1000, 1999]]\ngroups = [91, 92, 93, 94]\ncontrol = 0\n[[carrier]]\nnumber = 0\nlpcn = 1\nport = 7101\n[[carrier]]\nnumber = 1\nlpcn = 2\nport = 7102\n",
+    text: "\
+system = 0x1234
+regi = 0xFFFEC6
+tsi = 0xFFFECA
+leave_bit = 0
+hang = 100
+maximum = 1000
+ahoy_wait = 8
+ahoy_tries = 3
+grant_copies = 1
+clear_copies = 1
+backoff_low = 1
+backoff_high = 8
+tick_ms = 60
+silence = 100
+console_port = 7100
+radios = [[1000, 1999]]
+groups = [91, 92, 93, 94]
+control = 0
+[[carrier]]
+number = 0
+lpcn = 1
+port = 7101
+[[carrier]]
+number = 1
+lpcn = 2
+port = 7102
+",
     key: "",
     version: 1,
     carriers: 2,
@@ -55,7 +82,95 @@ pub const TWO_CARRIERS: Scene = Scene {
 
 /// A site with 31 slots for calls, and the largest number of copies of grants and P_CLEARs that a site file allows.
 pub const SIXTEEN_CARRIERS: Scene = Scene {
-    text: "system = 0xA5C3\nregi = 0xFFFEC6\ntsi = 0xFFFECA\nleave_bit = 3\naloha_sync = 1\naloha_version = 5\naloha_offset = 1\naloha_active = 1\nnrand_wait = 13\nhang = 50\nmaximum = 300\nahoy_wait = 8\nahoy_tries = 3\ngrant_copies = 4\nclear_copies = 4\nbackoff_low = 2\nbackoff_high = 15\ntick_ms = 60\nsilence = 100\nconsole_port = 7100\nradios = [[1000, 3999], [3000, 7999]]\ngroups = [91, 92, 93, 94, 95, 96, 97, 98, 99, 100, 101, 102]\ncontrol = 5\n[[carrier]]\nnumber = 0\nlpcn = 1\nport = 7101\n[[carrier]]\nnumber = 1\nlpcn = 2\nport = 7102\n[[carrier]]\nnumber = 2\nlpcn = 3\nport = 7103\n[[carrier]]\nnumber = 3\nlpcn = 4\nport = 7104\n[[carrier]]\nnumber = 4\nlpcn = 5\nport = 7105\n[[carrier]]\nnumber = 5\nlpcn = 6\nport = 7106\n[[carrier]]\nnumber = 6\nlpcn = 7\nport = 7107\n[[carrier]]\nnumber = 7\nlpcn = 8\nport = 7108\n[[carrier]]\nnumber = 8\nlpcn = 9\nport = 7109\n[[carrier]]\nnumber = 9\nlpcn = 10\nport = 7110\n[[carrier]]\nnumber = 10\nlpcn = 11\nport = 7111\n[[carrier]]\nnumber = 11\nlpcn = 12\nport = 7112\n[[carrier]]\nnumber = 12\nlpcn = 13\nport = 7113\n[[carrier]]\nnumber = 13\nlpcn = 14\nport = 7114\n[[carrier]]\nnumber = 14\nlpcn = 15\nport = 7115\n[[carrier]]\nnumber = 15\nlpcn = 16\nport = 7116\n",
+    text: "\
+system = 0xA5C3
+regi = 0xFFFEC6
+tsi = 0xFFFECA
+leave_bit = 3
+aloha_sync = 1
+aloha_version = 5
+aloha_offset = 1
+aloha_active = 1
+nrand_wait = 13
+hang = 50
+maximum = 300
+ahoy_wait = 8
+ahoy_tries = 3
+grant_copies = 4
+clear_copies = 4
+backoff_low = 2
+backoff_high = 15
+tick_ms = 60
+silence = 100
+console_port = 7100
+radios = [[1000, 3999], [3000, 7999]]
+groups = [91, 92, 93, 94, 95, 96, 97, 98, 99, 100, 101, 102]
+control = 5
+[[carrier]]
+number = 0
+lpcn = 1
+port = 7101
+[[carrier]]
+number = 1
+lpcn = 2
+port = 7102
+[[carrier]]
+number = 2
+lpcn = 3
+port = 7103
+[[carrier]]
+number = 3
+lpcn = 4
+port = 7104
+[[carrier]]
+number = 4
+lpcn = 5
+port = 7105
+[[carrier]]
+number = 5
+lpcn = 6
+port = 7106
+[[carrier]]
+number = 6
+lpcn = 7
+port = 7107
+[[carrier]]
+number = 7
+lpcn = 8
+port = 7108
+[[carrier]]
+number = 8
+lpcn = 9
+port = 7109
+[[carrier]]
+number = 9
+lpcn = 10
+port = 7110
+[[carrier]]
+number = 10
+lpcn = 11
+port = 7111
+[[carrier]]
+number = 11
+lpcn = 12
+port = 7112
+[[carrier]]
+number = 12
+lpcn = 13
+port = 7113
+[[carrier]]
+number = 13
+lpcn = 14
+port = 7114
+[[carrier]]
+number = 14
+lpcn = 15
+port = 7115
+[[carrier]]
+number = 15
+lpcn = 16
+port = 7116
+",
     key: "link_version = 1\n",
     version: 1,
     carriers: 16,

@@ -6,8 +6,34 @@ use std::alloc::Global;
 use std::test::Fail;
 
 /// The text of its site file.
-pub const SITE: &str =
-    "system = 0x1234\nregi = 0xFFFEC6\ntsi = 0xFFFECA\nleave_bit = 0\nhang = 100\nmaximum = 3000\nahoy_wait = 8\nahoy_tries = 3\ngrant_copies = 1\nclear_copies = 1\nbackoff_low = 1\nbackoff_high = 8\ntick_ms = 60\nsilence = 100\nconsole_port = 7100\nradios = [[1000, 1999]]\ngroups = [91, 92, 93, 94]\ncontrol = 0\n[[carrier]]\nnumber = 0\nlpcn = 1\nport = 7101\n[[carrier]]\nnumber = 1\nlpcn = 2\nport = 7102\n";
+pub const SITE: &str = "\
+system = 0x1234
+regi = 0xFFFEC6
+tsi = 0xFFFECA
+leave_bit = 0
+hang = 100
+maximum = 3000
+ahoy_wait = 8
+ahoy_tries = 3
+grant_copies = 1
+clear_copies = 1
+backoff_low = 1
+backoff_high = 8
+tick_ms = 60
+silence = 100
+console_port = 7100
+radios = [[1000, 1999]]
+groups = [91, 92, 93, 94]
+control = 0
+[[carrier]]
+number = 0
+lpcn = 1
+port = 7101
+[[carrier]]
+number = 1
+lpcn = 2
+port = 7102
+";
 
 /// Returns the site.
 pub fn quiet_site(alloc: Global) -> Result<Site, Fail> {

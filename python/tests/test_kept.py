@@ -16,7 +16,7 @@ from tests.support import TWO_CARRIERS, program
 from tests.test_served import ACKNOWLEDGED, register_radio
 
 PORT = 17480
-# the radio of REGISTRATION
+# the radio that register_radio registers
 RADIO = 1001
 # A term has so few entries that one ends each half of a second, if nothing but ticks comes.
 ENTRIES, TICK_MS = 50, 10

@@ -15,7 +15,7 @@ from temzaar.sitefile import Site
 from tests.support import TWO_CARRIERS, program
 from tests.test_served import ACKNOWLEDGED, register_radio
 
-PORT = 17480
+PORT = 17640
 # the radio that register_radio registers
 RADIO = 1001
 # A term has so few entries that one ends each half of a second, if nothing but ticks comes.

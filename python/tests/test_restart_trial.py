@@ -8,7 +8,7 @@ import unittest
 
 from tests.support import TOP
 
-PORT = 17460
+PORT = 17580
 
 
 def run_trial(*words: str, broken: str = "") -> subprocess.CompletedProcess[str]:

@@ -164,8 +164,9 @@ class Relay:
     def __init__(self, ports: list[int], shift: int, latest: float, seed: int) -> None:
         self.random, self.shift, self.latest, self.ends = random.Random(seed), shift, latest, False
         self.listeners = [socket.create_server(("127.0.0.1", port)) for port in ports]
-        for listener, port in zip(self.listeners, ports, strict=True):
-            threading.Thread(target=self.listen, args=(listener, port), daemon=True).start()
+        self.threads = [threading.Thread(target=self.listen, args=served, daemon=True) for served in zip(self.listeners, ports, strict=True)]
+        for thread in self.threads:
+            thread.start()
 
     def listen(self, listener: socket.socket, port: int) -> None:
         """Serves one connection after another."""
@@ -195,9 +196,13 @@ class Relay:
             pass
 
     def close(self) -> None:
-        """Listens no more."""
+        """Listens no more, and waits until nothing holds the ports."""
         self.ends = True
-        for listener in self.listeners:
+        for listener, thread in zip(self.listeners, self.threads, strict=True):
+            # (a listener that is closed while a thread waits for a connection holds its port for as long as that thread waits)
+            listener.shutdown(socket.SHUT_RDWR)
+            thread.join(10)
+            assert not thread.is_alive(), f"{listener} is still served"
             listener.close()
 
 
@@ -226,7 +231,7 @@ class Carrier:
 class Captured(unittest.TestCase):
     """The script of a session that capture records is what went over its ports. `test_ticks` tests how well it finds ticks, on sessions that are the same each time."""
 
-    TICK_MS, HANG, SHIFT = 10, 4, 100
+    TICK_MS, HANG, SHIFT = 10, 4, 5
 
     def talk(self, site: Site, seconds: float, seed: int) -> list[Carrier]:
         """Carriers and radios: calls to all talkgroups again and again. The control carrier speaks version 2 of the link, the other version 1."""

@@ -27,6 +27,8 @@ class Step(NamedTuple):
     builds: bool = False
     # whether it runs side by side with the step before it
     side_by_side: bool = False
+    # the seconds that it takes at least, if that is known
+    least_seconds: float = 0
 
 
 class Outcome(NamedTuple):
@@ -61,7 +63,8 @@ def wrong_bodies(part: int, short: bool) -> Step:
 
 def all_steps(short: bool) -> list[Step]:
     """The steps, in order. A short run has the same steps; those that take hours take a minute."""
-    seconds = str(60 if short else HOUR)
+    serving = 60 if short else HOUR
+    seconds = str(serving)
     inputs = (SOAK_INPUTS // 100 if short else SOAK_INPUTS) // SOAKS
     return [
         Step("checks without a proof", ["ci/check", "fast"]),
@@ -70,8 +73,8 @@ def all_steps(short: bool) -> list[Step]:
         Step("checks over the programs", ["ci/check", "programs"]),
         *(wrong_bodies(part, short) for part in range(1, WRONG_BODY_PARTS + 1)),
         Step(f"a soak of {inputs * SOAKS:,} inputs", ["build/dmr_soak", "--inputs", str(inputs), "--counts"]),
-        Step(f"served for {seconds} s", carriers("--seconds", seconds)),
-        Step(f"served in trouble for {seconds} s", carriers("--faults", "--seconds", seconds, "--port", SECOND_PORT), side_by_side=True),
+        Step(f"served for {seconds} s", carriers("--seconds", seconds), least_seconds=serving),
+        Step(f"served in trouble for {seconds} s", carriers("--faults", "--seconds", seconds, "--port", SECOND_PORT), side_by_side=True, least_seconds=serving),
         Step("each allocation refused", ["trials/refuse-memory"]),
         Step("served to peers that behave badly", ["trials/serve-hostile", "build/dmr_trunk"]),
         Step("killed while it serves, and a file of records in trouble", ["trials/restart", "build/dmr_trunk"]),
@@ -117,14 +120,14 @@ def run_all(steps: Sequence[Step], clone: pathlib.Path, logs: pathlib.Path, done
     """Runs the steps, those of a group side by side and one group after another, and yields the outcome of each. A step that fails does not end the run.
 
     `done` has the steps that passed in earlier runs, by their names. Their outcomes are yielded as they are. What a step builds is not in this clone then, so
-    it is built again, as long as anything is to do. No step begins after `most_seconds`; those that are left yield nothing.
+    it is built again, as long as anything is to do. No step begins after `most_seconds`, or if it is known to end after them; those that are left yield nothing.
     """
     began = time.monotonic()
     complete = all(it.name in done for it in steps)
     numbers = {it.name: number for number, it in enumerate(steps, 1)}
     for group in groups_of(steps):
         to_do = [it for it in group if it.name not in done or (it.builds and not complete)]
-        if time.monotonic() - began >= most_seconds:
+        if time.monotonic() - began + max(it.least_seconds for it in group) >= most_seconds:
             to_do = []
         with ThreadPoolExecutor(len(group)) as pool:
             ran = dict(zip([it.name for it in to_do], pool.map(lambda it: run_step(it, clone, logs / log_name(numbers[it.name], it), run), to_do), strict=True))

@@ -129,6 +129,15 @@ class Served(HubCase):
         self.assertRegex(history[0], r"^history \S+Z \S.* answered: drop 5: error not registered$")
         self.assertEqual((await operator.ask(b"history 1")).decode().splitlines(), history[1:])
 
+    async def test_the_longest_history(self) -> None:
+        """The last hundred commands, though each of them has two records in the audit log."""
+        await self.start()
+        operator = await self.connect()
+        for number in range(101):
+            await operator.ask(b"move %d" % (number + 1))
+        history = (await operator.ask(b"history 100")).decode().splitlines()
+        self.assertEqual([line.split(": ")[1] for line in history[:-1]], [f"move {number + 1}" for number in range(1, 101)])
+
     async def test_the_controller_is_away(self) -> None:
         hub = await self.start()
         operator = await self.connect()

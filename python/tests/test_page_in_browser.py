@@ -106,6 +106,7 @@ class InBrowser(unittest.TestCase):
         self.browser.wait_for("document.querySelector('#calls-rows span[title=\"ended: hang time\"]')")
         self.wait_for_text("#chart-calls_ended .summary", r"^1 call: 1 hang time; up to \d\d:\d\d:\d\d$")
         self.assertEqual(self.browser.text("#chart-refused .summary")[:10], "0 requests")
+        self.wait_for_text("#limits", r"^Calls that ended before .*\d are the controller's records\. Later calls are what dmr_hub saw from one look")
 
     def check_the_history_by_keyboard(self) -> None:
         """Enter on a party opens its history, Escape closes it, and the focus returns."""

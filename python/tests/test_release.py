@@ -96,8 +96,11 @@ class Runs(unittest.TestCase):
         self.assertEqual(self.run_all(self.done("first", "builds", "last")), ([], [("first", 1), ("builds", 1), ("last", 1)]))
 
     def test_time_is_over(self) -> None:
-        """No step begins after the time is over."""
+        """No step begins after the time is over. One that is known to end after it does not begin either, but the shorter ones after it do."""
         self.assertEqual(self.run_all(self.done("first"), 0), ([], [("first", 1)]))
+        self.steps[1] = self.steps[1]._replace(least_seconds=90)
+        self.assertEqual(self.run_all({}), (["first", "last"], [("first", 2), ("last", 2)]))
+        self.assertEqual(self.run_all({}, 120)[0], ["first", "builds", "last"])
 
     def test_side_by_side(self) -> None:
         """Two steps run side by side: each waits for the other. One that passed is not done again."""

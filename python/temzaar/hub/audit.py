@@ -9,7 +9,7 @@ from typing import Any
 from temzaar.faults import ToolFault
 from temzaar.hub.config import AuditKeys
 
-# How many records `history` can show.
+# How many commands `history` can show.
 REMEMBERED = 100
 MODE = 0o640
 
@@ -39,7 +39,8 @@ class AuditLog:
                 self.close()
                 raise AuditFault(self.fault) from fault
             self.fault = None
-            self.recent.append(dict(record))
+            if record.get("event") != "asked":
+                self.recent.append(dict(record))
 
     def append(self, line: bytes) -> None:
         """Appends a line, and waits until it is on the disk. OSError: it is not."""

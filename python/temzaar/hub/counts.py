@@ -4,7 +4,7 @@ from collections.abc import Iterator
 
 Labels = tuple[tuple[str, str], ...]
 
-# Seconds. An answer takes well under a millisecond; the end of a term delays one by up to 61 ms.
+# Seconds. An answer takes well under a millisecond; the end of a term delays one by some 2 to 8 ms, and by more on a busy host.
 ANSWER_BUCKETS = (0.0005, 0.001, 0.0025, 0.005, 0.01, 0.025, 0.05, 0.1, 0.25, 0.5, 1.0)
 
 

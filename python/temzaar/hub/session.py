@@ -191,8 +191,7 @@ class Session:
 
     def _history_rows(self, count: int) -> Iterator[str]:
         """The last commands that were to change the site, oldest first."""
-        ended = [it for it in self.desk.audit.recent if it["event"] != "asked"]
-        for it in ended[-count:]:
+        for it in list(self.desk.audit.recent)[-count:]:
             yield f"history {it['time']} {it['user']} {it['event']}: {it['line']}: {it['reply']}"
 
     def _who_rows(self) -> Iterator[str]:

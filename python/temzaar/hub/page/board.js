@@ -112,8 +112,9 @@ async function refreshCalls() {
 }
 
 function limitsText(view) {
-  return `Calls are what dmr_hub saw from one look at the site to the next, every ${view.poll_seconds} s. A shorter call may be missed. `
-    + `The hub keeps the last ${view.kept.toLocaleString("en")} calls, until it is restarted; the controller itself keeps no history.`;
+  const recorded = view.recorded_until ? `Calls that ended before ${momentText(view.recorded_until)} are the controller's records. Later calls` : "Calls";
+  return `${recorded} are what dmr_hub saw from one look at the site to the next, every ${view.poll_seconds} s. A shorter call may be missed. `
+    + `The hub keeps the last ${view.kept.toLocaleString("en")} of them, until it is restarted.`;
 }
 
 async function refreshRadios() {

@@ -11,7 +11,7 @@
 //!
 //! If the environment names a folder for the program's state, records are kept there in a file of `dmr_records`.
 //! `recorded` makes those of each term. `keeping` hands them to the store while terms go on. `restart` reads which
-//! radios were registered. `store` is the only module that names the database.
+//! radios were registered. `store` and this module alone name the database.
 //!
 //! If the environment names a file for a recording, each term's journal is appended to it, as lines of `dmr_recording`.
 //! `scripted` is the observer that does so, and `script` is the file.

@@ -21,10 +21,14 @@ fn send_kept<S: Sockets>(sockets: &mut S, unsent: &mut Unsent, served: &mut Serv
     ensures passes { PassesOctets (S.log sockets.old) unsent.old
         [] (S.log sockets.new) unsent.new }
     ensures all { result ≡ Sent.All → unsent.new ≡ [] }
+    ensures part { result ≡ Sent.Part → unsent.new ≢ [] }
     ensures goes { result ≢ Sent.Fault
         → HasReadNothing (connection_of served.old) (connection_of served.new) }
     ensures fault { result ≡ Sent.Fault → served.new.ended ≡ Some EndCause.WriteFault }
     ensures unread { result ≢ Sent.All → served.new.patience.unread ≡ served.old.patience.unread }
+    ensures none_kept { unsent.old ≡ []
+        → served.new.patience.unread ≡ served.old.patience.unread }
+    ensures all_sent { unsent.old ≢ [] → result ≡ Sent.All → served.new.patience.unread ≡ 0 }
     ensures first { served.new.first ≡ served.old.first }
     ensures connection { S.is_open sockets.new ≡ true }
     ensures waiting { S.waiting sockets.new ≡ S.waiting sockets.old }
@@ -77,6 +81,7 @@ fn read_sockets<S: Sockets>(
     ensures budget { Gives budget.old (count_of result) budget.new }
     ensures reads { HasReadFrom is_carrier (connection_of served.old) result octets.new
         (connection_of served.new) }
+    ensures unread { served.new.patience.unread ≡ served.old.patience.unread }
     ensures connection { S.is_open sockets.new ≡ true }
     ensures waiting { S.waiting sockets.new ≡ S.waiting sockets.old }
 {
@@ -124,6 +129,10 @@ pub fn read_connection<S: Sockets>(
     ensures reads { HasReadFrom is_carrier (connection_of served.old) result octets.new
         (connection_of served.new) }
     ensures unread { unsent.new ≢ [] → served.new.patience.unread ≡ served.old.patience.unread }
+    ensures none_kept { unsent.old ≡ []
+        → served.new.patience.unread ≡ served.old.patience.unread }
+    ensures all_sent { unsent.old ≢ [] → unsent.new ≡ [] → result ≢ Got.Fault
+        → served.new.patience.unread ≡ 0 }
     ensures connection { S.is_open sockets.new ≡ true }
     ensures waiting { S.waiting sockets.new ≡ S.waiting sockets.old }
 {

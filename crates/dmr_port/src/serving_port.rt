@@ -10,7 +10,7 @@ ghost use Rattle.dmr_port.specs.Budget.{Gives};
 ghost use Rattle.dmr_port.specs.Causes.{cause_of_closing};
 ghost use Rattle.dmr_port.specs.PortState.{HasRead, HasWaited, IsFresh, Passes, PassesThenReads};
 ghost use Rattle.dmr_port.specs.PortState.{PortAgrees, connection_after_write, count_of};
-ghost use Rattle.dmr_port.specs.PortState.{empty_port};
+ghost use Rattle.dmr_port.specs.PortState.{Connection, empty_port};
 ghost use Rattle.dmr_port.specs.PortState.{keeps_octets, unread_of, with_cause};
 ghost use Rattle.dmr_port.specs.Record.{Agrees};
 ghost use Rattle.dmr_port.specs.Settings.{is_carrier};
@@ -438,6 +438,11 @@ impl<S: Sockets + Drop, N: PortNotes + Drop, W: Witness + Drop> Wire for Serving
         ensures budget { Gives self.old.window (count_of result) self.new.window }
         ensures unread { self.new.unsent ≢ []
             → option_map unread_of self.new.connection ≡ option_map unread_of self.old.connection }
+        ensures none_kept { self.old.unsent ≡ []
+            → option_map unread_of self.new.connection ≡ option_map unread_of self.old.connection }
+        ensures all_sent { self.old.unsent ≢ [] → self.new.unsent ≡ [] → result ≢ Got.Fault
+            → option_map unread_of self.new.connection
+            ≡ option_map (λ (_ : Connection). 0) self.old.connection }
         ensures connection { HasRead (is_carrier self.old.settings.whose) self.old.connection result
             octets.new self.new.connection }
         ensures settings { self.new.settings ≡ self.old.settings }

@@ -3,7 +3,7 @@
 use super::rows::Row;
 
 /// The scripts of the console's port.
-pub(super) static OPERATORS_PORT: [Row; 10] = [
+pub(super) static OPERATORS_PORT: [Row; 11] = [
     Row {
         name: "a request of HTTP in one part",
         silence: 100,
@@ -172,6 +172,26 @@ pub(super) static OPERATORS_PORT: [Row; 10] = [
 10.0.0.1:1 disconnected: end of input
 ",
         got: 8,
+        reads: None,
+    },
+    Row {
+        name: "octets that are kept twice, for 3 s each",
+        silence: 100,
+        until: 7000,
+        script: "\
+0 1 comes
+0 1 takes 3
+0 1 says abcdefg
+3000 1 takes 5
+3000 1 says abcdefg
+6000 1 takes 100
+6500 1 ends
+",
+        notes: "\
+10.0.0.1:1 connected
+10.0.0.1:1 disconnected: end of input
+",
+        got: 16,
         reads: None,
     },
     Row {

@@ -57,7 +57,7 @@ pub struct Waiting {
     pub outbox: Outbox,
     /// Why the store last refused records, as far as it was noted.
     noted: Option<KeepFault>,
-    /// Of how many terms the records were lost since the store last took some.
+    /// Of how many terms the records were lost since a note last said so.
     lost: u64,
 }
 
@@ -105,11 +105,12 @@ impl Waiting {
         self.count_lost(lost as u64, notes);
     }
 
-    /// Notes what came of handing records over: a fault that is not the one before, or that there is none any more.
+    /// Notes what came of handing records over: a fault that is not the one before, or that there is none any more. The
+    /// second note also comes if records were lost although none were refused, since the store was slow.
     fn note<R: Log>(&mut self, fault: Option<KeepFault>, notes: &mut Notes<'_, R>)
         ensures { self.new.outbox ≡ self.old.outbox }
     {
-        if fault == self.noted {
+        if fault == self.noted && (fault.is_some() || self.lost == 0) {
             return;
         }
         self.noted = fault;

@@ -1,6 +1,6 @@
 # `make` alone says what there is.
 .DEFAULT_GOAL := help
-.PHONY: help demo build check fmt test gate check-fast check-programs tools-check wrong-bodies bench bench-instructions soak serve-check serve-hostile network-recipes restart refuse-memory pictures package package-check release maps trusted install
+.PHONY: help demo build check fmt test gate check-fast check-programs tools-check wrong-bodies bench bench-instructions soak serve-check serve-hostile network-recipes unit-recipes restart refuse-memory pictures package package-check release maps trusted install
 
 PREFIX ?= /usr/local
 DESTDIR ?=
@@ -34,6 +34,7 @@ help: ## this list
 	@echo "trials/recording     records a served site, replays it, and compares what carriers received"
 	@echo "trials/refuse-memory refuses each allocation of the programs in turn"
 	@echo "trials/network-recipes tries firewall and tunnels, in network namespaces"
+	@echo "trials/unit-recipes  tries units and drop-ins, with systemd in a container"
 	@echo "trials/page-pictures takes the pictures of the hub's page"
 	@echo "each says more with --help, or in its first lines; docs/OPERATING.md has those for operators"
 
@@ -61,7 +62,7 @@ fmt: ## lays out the files of one crate, CRATE=dmr_pool, or of all
 test: ## everything: check-fast, the prover's gate (docs/GATE.md), check-programs; the last line counts all of it
 	@ci/check all
 
-check-fast: ## tables, maps, definitions, edits, documents, prose and Python tests: a minute, no proof
+check-fast: ## tables, maps, definitions, edits, documents, prose and Python tests: one and a half to three minutes, no proof
 	@ci/check fast
 
 gate: ## the prover's gate alone: every proof, the must-fail edits, the tests and each program's stored run
@@ -101,6 +102,9 @@ serve-hostile: build/dmr_trunk ## the proved program served to carriers and stra
 
 network-recipes: build/dmr_trunk ## firewall, tunnels and units of deploy/ in network namespaces, with the proved program (a minute; as root, with nftables, wireguard-tools, stunnel4, apparmor)
 	trials/network-recipes build/dmr_trunk
+
+unit-recipes: package ## units and drop-ins of the package with systemd as process 1 of a container (five minutes; as root, with debootstrap and a network)
+	trials/unit-recipes build/dmr-trunk_$(VERSION)_*.deb
 
 restart: build/dmr_trunk ## the proved program killed and started again over its file of records, a hundred times; and records that cannot be written for a while (five minutes)
 	trials/restart build/dmr_trunk

@@ -82,6 +82,7 @@ def all_steps(short: bool) -> list[Step]:
         Step("instructions beside C", ["make", "bench-instructions"]),
         Step("the package", ["make", "package"]),
         Step("the package in a clean root", ["make", "package-check"], needs_root=True),
+        Step("its units and drop-ins, with systemd in a container", ["make", "unit-recipes"], needs_root=True),
     ]
 
 

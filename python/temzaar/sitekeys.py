@@ -61,7 +61,7 @@ KEYS = (
     SiteKey("nrand_wait", SENT, 0, 15, False, 0),
     SiteKey("hang", "how long a call lasts without voice", 1, 65535, unit=Unit.TICKS),
     SiteKey("maximum", "how long a call lasts at most", 1, 65535, unit=Unit.TICKS),
-    SiteKey("ahoy_wait", "how long a called radio has to answer", 1, 65535, unit=Unit.TICKS),
+    SiteKey("ahoy_wait", "how long a called radio has to answer, from when its C_AHOY is queued", 1, 65535, unit=Unit.TICKS),
     SiteKey("ahoy_tries", "how often it is called", 1, 8),
     SiteKey("grant_copies", "how often a grant is sent", 1, 4),
     SiteKey("clear_copies", "how often a P_CLEAR is sent", 1, 4),

@@ -19,8 +19,8 @@ OF_TRUNK = (
     ("Description=DMR Tier III trunked site controller", "Description=DMR Tier III trunked site controller, site %i"),
     ("/etc/dmr_trunk/site.toml", "/etc/dmr_trunk/%i.toml"),
     ("User=dmr_trunk", "User=dmr_trunk-%i"),
-    ("StateDirectory=dmr_trunk", "StateDirectory=dmr_trunk/%i"),
-    ("/var/lib/dmr_trunk/site-%b.txt", "/var/lib/dmr_trunk/%i/site-%b.txt"),
+    ("StateDirectory=dmr_trunk", "StateDirectory=dmr_trunk-%i"),
+    ("/var/lib/dmr_trunk/site-%b.txt", "/var/lib/dmr_trunk-%i/site-%b.txt"),
 )
 OF_HUB = (
     ("Description=Hub for the console of the DMR Tier III trunked site controller", "Description=Hub for the console of the DMR Tier III trunked site controller, site %i"),
@@ -131,7 +131,7 @@ class ExampleSite(unittest.TestCase):
         text = read("systemd/log_rate.conf")
         burst = int(re.findall(r"^LogRateLimitBurst=(\d+)$", text, re.M)[0])
         parts = [int(it) for it in re.findall(r"^#  +(\d+)    ", text, re.M)]
-        self.assertEqual(parts, [16 * 2 * 30, 15 * 30, 1 + 17])
+        self.assertEqual(parts, [16 * 2 * 30, 30 // 2, 1 + 17])
         self.assertIn(f"{sum(parts):,}", text)
         # journald multiplies the burst by 4 if there is room enough
         self.assertLess(sum(parts), 4 * burst)

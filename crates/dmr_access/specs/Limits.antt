@@ -9,6 +9,6 @@ polls_of_window = 32
 abbrev pub most_noises : ℕ
 most_noises = 15
 
--- one of this number of Fills is a late entry, if a talkgroup call is active
+-- one of this number of Fills is a late entry, if a talkgroup call is active and the control channel is not to be moved
 abbrev pub late_entry_interval : ℕ
 late_entry_interval = 4

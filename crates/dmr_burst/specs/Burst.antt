@@ -6,8 +6,8 @@ use Rattle.dmr_bptc.specs.Bptc.{Means, IsEncoding}
 use Rattle.dmr_pdu.specs.declared.pdu.Pdu.{Pdu}
 use Rattle.dmr_pdu.specs.Layout.{SpellsPdu, Agrees}
 
--- a codeword that differs from the word in at most three places has these octets and their check, and the PDU agrees
--- with the octets
+-- a codeword that differs from the word in at most three of the places 1 to 195 has these octets and their check, and
+-- the PDU agrees with the octets
 pub record IsMeaning (word : List Bool) (pdu : Pdu) (octets : List ℕ) : Type 0 where
   pub are_octets : IsOctets 10 octets
   pub means : Means 3 word (with_check octets)

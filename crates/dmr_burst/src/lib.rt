@@ -65,7 +65,8 @@ pub fn meanings_are_single()
     ensures found { (word : List Bool) → IfSome (meaning_of word) (MeansPdu word) }
     ensures only { (word : List Bool) (pdu : APdu) → MeansPdu word pdu
         → meaning_of word ≡ Some pdu }
-    // A word means the same as the codeword that differs from it in at most three places, be it a PDU or nothing.
+    // A word means the same as the codeword that differs from it in at most three of the places 1 to 195, be it a PDU
+    // or nothing.
     ensures clean { (word codeword : List Bool)
         → IsCodeword codeword → distance word codeword ≤ 3 → meaning_of word ≡ meaning_of codeword }
     // The burst of a readable PDU, with at most three flipped bits, means that PDU.

@@ -12,7 +12,7 @@ use Rattle.dmr_calls.specs.Ticks.{one_more}
 abbrev pub HaveOwnSources : List ActiveAsk → Type 0
 HaveOwnSources asks = AllPairs (λ a b. a.ask.source ≢ b.ask.source) asks
 
--- an ask whose C_AHOY was sent just now
+-- an ask whose C_AHOY was queued just now
 abbrev pub new_active_ask : Ask → ActiveAsk
 new_active_ask ask = record { ask = ask; waited = 0 }
 

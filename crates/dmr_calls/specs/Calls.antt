@@ -19,7 +19,7 @@ just_begun call = record { call = call; age = 0; quiet = 0 }
 abbrev pub one_tick_older : ActiveCall → ActiveCall
 one_tick_older s = record { call = s.call; age = one_more s.age; quiet = one_more s.quiet }
 
--- a call after activity on a slot
+-- a call after activity on a slot: if it is on that slot, its quiet time begins again
 abbrev pub with_activity : Slot → ActiveCall → ActiveCall
 with_activity slot s =
     if is_slot s.call.slot slot then record { call = s.call; age = s.age; quiet = 0 } else s

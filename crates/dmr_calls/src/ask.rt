@@ -3,12 +3,13 @@
 use dmr_pdu::{Address, Options};
 use dmr_table::Keyed;
 
-/// An ask: the target of an individual call was sent C_AHOY, and its C_ACKU is awaited (TS 102 361-4, clause 7.1.1).
+/// An ask: C_AHOY to the target of an individual call was queued, and its C_ACKU is awaited (TS 102 361-4, clause
+/// 7.1.1).
 #[derive(Clone, Copy, Debug, PartialEq, Eq)]
 pub struct Ask {
     /// The radio that calls.
     pub source: Address,
-    /// The radio that is called, to which the C_AHOY was sent.
+    /// The radio that is called, to which the C_AHOY goes.
     pub target: Address,
     /// The service options of the call.
     pub options: Options,
@@ -21,7 +22,7 @@ pub struct Ask {
 pub struct ActiveAsk {
     /// The ask.
     pub ask: Ask,
-    /// The ticks since its C_AHOY; the count stays at 65,535.
+    /// The ticks since its C_AHOY was queued; the count stays at 65,535.
     pub waited: u16,
 }
 

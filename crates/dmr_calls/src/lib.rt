@@ -1,6 +1,6 @@
 //! The asks, lines and calls of a site (TS 102 361-4).
 //!
-//! An ask is an individual call whose target was sent C_AHOY and has yet to answer. A line is a request that waits for
+//! An ask is an individual call whose target has yet to answer a C_AHOY. A line is a request that waits for
 //! a free slot. A call is active on a slot. [`Calls`] keeps them in order and counts their ticks. It allocates its
 //! memory when it is made, and none later. The registered radios are in `dmr_registry`, and the PDUs that wait for
 //! slots in `dmr_pool`.

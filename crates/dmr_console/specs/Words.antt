@@ -18,7 +18,7 @@ words_of_line line = filter is_word (slice_split (λ octet. octet == 32) line)
 abbrev pub is_short_number : List ℕ → Bool
 is_short_number word = nat_lt 0 (length word) && nat_le (length word) 8 && all_ascii_digits word
 
--- the number of a word, if it is from `least` to `most`
+-- the number of a word of 1 to 8 decimal digits, if it is from `least` to `most`
 abbrev pub short_number_within : ℕ → ℕ → List ℕ → Option ℕ
 short_number_within least most word =
     if is_short_number word && nat_le least (digits_value 10 word)

@@ -92,8 +92,8 @@ lines_by_act lines (Lined line) = lines ++ line ∷ []
 lines_by_act lines (Unlined r) = without_line r lines
 lines_by_act lines _ = lines
 
--- calls by event: their carrier's Up and Lost close; Active marks the call on its slot; a Tick adds one to ages and
--- quiet times, up to 65,535
+-- calls by event: their carrier's Up and Lost close. Active begins the quiet time of the call on its slot again. A Tick
+-- adds one to ages and quiet times, up to 65,535
 abbrev pub calls_by_event : List ActiveCall → Event → List ActiveCall
 calls_by_event calls (Up c) = on_other_carriers c calls
 calls_by_event calls (Lost c) = on_other_carriers c calls
@@ -119,7 +119,8 @@ outboxes_by_act boxes (Queue slot pdu) = outboxes_with_pdu boxes slot pdu
 outboxes_by_act boxes (Send slot pdu) = outboxes_after_send boxes slot
 outboxes_by_act boxes _ = boxes
 
--- noise numbers: 32 after the control carrier's Up, none after its Lost; each of its Polls begins a new number
+-- noise numbers: 32 zeros at the control carrier's Up, none at its Lost. Each of its Polls begins a new one, and a
+-- Noise on the control slot adds one to the newest, up to 15
 abbrev pub noise_by_event : Settings → List ℕ → Event → List ℕ
 noise_by_event plan noise (Up c) = if c == plan.control then noise_at_up else noise
 noise_by_event plan noise (Lost c) = if c == plan.control then [] else noise

@@ -87,7 +87,8 @@ option_bit options k = nat_lt k 7 && (((options / 2 ^ k) % 2) == 1)
 unfoldable pub is_leaving : Settings → ℕ → Bool
 is_leaving plan options = option_map_or (λ k. not (option_bit options k)) plan.leave_bit false
 
--- the call, ask or line that engages a radio ends: as its source, or as the target of an individual one
+-- the first call, ask or line that engages a radio ends: as its source, or as the target of an individual one. If the
+-- radio is the target of the ask or line, its source gets NoReg_MS_Away
 unfoldable pub close : Settings → Facts → ℕ → List Act
 close plan now r =
     option_map_or (λ (call : Call). clear plan call) (call_of now.calls r)
@@ -99,7 +100,8 @@ close plan now r =
     ∷ ack plan line.source line.target noreg_ms_away) (line_to now.lines r)
     []))))
 
--- the acts for a radio that leaves: its registration ends, if there is one, and it gets an acknowledgement
+-- the acts for a radio that leaves: what engages it ends, then its registration, if there is one, and it gets an
+-- acknowledgement
 unfoldable pub acts_for_leaving : Settings → Facts → Request → List Act
 acts_for_leaving plan now q =
     close plan now q.source ++ (if is_registered now q.source then Left q.source ∷ [] else [])
@@ -190,7 +192,7 @@ acts_for_request plan now q flags kind =
     if kind == talkgroup_voice then acts_for_talkgroup_request plan now q
     else acts_for_individual_request plan now q
 
--- the acts for a PDU on the control slot, with room: only requests and acknowledgements have any
+-- the acts for a PDU on the control slot, with room: only C_RAND and C_ACKU have any
 unfoldable pub acts_for_pdu : Settings → Facts → Pdu → List Act
 acts_for_pdu plan now (Random options flags kind target source) =
     acts_for_request plan now
@@ -207,7 +209,8 @@ acts_for_first_line plan now =
     [])
     (first_line now.lines) []
 
--- the ask whose last C_AHOY is oldest, if it is due: repeated, or removed after the plan's last try
+-- the ask whose last C_AHOY was queued first, if it is due: repeated, or removed after the plan's last try, and its
+-- source gets NoReg_MS_Away
 unfoldable pub acts_for_due_ask : Settings → Facts → List Act
 acts_for_due_ask plan now =
     option_map_or (λ (ask : Ask).

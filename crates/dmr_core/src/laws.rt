@@ -210,9 +210,10 @@ pub fn backoff_counts_noises()
 /// Ages, quiet times and waiting times count ticks, up to 65,535.
 ///
 /// The age of a call counts the ticks since it began. Its quiet time counts those since the later of its beginning and
-/// the last activity on its slot. The waiting time of an ask counts those since its last C_AHOY. If that moment is
-/// before the journal, the count is the one before the journal plus all ticks of it. Sound facts, such as those of a
-/// site, never have greater counts (`before`). The clause on waiting times holds in every journal, legal or not.
+/// the last activity on its slot. The waiting time of an ask counts those since its last C_AHOY was queued. If that
+/// moment is before the journal, the count is the one before the journal plus all ticks of it. Sound facts, such as
+/// those of a site, never have greater counts (`before`). The clause on waiting times holds in every journal, legal or
+/// not.
 pub fn ages_count_ticks()
     ensures age { (plan : Settings) (facts : Facts) (journal : List Entry) (slot : Slot)
         (call : Call) → IsPlan plan → IsSound plan facts → IsLegal plan facts journal
@@ -238,8 +239,8 @@ pub fn ages_count_ticks()
 /// Registered radios are in the order of Joined, asks in that of their last C_AHOY, lines in that of Lined, and calls
 /// in that of Began.
 ///
-/// Those of the facts before the journal come first, in their own order. For asks this holds in every journal from
-/// sound facts, legal or not.
+/// Those of the facts before the journal come first, in their own order, but for what the journal opens again: that
+/// counts from the last time. For asks this holds in every journal from sound facts, legal or not.
 pub fn lists_are_in_order()
     ensures registered { (plan : Settings) (facts : Facts) (journal : List Entry) → IsPlan plan
         → IsSound plan facts → IsLegal plan facts journal

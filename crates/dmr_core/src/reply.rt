@@ -76,7 +76,7 @@ pub enum Reply {
     Done,
     /// No radio of this number is registered.
     NotRegistered,
-    /// The control slot's outbox has no room for the PDUs that the command would queue.
+    /// More than 56 PDUs wait for the control slot, whatever the command would queue.
     Busy,
     /// No call is active on the slot.
     NoCall,

@@ -61,7 +61,7 @@ Says in words what the octets of a site are, as the controller reads them.
   dmr_decode write PDU       the other way: a PDU in words to its octets, check and burst
 
 Without HEX or a PDU they are read from standard input. HEX may have spaces anywhere.
-A PDU is written as it is printed, a field that is left out being 0:
+A PDU is written as it is printed. A field that is left out is 0, but lpcn has to be given:
   dmr_decode write C_RAND kind=registration target=16776902 source=1001 options=1
 
 With a site file, carrier and script also say what the controller of that site counts,

@@ -25,7 +25,7 @@ FollowsPace before x None = Unit {0}
 FollowsPace None x (Some after) = ⊥
 FollowsPace (Some before) x (Some after) = after ≡ paced_after before x
 
--- the pacer gave `n` ticks between the two reports
+-- if there is a second report, there is a first, and the pacer gave `n` ticks between the two
 abbrev pub Answered : Option Paced → Option Paced → ℕ → Type 0
 Answered before None n = Unit {0}
 Answered None (Some after) n = ⊥
@@ -40,15 +40,16 @@ ReportsFinished (Some p) = p.finished ≡ true
 abbrev pub AreTicks : List Deposit → Type 0
 AreTicks deposits = All (λ (deposit : Deposit). deposit.event ≡ Tick) deposits
 
--- the desk took as many ticks as the pacer gave; when the term is over, one tick may have been dropped
+-- the desk took as many ticks as the pacer gave, if it reports them; when the term is over, one tick may have been
+-- dropped. A ticker that finished had the answer that there are no more ticks, and none ends at a shut gate
 abbrev pub TicksTo : Option Paced → Option Paced → ℕ → Ending → Type 0
 TicksTo before after taken ending.Finished = Answered before after taken × ReportsFinished after
 TicksTo before after taken ending.GateShut = ⊥
 TicksTo before after taken ending.TermOver =
     Answered before after taken ⊎ Answered before after (taken + 1)
 
--- the ticker's desk took a tick for each that the pacer gave, except one that may have been dropped when the term was
--- over
+-- the ticker's desk took ticks alone: one for each that the pacer gave, if it reports them, except one that may have
+-- been dropped when the term was over
 abbrev pub Ticks : Option Paced → List Deposit → Option Paced → List Deposit → Ending → Type 0
 Ticks before calls after later e =
     (took : List Deposit) × (later ≡ calls ++ took) × AreTicks took

@@ -37,13 +37,13 @@ pub record Sees (before : Option (List (List Entry))) (journals : List (List Ent
   pub follows : (whole : List (List Entry)) → after ≡ Some whole
       → (begun : List (List Entry)) × (before ≡ Some begun) × (whole ≡ begun ++ journals)
 
--- a term can begin so: there is one station for each carrier of the plan, by number, and a journal may have `limit`
--- entries
+-- a term can begin so: there is one station for each carrier of the plan, by number, and a journal may have the limit
+-- `limit`
 abbrev pub Fits : Start → Type 0
 Fits start = AreStations start.site.plan start.stations × IsLimit start.limit
 
 -- this many terms have run from `start`, and another would begin at `next`. The observer saw the journal of each term,
--- and no other
+-- and no other. If any has run, `start` fits
 pub record HaveRun (start : Start) (terms : ℕ) (next : Start)
     (before after : Option (List (List Entry))) : Type 0 where
   pub ends : List End

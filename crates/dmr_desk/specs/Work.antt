@@ -150,7 +150,7 @@ StopsAt stop answers = Unit {0}
 
 -- a call of `serve` on these connections of a peer: it only reads and writes, and reads at most `most_reads` times. It
 -- passes the gate for each event, and writes an event's answer after the event. It reads and writes connections in
--- their turn
+-- their turn, and does not end within a write that was interrupted
 pub record IsCall (who : Peer) (past : List Session) (happened : List Happening)
     (stop : Ended) : Type 0 where
   pub wire : AreOfWire (answers_in happened)

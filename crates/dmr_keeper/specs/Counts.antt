@@ -66,11 +66,11 @@ is_begun _ = false
 abbrev pub is_refusing : Act → Bool
 is_refusing act = is_some (occurrence_by_act act)
 
--- the entries whose event passes the test
+-- the number of entries whose event passes the test
 abbrev pub events_that : (Event → Bool) → List Entry → ℕ
 events_that test journal = count_by (λ (entry : Entry). test entry.event) journal
 
--- the entries with an act that passes the test
+-- the number of entries with an act that passes the test
 abbrev pub entries_with : (Act → Bool) → List Entry → ℕ
 entries_with test journal = count_by (λ (entry : Entry). list_any test entry.acts.list) journal
 

@@ -57,8 +57,8 @@ closing_from Operator octets = None
 abbrev pub entry_of_deposit : Deposit → Entry
 entry_of_deposit d = unattributed_entry d.event d.acts
 
--- the octets written to a peer for notices and the events that a desk took, if the next TX has this number: a carrier's
--- session text, or the console text
+-- the octets written to a peer for notices and the events that a desk took: a carrier's session text, or the console
+-- text. The numbers of TX go on from this one until a WELCOME, after which they begin again
 abbrev pub text_onward : Peer → Option ℕ → List Notice → List Deposit → List ℕ
 text_onward (Carrier who) next notices calls =
     session_text next who.carrier notices (map entry_of_deposit calls)

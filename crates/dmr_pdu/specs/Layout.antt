@@ -73,7 +73,8 @@ unfoldable pub IsListed : Pdu → Type 0
 IsListed (Other octets) = ⊥
 IsListed pdu = Unit {0}
 
--- the octets are laid out by the PDU's layout
+-- the PDU is not `Other`, the octets are laid out by its layout, and its channel number, if it has one, is from 1 to
+-- 4094
 pub record IsLaidOut (pdu : Pdu) (octets : List ℕ) : Type 0 where
   pub listed : IsListed pdu
   pub rows : Holds octets (layout pdu)

@@ -6,7 +6,7 @@ use Rattle.std.specs.Prelude.{ℕ}
 abbrev pub not_supported : ℕ
 not_supported = 0x20
 
--- reason code Perm_User_Refused, octet 0x21: this radio never has the service
+-- reason code Perm_User_Refused, octet 0x21: the service is refused for good
 abbrev pub perm_user_refused : ℕ
 perm_user_refused = 0x21
 
@@ -14,7 +14,7 @@ perm_user_refused = 0x21
 abbrev pub transient_sys_refused : ℕ
 transient_sys_refused = 0x23
 
--- reason code NoReg_MS_Away, octet 0x24: the called radio is not registered here
+-- reason code NoReg_MS_Away, octet 0x24: the called radio is not registered here, did not answer, or has left
 abbrev pub noreg_ms_away : ℕ
 noreg_ms_away = 0x24
 
@@ -38,7 +38,7 @@ reg_denied = 0x2B
 abbrev pub ms_not_registered : ℕ
 ms_not_registered = 0x2D
 
--- reason code Called_Party_Busy, octet 0x2E: the called radio is in a call
+-- reason code Called_Party_Busy, octet 0x2E: the called radio is engaged, or did not accept
 abbrev pub called_party_busy : ℕ
 called_party_busy = 0x2E
 

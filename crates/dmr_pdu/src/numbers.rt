@@ -236,13 +236,13 @@ impl Reason {
     /// Not_Supported (0x20): the site does not have the service.
     pub const NOT_SUPPORTED: Reason = Reason { octet: 0x20 };
 
-    /// Perm_User_Refused (0x21): this radio never has the service.
+    /// Perm_User_Refused (0x21): the service is refused for good.
     pub const PERM_USER_REFUSED: Reason = Reason { octet: 0x21 };
 
     /// Transient_Sys_Refused (0x23): the site refuses for now.
     pub const TRANSIENT_SYS_REFUSED: Reason = Reason { octet: 0x23 };
 
-    /// NoReg_MS_Away (0x24): the called radio is not registered here.
+    /// NoReg_MS_Away (0x24): the called radio is not registered here, did not answer, or has left.
     pub const NOREG_MS_AWAY: Reason = Reason { octet: 0x24 };
 
     /// SysBusy_Refused (0x27): the site is busy.
@@ -260,7 +260,7 @@ impl Reason {
     /// MS_Not_Registered (0x2D): the requesting radio is not registered.
     pub const MS_NOT_REGISTERED: Reason = Reason { octet: 0x2D };
 
-    /// Called_Party_Busy (0x2E): the called radio is in a call.
+    /// Called_Party_Busy (0x2E): the called radio is engaged, or did not accept.
     pub const CALLED_PARTY_BUSY: Reason = Reason { octet: 0x2E };
 
     /// Group_Not_Allowed (0x2F): the site does not serve the talkgroup.

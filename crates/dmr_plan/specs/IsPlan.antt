@@ -6,7 +6,8 @@ use Rattle.dmr_plan.specs.Keys.{IsNumberOf, limits_of}
 use Rattle.dmr_plan.specs.Kept.{IsAddress, AreRadios, AreGroups, AreCarriers}
 use Rattle.dmr_plan.specs.Carriers.{has_number_in}
 
--- the invariant of every accepted plan: each setting is within the range of its key, and those that must differ do
+-- the invariant of every accepted plan. Each setting is within the range of its key, and those that must differ do. The
+-- backoffs are in order, and a carrier has the number `control`
 pub record IsPlan (s : Settings) : Type 0 where
   pub system : IsNumberOf key.System s.system
   pub regi : IsNumberOf key.Regi s.regi

@@ -58,12 +58,12 @@ optional_or key None = optional_if_missing key (limits_of key).fallback
 unfoldable pub optional_in : Members → Key → Result (Option ℕ) PlanFault
 optional_in ms key = optional_or key (get_member (name_of key) ms)
 
--- the number that a value is, at least this one: an error if there is no value
+-- the number that a value is: an error if it is below this one or above the key's greatest, or if there is no value
 abbrev pub number_from : Key → ℕ → Option Data → Result ℕ PlanFault
 number_from key least (Some d) = number_within key least (limits_of key).range.most d
 number_from key least None = Err (Missing key)
 
--- the number at a key, at least the number at another key
+-- the number at a key: an error if it is missing, below the number at another key, or above the key's greatest
 unfoldable pub number_from_in : Members → Key → Key → Result ℕ PlanFault
 number_from_in ms key other =
     number_at_key ms other >>= λ least. number_from key least (get_member (name_of key) ms)

@@ -11,7 +11,8 @@ use Rattle.dmr_plan.specs.Steps.{◌>>=◌}
 use Rattle.dmr_plan.specs.Lists.{is_within}
 use Rattle.dmr_plan.specs.Sections.{system_of, aloha_of, calls_of, serving_of, lists_of}
 
--- the settings of a table, or its first fault in the order of the keys
+-- the settings of a table, or its first fault in the order of the keys; but those of the carriers, table by table, come
+-- before `control`
 unfoldable pub plan_of : Members → Result Settings PlanFault
 plan_of ms = do
   system ← system_of ms

@@ -3,7 +3,8 @@
 use crate::key::Key;
 use thiserror::Error;
 
-/// Why a site file is not accepted: its first fault, in the order of the keys. A fault has no other effect.
+/// Why a site file is not accepted: its first fault, in the order in which keys are checked ([`Key`]). A fault has no
+/// other effect.
 #[derive(Clone, Copy, PartialEq, Eq, Debug, Error)]
 pub enum PlanFault {
     /// The text is not TOML: it breaks the grammar, has a key twice, or has a whole number of more than 64 bits.

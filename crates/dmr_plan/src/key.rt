@@ -7,8 +7,8 @@ ghost use Rattle.dmr_plan.specs.Keys.{FallbackIsWithin};
 
 use std::fmt;
 
-/// A key of the site file or of one of its carriers, in the order in which keys are checked. The ranges are this
-/// project's profile.
+/// A key of the site file or of one of its carriers. Keys are checked in this order, but those of the carriers, table
+/// by table, before `Control`. The ranges are this project's profile.
 #[derive(Clone, Copy, PartialEq, Eq, Debug)]
 pub enum Key {
     /// The system identity code that C_ALOHA announces: 0 to 65535. Required.

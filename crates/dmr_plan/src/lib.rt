@@ -1,8 +1,8 @@
 //! The plan of a site: the contents of its site file, read and checked.
 //!
 //! A site file is TOML. [`Plan::read`] returns the plan that the text makes by the key table ([`Key`]), or the first
-//! fault in the table's order. Keys that are not in the table are ignored. A [`Plan`] is `Copy` and takes no memory;
-//! its numbers are within the ranges of the table. The site file is this project's profile.
+//! fault in the order in which keys are checked. Keys that are not in the table are ignored. A [`Plan`] is `Copy` and
+//! takes no memory; its numbers are within the ranges of the table. The site file is this project's profile.
 #![tactic(auto)]
 
 mod arrays;

@@ -65,9 +65,9 @@ impl Plan {
     /// Reads the text of a site file.
     ///
     /// `Ok` is the plan that the key table assigns to the text. `NotToml` means that the text is not TOML. Other errors
-    /// are the first fault, key by key in the table's order; within a key the order is `Missing`, `WrongType`,
-    /// `OutOfRange`, `Repeated`. `OutOfMemory` means that an allocation was refused while the text was parsed. The plan
-    /// does not refer to the text.
+    /// are the first fault, in the order in which keys are checked ([`Key`](crate::Key)). Within a key the order is
+    /// `Missing`, `WrongType`, `OutOfRange`, `Repeated`. `OutOfMemory` means that an allocation was refused while the
+    /// text was parsed. The plan does not refer to the text.
     pub fn read(alloc: Global, text: &str) -> Result<Plan, PlanFault>
         // The result is the one plan of the text or its one fault, unless memory runs out.
         ensures exact { (result ≡ plan_of_text text.now) ⊎ (result ≡ Err PlanFault.OutOfMemory) }

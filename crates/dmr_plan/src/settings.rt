@@ -73,7 +73,7 @@ pub struct Settings {
     pub control: CarrierNo,
 }
 
-/// Reads the settings from a table, or its first fault. The fields are read in the order of the keys.
+/// Reads the settings from a table, or its first fault. The keys are checked in the order that [`Key`] says.
 #[tactic(auto, unfolding(crate::specs::Plan::plan_of))]
 pub fn settings_in(table: &Table) -> Result<Settings, PlanFault>
     ensures gives { result ≡ plan_of (table_view table.now) }

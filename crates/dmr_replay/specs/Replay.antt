@@ -86,7 +86,7 @@ abbrev pub is_printed : Outcome → Bool
 is_printed (Prints text) = true
 is_printed other = false
 
--- there is a text to print, and the writer received the whole of it
+-- there is a text to print, and the writer, if its octets are known, received the whole of it
 abbrev pub IsPrinted : Outcome → Option (List ℕ) → Option (List ℕ) → Type 0
 IsPrinted (Prints text) old new = Appends old new text
 IsPrinted other old new = ⊥

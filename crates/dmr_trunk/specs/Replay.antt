@@ -19,7 +19,7 @@ pub record AreReplayed (gave : Text → Option (List ℕ) → Type 0) (site_path
   pub script_given : gave script_path script
   pub printed_text : IsPrinted (outcome site script) old new
 
--- a site file that could be read has a plan
+-- the site file could be read, and has a plan
 abbrev pub IsPlanned : Option (List ℕ) → Type 0
 IsPlanned None = ⊥
 IsPlanned (Some site) = IsOk (plan_in site)

@@ -11,7 +11,8 @@ use Rattle.dmr_keeper.specs.Kept.{Kept}
 use Rattle.dmr_trunk.specs.declared.holding.Keeping.{Keeping}
 use Rattle.dmr_trunk.specs.Stored.{AreServed}
 
--- this many terms have run. An observer saw their journals, and the store received the records of the same journals
+-- this many terms have run. An observer saw their journals. The records of the same journals were made and passed on to
+-- the store, as `AreServed` says
 abbrev pub HaveServed : {K : Type 0} → (K → Option Kept) → (K → TimedRecords → KeepFault → Type 0)
     → Start → ℕ → Start → Option (List (List Entry)) → Option (List (List Entry)) → Option Carry
     → Keeping K → List TimedRecords → Keeping K → Type 0
@@ -20,7 +21,8 @@ HaveServed kept refuses start terms next seen seen_then carried first waiting la
     × AreServed kept refuses start.site.plan carried (journals_of run.ends)
     (first.outbox ++ waiting) first.keeper last.outbox last.fault last.keeper
 
--- fewer terms have run, and there is not another for this reason. The store received the records of those that have run
+-- fewer terms have run, and there is not another for this reason. The records of those that have run were made and
+-- passed on to the store, as `AreServed` says
 abbrev pub HaveStoppedServing : {K : Type 0} → (K → Option Kept)
     → (K → TimedRecords → KeepFault → Type 0) → Start → ℕ → TermsFault
     → Option (List (List Entry)) → Option (List (List Entry)) → Option Carry

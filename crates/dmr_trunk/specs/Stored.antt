@@ -16,7 +16,8 @@ use Rattle.dmr_trunk.specs.declared.holding.Writer.TheVariants.{Idle, Busy}
 
 -- ---- records that are made
 
--- the records of one term, by its journal and by what is carried to it. The time of day comes from the clock
+-- the records of one term, by its journal and by what is carried to it. The length of a tick is the plan's. The time of
+-- day comes from the clock
 abbrev pub IsRecordOf : Settings → Carry → List Entry → TimedRecords → Type 0
 IsRecordOf plan before journal term =
     AreRecords plan before journal term.records × (term.time.tick_ms ≡ plan.tick_ms)
@@ -76,7 +77,8 @@ pub record ArePassedOn (before : Option Kept) (all waiting : List TimedRecords)
   pub way : Passage all handed waiting
   pub kept : Keeps before handed after
 
--- records go on: whatever all the records are, of which these wait, some may have been handed over since, and these wait then
+-- records go on: whatever all the records are, of which these wait, some may have been handed over since, and these
+-- wait then
 abbrev pub GoOn : List TimedRecords → Option Kept → List TimedRecords → Option Kept → Type 0
 GoOn waiting kept waiting_then kept_then =
     (before : Option Kept) (all : List TimedRecords) → ArePassedOn before all waiting kept
@@ -99,8 +101,9 @@ is_idle (Busy child) = false
 
 -- ---- the whole
 
--- terms with these journals have run. Their records were made, one after another, and passed on after those that waited
--- before. Without a maker of records none are made
+-- the records of terms with these journals were made, one after another, and passed on after those that waited before.
+-- That they are these records is said if the ticks of all terms fit in 64 bits. Without a maker of records none are
+-- made
 pub record HaveStored (plan : Settings) (carried : Option Carry) (journals : List (List Entry))
     (before : Option Kept) (waiting left : List TimedRecords) (after : Option Kept) : Type 0 where
   pub made : List TimedRecords
@@ -126,7 +129,8 @@ abbrev pub IsAtEnd : {K : Type 0} → (K → Option Kept) → (K → TimedRecord
 IsAtEnd kept refuses before all left None = left ≡ []
 IsAtEnd kept refuses before all left (Some fault) = IsRefusedAtEnd kept refuses before all left fault
 
--- the records of terms with these journals were made and handed to the store, from the first term to the end
+-- the records of terms with these journals were made and passed on to the store, as `HaveStored` says. At the end none
+-- are left, or else the store refused the oldest of those that are left
 pub record AreServed {K : Type 0} (kept : K → Option Kept)
     (refuses : K → TimedRecords → KeepFault → Type 0) (plan : Settings) (carried : Option Carry)
     (journals : List (List Entry)) (waiting : List TimedRecords) (store : K)

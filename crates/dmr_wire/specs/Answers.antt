@@ -52,7 +52,7 @@ abbrev pub of_wait : Waited → Answer
 of_wait waited.Again = Again
 of_wait waited.Silent = Silent
 
--- a read returns at least one octet, and at most as many as the slice holds
+-- a read that returns octets returns at least one, and at most as many as the slice holds
 abbrev pub GotWithin : Got → ℕ → Type 0
 GotWithin (got.Octets n) len = (1 ≤ n) × (n ≤ len)
 GotWithin other len = Unit {0}

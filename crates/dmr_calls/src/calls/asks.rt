@@ -14,7 +14,7 @@ use crate::party::is_party;
 use dmr_pdu::Address;
 
 impl Calls {
-    /// Adds an ask whose C_AHOY was sent now, after the others. It replaces the ask of the same source, if there is
+    /// Adds an ask whose C_AHOY was queued now, after the others. It replaces the ask of the same source, if there is
     /// one.
     ///
     /// If `MOST_ASKS` asks of other sources are active, returns `Full` and changes nothing.
@@ -29,7 +29,7 @@ impl Calls {
         Ok(())
     }
 
-    /// Adds an ask whose C_AHOY was sent now, after the others. It replaces the ask of the same source, if there is
+    /// Adds an ask whose C_AHOY was queued now, after the others. It replaces the ask of the same source, if there is
     /// one.
     ///
     /// There must be a place for it: fewer than `MOST_ASKS` asks of other sources are active.

@@ -17,7 +17,7 @@ use std::marker::Model;
 /// The number of noise numbers. A Noise counts until as many Polls came after it.
 const POLLS: usize = 32;
 
-/// One of `TURN` Fills has a late entry, if a talkgroup call is active.
+/// One of `TURN` Fills has a late entry, if a talkgroup call is active and the control channel is not to be moved.
 const TURN: u8 = 4;
 
 /// Radios must register, here and on the channel to which they are moved.
@@ -144,8 +144,8 @@ impl Access {
         })
     }
 
-    /// The noise number at an index, 0 to 15. Number 0 counts the Noises since the last Poll. `None` from index 32 on,
-    /// and while the control carrier is down.
+    /// The noise number at an index from 0 to 31: 0 to 15. The one at index 0 counts the Noises since the last Poll.
+    /// `None` from index 32 on, and while the control carrier is down.
     pub fn number(&self, polls: usize) -> Option<u8>
         ensures value { result ≡ slice_get self.now.noise polls }
         ensures kept { AreNoiseNumbers self.now.noise }

@@ -9,8 +9,8 @@
 //! bits R(2), R(1) and R(0), and the 96 information bits fill the others row by row.
 //!
 //! A word *means* twelve octets if they are the information bits of some codeword that differs from it in at most three
-//! of the places 1 to 195. `encode` sends reserved bits as 0, and `decode` ignores them (this project's profile).
-//! Nothing here allocates.
+//! of the places 1 to 195. `encode` sends reserved bits as 0, and `decode` ignores those of the codeword (this
+//! project's profile). Nothing here allocates.
 #![tactic(auto)]
 
 mod decoding;

@@ -3,8 +3,8 @@
 ghost use Rattle.std.specs.Prelude.{◌≡◌, ◌*◌};
 ghost use Rattle.dmr_bptc.specs.Groups.{AreSumsOfBits, numbers_added};
 
-/// What four bits add to four numbers, for each of `N` groups of four and each of their values. The first bit of a group
-/// is the most significant bit of its value.
+/// What four bits add to four numbers, for each of `N` groups of four and each of their values. The first bit of a
+/// group is the most significant bit of its value.
 pub struct GroupTable<const N: usize> {
     /// The four numbers of each value of each group.
     pub entries: [[[u64; 4]; 16]; N],
@@ -15,7 +15,8 @@ pub struct GroupTable<const N: usize> {
 
 impl<const N: usize> GroupTable<N> {
     /// Returns the four numbers that the set bits of octets add up to, by exclusive or. Bit 0 is the most significant
-    /// bit of the first octet.
+    /// bit of the first octet. There must be two groups for each octet, and each sum of the table must be that of its
+    /// bits.
     pub fn sum_of<const M: usize>(&self, octets: &[u8; M]) -> [u64; 4]
         requires size { N ≡ 2 * M }
         requires sums { AreSumsOfBits self.now.entries }

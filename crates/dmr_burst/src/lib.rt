@@ -2,8 +2,8 @@
 //!
 //! A burst has the ten octets of a PDU and their check as the 96 information bits of a codeword (TS 102 361-1, clauses
 //! 7.2 and B.1.1). [`read`] mends up to three flipped bits, requires the right check, and returns the one PDU that
-//! agrees with the ten octets. Place 0, which is outside the code, and the reserved cells may hold anything. Nothing in
-//! this crate allocates memory.
+//! agrees with the ten octets. Place 0, which is outside the code, and the reserved cells of the codeword may hold
+//! anything. A flipped bit in a reserved cell counts as one of the three. Nothing in this crate allocates memory.
 #![tactic(auto)]
 
 ghost use Rattle.std.specs.Prelude.{◌≡◌, ◌≤◌, ℕ, List, Bool, Some, IfSome};

@@ -124,8 +124,8 @@ impl Calls {
 
     /// The call, ask and line that are due.
     ///
-    /// The call is the first that was quiet for `hang` ticks or is `maximum` ticks old; its slot is returned. The ask
-    /// is the first one, if its C_AHOY is `ahoy_wait` ticks old. The line is the first one.
+    /// The call is the first that was quiet for `hang` ticks or more, or is `maximum` ticks old or more; its slot is
+    /// returned. The ask is the first one, if its C_AHOY is `ahoy_wait` ticks old or more. The line is the first one.
     pub fn due(&self, hang: u16, maximum: u16, ahoy_wait: u16) -> Due
         ensures { result ≡ due_of self.now hang maximum ahoy_wait }
     {

@@ -13,7 +13,7 @@ use std::fmt;
 pub enum ServeFault {
     /// The program cannot listen at this port. Nothing was served.
     CannotListen(u16),
-    /// There was no poll for a port. Nothing was served.
+    /// There was no poll for a port, the clock or the notes. Nothing was served.
     NoPoll,
     /// A term did not begin, a thread could not be started, or the term's audit found a fault.
     Term(TermFault),

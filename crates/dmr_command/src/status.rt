@@ -9,7 +9,8 @@ use std::io::Write;
 /// The words are refused.
 pub const WORDS: u8 = 2;
 
-/// The audit of a term found a difference.
+/// A term failed, though memory and threads were there: its audit found a fault, a worker ended early, or it could not
+/// begin.
 pub const AUDIT: u8 = 3;
 
 /// Writes that memory ran out, and returns the status.

@@ -12,7 +12,8 @@ pub fn limits_are_stated()
     ensures { LONGEST_LINE ≡ longest_line }
 {}
 
-/// The octets before an LF are a line if none of them is an LF. The octets after the last LF are still open.
+/// The octets before an LF are a line, or one that is too long, if none of them is an LF. The octets after the last LF
+/// are still open.
 pub fn lines_precede_their_ends()
     ensures line { (octets more : List ℕ) → All (λ octet. octet ≢ 10) octets
         → (lines_in (octets ++ 10 ∷ more) ≡ line_step_of octets ∷ lines_in more)

@@ -16,7 +16,7 @@ pub fn push_number(text: &mut ArrayString<LONGEST_TEXT>, number: u64)
     text.push_str(Buffer::new().format(number));
 }
 
-/// Appends a count.
+/// Appends a count. There must be room for 20 digits.
 pub fn push_count(text: &mut ArrayString<LONGEST_TEXT>, count: usize)
     requires { array_string_len text.old + 20 ≤ LONGEST_TEXT }
     ensures bytes { text.new.bytes ≡ text.old.bytes ++ decimal count }
@@ -25,7 +25,7 @@ pub fn push_count(text: &mut ArrayString<LONGEST_TEXT>, count: usize)
     push_number(text, count as u64);
 }
 
-/// Appends an address, which has at most eight digits.
+/// Appends an address, which has at most eight digits. There must be room for eight.
 pub fn push_address(text: &mut ArrayString<LONGEST_TEXT>, address: Address)
     requires { array_string_len text.old + 8 ≤ LONGEST_TEXT }
     ensures bytes { text.new.bytes ≡ text.old.bytes ++ decimal address }
@@ -34,7 +34,7 @@ pub fn push_address(text: &mut ArrayString<LONGEST_TEXT>, address: Address)
     push_number(text, u64::from(address.get()));
 }
 
-/// Appends a number of at most two digits.
+/// Appends a number of at most two digits. There must be room for two.
 pub fn push_small(text: &mut ArrayString<LONGEST_TEXT>, number: u32)
     requires room { array_string_len text.old + 2 ≤ LONGEST_TEXT }
     requires small { number < 100 }

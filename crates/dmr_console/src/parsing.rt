@@ -10,7 +10,7 @@ use dmr_calls::MOST_LINES;
 use dmr_core::{Command, LineNo};
 use dmr_pdu::{Address, CarrierNo, Lpcn, SlotNo};
 
-/// The greatest number of a radio.
+/// The greatest address.
 const LAST_RADIO: u32 = 16_777_215;
 
 /// Reads the command of a line (this project's profile), from the line's octets without its end. `None` if the line is

@@ -13,7 +13,7 @@ use dmr_calls::{Call, Line};
 use dmr_core::{LineNo, SlotState, State};
 use dmr_pdu::{Address, Slot};
 
-/// Appends `radio R` for each radio, at most 16 of them.
+/// Appends `radio R` for each radio. There must be room for 15 octets each, as there is for 16 of them.
 pub fn push_radios(text: &mut ArrayString<LONGEST_TEXT>, radios: &[Address])
     requires room { array_string_len text.old + 15 * length radios.now ≤ LONGEST_TEXT }
     ensures bytes { text.new.bytes ≡ text.old.bytes ++ flat_map radio_row radios.now }
@@ -35,7 +35,7 @@ fn push_radio(text: &mut ArrayString<LONGEST_TEXT>, radio: Address)
     text.push_str("\n");
 }
 
-/// Appends a row for each call, at most two of them.
+/// Appends a row for each call. There must be room for 40 octets each, as there is for two of them.
 pub fn push_calls(text: &mut ArrayString<LONGEST_TEXT>, calls: &[Call])
     requires { array_string_len text.old + 40 * length calls.now ≤ LONGEST_TEXT }
     ensures bytes { text.new.bytes ≡ text.old.bytes ++ flat_map call_row calls.now }
@@ -59,7 +59,8 @@ fn push_call(text: &mut ArrayString<LONGEST_TEXT>, call: &Call)
     text.push_str("\n");
 }
 
-/// Appends a row for each line, at most 16 of them, the first at the place `from`.
+/// Appends a row for each line, the first at the place `from`. There must be room for 37 octets each, as there is for
+/// 16 of them.
 pub fn push_lines(text: &mut ArrayString<LONGEST_TEXT>, from: LineNo, lines: &[Line])
     requires room { array_string_len text.old + 37 * length lines.now ≤ LONGEST_TEXT }
     ensures bytes { text.new.bytes
@@ -87,7 +88,7 @@ fn push_line(text: &mut ArrayString<LONGEST_TEXT>, place: u32, line: &Line)
     text.push_str("\n");
 }
 
-/// Appends a row for each slot, at most 32 of them.
+/// Appends a row for each slot. There must be room for 19 octets each, as there is for 32 of them.
 pub fn push_slots(text: &mut ArrayString<LONGEST_TEXT>, slots: &[SlotState])
     requires { array_string_len text.old + 19 * length slots.now ≤ LONGEST_TEXT }
     ensures bytes { text.new.bytes ≡ text.old.bytes ++ flat_map slot_row slots.now }

@@ -59,12 +59,13 @@ pub enum Command {
     Lines(LineNo),
     /// Asks for the state of each slot.
     Slots,
-    /// Ends the registration of a radio, and the call, ask or line that engages it.
+    /// Ends the registration of a radio, and the call, ask or line that engages it. If the reply is not Done, nothing
+    /// changes.
     Drop(Address),
-    /// Ends the call on this slot of this carrier.
+    /// Ends the call on this slot of this carrier. If the reply is not Done, nothing changes.
     End(CarrierNo, SlotNo),
     /// Moves the control channel to this channel: from now on the control slot sends C_MOVE when no PDU waits.
     Move(Lpcn),
-    /// Ends the move: the control slot sends C_ALOHA again when no PDU waits.
+    /// Ends the move: when no PDU waits, the control slot sends C_ALOHA and late entries again.
     Stay,
 }

@@ -78,12 +78,12 @@ pub fn facts_stay_sound()
         → length (acts_of plan facts (Event.Poll carrier)) ≤ 2 }
 {}
 
-/// Each act of a legal journal is safe, given the facts just before it.
+/// Each act of a legal journal from sound facts is safe, given the facts just before it. The plan is accepted.
 ///
 /// - A call begins only on a slot without a call, of a carrier that is up.
 /// - A grant that is queued or sent as a Fill names registered radios and listed groups.
-/// - From the Up or Lost of a carrier until a call begins on it, no call is active on it. In that time, no grant that
-///   is queued or sent as a Fill names a slot of it.
+/// - From the Up or Lost of a carrier of the plan until a call begins on it, no call is active on it. In that time, no
+///   grant that is queued or sent as a Fill names a slot of it.
 /// - A grant that is sent is that of the call on the slot that it names, if a call is active there. For a Fill, one is.
 pub fn each_act_is_safe()
     ensures free { (plan : Settings) (facts : Facts) (journal : List Entry) → IsPlan plan

@@ -92,7 +92,7 @@ impl Machine {
     }
 
     /// Makes a site of the plan on which nothing has happened, but with radios registered. Returns `OutOfMemory` if a
-    /// part cannot be allocated.
+    /// part cannot be allocated; the registry is lost then.
     #[tactic(auto, using(crate::proofs::HeldLemmas::at_first))]
     pub fn with_registry(
         alloc: Global,
@@ -169,8 +169,8 @@ impl Machine {
     }
 
     /// Applies the Up of a carrier, which is up then if the plan has it. Its calls end, and the PDUs that waited for
-    /// its slots are removed. For the control carrier, asks and lines end too, and the noise numbers and Fills begin
-    /// again.
+    /// its slots are removed. For the control carrier, asks and lines end too, the noise numbers and Fills begin again,
+    /// and the last late entry is forgotten.
     #[tactic(auto, using(crate::proofs::HeldLemmas::lost))]
     // Out of line: an event of another kind then does not clear this function's locals.
     #[inline(never)]
@@ -195,7 +195,8 @@ impl Machine {
     }
 
     /// Applies the Lost of a carrier. Its calls end, and the PDUs that waited for its slots are removed. For the
-    /// control carrier, asks and lines end too, and there are no noise numbers.
+    /// control carrier, asks and lines end too, there are no noise numbers and no Fills, and the last late entry is
+    /// forgotten.
     #[tactic(auto, using(crate::proofs::HeldLemmas::lost))]
     // Out of line: an event of another kind then does not clear this function's locals.
     #[inline(never)]

@@ -52,7 +52,7 @@ impl CarrierReader {
         Ok(())
     }
 
-    /// Prints the number of octets of an incomplete frame.
+    /// Prints the number of octets of an incomplete frame, unless there was a fault.
     pub fn show_rest<W: Write>(&self, out: &mut W) -> io::Result<()> {
         let begins = self.begins;
         let rest = self.came.saturating_sub(begins);

@@ -53,13 +53,13 @@ impl JudgedCarrier {
         self.link.live()
     }
 
-    /// Cuts the connection, if one is open.
+    /// Cuts the connection, if one is open. The desk forgets earlier events.
     pub fn cut(&mut self, desk: &mut SiteDesk) {
         desk.forget();
         let _ = self.link.cut(desk);
     }
 
-    /// Begins a connection. One that is open ends first.
+    /// Begins a connection. One that is open ends first. The desk forgets earlier events.
     pub fn open(&mut self, desk: &mut SiteDesk) {
         self.cut(desk);
         let _ = self.link.open();

@@ -3,7 +3,7 @@
 
 use std::alloc::AllocError;
 
-/// Adds an item to a list.
+/// Adds an item to a list. On an error memory ran out, and the item is lost.
 pub fn push<T: Drop>(list: &mut Vec<T>, item: T) -> Result<(), AllocError> {
     list.push(item)?;
     Ok(())

@@ -74,7 +74,7 @@ and journal prints each event that the site takes, and what the site does for it
 Status: 0 it was said; 1 the input is not what was named, or a file; 2 the words; 4 memory, with a site file.
 ";
 
-/// The exit status if the input, a file or the output is at fault.
+/// The exit status if the input, a file or the output is at fault, or if memory runs out without a site file.
 const FAULT: u8 = 1;
 
 /// The exit status if the words are at fault.
@@ -257,7 +257,7 @@ fn print_help<R: Print + Eprint>(rt: &R) -> u8
 }
 
 /// Does what the words of the command line ask for, and returns the exit status. `Err`: the words or the input could
-/// not be read.
+/// not be read, or memory ran out.
 fn run_program<R: AllocGlobal + Env + Input + Print + Eprint + Files>(rt: &R) -> io::Result<u8>
     ensures { IfOk result (λ status. status ≤ 4) }
 {

@@ -1,4 +1,5 @@
-//! A PDU in words, as it is printed: its name, and `name=value` for each field. A missing field is 0.
+//! A PDU in words, as it is printed: its name, and `name=value` for each field. A missing field is 0, but `lpcn` must
+//! be there. `OTHER` has ten octets in digits.
 
 ghost use Rattle.std.specs.Prelude.{◌<◌};
 
@@ -17,7 +18,8 @@ pub enum WordFault<'a> {
     /// The PDU has no field of the name before the `=`, or there is no `=`.
     #[error("the PDU has no such field: {0}")]
     NoSuchField(&'a str),
-    /// The value of this field is not a number or the name of a value, or it is out of the field's range.
+    /// The value of this field is not a number or the name of a value, is out of its range, or is `lpcn` and missing.
+    /// Of `OTHER`: its word is not ten octets.
     #[error("no value, or out of range: {0}")]
     BadValue(&'a str),
 }
@@ -81,7 +83,8 @@ impl<'w, 'a> Fields<'w, 'a> {
         None
     }
 
-    /// Returns the number of a field, which is below a bound, or 0 if it is not given.
+    /// Returns the number of a field, which is below a bound, or 0 if it is missing or bad; a bad value is kept as a
+    /// fault.
     fn number(&mut self, name: &'static str, bound: u32) -> u32
         requires { 0 < bound }
         ensures { result < bound }

@@ -34,10 +34,11 @@ pub enum TaskFault<'a> {
     /// The input is not a PDU in words.
     #[error(transparent)]
     Words(#[from] WordFault<'a>),
-    /// The site file is at fault, or a line of the script of a judged session is.
+    /// The site file is at fault, memory ran out while it was read, or a line of the script of a judged session is at
+    /// fault.
     #[error(transparent)]
     Replay(#[from] ReplayFault<'a>),
-    /// The output could not be written in full.
+    /// The output could not be written in full, or memory ran out while it was made.
     #[error("cannot write")]
     Io(#[from] io::Error),
     /// Memory ran out.
@@ -64,7 +65,7 @@ pub fn run<'a, W: Write>(
     }
 }
 
-/// Returns the octets of hexadecimal digits, with spaces anywhere.
+/// Returns the octets of hexadecimal digits, with spaces anywhere. The error is `NotHex`, or that memory ran out.
 pub fn octets_of<'a>(alloc: Global, text: &str) -> Result<Vec<u8>, TaskFault<'a>> {
     let mut digits = String::new(alloc);
     for part in text.split_whitespace() {

@@ -59,7 +59,7 @@ fn show_flips<W: Write>(word: &Word196, clean: &Word196, out: &mut W) -> io::Res
     Ok(())
 }
 
-/// Prints a place and its cell.
+/// Prints a place and its cell; nothing for place 0, which has no cell.
 fn show_place<W: Write>(place: usize, out: &mut W) -> io::Result<()>
     requires { place < 196 }
 {

@@ -9,6 +9,7 @@ use std::sync::ledger::Ledger;
 /// of its actors. The names exist in proofs alone: the call that makes the ledger picks them, and they never change.
 /// The type of the lock's content ties the content to them, so it belongs to the desk that was opened.
 pub trait DeskLedger: Ledger {
+    /// The desk: its site at the opening, its limit and its number of actors.
     ghost desk: { Opened };
 }
 

@@ -29,7 +29,7 @@ pub enum CloseFault {
     Differs(u8),
 }
 
-/// Why there is no term: the first fault that applies. What is left of the arguments, the function says.
+/// Why there is no term: the first fault that applies. The function says what is left of the arguments.
 #[derive(Clone, Copy, PartialEq, Eq, Debug, Error)]
 pub enum TermFault {
     /// The stations are not one for each carrier of the plan, in the order of their numbers. No thread was started.

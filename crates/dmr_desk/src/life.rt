@@ -43,7 +43,7 @@ pub fn terms_go_on()
 /// - The views of an actor, joined, are what the joined journal has of the actor. They are what its worker deposited,
 ///   each event once and in order. The reports of port and gate since the first start are what happened to the worker.
 /// - The octets that came on all connections mean the events of these views, and then what is pending.
-/// - The desks took a tick for each that the pacer gave, except at most one a term.
+/// - If the pacer reports its ticks, the desks took one for each, except at most one a term.
 pub fn one_life()
     ensures legal { (start : Start) (ends : List End) → AreTerms start ends
         → IsLegal start.site.plan start.site.facts (reverse (joined_journal ends)) }

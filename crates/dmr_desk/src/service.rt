@@ -25,7 +25,8 @@ pub struct Service<P, G, T, C> {
 pub struct Refused<P, G, T, C> {
     /// The first fault that applies.
     pub fault: TermFault,
-    /// The service, exactly as it was handed in, if no thread was started: at `BadStations` and at `Open`. At the
-    /// other faults it is lost, and this is `None`.
+    /// The service as it was handed in, if no thread was started: at `BadStations` and at `Open`. At `OutOfMemory` some
+    /// lists in `spare` may be lost, which contracts do not see. At the other faults the service is lost, and this is
+    /// `None`.
     pub left: Option<Service<P, G, T, C>>,
 }

@@ -69,7 +69,8 @@ pub trait Serving {
     fn wait(&mut self) -> Waited
         ensures { Answers (state self.old) (of_wait result) (state self.new) };
 
-    /// Cuts the link.
+    /// Cuts a live link, and hands in its pending events. On an error the term is over. The link is cut all the same,
+    /// and keeps the remaining events.
     fn cut<D: Desk>(&mut self, desk: &mut D) -> Result<(), TermOver>
         requires { is_live (state self.old).link ≡ true }
         ensures actor { D.actor desk.new ≡ D.actor desk.old }

@@ -147,7 +147,7 @@ fn split_all_works<S: Drop, T: Drop, C: Drop, L: Ledger>(
 }
 
 /// Closes the desk with the workers' seats. `back` has room for their results. On an error the desk returned no report,
-/// or else a worker ended early; the error names the least such actor.
+/// or else a worker ended early; the error names the least such actor. What was handed in is then lost.
 pub fn close_term<S, T, C, L, R>(
     rt: &R,
     desk: SharedDesk<L>,
@@ -224,7 +224,7 @@ where
 
 /// Runs the workers, each in a thread of its own, from new seats: one for each station, then the ticker's, then the
 /// console's. `room` is for the results of the stations' workers. If a thread could not be started, returns `None`; the
-/// desk was abandoned, and all started threads have ended.
+/// desk was abandoned, all started threads have ended, and what was handed in is lost.
 pub fn run_threads<S, T, C, L, R>(
     rt: &R,
     desk: &SharedDesk<L>,

@@ -132,7 +132,8 @@ where
 /// Runs `terms` terms in a row, as [`run_term`](crate::run_term) does. The first begins with `service`, each other with
 /// the state that the one before it left. Each journal may have `limit` entries (1 to 100,000). The observer sees each
 /// term once it was audited. Returns the state that the last term left; if `terms` is 0, that is `service`. The call
-/// stops at the first term that fails.
+/// stops at the first term that fails, and the service is then lost ([`try_next`] hands it back if no thread was
+/// started).
 ///
 /// A program without end calls this again and again. By [`terms_go_on`](crate::terms_go_on), n terms followed by m
 /// terms are n + m terms, so each state on the way is that of all terms so far. [`one_life`](crate::one_life) says what

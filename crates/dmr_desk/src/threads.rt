@@ -279,8 +279,9 @@ where
     run_stations(rt, scope, desk, stations, seats, others, room)
 }
 
-/// Runs all workers, each in a thread of its own, and waits for them. If a thread could not be started, returns `None`;
-/// the desk was abandoned, and each started worker ended when it next asked whether the term is over.
+/// Runs all workers, each in a thread of its own, and waits for them. If a thread could not be started, returns `None`.
+/// Then the desk was abandoned, each started worker ended when it next asked whether the term is over, and the crew is
+/// lost.
 pub fn run_workers<S, T, C, L, R>(
     rt: &R,
     desk: &SharedDesk<L>,

@@ -27,8 +27,8 @@ fn is_of(deposit: &Deposit, entry: &Entry) -> bool
 }
 
 /// Compares an entry with the deposit at its turn in the view of the entry's actor. `turn` is the number of deposits
-/// that the entries before have confirmed; `None` if the view differs from the journal's list. Returns the same after
-/// this entry.
+/// that the entries before have confirmed; `None` if one of them has shown that the view differs from the journal's
+/// list. Returns the same after this entry.
 pub fn follow(deposits: &[Deposit], turn: Option<usize>, entry: &Entry) -> Option<usize>
     ensures { (journal : _) (place : ℕ) → place < length journal
         → entry.now ≡ slice_index_or journal place entry.now

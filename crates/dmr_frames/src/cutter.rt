@@ -120,9 +120,9 @@ impl Cutter {
         self.take_octet(octet)
     }
 
-    /// Takes octets up to the end of the next frame, up to a fault, or all of them. Returns how many it took, and the
-    /// step of the last of these. The result is that of [`Cutter::feed_byte`] for each octet, but a whole frame is
-    /// taken at once.
+    /// Takes octets, at least one, up to the end of the next frame, up to a fault, or all of them. Returns how many it
+    /// took, and the step of the last of these. The result is that of [`Cutter::feed_byte`] for each octet, but a whole
+    /// frame is taken at once.
     pub fn feed(&mut self, octets: &[u8]) -> (usize, Step)
         requires { 0 < length octets.now }
         ensures count { result.0 ≤ length octets.now }
@@ -192,9 +192,9 @@ impl Cutter {
         None
     }
 
-    /// Takes the RX that octets begin with, if no frame has begun and there was no fault. Returns how many octets it
-    /// took, and the RX. The result is that of [`Cutter::feed`], which costs more: it reads any frame. If the result is
-    /// `None`, nothing was taken, and [`Cutter::feed`] takes what comes.
+    /// Takes the RX that octets begin with, if the connection's first frame has come, no other has begun, and there was
+    /// no fault. Returns how many octets it took, and the RX. The result is that of [`Cutter::feed`], which costs more:
+    /// it reads any frame. If the result is `None`, nothing was taken, and [`Cutter::feed`] takes what comes.
     pub fn feed_rx(&mut self, octets: &[u8]) -> Option<(usize, RxFrame)>
         ensures count { IfSome result (λ r. (0 < r.0) × (r.0 ≤ length octets.now)) }
         ensures step { IfSome result (λ r. ProduceAtLast self.old (take r.0 octets.now)

@@ -18,21 +18,28 @@ pub enum FrameIn {
     /// number within the site, and its logical physical channel number. All three are as they were sent; their ranges
     /// were not checked.
     Hello {
+        /// The version.
         version: u8,
+        /// The carrier's number.
         carrier: u8,
+        /// The logical physical channel number.
         lpcn: u16,
     },
     /// RX: a burst was received on a slot. The carrier counts its bursts by the number, one octet, in version 2 of the
     /// link format. In version 1 there is none.
     Rx {
+        /// The number, in version 2.
         number: Option<u8>,
+        /// The slot.
         slot: SlotNo,
+        /// The coded bits of the burst.
         word: Word196,
     },
     /// POLL: the carrier asks for the bursts that it is to send.
     Poll,
     /// ACTIVE: there is traffic on a slot.
     Active {
+        /// The slot.
         slot: SlotNo,
     },
     /// BYE: the carrier ends the connection.
@@ -123,12 +130,16 @@ pub enum FrameOut {
     /// WELCOME: the answer to a HELLO that is accepted. It names the version of the link format for all frames after
     /// it.
     Welcome {
+        /// The version.
         version: u8,
     },
     /// TX: a burst to be sent on a slot. It has a number octet in version 2 of the link format, and none in version 1.
     Tx {
+        /// The number, in version 2.
         number: Option<u8>,
+        /// The slot.
         slot: SlotNo,
+        /// The coded bits of the burst.
         word: Word196,
     },
     /// DONE: the answer to a POLL is complete.

@@ -134,14 +134,14 @@ impl FrameKind {
         self.row().name
     }
 
-    /// Returns the frame from a carrier that has this type octet in a version.
+    /// Returns the frame from a carrier that has this type octet in a version, or `None` if there is none.
     pub fn from_carrier(version: Version, octet: u8) -> Option<FrameKind>
         ensures { result ≡ carrier_kind version octet }
     {
         find_kind(version, &CARRIER_KINDS, octet)
     }
 
-    /// Returns the frame to a carrier that has this type octet in a version.
+    /// Returns the frame to a carrier that has this type octet in a version, or `None` if there is none.
     pub fn to_carrier(version: Version, octet: u8) -> Option<FrameKind>
         ensures { result ≡ site_kind version octet }
     {

@@ -12,7 +12,8 @@ use dmr_core::{Command, Event};
 pub enum EndCause {
     /// There was no activity on its slot for the plan's hang time.
     HangTime,
-    /// It became as old as the plan allows a call to be. There was activity on its slot within the hang time.
+    /// It became as old as the plan allows a call to be. It began, or there was activity on its slot, within the hang
+    /// time.
     Maximum,
     /// A radio that took part in it left the site by a request.
     RadioLeft,

@@ -87,7 +87,8 @@ fn add_changes(
     Ok(())
 }
 
-/// The changes of registration in a journal, oldest first. `ticks` are those before it.
+/// The changes of registration in a journal, oldest first. `ticks` are those before it; with those of the journal they
+/// must fit in 64 bits. On an error memory ran out.
 pub fn changes_of(alloc: Global, ticks: u64, journal: &[Entry]) -> Result<Vec<Change>, OutOfMemory>
     requires { ticks + ticks_in journal.now < 2 ^ 64 }
     ensures { IfOk result (λ changes. changes.items ≡ changes_in ticks journal.now) }

@@ -196,7 +196,8 @@ fn apply_entry(
     )
 }
 
-/// Applies the entries of a journal to the open calls, and adds the records of those that end.
+/// Applies the entries of a journal to the open calls, and adds the records of those that end. All ticks must fit in 64
+/// bits. On an error memory ran out, and both lists have the effect of some first acts.
 pub fn apply_to_calls(
     hang: u16,
     ticks: u64,

@@ -42,10 +42,10 @@ pub trait Keeper {
     /// If the keeper reports it: what it has kept. It may stop reporting at any call, and then never reports again.
     ghost kept: { Self → Option Kept };
 
-    // What holds if the keeper refuses the records of this term with this fault.
+    /// What holds if the keeper refuses the records of this term with this fault.
     ghost refuses: { Self → TermRecords → AFault → Type 0 };
 
-    // Whether the keeper asks for records.
+    /// Whether the keeper asks for records.
     ghost wants: { Self → Bool };
 
     /// Reports whether records are wanted. If they are not, a caller need not make any.
@@ -77,6 +77,7 @@ impl Keeper for Forget {
         false
     }
 
+    /// Keeps nothing, and succeeds.
     fn keep(&mut self, _term: &TimedRecords) -> Result<(), KeepFault>
         ensures done { IsOk result }
         ensures unchanged { self.new ≡ self.old }

@@ -24,7 +24,8 @@ use dmr_core::facts_stay_sound;
 /// A term may end after any entry: the records are the same.
 ///
 /// The records of two journals, one after the other, are those of the first, followed by those of the second from what
-/// the first hands on. So a call that began in an earlier term is recorded once, with the tick at which it began.
+/// the first hands on. Their counts are added, but the most lines at once is the greater of the two. So a call that
+/// began in an earlier term is recorded once, with the tick at which it began.
 pub fn records_join()
     ensures calls { (plan : Settings) (before : Carry) (first second : List Entry)
         → ended_calls plan before (first ++ second) ≡ ended_calls plan before first
@@ -48,8 +49,9 @@ pub fn records_join()
 ///
 /// What is carried before a journal may agree with the facts of a site (`IsOfFacts`). Then what is carried after the
 /// journal agrees with the facts after it. Before the first term of a site on which nothing has happened, the two
-/// agree, and also before that of a site that starts with radios registered. After a legal journal of an accepted plan,
-/// at most 31 calls are open, 32 lines wait and 4,096 radios are registered.
+/// agree, and also before that of a site that starts with radios registered. Suppose that what is carried agrees with
+/// sound facts. After a legal journal of an accepted plan, at most 31 calls are then open, 32 lines wait and 4,096
+/// radios are registered.
 pub fn carried_is_the_sites()
     ensures starts { IsOfFacts nothing_carried no_facts }
     ensures restarts { (radios : List ℕ) → IsOfFacts (starting_with radios) (facts_with radios) }
@@ -63,8 +65,8 @@ pub fn carried_is_the_sites()
     facts_stay_sound();
 }
 
-/// No call is lost, and none is recorded twice. The calls that are open before a journal and those that begin in it are
-/// as many as those that end in it and those that stay open.
+/// Calls are counted: those that are open before a journal and those that begin in it are as many as those that end in
+/// it and those that stay open.
 ///
 /// The tick at which an open call began fits its age: the age is the ticks since then, up to 65,535, if it was so
 /// before the journal.

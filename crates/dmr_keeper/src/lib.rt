@@ -12,8 +12,8 @@
 //!
 //! Terms follow each other over one site, and ticks are counted over all of them. [`records_join`] says that a term may
 //! end after any entry. [`carried_is_the_sites`] says that the open calls, the lines and the registered radios are
-//! those of the site. [`calls_are_counted_once`] says that no call is lost or recorded twice, and
-//! [`few_events_end_calls`] that the causes are all.
+//! those of the site. [`calls_are_counted_once`] says that as many calls are recorded or stay open as were
+//! open or began, and [`few_events_end_calls`] that the causes are all.
 //!
 //! A [`Recorder`] reads the records of one term after another, each with its [`TermTime`]: when it ended, and how long
 //! its ticks are. An [`Outbox`] has the records that wait, and hands them over to a store, oldest term first.

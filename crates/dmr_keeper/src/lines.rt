@@ -75,7 +75,7 @@ fn apply_entry(plan: &Plan, entry: &Entry, lines: &mut Vec<Line>) -> Result<(), 
 }
 
 /// Applies the entries of a journal to the lines, and returns the most of them that waited at once: before the journal,
-/// or after one of its entries.
+/// or after one of its entries. On an error memory ran out, and the lines have the effect of some first acts.
 pub fn apply_to_lines(
     plan: &Plan,
     journal: &[Entry],

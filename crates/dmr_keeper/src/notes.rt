@@ -20,7 +20,7 @@ pub enum Outcome {
     Done,
     /// No radio of this number is registered.
     NotRegistered,
-    /// The control slot's outbox had no room for the PDUs that the command would queue.
+    /// More than 56 PDUs waited for the control slot, whatever the command would queue. Nothing changed.
     Busy,
     /// No call was active on the slot.
     NoCall,
@@ -39,7 +39,7 @@ pub enum Occurrence {
     Refused {
         /// The radio that is answered.
         source: Address,
-        /// The address that the answer is about, mostly the target of the request.
+        /// The address that the answer is about: the target of the request.
         target: Address,
         /// The reason code of the acknowledgement.
         reason: Reason,
@@ -236,7 +236,8 @@ fn add_notes(tick: u64, entry: &Entry, notes: &mut Vec<Note>) -> Result<(), OutO
     add_notes_of_acts(tick, entry.acts.list.as_slice(), notes)
 }
 
-/// The notes of a journal, oldest first. `ticks` are those before it.
+/// The notes of a journal, oldest first. `ticks` are those before it; with those of the journal they must fit in 64
+/// bits. On an error memory ran out.
 pub fn notes_of(alloc: Global, ticks: u64, journal: &[Entry]) -> Result<Vec<Note>, OutOfMemory>
     requires { ticks + ticks_in journal.now < 2 ^ 64 }
     ensures { IfOk result (λ notes. notes.items ≡ notes_in ticks journal.now) }

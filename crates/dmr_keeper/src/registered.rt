@@ -45,7 +45,8 @@ fn apply_acts(acts: &[Act], radios: &mut Vec<Address>) -> Result<(), OutOfMemory
     Ok(())
 }
 
-/// Applies the entries of a journal to the registered radios.
+/// Applies the entries of a journal to the registered radios. On an error memory ran out, and the list has the effect
+/// of some first acts.
 pub fn apply_to_registered(journal: &[Entry], radios: &mut Vec<Address>) -> Result<(), OutOfMemory>
     ensures { OnOk result (radios.new.items ≡ registered_after radios.old.items journal.now) }
 {

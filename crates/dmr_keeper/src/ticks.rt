@@ -21,7 +21,7 @@ pub fn is_tick(event: &Event) -> bool
     }
 }
 
-/// The ticks with that of an event.
+/// The ticks with that of an event. They must fit in 64 bits.
 pub fn tick_with(ticks: u64, event: &Event) -> u64
     requires { tick_at ticks event.now < 2 ^ 64 }
     ensures { result ≡ tick_at ticks event.now }

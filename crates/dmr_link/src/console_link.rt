@@ -17,11 +17,11 @@ use crate::stream::Peer;
 use dmr_wire::{Closing, Wire};
 use std::marker::Model;
 
-/// Serves the console's connections, one after another, between a port and a desk.
-/// It is a [`Link`](crate::Link) with lines and replies in place of frames. An operator is not a carrier: there is no
-/// Lost, no line closes a connection, and there is no gate. A link has one connection or none. It keeps everything that
-/// a desk has not taken: a command, and octets of the last read that are not yet processed. Contracts see this state,
-/// and the connections that a link has had (`HasPast`).
+/// Serves the console's connections, one after another, between a port and a desk. It is a [`Link`](crate::Link) with
+/// lines and replies in place of frames. An operator is not a carrier: there is no Lost, no line closes a connection,
+/// and there is no gate. A link has one connection or none. It keeps everything that a desk has not taken: a command,
+/// and octets of the last read that are not yet processed. After a failed write or a cut these octets mean nothing.
+/// Contracts see this state, and the connections that a link has had (`HasPast`).
 #[derive(Drop)]
 pub struct ConsoleLink {
     state: LinkState,
@@ -118,9 +118,10 @@ impl ConsoleLink {
         self.state.serve_connection(port, desk, &mut OpenGate)
     }
 
-    /// Cuts the connection, and hands in the command that is kept. It writes nothing, and an open line has no effect.
-    /// After that, `serve` returns `Closed` until `open`. `Err`: the term is over. The link is cut all the same, and
-    /// the next `cut` or `serve` hands in the command. A link that is not live does not change.
+    /// Cuts the connection, and hands in the command that is kept. It writes nothing, and an open line has no effect,
+    /// nor have octets that were read and not yet processed. After that, `serve` returns `Closed` until `open`. `Err`:
+    /// the term is over. The link is cut all the same, and the next `cut` or `serve` hands in the command. A link that
+    /// is not live does not change.
     pub fn cut<D: Desk>(&mut self, desk: &mut D) -> Result<(), TermOver>
         ensures actor { D.actor desk.new ≡ D.actor desk.old }
         ensures cuts { is_live self.old ≡ true

@@ -10,7 +10,8 @@
 //!   reads octets from a `Wire`, hands their events to a [`Desk`], and writes the answers to the wire. Each link can
 //!   have a thread of its own, with a desk of its own; the desks share a site. A wire may fail, block or be
 //!   interrupted, and a desk may take no more events. The link then reports why it stopped ([`Ended`]), and keeps
-//!   everything that the desk has not taken. While a carrier's link serves, it enters a [`Gate`] before it hands in an
+//!   everything that the desk has not taken. After a failed write or a cut, octets that are not yet processed mean
+//!   nothing. While a carrier's link serves, it enters a [`Gate`] before it hands in an
 //!   event, and leaves it after that.
 //!
 //! Octets mean the same to engines and links, by the same definitions. The module [`laws`] states facts about them.

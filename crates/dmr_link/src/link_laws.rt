@@ -15,7 +15,8 @@ ghost use Rattle.dmr_link.specs.Recorded.{of_progress, reading_at, reading_after
 use dmr_console::lines_in_any_cutting;
 
 /// States what a link accounts for. Its newest connection means the notices that are done, followed by those that the
-/// link still has to handle.
+/// link still has to handle. After a failed write or a cut, this is the meaning of the first octets that came, and of
+/// the end.
 /// The desk took the events of those that are done. The connection took the text that answers them, or a first part of
 /// it.
 pub fn links_account()

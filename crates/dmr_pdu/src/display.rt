@@ -35,7 +35,7 @@ impl Kind {
         (Kind::CANCEL, "cancel"),
     ];
 
-    /// Returns the name of a kind that the site knows.
+    /// Returns the name of a kind that the site knows, or `None` for another.
     pub fn name(&self) -> Option<&'static str> {
         Kind::NAMES
             .iter()
@@ -76,7 +76,7 @@ impl Reason {
         (Reason::WAIT, "Wait"),
     ];
 
-    /// Returns the name of a reason that has one.
+    /// Returns the name of a reason that has one, or `None` for another.
     pub fn name(&self) -> Option<&'static str> {
         Reason::NAMES
             .iter()

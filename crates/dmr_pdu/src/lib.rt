@@ -21,6 +21,7 @@ pub use numbers::{Address, Kind, Number, Options, Reason, SystemCode};
 pub use pdu::Pdu;
 pub use slots::{CarrierNo, Lpcn, Slot, SlotNo};
 
-/// An allocation was refused. Each function that returns this error says what it leaves unchanged. It is the standard
-/// library's `AllocError`, under the name that the site's crates use.
+/// An allocation was refused. A function that makes or copies a value then changes nothing. Each other function that
+/// returns this error says what it leaves unchanged. It is the standard library's `AllocError`, under the name that the
+/// site's crates use.
 pub use std::alloc::AllocError as OutOfMemory;

@@ -120,7 +120,7 @@ pub enum Pdu {
         lpcn: Lpcn,
         /// Which of its slots.
         slot: SlotNo,
-        /// Whether the grant announces a call that is active already (late entry).
+        /// Whether the grant announces an active call to radios other than its caller (late entry).
         late: bool,
         /// The talkgroup that is called.
         target: Address,
@@ -136,8 +136,8 @@ pub enum Pdu {
         /// The channel to use.
         lpcn: Lpcn,
     },
-    /// Ten octets that no layout fits: another first octet or feature set, a fixed bit other than listed, or a channel
-    /// number of 0 or 4095.
+    /// Ten octets. `from_octets` makes it only of octets that no layout fits: another first octet or feature set, a
+    /// fixed bit other than listed, or a channel number of 0 or 4095. With other octets it is not read back as `Other`.
     Other(Octets10),
 }
 

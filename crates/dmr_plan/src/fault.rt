@@ -7,7 +7,8 @@ use thiserror::Error;
 /// other effect.
 #[derive(Clone, Copy, PartialEq, Eq, Debug, Error)]
 pub enum PlanFault {
-    /// The text is not TOML: it breaks the grammar, has a key twice, or has a whole number of more than 64 bits.
+    /// The text breaks the grammar of TOML or has a key twice, or a whole number is not from -2^63 to 2^63 - 1. A key
+    /// of more than 80 parts, and more than 80 arrays and inline tables in one another, have this fault too.
     #[error("not TOML")]
     NotToml,
     /// The key is required and missing.

@@ -30,11 +30,11 @@ pub enum Key {
     AlohaActive,
     /// The field nrand_wait of C_ALOHA: 0 to 15; 0 if missing.
     NrandWait,
-    /// After how many ticks without activity a call ends: 1 to 65535. Required.
+    /// After how many ticks without activity a call is over: 1 to 65535. A tick ends one such call. Required.
     Hang,
-    /// After how many ticks from its beginning a call ends: 1 to 65535. Required.
+    /// After how many ticks from its beginning a call is over: 1 to 65535. A tick ends one such call. Required.
     Maximum,
-    /// How many ticks pass between two C_AHOY to one radio: 1 to 65535. Required.
+    /// How many ticks pass at least between two C_AHOY of one ask: 1 to 65535. Required.
     AhoyWait,
     /// How many C_AHOY a radio is sent before it counts as away: 1 to 8. Required.
     AhoyTries,
@@ -114,14 +114,18 @@ pub enum Fallback {
 /// The least and the greatest number.
 #[derive(Clone, Copy)]
 pub struct Bounds {
+    /// The least number.
     pub least: u32,
+    /// The greatest number.
     pub most: u32,
 }
 
 /// The fewest and the most items.
 #[derive(Clone, Copy)]
 pub struct Count {
+    /// The fewest items.
     pub fewest: usize,
+    /// The most items.
     pub most: usize,
 }
 

@@ -2,7 +2,7 @@
 //!
 //! A site file is TOML. [`Plan::read`] returns the plan that the text makes by the key table ([`Key`]), or the first
 //! fault in the order in which keys are checked. Keys that are not in the table are ignored. A [`Plan`] is `Copy` and
-//! takes no memory; its numbers are within the ranges of the table. The site file is this project's profile.
+//! has no memory of its own; its numbers are within the ranges of the table. The site file is this project's profile.
 #![tactic(auto)]
 
 mod arrays;

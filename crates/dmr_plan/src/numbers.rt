@@ -132,7 +132,8 @@ pub fn address(table: &Table, key: Key) -> Result<Address, PlanFault>
     Ok(Address::new(number(table, key)?))
 }
 
-/// Reads the address at a key. The error is `Repeated` if it equals the number at another key.
+/// Reads the address at a key. The error is `Repeated` if it equals the number at another key, whose faults are errors
+/// too.
 #[tactic(auto, unfolding(crate::specs::Numbers::number_unlike_in))]
 pub fn address_unlike(table: &Table, key: Key, other: Key) -> Result<Address, PlanFault>
     requires { (limits_of key).range.most < 2 ^ 24 }
@@ -149,7 +150,8 @@ pub fn address_unlike(table: &Table, key: Key, other: Key) -> Result<Address, Pl
     Ok(Address::new(found))
 }
 
-/// Reads the number at a key. The error is `OutOfRange` if it is below the number at another key.
+/// Reads the number at a key that may not be missing, after that at another key, whose fault comes first. The error is
+/// `OutOfRange` if it is below the other.
 #[tactic(auto, unfolding(crate::specs::Numbers::number_from_in))]
 pub fn number_from(table: &Table, key: Key, other: Key) -> Result<u32, PlanFault>
     ensures gives { result ≡ number_from_in (table_view table.now) key other }

@@ -64,14 +64,14 @@ impl Eq for Plan {
 impl Plan {
     /// Reads the text of a site file.
     ///
-    /// `Ok` is the plan that the key table assigns to the text. `NotToml` means that the text is not TOML. Other errors
-    /// are the first fault, in the order in which keys are checked ([`Key`](crate::Key)). Within a key the order is
-    /// `Missing`, `WrongType`, `OutOfRange`, `Repeated`. `OutOfMemory` means that an allocation was refused while the
-    /// text was parsed. The plan does not refer to the text.
+    /// `Ok` is the plan that the key table assigns to the text. `NotToml` means that the text is not TOML, or passes a
+    /// limit of [`PlanFault::NotToml`]. Other errors are the first fault, in the order in which keys are checked
+    /// ([`Key`](crate::Key)). Within a key the order is `Missing`, `WrongType`, `OutOfRange`, `Repeated`. `OutOfMemory`
+    /// means that an allocation was refused while the text was parsed. The plan does not refer to the text.
     pub fn read(alloc: Global, text: &str) -> Result<Plan, PlanFault>
         // The result is the one plan of the text or its one fault, unless memory runs out.
         ensures exact { (result ≡ plan_of_text text.now) ⊎ (result ≡ Err PlanFault.OutOfMemory) }
-        // A TOML text is never reported as `NotToml`.
+        // A text that `parse_document` reads is never reported as `NotToml`.
         ensures not_toml { result ≡ Err PlanFault.NotToml → parse_document text.now ≡ None }
         // A blank text is never reported as `OutOfMemory`.
         ensures memory { result ≡ Err PlanFault.OutOfMemory → ¬ IsBlank text.now }
@@ -157,21 +157,22 @@ impl Plan {
         self.settings.nrand_wait
     }
 
-    /// After how many ticks without activity a call ends: 1 to 65535.
+    /// After how many ticks without activity a call is over: 1 to 65535. A tick ends one such call.
     pub fn hang(&self) -> u16
         ensures { result ≡ self.now.hang }
     {
         self.settings.hang
     }
 
-    /// After how many ticks from its beginning a call ends, however active it is: 1 to 65535.
+    /// After how many ticks from its beginning a call is over, however active it is: 1 to 65535. A tick ends one such
+    /// call.
     pub fn maximum(&self) -> u16
         ensures { result ≡ self.now.maximum }
     {
         self.settings.maximum
     }
 
-    /// How many ticks pass between two C_AHOY to one radio: 1 to 65535.
+    /// How many ticks pass at least between two C_AHOY of one ask: 1 to 65535.
     pub fn ahoy_wait(&self) -> u16
         ensures { result ≡ self.now.ahoy_wait }
     {

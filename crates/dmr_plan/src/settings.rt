@@ -35,11 +35,11 @@ pub struct Settings {
     pub aloha_active: bool,
     /// The field nrand_wait of C_ALOHA.
     pub nrand_wait: Number<4>,
-    /// The ticks that a call lasts without activity.
+    /// The ticks without activity after which a call is over.
     pub hang: u16,
-    /// The ticks that a call lasts at most.
+    /// The ticks from its beginning after which a call is over.
     pub maximum: u16,
-    /// The ticks between two C_AHOY to one radio.
+    /// The least ticks between two C_AHOY of one ask.
     pub ahoy_wait: u16,
     /// How many C_AHOY a radio is sent.
     pub ahoy_tries: u8,

@@ -203,8 +203,8 @@ impl Pool {
 
     /// Reports whether a slot is free for a call.
     ///
-    /// The slot's carrier must be in the plan and up, and the slot must not be the control slot. No call holds it, no
-    /// PDU waits for it, and no grant of it waits for the control slot.
+    /// It is free if its carrier is in the plan and up, it is not the control slot, and no call holds it. Also, no PDU
+    /// waits for it, and no grant of it waits for the control slot.
     pub fn is_free(&self, slot: Slot) -> bool
         ensures { result ≡ is_free self.now slot }
     {
@@ -326,7 +326,8 @@ impl Pool {
             && self.outboxes.has_same_pdus(&other.outboxes)
     }
 
-    /// Reports whether the same carriers are up and the same PDUs wait for each slot. Held slots are not compared.
+    /// Reports whether the same carriers are up and the same PDUs wait for each slot. Plans and held slots are
+    /// not compared.
     pub fn has_same_carriers_and_pdus(&self, other: &Pool) -> bool
         ensures { result ≡ are_alike self.now other.now }
     {

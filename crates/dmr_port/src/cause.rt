@@ -27,7 +27,7 @@ pub enum EndCause {
     OpenLine,
     /// A newcomer that sent this carrier's HELLO took the connection's place.
     Displaced,
-    /// The first line on the operators' port was a request of HTTP.
+    /// The connection to the operators' port began with a method of HTTP and a space.
     Http,
     /// The carrier said BYE.
     Bye,
@@ -35,11 +35,14 @@ pub enum EndCause {
     LinkFault(Fault),
     /// The carrier's HELLO, with these numbers, was refused on this port.
     Refused {
+        /// Why it was refused.
         fault: Fault,
+        /// The numbers of the HELLO.
         hello: Hello,
+        /// The port.
         whose: Whose,
     },
-    /// The controller could not serve the connection.
+    /// The controller ended the connection, or could not serve it, and no other cause is known.
     Controller,
 }
 

@@ -88,7 +88,7 @@ pub fn look_at_all<S: Sockets>(sockets: &mut S, room: &mut WaitingRoom, settings
 }
 
 /// Closes a newcomer if more wait than may: after a look at all of them, the one whose place is
-/// [`WaitingRoom::place_of_refused`]. Returns its address.
+/// [`WaitingRoom::place_of_refused`]. Returns its address, or `None` if there was room, or the look made room.
 pub fn make_room<S: Sockets>(
     sockets: &mut S,
     room: &mut WaitingRoom,

@@ -7,38 +7,49 @@ use std::{fmt, io};
 /// An event of a port for the operator's log.
 #[derive(Clone, Copy, Debug)]
 pub enum Note<'a> {
-    /// A connection is served from now on.
+    /// A connection is served from now on. If it cannot be polled, `CannotAccept` and `Ended` follow at once.
     Connected {
+        /// The address of the other side.
         from: SocketAddr,
     },
     /// The connection has ended, for this cause.
     Ended {
+        /// The address of the other side.
         from: SocketAddr,
+        /// Why it ended.
         cause: EndCause,
     },
     /// A newcomer waits while another connection is served; `count` newcomers wait.
     Waits {
+        /// The newcomer's address.
         from: SocketAddr,
+        /// How many newcomers wait, this one included.
         count: usize,
     },
     /// A newcomer was closed, since nine newcomers were too many.
     Refused {
+        /// The newcomer's address.
         from: SocketAddr,
     },
     /// The connection yields its place to a newcomer that sent this carrier's HELLO. No octet came from it for `quiet`
     /// milliseconds.
     Displaced {
+        /// The address of the connection.
         from: SocketAddr,
+        /// The newcomer's address.
         by: SocketAddr,
+        /// The milliseconds without an octet.
         quiet: u32,
     },
-    /// Connections cannot be accepted for now.
+    /// Connections cannot be accepted for now, or a newcomer cannot be polled.
     CannotAccept(&'a io::Error),
     /// Connections can be accepted again.
     AcceptsAgain,
     /// `count` notes of a kind were not written, since there were too many.
     More {
+        /// The kind.
         kind: NoteKind,
+        /// How many notes.
         count: u32,
     },
 }

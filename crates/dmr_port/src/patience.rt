@@ -29,7 +29,8 @@ pub struct Patience {
     pub unread: u32,
     /// Since the connection began, while no whole HELLO has come. `None` if one came, and on the operators' port.
     pub hello: Option<u32>,
-    /// Since the first octet of the line that has not ended. `None` if no line has begun, and on a carrier's port.
+    /// Since the first octet of the line that has not ended; waits while octets are kept do not count. `None` if no
+    /// line has begun, and on a carrier's port.
     pub line: Option<u32>,
 }
 
@@ -46,7 +47,8 @@ impl Patience {
         }
     }
 
-    /// Counts a wait of this many milliseconds. `keeps`: octets are kept that the connection has not taken.
+    /// Counts a wait of this many milliseconds. `keeps`: octets are kept that the connection has not taken. Then
+    /// `unread` counts it, and a line gets no older.
     pub fn count_wait(&mut self, milliseconds: u32, keeps: bool)
         ensures { self.new ≡ patience_after_wait milliseconds keeps self.old }
     {
@@ -127,7 +129,8 @@ fn has_lasted(time: Option<u32>, milliseconds: u32) -> bool
     }
 }
 
-/// Returns how long the line that has not ended has lasted, after octets that came. `None` if the octets end a line.
+/// Returns how long the line that has not ended has lasted, after octets that came. `None` if they end with a line
+/// feed, and 0 if they have one elsewhere.
 fn line_after(line: Option<u32>, octets: &[u8]) -> Option<u32>
     requires { 0 < length octets.now }
     ensures { result ≡ line_after line octets.now }

@@ -63,8 +63,9 @@ fn ask<S: Sockets>(sockets: &mut S, octets: &mut [u8], asked: usize) -> Got
     sockets.read(&mut octets[..asked])
 }
 
-/// Reads octets of the connection. The read would block if the window's octets have been returned, or if the system had
-/// no more at the last read and no wait has found any since.
+/// Reads octets of the connection. The read would block if the window's octets have been returned. It would also block
+/// if the system had no more at the last read, no wait has found any since, and the other side has not ended its
+/// output. On the operators' port a request of HTTP is withheld, and the answer is `End`.
 #[tactic(auto, using(crate::proofs::ReadingLemmas::read_nothing, crate::proofs::ReadingLemmas::read_blocked, crate::proofs::ReadingLemmas::read_octets, crate::proofs::ReadingLemmas::read_http, crate::proofs::ReadingLemmas::reads_unasked, crate::proofs::ReadingLemmas::reads_answer))]
 fn read_sockets<S: Sockets>(
     sockets: &mut S,
@@ -107,7 +108,8 @@ fn read_sockets<S: Sockets>(
     }
 }
 
-/// Reads octets of the connection, after sending those that are kept. If some of these are left, the read would block.
+/// Reads octets of the connection, after sending those that are kept. If some of these are left, the read would block,
+/// and if they cannot be sent, it fails.
 #[tactic(auto, using(crate::proofs::ReadingLemmas::read_later, crate::proofs::ReadingLemmas::reads_then, crate::proofs::ReadingLemmas::reads_nothing))]
 pub fn read_connection<S: Sockets>(
     sockets: &mut S,

@@ -48,13 +48,13 @@ const MOST_ACCEPTS: usize = 16;
 /// A port over sockets. It serves one connection at a time to its link.
 ///
 /// - In a window of 60 ms it returns at most 512 octets to the link; then a read would block.
-/// - A connection from which no octet came for `silence` waits of 100 ms is silent. So is, after as long, a carrier's
-///   connection without a whole HELLO, and an operator's connection with a line that did not end. Between the ends of
-///   two waits at most 100 ms count.
-/// - Octets that the connection does not take at once are kept, at most 65,536, and sent before anything more is read.
-///   A connection that does not take them within 50 waits is given up.
-/// - While a connection is served, at most 8 newcomers wait. When a ninth comes, the oldest that has sent no HELLO for
-///   this carrier is closed. On the operators' port it is the ninth itself.
+/// - A connection from which no octet came for `silence` waits of 100 ms is silent, unless octets are kept for it. So
+///   is, after as long, a carrier's connection without a whole HELLO, and an operator's connection with a line that did
+///   not end. Between the ends of two waits at most 100 ms count.
+/// - If the connection would block, octets are kept, at most 65,536, and sent before anything more is read. A
+///   connection that does not take them within 50 waits is given up.
+/// - At most 8 newcomers wait. When a ninth comes and none has ended, the oldest that has sent no HELLO for this
+///   carrier is closed, and if all have sent one, the newest. On the operators' port it is the ninth itself.
 /// - The next connection is the first newcomer that has sent a HELLO for this carrier, and if none has, the oldest.
 /// - If the connection has sent no whole HELLO, or no octet for 1 s, a newcomer with a HELLO for this carrier takes its
 ///   place.
@@ -63,8 +63,8 @@ const MOST_ACCEPTS: usize = 16;
 /// The numbers are this project's profile.
 ///
 /// A witness sees each answer, and the port's record is what it keeps. If the sockets' log is known too, the two agree,
-/// connection by connection. What came was given to the link. What was taken from it was sent, or is kept, or was
-/// dropped at the connection's end. The program's port has no witness.
+/// connection by connection. What came was given to the link, except for a request of HTTP on the operators' port. What
+/// was taken from it was sent, or is kept, or was dropped at the connection's end. The program's port has no witness.
 #[derive(Drop)]
 pub struct ServingPort<S: Sockets + Drop, N: PortNotes + Drop, W: Witness + Drop = NoWitness> {
     sockets: S,
@@ -192,7 +192,7 @@ impl<S: Sockets + Drop, N: PortNotes + Drop, W: Witness + Drop> ServingPort<S, N
     }
 
     /// Takes the port apart: returns the sockets, with the connection and the newcomers that they still have, and the
-    /// notes. Kept octets are lost.
+    /// notes. Kept octets and the witness are lost.
     pub fn into_parts(self) -> (S, N)
         ensures { S.log result.0 ≡ self.log }
     {
@@ -427,7 +427,9 @@ impl<S: Sockets + Drop, N: PortNotes + Drop, W: Witness + Drop> Wire for Serving
 
     /// Reads octets of the connection, after sending those that are kept. The read would block if some of these are
     /// left, or if the window's octets have been returned. It would also block if the system had no more at the last
-    /// read, and no wait has found any since. Without a connection it fails.
+    /// read, and no wait has found any since. It asks the system all the same if kept octets have just been sent, or if
+    /// the other side has ended its output. It fails without a connection, and if kept octets cannot be sent. On the
+    /// operators' port a request of HTTP is withheld, and the answer is `End`.
     fn read(&mut self, octets: &mut [u8]) -> Got
         requires { 0 < length octets.old }
         ensures within { GotWithin result (length octets.new) }
@@ -465,8 +467,10 @@ impl<S: Sockets + Drop, N: PortNotes + Drop, W: Witness + Drop> Wire for Serving
         got
     }
 
-    /// Writes octets to the connection. Those that it does not take at once are kept, if there is room. Without room
-    /// the write would block, and without a connection it fails.
+    /// Writes octets to the connection. They are kept only if others are kept already, or if the connection would
+    /// block. `Octets` counts those that were taken or kept; the others have still to be written. Without room, or if
+    /// the connection takes no octet, the write would block. After `Block` and `Fault` the port has noted the
+    /// connection's end. Without a connection the write fails.
     fn write(&mut self, octets: &[u8]) -> Put
         requires { 0 < length octets.now }
         ensures within { PutWithin result (length octets.now) }
@@ -491,7 +495,9 @@ impl<S: Sockets + Drop, N: PortNotes + Drop, W: Witness + Drop> Wire for Serving
 }
 
 impl<S: Sockets + Drop, N: PortNotes + Drop, W: Witness + Drop> Port for ServingPort<S, N, W> {
-    /// Closes the connection that is served, and serves the next newcomer. If there is none, it waits for one.
+    /// Closes the connection that is served, and serves the next newcomer. If there is none, it waits for one, at most
+    /// 5 s, or 100 ms while connections cannot be accepted. The answer is then `NotYet`, even if one came. It is so too
+    /// if the newcomer cannot be polled; that one is closed. It is never `Finished`.
     fn connect(&mut self) -> Connect
         ensures reported { Reports (W.reported self.old.witness) (of_connect result ∷ [])
             (W.reported self.new.witness) }
@@ -520,8 +526,9 @@ impl<S: Sockets + Drop, N: PortNotes + Drop, W: Witness + Drop> Port for Serving
         }
     }
 
-    /// Waits until the connection can be read, or written if octets are kept, at most 100 ms. Accepts newcomers
-    /// meanwhile. `Silent`: the connection is given up, or there is none.
+    /// Waits until the connection can be read, or written if octets are kept, at most 100 ms. A newcomer, or the end of
+    /// a window whose octets were returned, ends the wait too. Accepts newcomers meanwhile. `Silent`: the connection is
+    /// given up, or there is none. Without a connection it may wait 5 s.
     fn wait(&mut self) -> Waited
         ensures reported { Reports (W.reported self.old.witness) (of_wait result ∷ [])
             (W.reported self.new.witness) }

@@ -14,7 +14,7 @@ pub struct PortSettings {
     pub whose: Whose,
     /// The greatest version of the link that is served.
     pub greatest: Version,
-    /// After how many waits of 100 ms without an octet a connection is silent.
+    /// After how many waits of 100 ms without an octet a connection is silent, unless octets are kept for it.
     pub silence: u16,
 }
 

@@ -61,7 +61,7 @@ pub trait Sockets {
     /// may end at any call. Sockets of the system know none.
     ghost log: { Self → Option (List Answer) };
 
-    /// Accepts a connection, if one has come, as the newest newcomer.
+    /// Accepts a connection, if one has come, as the newest newcomer. There must be fewer than nine.
     fn accept(&mut self) -> Accepted
         requires { waiting self.old < 9 }
         ensures waiting { waiting self.new ≡ waiting_after (waiting self.old) result }
@@ -69,7 +69,7 @@ pub trait Sockets {
         ensures log { log self.new ≡ log self.old };
 
     /// Looks at the first octets that a newcomer has sent, at most as many as the slice holds, and leaves them to be
-    /// read. The rest of the slice then holds anything.
+    /// read. The rest of the slice then holds anything. There must be a newcomer at the place, and room in the slice.
     fn peek(&mut self, place: usize, octets: &mut [u8]) -> Peeked
         requires place { place < waiting self.old }
         requires some { 0 < length octets.old }
@@ -78,7 +78,8 @@ pub trait Sockets {
         ensures connection { is_open self.new ≡ is_open self.old }
         ensures log { log self.new ≡ log self.old };
 
-    /// Closes a newcomer and forgets it. Those after it move one place to the front.
+    /// Closes a newcomer and forgets it. Those after it move one place to the front. There must be a newcomer at the
+    /// place.
     fn refuse(&mut self, place: usize)
         requires { place < waiting self.old }
         ensures waiting { waiting self.new + 1 ≡ waiting self.old }
@@ -86,7 +87,8 @@ pub trait Sockets {
         ensures log { log self.new ≡ log self.old };
 
     /// Makes a newcomer the connection that is served. Those after it move one place to the front. On an error the
-    /// newcomer cannot be polled; it is then closed, and there is no connection.
+    /// newcomer cannot be polled; it is then closed, and there is no connection. There must be a newcomer at the place,
+    /// and no connection.
     fn take(&mut self, place: usize) -> io::Result<()>
         requires place { place < waiting self.old }
         requires connection { is_open self.old ≡ false }
@@ -97,7 +99,7 @@ pub trait Sockets {
         ensures log { OnErr result (log self.new ≡ log self.old) };
 
     /// Reads octets of the connection, at most as many as the slice holds, to its front. The rest of the slice then
-    /// holds anything.
+    /// holds anything. There must be a connection, and room in the slice.
     fn read(&mut self, octets: &mut [u8]) -> Got
         requires connection { is_open self.old ≡ true }
         requires some { 0 < length octets.old }
@@ -106,7 +108,8 @@ pub trait Sockets {
         ensures connection { is_open self.new ≡ true }
         ensures log { Reports (log self.old) (of_read result octets.new ∷ []) (log self.new) };
 
-    /// Writes octets to the connection, from the front of the slice on, as many as it takes at once.
+    /// Writes octets to the connection, from the front of the slice on, as many as it takes at once. There must be a
+    /// connection, and an octet in the slice.
     fn write(&mut self, octets: &[u8]) -> Put
         requires connection { is_open self.old ≡ true }
         requires some { 0 < length octets.now }
@@ -115,8 +118,9 @@ pub trait Sockets {
         ensures connection { is_open self.new ≡ true }
         ensures log { Reports (log self.old) (of_write result octets.now ∷ []) (log self.new) };
 
-    /// Closes the connection. Ends the output first, and reads the octets that came and were not read. A close with
-    /// unread octets would reset the connection, and the other side might then lose the last octets written to it.
+    /// Closes the connection, which there must be. Ends the output first, and reads the octets that came and were not
+    /// read. A close with unread octets would reset the connection, and the other side might then lose the last octets
+    /// written to it.
     fn close(&mut self)
         requires { is_open self.old ≡ true }
         ensures waiting { waiting self.new ≡ waiting self.old }

@@ -75,9 +75,10 @@ impl Unsent {
         self.octets.fill_from_slice(octets)
     }
 
-    /// Writes octets after the kept ones. If none were kept, it first tries to write them at once. Octets that the
-    /// connection does not take then are kept, as many as there is room for. `Octets` counts those that were taken or
-    /// are now kept, the first of the slice. With any other answer none was taken, and the kept octets are unchanged.
+    /// Writes octets after the kept ones. If none are kept, it writes to the connection, and returns that answer unless
+    /// it is `Block`. Else it keeps octets, as many as there is room for. `Octets` counts those that were taken or
+    /// kept, the first of the slice; the others have still to be written. With any other answer none was taken, and the
+    /// kept octets are unchanged.
     #[tactic(auto, using(crate::proofs::UnsentLemmas::passes_at_once, crate::proofs::UnsentLemmas::passes_kept))]
     pub fn write<S: Sockets>(&mut self, sockets: &mut S, octets: &[u8]) -> Put
         requires connection { S.is_open sockets.old ≡ true }

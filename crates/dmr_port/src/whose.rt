@@ -7,7 +7,12 @@ use std::fmt;
 #[derive(Clone, Copy, Debug, PartialEq, Eq)]
 pub enum Whose {
     /// A carrier: its number within the site, and the channel number of its slots, as the site file has them.
-    Carrier { number: CarrierNo, lpcn: Lpcn },
+    Carrier {
+        /// The carrier's number.
+        number: CarrierNo,
+        /// The channel number.
+        lpcn: Lpcn,
+    },
     /// The operators.
     Console,
 }

@@ -26,6 +26,7 @@ impl Witness for NoWitness {
 
     ghost reported = { λ w. None };
 
+    /// Keeps nothing.
     fn see(&mut self, entry: RecordEntry, octets: &[u8]) {
         let _ = entry;
         let _ = octets;

@@ -105,7 +105,8 @@ fn write_command(place: usize, command: &Command, text: &mut String) -> Result<(
     }
 }
 
-/// Appends the lines of an event. The error is the event's fault, or `OutOfMemory`.
+/// Appends the lines of an event. The error is the event's fault, or `OutOfMemory`; then the text may have a part of
+/// them.
 pub fn write_event(
     alloc: Global,
     plan: &Plan,

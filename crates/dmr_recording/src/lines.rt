@@ -13,7 +13,8 @@ use dmr_pdu::CarrierNo;
 use itoa::Buffer;
 use std::alloc::Global;
 
-/// Appends octets. The error is `OutOfMemory`, and the text is unchanged.
+/// Appends octets. The error is `OutOfMemory`; the text is unchanged then, which no clause here says. A function below
+/// that appends several pieces may leave a part of its line.
 fn push(text: &mut String, more: &str) -> Result<(), RecordingFault>
     ensures ok { OnOk result (string_bytes text.new ≡ string_bytes text.old ++ more.now) }
     ensures err { IfErr result (λ fault. fault ≡ RecordingFault.OutOfMemory) }

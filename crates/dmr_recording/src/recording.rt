@@ -27,8 +27,11 @@ const MOST_TICKS: u32 = 100_000;
 /// yet.
 #[derive(Drop)]
 pub struct Draft {
+    /// The lines that are written.
     pub text: String,
+    /// The carriers that are up after them.
     pub up: Carriers,
+    /// The ticks after them that have no line yet, at most 100,000.
     pub ticks: u32,
 }
 
@@ -63,7 +66,8 @@ fn is_tick(event: &Event) -> bool
     matches!(event, Event::Tick)
 }
 
-/// Appends the lines of an event. A tick is only counted, until another event or 100,000 ticks follow it.
+/// Appends the lines of an event. A tick is only counted, until another event or 100,000 ticks follow it. On an error
+/// the text may have a part of the lines.
 pub fn add_event(
     alloc: Global,
     plan: &Plan,

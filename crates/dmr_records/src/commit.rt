@@ -35,7 +35,8 @@ fn commit_term<S: Alter>(
 
 /// Writes the records of a term over a connection whose tables are prepared, in one transaction.
 ///
-/// Of each table of calls, events and terms, the newest `most` rows stay.
+/// Of each table of calls, events and terms, the newest `most` rows stay. Older rows are removed only if the number of
+/// the term's row is a multiple of `most / 1000 + 1`. Until then they stay too.
 ///
 /// # Errors
 ///

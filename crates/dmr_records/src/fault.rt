@@ -8,7 +8,8 @@ use dmr_keeper::KeepFault;
 use sqlite::{Error, ErrorCode};
 use thiserror::Error;
 
-/// Why a file of records cannot be used. After any of them, the file holds the records that it held before.
+/// Why a file of records cannot be used. After any of them, the file has the records that it had before, as far as the
+/// disk returns what was written. Tables may have been made.
 #[derive(Clone, Copy, Debug, PartialEq, Eq, Error)]
 pub enum FileFault {
     /// Memory ran out.

@@ -8,13 +8,13 @@ use crate::fault::FileFault;
 /// How the database of the records is reached, by connections `C`. It is opened for each call, and closed before the
 /// call returns.
 pub trait Reach<C> {
-    // What holds of a connection that `open` returns.
+    /// What holds of a connection that `open` returns.
     ghost opens: { Self → C → Self → Type 0 };
 
-    // What holds if the database cannot be opened, with this fault.
+    /// What holds if the database cannot be opened, with this fault.
     ghost refuses: { Self → AFault → Self → Type 0 };
 
-    // What closing a connection leaves.
+    /// What closing a connection leaves.
     ghost closes: { Self → C → Self → Type 0 };
 
     /// Opens the database. Each [`FileFault`] says why it cannot.

@@ -60,7 +60,8 @@ fn prepare_and_read<S: Alter>(
 
 /// Opens the database, makes its tables if it has none, writes the records of a term in one transaction, and closes it.
 ///
-/// Of each table of calls, events and terms, the newest `most` rows stay.
+/// Of each table of calls, events and terms, the newest `most` rows stay. Older rows are removed only if the number of
+/// the term's row is a multiple of `most / 1000 + 1`. Until then they stay too.
 ///
 /// # Errors
 ///

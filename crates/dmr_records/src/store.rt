@@ -13,8 +13,8 @@ use sqlite::{Alter, Connection};
 use std::alloc::Global;
 use std::marker::PhantomData;
 
-/// The newest rows that are kept of each table of calls, events and terms, if the caller does not choose another
-/// number.
+/// The newest rows that stay of each table of calls, events and terms, if the caller does not choose another number.
+/// With this number, older rows are removed after each 101st term.
 pub const MOST_ROWS: u32 = 100_000;
 
 /// A store of records in a database. It reaches the database for each call.
@@ -22,20 +22,20 @@ pub const MOST_ROWS: u32 = 100_000;
 pub struct RecordsIn<S, D> {
     /// How the database is reached.
     pub reach: D,
-    /// How many of the newest rows are kept of each table of calls, events and terms.
+    /// How many of the newest rows stay of each table of calls, events and terms.
     pub most: u32,
     of: PhantomData<S>,
 }
 
 impl<S, D> RecordsIn<S, D> {
-    /// Keeps [`MOST_ROWS`] rows of each table.
+    /// Keeps at least the newest [`MOST_ROWS`] rows of each table of calls, events and terms ([`keep_term`]).
     pub fn new(reach: D) -> RecordsIn<S, D>
         ensures { (result.reach ≡ reach) × (result.most ≡ MOST_ROWS) }
     {
         RecordsIn::with_most_rows(reach, MOST_ROWS)
     }
 
-    /// Keeps this many rows of each table of calls, events and terms.
+    /// Keeps at least this many of the newest rows of each table of calls, events and terms ([`keep_term`]).
     pub fn with_most_rows(reach: D, most: u32) -> RecordsIn<S, D>
         ensures { (result.reach ≡ reach) × (result.most ≡ most) }
     {
@@ -48,11 +48,13 @@ impl<S, D> RecordsIn<S, D> {
 }
 
 impl<S: Alter, D: Reach<Connection<S>>> RecordsIn<S, D> {
-    /// Reads the registered radios, in the order in which they joined.
+    /// Reads the registered radios, in the order in which they joined. If the database has no tables, it makes them
+    /// first.
     ///
     /// # Errors
     ///
-    /// Each [`FileFault`] says what is wrong with the database. It is then as it was before.
+    /// Each [`FileFault`] says what is wrong with the database. It then has the records that it had before; its tables
+    /// may have been made.
     pub fn registered(&mut self, alloc: Global) -> Result<Vec<Address>, FileFault>
         ensures read { IfOk result (λ radios. AreReadBack S.Store D.opens D.closes radios.items
             self.old.reach self.new.reach) }

@@ -114,7 +114,7 @@ fn prune<S: Alter>(tx: &mut Transaction<'_, S>, most: u32) -> Result<(), Error>
     prune_terms(tx)
 }
 
-/// Removes the oldest rows after the term with this number, if it is time for that.
+/// Removes the oldest rows after the term with this number, if it is a multiple of `most / 1000 + 1`.
 fn prune_after<S: Alter>(tx: &mut Transaction<'_, S>, most: u32, number: u64) -> Result<(), Error>
     ensures same_reference { tx.new.conn.ghost_name ≡ tx.old.conn.ghost_name }
     ensures ran { RanAll S.Store (statements_after most number)
@@ -127,7 +127,8 @@ fn prune_after<S: Alter>(tx: &mut Transaction<'_, S>, most: u32, number: u64) ->
     Ok(())
 }
 
-/// Writes what belongs to the row of its term, and the registered radios; then removes the oldest rows.
+/// Writes what belongs to the row of its term, and the registered radios; then removes the oldest rows, if it is time
+/// for that.
 fn put_rest<S: Alter>(
     tx: &mut Transaction<'_, S>,
     most: u32,
@@ -156,8 +157,8 @@ fn newest_row<S: Alter>(tx: &Transaction<'_, S>) -> u64
     }
 }
 
-/// Writes the records of a term in a transaction, and keeps only the newest rows, this many of each table. Nothing is
-/// committed.
+/// Writes the records of a term in a transaction. If it is time for that, removes the oldest rows of calls, events and
+/// terms, so that this many of each stay. Nothing is committed.
 pub fn put_records<S: Alter>(
     tx: &mut Transaction<'_, S>,
     most: u32,

@@ -2,7 +2,7 @@
 //!
 //! [`replay`] takes the octets of a site file and of a script. It checks the script's lines, and then runs their inputs
 //! through the engine of `dmr_link`. At the end it prints the octets that the engine has written for each carrier and
-//! for operators. It takes memory for the two files, the site and these octets, and keeps no list of lines or ticks.
+//! for operators. It takes memory for the site and these octets, and for a line at a time.
 //!
 //! `script` reads a line; `checking` checks all lines; `running` runs them; `printing` prints; `replaying` is the
 //! whole, with its faults; `status` has the exit statuses. [`plan_of`] and [`read_script`] read the two files alone,

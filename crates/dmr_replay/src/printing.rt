@@ -71,7 +71,7 @@ fn print_carrier<W: Write>(number: u32, octets: &[u8], out: &mut W) -> io::Resul
 }
 
 /// Prints a line for each carrier of the plan, by number, and then the operators' text, and flushes the writer. It
-/// allocates nothing.
+/// allocates nothing. On an error the writer may have received a first part.
 pub fn print_outputs<W: Write>(plan: &Plan, outputs: &Outputs, out: &mut W) -> io::Result<()>
     ensures { OnOk result (Appends (W.contents out.old) (W.contents out.new) (printed_text plan.now
         (λ c. slice_index_or outputs.now.carriers c []) outputs.now.console)) }

@@ -57,7 +57,7 @@ impl ReplayFault<'_> {
 /// `site_name` and `script_name`. The function prints to `out` a line for each carrier of the plan, with the octets
 /// written for it, and then the operators' text. A fault of the site file is reported before one of the script, and in
 /// both cases nothing is printed to `out`. A fault is written to `err` as one line. If that fails, the failure is
-/// ignored.
+/// ignored. If `out` does not take the whole text, the status is `FAULT`, and `out` may have received a part of it.
 pub fn replay<'a, W: Write, E: Write>(
     alloc: Global,
     site_name: &'a str,

@@ -82,7 +82,7 @@ fn run_script(alloc: Global, engine: &mut Engine, script: &[u8]) -> Result<Outpu
     Ok(outputs)
 }
 
-/// Returns the output for the inputs of a script's lines, from a new site without connections.
+/// Returns the output for the inputs of a script's lines, from a new site without connections. `Err`: out of memory.
 pub fn outputs_of(alloc: Global, plan: &Plan, script: &[u8]) -> Result<Outputs, OutOfMemory>
     ensures carriers { IfOk result (λ outputs. (c : ℕ) → slice_index_or outputs.carriers c []
         ≡ octets_written plan.now (inputs_of_script (given_in script.now)) c) }

@@ -62,7 +62,8 @@ impl ScriptInput {
         }
     }
 
-    /// Processes the input once, and appends the octets that answer it to `outputs`. `Err`: out of memory.
+    /// Processes the input once, and appends the octets that answer it to `outputs`. `Err`: out of memory; by
+    /// `Engine::step` nothing has changed then, which no clause here says.
     pub fn apply(&self, engine: &mut Engine, outputs: &mut Outputs) -> Result<(), OutOfMemory>
         // If some inputs led to the engine and its texts, these and the line's input lead to the new ones.
         ensures { OnOk result ((s : State) (before : List AnInput)
@@ -143,7 +144,7 @@ pub fn is_skipped(line: &[u8]) -> bool
     }
 }
 
-/// Reads a line that is not skipped. `None` if it is not a line of a script.
+/// Reads a line that is not skipped. `None` if it is not a line of a script. `Err`: out of memory.
 pub fn parse_line(alloc: Global, line: &[u8]) -> Result<Option<ScriptInput>, OutOfMemory>
     ensures { IfOk result (λ input. option_map repeated_input input ≡ input_of_line line.now) }
 {

@@ -3,7 +3,7 @@
 /// Success.
 pub const OK: u8 = 0;
 
-/// A file, the plan, the script or the output is at fault.
+/// A file, the plan, the script, the output, a port, a poll or a variable of the environment is at fault.
 pub const FAULT: u8 = 1;
 
 /// Memory ran out, or a thread could not be started.

@@ -37,7 +37,7 @@ impl Place {
     }
 }
 
-/// The number of places that come before one, which need not be among them.
+/// The number of places that come before one, which need not be among them. The places must ascend.
 pub fn count_before(places: &[Place], place: Place) -> usize
     requires { AreAscending places.now }
     ensures { IsGap places.now (rank_of place) result }
@@ -46,7 +46,7 @@ pub fn count_before(places: &[Place], place: Place) -> usize
     places.partition_point(|other| other.rank() < rank)
 }
 
-/// The first of the places from a key on; `None` if all keys are below it.
+/// The index of the first of the places from a key on; `None` if all keys are below it. The places must ascend.
 pub fn first_from(places: &[Place], key: u32) -> Option<usize>
     requires { AreAscending places.now }
     ensures { MatchOption result (IsGap places.now (key * most_entries) (length places.now))

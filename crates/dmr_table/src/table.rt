@@ -33,8 +33,8 @@ impl<V: Keyed, const MOST: usize> Model for KeyedTable<V, MOST> {
 }
 
 impl<V: Keyed, const MOST: usize> KeyedTable<V, MOST> {
-    /// Makes a table without entries, and allocates the memory for `MOST`. Returns `OutOfMemory` if the allocation
-    /// fails.
+    /// Makes a table without entries, and allocates the memory for `MOST`, which is at most 65,536. Returns
+    /// `OutOfMemory` if the allocation fails.
     pub fn new(alloc: Global) -> Result<Self, OutOfMemory>
         requires { MOST ≤ most_entries }
         ensures { IfOk result (λ table. table ≡ []) }
@@ -78,7 +78,7 @@ impl<V: Keyed, const MOST: usize> KeyedTable<V, MOST> {
         self.entries.as_slice()
     }
 
-    /// The first entry with a key.
+    /// The first entry with a key; `None` if no entry has it.
     pub fn find(&self, key: u32) -> Option<V>
         ensures { result ≡ find (λ v. V.key_of v == key) self.now }
     {
@@ -120,7 +120,7 @@ impl<V: Keyed, const MOST: usize> KeyedTable<V, MOST> {
         self.entries.push_reserved(entry);
     }
 
-    /// Replaces the entry at a place, counted from 0, by one with the same key.
+    /// Replaces the entry at a place, counted from 0, by one with the same key. There must be an entry at the place.
     pub fn replace(&mut self, place: usize, entry: V)
         requires within { place < length self.old }
         requires same { (d : V) → V.key_of (slice_index_or self.old place d) ≡ V.key_of entry }
@@ -129,7 +129,8 @@ impl<V: Keyed, const MOST: usize> KeyedTable<V, MOST> {
         self.entries[place] = entry;
     }
 
-    /// Removes the first entry with a key, and returns it. The others keep their order.
+    /// Removes the first entry with a key, and returns it. The others keep their order. If no entry has the key,
+    /// returns `None` and changes nothing.
     pub fn remove_first(&mut self, key: u32) -> Option<V>
         ensures first { result ≡ find (λ v. V.key_of v == key) self.old }
         ensures others { self.new ≡ without_first (λ v. V.key_of v == key) self.old }

@@ -32,7 +32,7 @@ is_of_disk Full = true
 is_of_disk NotWritten = true
 is_of_disk other = false
 
--- the file of a recording may refuse lines with this fault. The faults of making it come only before it was made, and
+-- the file of a recording may refuse lines with this fault. The faults of making it come only while it is not open, and
 -- `Long` only if it would have more than 1 GiB. Nobody knows before what the disk refuses
 abbrev pub MayRefuse : RecordingFile → List ℕ → ScriptFault → Type 0
 MayRefuse file lines Exists = file.file ≡ None
@@ -54,8 +54,8 @@ abbrev pub IsRefusal : (ScriptFault → Type 0) → Ending → Type 0
 IsRefusal refuses (NotRecorded fault) = ⊥
 IsRefusal refuses (Refused fault) = refuses fault
 
--- why a recording ends with these events. One of them cannot be recorded, and this is the first; or there is no memory for
--- their lines; or the script refuses the lines
+-- why a recording ends with these events. One of them cannot be recorded, and this is the first; or there is no memory
+-- for their lines; or the script refuses the lines
 abbrev pub IsEnding : (List ℕ → ScriptFault → Type 0) → Settings → List Bool → List Event → Ending → Type 0
 IsEnding refuses plan up events (NotRecorded fault) =
     (fault ≡ OutOfMemory) ⊎ IsFirstFault plan up 0 events fault

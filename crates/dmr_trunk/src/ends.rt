@@ -3,7 +3,7 @@
 use dmr_port::{EndCause, Note};
 use std::fmt;
 
-/// The causes that are counted one by one. All faults of the link are counted together.
+/// The causes that are counted one by one. All faults of the link, and refused HELLOs, are counted together.
 const PLAIN: [EndCause; 11] = [
     EndCause::EndOfInput,
     EndCause::Bye,

@@ -9,7 +9,7 @@ use std::{fs, io};
 /// A source of files by their paths. `gave` is a member of its own. So a function over any source is proved to have
 /// used the octets that this source gave for this path, and nothing else.
 pub trait FileSource {
-    // The source may give this for this path: the octets of the file, or none if the file cannot be read.
+    /// The source may have this for this path: the octets of the file, or none if the file cannot be read.
     ghost gave: { Self → List ℕ → Option (List ℕ) → Type 0 };
 
     /// Reads the octets of the file of a path; `None` if the file cannot be read. If memory is out, the result says

@@ -198,8 +198,8 @@ where
 }
 
 /// Goes on at the end of a term, with the records that wait. If the thread that writes has ended, or there is none, a
-/// thread is started for what waits now. Nobody waits for a thread here. If no thread writes then, no records wait, or
-/// the store has just refused them.
+/// thread is started for what waits now. Nobody waits for a thread here; if none can be started, the store is called
+/// here. If no thread writes then, no records wait, or the store has just refused them.
 pub fn go_on<'s, E, K, R>(
     rt: &R,
     scope: &'s Scope<'s, E>,

@@ -173,7 +173,8 @@ where
     W: Write,
     E: Write,
     ensures status { IfOk result IsStatus }
-    // At status 0 the words ask for a job, and that job was done.
+    // At status 0 the words ask for a job. A script was replayed over its site, and `out` received the text. Or the
+    // site file to serve has a plan, and nothing was printed.
     ensures ok { IfOk result (λ status. status ≡ 0
         → IsReplayed (S.gave files.now) (map string_bytes words.now) (W.contents out.old)
         (W.contents out.new)) }
@@ -201,7 +202,7 @@ where
     W: Write,
     E: Write,
     ensures status { IsStatus result }
-    // At status 0 there were words that ask for a job, and that job was done.
+    // The same at status 0, for some words.
     ensures ok { result ≡ 0
         → IsReplayedBySome (S.gave files.now) (W.contents out.old) (W.contents out.new) }
 {

@@ -220,7 +220,7 @@ impl<'a, R: Log> Notes<'a, R> {
         }
     }
 
-    /// Notes why the recording has ended: an event cannot be recorded.
+    /// Notes why the recording has ended: an event cannot be recorded, or memory ran out.
     pub fn cannot_record(&mut self, fault: &RecordingFault) {
         if self.is_ready() {
             warn!(*self.rt; target: TARGET, "recording: ended: {fault}");

@@ -44,7 +44,8 @@ impl<'a, R: Clock + Log> ClockPacer<'a, R> {
         }
     }
 
-    /// Notes how late a tick is, in nanoseconds, unless there were too many such notes.
+    /// Notes in milliseconds how late a tick is, unless there were too many such notes. `now` and `late` are
+    /// nanoseconds.
     fn note_delay(&mut self, now: u64, late: u64)
         ensures { self.new.ticks ≡ self.old.ticks }
     {

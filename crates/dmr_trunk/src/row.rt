@@ -288,9 +288,11 @@ where
 /// for a term after the first, it is tried again each second. The function is generic in all that reports a record, so
 /// the clauses speak of what the ports, the gates, the pacer, the observer and the store report.
 ///
-/// The observer sees each term. Then its records are made from its journal, if there is a maker, and wait. A thread hands
-/// them to the store while later terms run, so a slow store delays no term. What the store refuses it is handed again
-/// after the next term. Before the call returns, it is handed what still waits.
+/// The observer sees each term. Then its records are made from its journal, if there is a maker, and wait. Without
+/// memory for them that is tried again each second, and the next term waits. A thread hands them to the store while
+/// later terms run. If no thread can be started, they are handed over here, and the next term waits. What the store
+/// refuses it is handed again after a later term. A term's records are lost only while those of 1,000 later terms wait.
+/// Before the call returns, the store is handed what still waits, once. On an error the service is lost.
 pub fn serve_service<'a, P, G, T, C, O, K, R>(
     rt: &R,
     alloc: Global,

@@ -41,21 +41,22 @@ pub enum ScriptFault {
 
 /// A script to which lines are appended.
 pub trait Script {
-    // If the script reports it: all octets that were appended, in their order. It may stop reporting at any call, and
-    // then never reports again.
+    /// If the script reports it: all octets that were appended, in their order. It may stop reporting at any call, and
+    /// then never reports again.
     ghost appended: { Self → Option (List ℕ) };
 
-    // What holds if the script refuses these lines with this fault.
+    /// What holds if the script refuses these lines with this fault.
     ghost refuses: { Self → List ℕ → AFault → Type 0 };
 
-    /// Appends lines. On an error it has appended none of them.
+    /// Appends lines. On an error a script that reports has appended none of them.
     fn append(&mut self, lines: &str) -> Result<(), ScriptFault>
         ensures appended { OnOk result (Appends (appended self.old) lines.now (appended self.new)) }
         ensures same { OnErr result (Appends (appended self.old) [] (appended self.new)) }
         ensures refused { IfErr result (λ fault. refuses self.old lines.now fault) };
 }
 
-/// A recording in a file. The file is made at the first call, and must not exist then.
+/// A recording in a file. The first call that is not too long makes the file, which must not exist then. A failed write
+/// closes it; later calls are then refused, since it exists.
 #[derive(Drop)]
 pub struct RecordingFile<'a> {
     rt: &'a HostRuntime,
@@ -89,7 +90,8 @@ fn make_file(rt: &HostRuntime, path: &str) -> Result<File, ScriptFault>
     }
 }
 
-/// Writes lines at the end of a file that has this many octets. If not all can be written, the file keeps none of them.
+/// Writes lines at the end of a file that has this many octets. If not all can be written, the file is cut back to that
+/// length. If that fails too, a first part of the lines stays in it.
 fn write_lines(file: &mut File, octets: u64, lines: &str) -> Result<(), ScriptFault>
     ensures { IfErr result (λ fault. is_of_disk fault ≡ true) }
 {
@@ -128,7 +130,7 @@ impl Script for RecordingFile<'_> {
 }
 
 /// Reads the path of the file of a recording. Nothing is recorded if the variable `DMR_TRUNK_RECORD` is not set or
-/// empty.
+/// empty. `NotText`: its value is not UTF-8.
 pub fn recording_path<R: AllocGlobal + Env>(rt: &R) -> Result<Stored<String>, OutOfMemory> {
     match env::var(rt, RECORD) {
         Ok(path) if path.is_empty() => Ok(Stored::Nowhere),

@@ -57,7 +57,8 @@ fn lines_at_start(alloc: Global, plan: &Plan, radios: &[Address]) -> Result<Stri
 
 impl<'a, W: Script, R: Log> Recording<'a, W, R> {
     /// Begins a recording of the terms of a plan's site, on which these radios are registered. If there are any, the
-    /// recording begins with a session in which they register.
+    /// recording begins with a session in which they register. If these lines cannot be appended, the recording has
+    /// ended, and it is noted why.
     pub fn begin(
         alloc: Global,
         plan: Plan,

@@ -161,7 +161,7 @@ fn open_stations<'a, R: Net + Log + Clock>(
     Ok(stations)
 }
 
-/// Opens the notes to standard error.
+/// Opens the notes to standard error. The error is `NoPoll` or `OutOfMemory`.
 pub fn open_notes<R: Net + Log>(rt: &R, alloc: Global) -> Result<Notes<'_, R>, ServeFault> {
     match Notes::new(rt, alloc) {
         Ok(Some(notes)) => Ok(notes),
@@ -222,8 +222,8 @@ fn open_ports<'a, R: Net + Log + Clock>(
     })
 }
 
-/// Makes the state for the first term: a site with nothing active on which these radios are registered, and ports
-/// without a connection.
+/// Makes the state for the first term: a site with nothing active on which those of these radios are registered that
+/// the plan lists, and ports without a connection. On an error what was opened is closed.
 fn open_service<'a, R: Net + Log + Clock>(
     rt: &'a R,
     alloc: Global,
@@ -262,7 +262,8 @@ fn open_service<'a, R: Net + Log + Clock>(
     }
 }
 
-/// Makes a poll for each port of the plan and for its clock, and the wakers of all. Notes why, if there are none.
+/// Makes a poll for each port of the plan and for its clock, and the wakers of all. If the system refuses one, notes
+/// why. On an error what was opened is closed.
 fn open_wakers<R: Net + Log>(
     rt: &R,
     alloc: Global,
@@ -371,7 +372,7 @@ where
     })
 }
 
-/// Allocates room for the records of terms that wait for a store.
+/// Allocates room for the records of terms that wait for a store. The error is `OutOfMemory`.
 fn open_outbox(alloc: Global) -> Result<Outbox, ServeFault>
     ensures { IfOk result (λ outbox. outbox ≡ []) }
 {
@@ -460,8 +461,9 @@ where
 
 /// Serves the site of a plan over TCP, as [`serve`] does, and has a store keep the records of its terms. At the start
 /// those of `radios` are registered that the plan lists, in their order; after a restart these are the ones that the
-/// store has. A store that fails does not stop serving: its fault is noted, and the records wait for the next term. If
-/// there is a script, each term's journal is appended to it. If that fails, the recording ends, and it is noted why.
+/// store has. A store that fails does not stop serving: its fault is noted, and the records wait for the next term.
+/// They are lost only while those of 1,000 later terms wait. If there is a script, each term's journal is appended to
+/// it. If that fails, the recording ends, and it is noted why.
 pub fn serve_kept<K, W, R>(
     rt: &R,
     alloc: Global,

@@ -22,10 +22,10 @@ const FILE: &str = "/site.db";
 
 /// A store that can say which radios were registered.
 pub trait Store: Keeper {
-    // What holds if these radios are read.
+    /// What holds if these radios are read.
     ghost reads: { Self → List ℕ → Self → Type 0 };
 
-    // What holds if they cannot be read, with this fault.
+    /// What holds if they cannot be read, with this fault.
     ghost cannot_read: { Self → AFault → Self → Type 0 };
 
     /// Reads the radios that were registered at the end of the last term that the store has, in the order in which they
@@ -55,14 +55,14 @@ impl<S: Alter, D: Reach<Connection<S>>> Store for RecordsIn<S, D> {
     }
 }
 
-/// What the environment says about the store.
+/// What the environment says about the store of records, or about the recording.
 #[derive(Drop)]
 pub enum Stored<K> {
     /// Nothing is kept.
     Nowhere,
-    /// Records are kept here.
+    /// It is kept here.
     In(K),
-    /// The name of the folder is not UTF-8.
+    /// The name of the folder or file is not UTF-8.
     NotText,
 }
 
@@ -103,7 +103,7 @@ impl<K: Drop, W: Drop> Kept<K, W> {
 }
 
 /// Reads the path of the file of records: `site.db` in the folder that `STATE_DIRECTORY` names. No folder is named if
-/// the variable is not set or empty.
+/// the variable is not set or empty. `NotText`: its value is not UTF-8.
 pub fn records_path<R: AllocGlobal + Env>(rt: &R) -> Result<Stored<String>, OutOfMemory> {
     match env::var(rt, STATE_DIRECTORY) {
         Ok(folder) if folder.is_empty() => Ok(Stored::Nowhere),

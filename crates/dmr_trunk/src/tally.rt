@@ -89,7 +89,8 @@ fn counted(count: usize, is_one: bool) -> usize
     if is_one { count + 1 } else { count }
 }
 
-/// Counts the entries of a journal. It reads the answers of bursts alone: no other event registers or refuses a radio.
+/// Counts the entries of a journal. Registrations and refusals are those in the answers to bursts. A tick or an
+/// operator's `drop` may refuse a request too; these refusals are not counted.
 pub fn tally_of(entries: &[Entry]) -> Tally
     ensures { result ≡ tally_in entries.now }
 {

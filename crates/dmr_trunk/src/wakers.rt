@@ -66,7 +66,7 @@ fn open_poll<R: Net>(rt: &R) -> io::Result<(Poll, Waker)> {
     Ok((poll, waker))
 }
 
-/// Makes `count` polls, each with a waker.
+/// Makes `count` polls, each with a waker. On an error the system refused one, or memory ran out, and none is left.
 pub fn open_polls<R: Net>(
     rt: &R,
     alloc: Global,
@@ -113,7 +113,8 @@ impl<'a> ClockWait<'a> {
         }
     }
 
-    /// Waits for this many nanoseconds, rounded up to whole milliseconds, or until a term is over.
+    /// Waits for this many nanoseconds, rounded up to whole milliseconds, or until a term is over. If the system cannot
+    /// wait, sleeps for at most 25 ms.
     pub fn wait<R: Clock>(&mut self, rt: &R, nanoseconds: u64) {
         let most = Duration::from_nanos(nanoseconds);
         if self.poll.poll(&mut self.events, Some(most)).is_err() {

@@ -20,9 +20,9 @@ pub enum Connect {
 /// How a wait ends.
 #[derive(Clone, Copy, Debug, PartialEq, Eq)]
 pub enum Waited {
-    /// A read may succeed now.
+    /// The connection goes on. A read may succeed now, or would block.
     Again,
-    /// The other side has been silent for as long as the port allows: its connection is to be cut.
+    /// The port has given the connection up, for silence or another cause: it is to be cut.
     Silent,
 }
 
@@ -33,7 +33,8 @@ pub trait Port: Wire {
         ensures { Reports (Self.reported self.old) (of_connect result ∷ [])
             (Self.reported self.new) };
 
-    /// Waits until there is something to read, or the other side has been silent for too long.
+    /// Waits until there is something to read, the port has given the connection up, or it has waited for as long as it
+    /// likes.
     fn wait(&mut self) -> Waited
         ensures { Reports (Self.reported self.old) (of_wait result ∷ []) (Self.reported self.new) };
 

@@ -68,9 +68,13 @@ pub enum Reading {
 /// The remaining steps, by kind, the next of each kind first.
 #[derive(Debug, Drop)]
 pub struct Script {
+    /// Those of requests for a connection.
     pub connects: VecDeque<Connect>,
+    /// Those of reads.
     pub reads: VecDeque<Reading>,
+    /// Those of writes.
     pub writes: VecDeque<Put>,
+    /// Those of waits.
     pub waits: VecDeque<Waited>,
 }
 

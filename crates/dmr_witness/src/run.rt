@@ -28,9 +28,10 @@ pub type Console = ConsoleStation<MemoryPort>;
 
 /// Runs a term over ports, gates and a pacer that report their records, as [`run_term`] does.
 ///
-/// Each carrier that began with a new link, an empty record and an unpassed gate has a whole session. What came on its
-/// connections, by its port's record alone, means exactly what the journal has of it, and then what is pending. The
-/// same holds of the operators. The ticker's view has a tick for each that the pacer gave, but perhaps the last.
+/// Take a carrier that began with a new link, an empty record and an unpassed gate, and whose port still reports its
+/// record at the end. It has a whole session: what came on its connections, by that record alone, means exactly what
+/// the journal has of it, and then what is pending. The same holds of the operators. The ticker's view has a tick for
+/// each that the pacer gave, but perhaps the last. On an error all arguments are used up.
 pub fn run_recorded<R>(
     rt: &R,
     alloc: Global,

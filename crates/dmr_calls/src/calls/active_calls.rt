@@ -41,7 +41,8 @@ impl Calls {
         });
     }
 
-    /// Removes the calls on a slot, and returns the first of them.
+    /// Removes the calls on a slot, and returns the first of them. If there is none, returns `None` and changes
+    /// nothing.
     pub fn end(&mut self, slot: Slot) -> Option<Call>
         ensures first { result ≡ call_on self.old.calls slot }
         ensures calls { self.new ≡ record self.old { calls = on_other_slots slot self.old.calls } }
@@ -127,7 +128,7 @@ impl Calls {
         Some(found.call)
     }
 
-    /// The slot of the first call that was quiet for `hang` ticks, or is `maximum` ticks old.
+    /// The slot of the first call that was quiet for `hang` ticks or more, or is `maximum` ticks old or more.
     pub(super) fn due_call(&self, hang: u16, maximum: u16) -> Option<Slot>
         ensures { result ≡ due_call hang maximum self.now.calls }
     {

@@ -26,11 +26,11 @@ fn place_after(last: Option<Slot>) -> usize
 }
 
 impl Calls {
-    /// The talkgroup call on the least slot above the last one, by carrier, then by slot number.
+    /// The talkgroup call on the least slot above the last one, by carrier, then by slot number. Only the first call on
+    /// each slot counts.
     ///
-    /// If there is none above, or no slot is given, it is the one on the least slot of all. Returns `None` if no
-    /// talkgroup call is active. A caller that passes the slot of each answer in the next question gets all talkgroup
-    /// calls in turn.
+    /// If there is none above, or no slot is given, it is the one on the least slot of all. Returns `None` if there is
+    /// none. A caller that passes the slot of each answer in the next question gets all these calls in turn.
     #[tactic(auto, unfolding(crate::specs::After::group_after))]
     pub fn group_after(&self, last: Option<Slot>) -> Option<Call>
         ensures value { result ≡ group_after self.now.calls last }

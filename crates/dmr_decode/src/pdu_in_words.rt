@@ -3,7 +3,7 @@
 
 ghost use Rattle.std.specs.Prelude.{◌<◌};
 
-use dmr_pdu::{Address, Kind, Lpcn, Number, Pdu, Reason, SlotNo, SystemCode};
+use dmr_pdu::{Address, Kind, Lpcn, Number, Pdu, Reason, SlotNo, SystemCode, layouts};
 use thiserror::Error;
 
 /// The fault of words that are not a PDU.
@@ -43,17 +43,18 @@ struct Fields<'w, 'a> {
 }
 
 impl<'w, 'a> Fields<'w, 'a> {
-    /// Returns the fields. Each of them has to have one of these names.
-    fn of(words: &'w [&'a str], names: &[&str]) -> Result<Fields<'w, 'a>, WordFault<'a>> {
+    /// Returns the fields. If one of them has none of these names, that is the first fault.
+    fn of(words: &'w [&'a str], names: &[&str]) -> Fields<'w, 'a> {
         for word in words {
-            let Some((name, _)) = word.split_once('=') else {
-                return Err(WordFault::NoSuchField(*word));
-            };
-            if !names.iter().any(|known| *known == name) {
-                return Err(WordFault::NoSuchField(*word));
+            let name = word.split_once('=').map(|pair| pair.0);
+            if !names.iter().any(|known| name == Some(*known)) {
+                return Fields {
+                    words,
+                    fault: Some(WordFault::NoSuchField(*word)),
+                };
             }
         }
-        Ok(Fields { words, fault: None })
+        Fields { words, fault: None }
     }
 
     /// Returns the PDU that was read, or the first fault of its fields.
@@ -101,47 +102,66 @@ impl<'w, 'a> Fields<'w, 'a> {
         }
     }
 
-    /// Returns a field of one bit.
-    fn flag(&mut self, name: &'static str) -> bool {
-        self.number(name, 2) == 1
-    }
-
-    /// Returns a field that is an address.
-    fn address(&mut self, name: &'static str) -> Address {
-        Address::new(self.number(name, 1 << 24))
-    }
-
-    /// Returns the channel, which has to be given.
-    fn channel(&mut self) -> Lpcn {
-        match Lpcn::try_new(self.number("lpcn", 4096)) {
+    /// Returns a channel, which has to be given.
+    fn channel(&mut self, name: &'static str) -> Lpcn {
+        match Lpcn::try_new(self.number(name, 4096)) {
             Some(channel) => channel,
             None => {
-                self.refuse("lpcn");
+                self.refuse(name);
                 Lpcn::new(1)
             }
         }
     }
 
-    /// Returns the slot.
-    fn slot(&mut self) -> SlotNo {
-        SlotNo::new(self.number("slot", 2))
-    }
-
     /// Returns the service kind, by its name or number.
-    fn kind(&mut self) -> Kind {
-        match named(&Kind::NAMES, self.text("kind").unwrap_or("")) {
+    fn kind(&mut self, name: &'static str) -> Kind {
+        match named(&Kind::NAMES, self.text(name).unwrap_or("")) {
             Some(kind) => kind,
-            None => Kind::new(self.number("kind", 16)),
+            None => Kind::new(self.number(name, 16)),
         }
     }
 
     /// Returns the reason, by its name or number.
-    fn reason(&mut self) -> Reason {
-        match named(&Reason::NAMES, self.text("reason").unwrap_or("")) {
+    fn reason(&mut self, name: &'static str) -> Reason {
+        match named(&Reason::NAMES, self.text(name).unwrap_or("")) {
             Some(reason) => reason,
-            None => Reason::new(self.number("reason", 256)),
+            None => Reason::new(self.number(name, 256)),
         }
     }
+}
+
+/// The value of a field, which is read from its word.
+macro_rules! field_in {
+    ($fields:ident, $width:literal, $field:ident: bool) => {
+        $fields.number(stringify!($field), 2) == 1
+    };
+    ($fields:ident, $width:literal, $field:ident: Lpcn) => {
+        $fields.channel(stringify!($field))
+    };
+    ($fields:ident, $width:literal, $field:ident: Kind) => {
+        $fields.kind(stringify!($field))
+    };
+    ($fields:ident, $width:literal, $field:ident: Reason) => {
+        $fields.reason(stringify!($field))
+    };
+    ($fields:ident, $width:literal, $field:ident: $type:ident) => {
+        $type::new($fields.number(stringify!($field), 1 << $width))
+    };
+}
+
+/// The PDU of a name, with the fields in the words after it, by the rows of the layout with that name.
+macro_rules! pdu_in {
+    (($name:expr, $words:expr); $($variant:ident = $opcode:literal, $called:literal { $($first:literal, $width:literal $(=> $field:ident: $type:ident)?;)* })*) => {
+        match $name {
+            $($called => {
+                let mut fields = Fields::of($words, &[$($(stringify!($field),)?)*]);
+                let pdu = Pdu::$variant { $($($field: field_in!(fields, $width, $field: $type),)?)* };
+                fields.checked(pdu)
+            })*
+            "OTHER" => other($words),
+            _ => Err(WordFault::NoSuchPdu($name)),
+        }
+    };
 }
 
 /// Returns the PDU that these words mean.
@@ -149,145 +169,7 @@ pub fn pdu_of<'a>(words: &[&'a str]) -> Result<Pdu, WordFault<'a>> {
     let [name, fields @ ..] = words else {
         return Err(WordFault::NoName);
     };
-    match *name {
-        "C_ALOHA" => aloha(fields),
-        "C_AHOY" => ahoy(fields),
-        "C_RAND" => random(fields),
-        "C_ACKD" => ackd(fields),
-        "C_ACKU" => acku(fields),
-        "P_CLEAR" => clear(fields),
-        "PV_GRANT" => pv_grant(fields),
-        "TV_GRANT" => tv_grant(fields),
-        "C_MOVE" => control_move(fields),
-        "OTHER" => other(fields),
-        _ => Err(WordFault::NoSuchPdu(*name)),
-    }
-}
-
-fn aloha<'a>(words: &[&'a str]) -> Result<Pdu, WordFault<'a>> {
-    let names = [
-        "sync",
-        "version",
-        "offset",
-        "active",
-        "mask",
-        "function",
-        "nrand_wait",
-        "register",
-        "backoff",
-        "system",
-        "address",
-    ];
-    let mut fields = Fields::of(words, &names)?;
-    let pdu = Pdu::Aloha {
-        sync: fields.flag("sync"),
-        version: Number::new(fields.number("version", 8)),
-        offset: fields.flag("offset"),
-        active: fields.flag("active"),
-        mask: Number::new(fields.number("mask", 32)),
-        function: Number::new(fields.number("function", 4)),
-        nrand_wait: Number::new(fields.number("nrand_wait", 16)),
-        register: fields.flag("register"),
-        backoff: Number::new(fields.number("backoff", 16)),
-        system: SystemCode::new(fields.number("system", 65536)),
-        address: fields.address("address"),
-    };
-    fields.checked(pdu)
-}
-
-fn ahoy<'a>(words: &[&'a str]) -> Result<Pdu, WordFault<'a>> {
-    let mut fields = Fields::of(words, &["options", "group", "kind", "called", "calling"])?;
-    let pdu = Pdu::Ahoy {
-        options: Number::new(fields.number("options", 128)),
-        group: fields.flag("group"),
-        kind: fields.kind(),
-        called: fields.address("called"),
-        calling: fields.address("calling"),
-    };
-    fields.checked(pdu)
-}
-
-fn random<'a>(words: &[&'a str]) -> Result<Pdu, WordFault<'a>> {
-    let mut fields = Fields::of(words, &["options", "flags", "kind", "target", "source"])?;
-    let pdu = Pdu::Random {
-        options: Number::new(fields.number("options", 128)),
-        flags: Number::new(fields.number("flags", 32)),
-        kind: fields.kind(),
-        target: fields.address("target"),
-        source: fields.address("source"),
-    };
-    fields.checked(pdu)
-}
-
-/// The names of the fields of an acknowledgement, in either direction.
-const ACKNOWLEDGEMENT: [&str; 5] = ["info", "reason", "spare", "target", "additional"];
-
-fn ackd<'a>(words: &[&'a str]) -> Result<Pdu, WordFault<'a>> {
-    let mut fields = Fields::of(words, &ACKNOWLEDGEMENT)?;
-    let pdu = Pdu::Ackd {
-        info: Number::new(fields.number("info", 128)),
-        reason: fields.reason(),
-        spare: fields.flag("spare"),
-        target: fields.address("target"),
-        additional: fields.address("additional"),
-    };
-    fields.checked(pdu)
-}
-
-fn acku<'a>(words: &[&'a str]) -> Result<Pdu, WordFault<'a>> {
-    let mut fields = Fields::of(words, &ACKNOWLEDGEMENT)?;
-    let pdu = Pdu::Acku {
-        info: Number::new(fields.number("info", 128)),
-        reason: fields.reason(),
-        spare: fields.flag("spare"),
-        target: fields.address("target"),
-        additional: fields.address("additional"),
-    };
-    fields.checked(pdu)
-}
-
-fn clear<'a>(words: &[&'a str]) -> Result<Pdu, WordFault<'a>> {
-    let mut fields = Fields::of(words, &["lpcn", "group", "target", "source"])?;
-    let pdu = Pdu::Clear {
-        lpcn: fields.channel(),
-        group: fields.flag("group"),
-        target: fields.address("target"),
-        source: fields.address("source"),
-    };
-    fields.checked(pdu)
-}
-
-fn pv_grant<'a>(words: &[&'a str]) -> Result<Pdu, WordFault<'a>> {
-    let mut fields = Fields::of(words, &["lpcn", "slot", "target", "source"])?;
-    let pdu = Pdu::PvGrant {
-        lpcn: fields.channel(),
-        slot: fields.slot(),
-        target: fields.address("target"),
-        source: fields.address("source"),
-    };
-    fields.checked(pdu)
-}
-
-fn tv_grant<'a>(words: &[&'a str]) -> Result<Pdu, WordFault<'a>> {
-    let mut fields = Fields::of(words, &["lpcn", "slot", "late", "target", "source"])?;
-    let pdu = Pdu::TvGrant {
-        lpcn: fields.channel(),
-        slot: fields.slot(),
-        late: fields.flag("late"),
-        target: fields.address("target"),
-        source: fields.address("source"),
-    };
-    fields.checked(pdu)
-}
-
-fn control_move<'a>(words: &[&'a str]) -> Result<Pdu, WordFault<'a>> {
-    let mut fields = Fields::of(words, &["register", "backoff", "lpcn"])?;
-    let pdu = Pdu::Move {
-        register: fields.flag("register"),
-        backoff: Number::new(fields.number("backoff", 16)),
-        lpcn: fields.channel(),
-    };
-    fields.checked(pdu)
+    layouts!(pdu_in, (*name, fields))
 }
 
 /// Returns the PDU of any ten octets.

@@ -12,10 +12,6 @@ ArePacked number (r ∷ rows) packed =
     (r.1 < 2 ^ r.0.width)
     × ArePacked (bit_or number (r.1 * 2 ^ (80 - r.0.first - r.0.width) % 2 ^ 64)) rows packed
 
--- the PDU's layout begins with this opcode
-abbrev pub HasOpcode : Pdu → ℕ → Type 0
-HasOpcode pdu opcode = take 1 (layout pdu) ≡ layout_row 0 8 opcode ∷ []
-
 -- a PDU of the table has this opcode, and its rows after octet 1 are put into this number
 pub record HasNumber (pdu : Pdu) (opcode number : ℕ) : Type 0 where
   pub listed : IsListed pdu

@@ -1,7 +1,7 @@
 //! PDUs and their numbers in words: the name of a PDU, and `name=value` for each of its fields. Words are for people;
 //! the format is octets.
 
-use crate::layouts::show_fields;
+use crate::layouts::{layout_name, show_fields};
 use crate::numbers::{Kind, Number, Reason};
 use crate::pdu::Pdu;
 use dmr_bits::Octets10;
@@ -132,18 +132,7 @@ pub(crate) fn show_octets<W: fmt::Write>(
 impl Pdu {
     /// Returns the PDU's name in the standard, or in the profile; `OTHER` for other octets.
     pub fn name(&self) -> &'static str {
-        match self {
-            Pdu::Aloha { .. } => "C_ALOHA",
-            Pdu::Ahoy { .. } => "C_AHOY",
-            Pdu::Random { .. } => "C_RAND",
-            Pdu::Ackd { .. } => "C_ACKD",
-            Pdu::Acku { .. } => "C_ACKU",
-            Pdu::Clear { .. } => "P_CLEAR",
-            Pdu::PvGrant { .. } => "PV_GRANT",
-            Pdu::TvGrant { .. } => "TV_GRANT",
-            Pdu::Move { .. } => "C_MOVE",
-            Pdu::Other(_) => "OTHER",
-        }
+        layout_name(self)
     }
 }
 

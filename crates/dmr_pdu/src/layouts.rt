@@ -6,7 +6,7 @@ ghost use Rattle.std.specs.Prelude.{if◌then◌else◌};
 ghost use Rattle.dmr_bits.specs.Bits.{field_of, IsOctets};
 ghost use Rattle.dmr_pdu.specs.declared.pdu.Pdu.{Pdu as APdu};
 ghost use Rattle.dmr_pdu.specs.Layout.{IsLaidOut, SpellsPdu};
-ghost use Rattle.dmr_pdu.specs.Rows.{HasOpcode, HasNumber};
+ghost use Rattle.dmr_pdu.specs.Rows.{HasNumber};
 ghost use Rattle.dmr_pdu.specs.Reading.{read_as, bit_of, channel};
 
 use crate::display::{FieldValue, show_all, show_octets};
@@ -25,13 +25,17 @@ struct FieldPlace {
 }
 
 /// The table of layouts (TS 102 361-4, clause 7.1.1). The layouts of C_ALOHA, P_CLEAR and C_MOVE and the fixed bits are
-/// this project's profile. Each PDU has its first octet (LB 1, PF 0, the opcode), and the rows after the first two
-/// octets. A row is the first bit, the width, and the field. Bits without a field are 0, and so is octet 1, the feature
-/// set.
+/// this project's profile. Each PDU has its first octet (LB 1, PF 0, the opcode), its name, and the rows after the first
+/// two octets. A row is the first bit, the width, and the field. Bits without a field are 0, and so is octet 1, the
+/// feature set.
+///
+/// `layouts!(direction, of)` hands the whole table to the macro `direction`, after `of` and a semicolon. A crate that
+/// reads the table in a direction of its own writes such a macro.
+#[macro_export]
 macro_rules! layouts {
     ($direction:ident, $($of:tt)*) => {
         $direction! { $($of)*;
-            Aloha = 0x99 {
+            Aloha = 0x99, "C_ALOHA" {
                 16, 2;
                 18, 1 => sync: bool;
                 19, 3 => version: Number;
@@ -45,7 +49,7 @@ macro_rules! layouts {
                 40, 16 => system: SystemCode;
                 56, 24 => address: Address;
             }
-            Ahoy = 0x9C {
+            Ahoy = 0x9C, "C_AHOY" {
                 16, 7 => options: Number;
                 23, 2;
                 25, 1 => group: bool;
@@ -54,42 +58,42 @@ macro_rules! layouts {
                 32, 24 => called: Address;
                 56, 24 => calling: Address;
             }
-            Random = 0x9F {
+            Random = 0x9F, "C_RAND" {
                 16, 7 => options: Number;
                 23, 5 => flags: Number;
                 28, 4 => kind: Kind;
                 32, 24 => target: Address;
                 56, 24 => source: Address;
             }
-            Ackd = 0xA0 {
+            Ackd = 0xA0, "C_ACKD" {
                 16, 7 => info: Number;
                 23, 8 => reason: Reason;
                 31, 1 => spare: bool;
                 32, 24 => target: Address;
                 56, 24 => additional: Address;
             }
-            Acku = 0xA1 {
+            Acku = 0xA1, "C_ACKU" {
                 16, 7 => info: Number;
                 23, 8 => reason: Reason;
                 31, 1 => spare: bool;
                 32, 24 => target: Address;
                 56, 24 => additional: Address;
             }
-            Clear = 0xAE {
+            Clear = 0xAE, "P_CLEAR" {
                 16, 12 => lpcn: Lpcn;
                 28, 3;
                 31, 1 => group: bool;
                 32, 24 => target: Address;
                 56, 24 => source: Address;
             }
-            PvGrant = 0xB0 {
+            PvGrant = 0xB0, "PV_GRANT" {
                 16, 12 => lpcn: Lpcn;
                 28, 1 => slot: SlotNo;
                 29, 3;
                 32, 24 => target: Address;
                 56, 24 => source: Address;
             }
-            TvGrant = 0xB1 {
+            TvGrant = 0xB1, "TV_GRANT" {
                 16, 12 => lpcn: Lpcn;
                 28, 1 => slot: SlotNo;
                 29, 1 => late: bool;
@@ -97,7 +101,7 @@ macro_rules! layouts {
                 32, 24 => target: Address;
                 56, 24 => source: Address;
             }
-            Move = 0xB9 {
+            Move = 0xB9, "C_MOVE" {
                 16, 19;
                 35, 1 => register: bool;
                 36, 4 => backoff: Number;
@@ -111,46 +115,12 @@ macro_rules! layouts {
 
 /// True if the rows of each layout fill the 64 bits after octet 1, each bit once.
 macro_rules! rows_fill {
-    ($of:expr; $($name:ident = $opcode:literal { $($first:literal, $width:literal $(=> $field:ident: $type:ident)?;)* })*) => {
+    ($of:expr; $($name:ident = $opcode:literal, $called:literal { $($first:literal, $width:literal $(=> $field:ident: $type:ident)?;)* })*) => {
         $of $(&& 0 $(+ $width)* == 64 && 0 $(| ((1_u64 << $width) - 1) << (80 - $first - $width))* == u64::MAX)*
     };
 }
 
 const _: () = prove!(layouts!(rows_fill, true));
-
-/// Hands one layout of the table to a macro, by the PDU's name.
-macro_rules! layout {
-    ((Aloha, $direction:ident, $of:tt); Aloha = $opcode:literal { $($rows:tt)* } $($others:tt)*) => {
-        $direction! { $of; Aloha = $opcode { $($rows)* } }
-    };
-    ((Ahoy, $direction:ident, $of:tt); Ahoy = $opcode:literal { $($rows:tt)* } $($others:tt)*) => {
-        $direction! { $of; Ahoy = $opcode { $($rows)* } }
-    };
-    ((Random, $direction:ident, $of:tt); Random = $opcode:literal { $($rows:tt)* } $($others:tt)*) => {
-        $direction! { $of; Random = $opcode { $($rows)* } }
-    };
-    ((Ackd, $direction:ident, $of:tt); Ackd = $opcode:literal { $($rows:tt)* } $($others:tt)*) => {
-        $direction! { $of; Ackd = $opcode { $($rows)* } }
-    };
-    ((Acku, $direction:ident, $of:tt); Acku = $opcode:literal { $($rows:tt)* } $($others:tt)*) => {
-        $direction! { $of; Acku = $opcode { $($rows)* } }
-    };
-    ((Clear, $direction:ident, $of:tt); Clear = $opcode:literal { $($rows:tt)* } $($others:tt)*) => {
-        $direction! { $of; Clear = $opcode { $($rows)* } }
-    };
-    ((PvGrant, $direction:ident, $of:tt); PvGrant = $opcode:literal { $($rows:tt)* } $($others:tt)*) => {
-        $direction! { $of; PvGrant = $opcode { $($rows)* } }
-    };
-    ((TvGrant, $direction:ident, $of:tt); TvGrant = $opcode:literal { $($rows:tt)* } $($others:tt)*) => {
-        $direction! { $of; TvGrant = $opcode { $($rows)* } }
-    };
-    ((Move, $direction:ident, $of:tt); Move = $opcode:literal { $($rows:tt)* } $($others:tt)*) => {
-        $direction! { $of; Move = $opcode { $($rows)* } }
-    };
-    ($wanted:tt; $name:ident = $opcode:literal { $($rows:tt)* } $($others:tt)*) => {
-        layout! { $wanted; $($others)* }
-    };
-}
 
 /// The number in a row: that of its field, or else 0.
 macro_rules! number {
@@ -174,10 +144,10 @@ macro_rules! packed {
 
 /// The octets of a PDU, by the rows of its layout.
 macro_rules! octets_of {
-    ($pdu:expr; $name:ident = $opcode:literal { $($first:literal, $width:literal $(=> $field:ident: $type:ident)?;)* }) => {
+    ($pdu:expr; $($name:ident = $opcode:literal, $called:literal { $($first:literal, $width:literal $(=> $field:ident: $type:ident)?;)* })*) => {
         match *$pdu {
-            Pdu::$name { $($($field,)?)* } => write_rows($opcode, packed!($($first, $width $(=> $field: $type)?;)*)),
-            _ => unreachable!(),
+            $(Pdu::$name { $($($field,)?)* } => write_rows($opcode, packed!($($first, $width $(=> $field: $type)?;)*)),)*
+            Pdu::Other(octets) => copy_of(&octets),
         }
     };
 }
@@ -195,12 +165,27 @@ macro_rules! field_at {
     };
 }
 
-/// The PDU with the fields of ten octets, by the rows of one layout.
+/// The PDU with the fields of ten octets, by the rows of the layout with their opcode.
 macro_rules! pdu_of {
-    ($octets:expr; $name:ident = $opcode:literal { $($first:literal, $width:literal $(=> $field:ident: $type:ident)?;)* }) => {{
-        $($(let $field = field_at!($type, $octets, $first, $width);)?)*
-        pdu_if_equal(Pdu::$name { $($($field,)?)* }, $octets, packed!($($first, $width $(=> $field: $type)?;)*))
-    }};
+    ($octets:expr; $($name:ident = $opcode:literal, $called:literal { $($first:literal, $width:literal $(=> $field:ident: $type:ident)?;)* })*) => {
+        match opcode_of($octets) {
+            $($opcode => {
+                $($(let $field = field_at!($type, $octets, $first, $width);)?)*
+                pdu_if_equal(Pdu::$name { $($($field,)?)* }, $octets, packed!($($first, $width $(=> $field: $type)?;)*))
+            })*
+            _ => None,
+        }
+    };
+}
+
+/// The name of a PDU: that of its layout, or `OTHER`.
+macro_rules! name_of {
+    ($pdu:expr; $($name:ident = $opcode:literal, $called:literal { $($rows:tt)* })*) => {
+        match $pdu {
+            $(Pdu::$name { .. } => $called,)*
+            Pdu::Other(_) => "OTHER",
+        }
+    };
 }
 
 /// The value of a field, as it is written in words.
@@ -219,296 +204,43 @@ macro_rules! shown {
     };
 }
 
-/// Writes the fields of a PDU, by the rows of one layout. Of a PDU of another layout it writes nothing.
+/// Writes the fields of a PDU, by the rows of its layout.
 macro_rules! shown_rows {
-    (($pdu:expr, $f:expr); $name:ident = $opcode:literal { $($first:literal, $width:literal $(=> $field:ident: $type:ident)?;)* }) => {
+    (($pdu:expr, $f:expr); $($name:ident = $opcode:literal, $called:literal { $($first:literal, $width:literal $(=> $field:ident: $type:ident)?;)* })*) => {
         match $pdu {
-            Pdu::$name { $($($field,)?)* } => show_all(&[$($((stringify!($field), shown!($field: $type)),)?)*], $f),
-            _ => Ok(()),
+            $(Pdu::$name { $($($field,)?)* } => show_all(&[$($((stringify!($field), shown!($field: $type)),)?)*], $f),)*
+            Pdu::Other(octets) => show_octets(octets, $f),
         }
     };
 }
 
+/// Returns the name of a PDU's layout; `OTHER` for other octets.
+pub(crate) fn layout_name(pdu: &Pdu) -> &'static str {
+    layouts!(name_of, pdu)
+}
+
 /// Writes ` name=value` for each field of a PDU, in the order of its layout. For `Other` it writes the ten octets.
 pub(crate) fn show_fields<W: fmt::Write>(pdu: &Pdu, f: &mut fmt::Formatter<W>) -> fmt::Result {
-    match pdu {
-        Pdu::Aloha { .. } => show_aloha(pdu, f),
-        Pdu::Ahoy { .. } => show_ahoy(pdu, f),
-        Pdu::Random { .. } => show_random(pdu, f),
-        Pdu::Ackd { .. } => show_ackd(pdu, f),
-        Pdu::Acku { .. } => show_acku(pdu, f),
-        Pdu::Clear { .. } => show_clear(pdu, f),
-        Pdu::PvGrant { .. } => show_pv_grant(pdu, f),
-        Pdu::TvGrant { .. } => show_tv_grant(pdu, f),
-        Pdu::Move { .. } => show_move(pdu, f),
-        Pdu::Other(octets) => show_octets(octets, f),
-    }
-}
-
-/// Writes the fields of a C_ALOHA.
-fn show_aloha<W: fmt::Write>(pdu: &Pdu, f: &mut fmt::Formatter<W>) -> fmt::Result {
-    layouts!(layout, (Aloha, shown_rows, (pdu, f)))
-}
-
-/// Writes the fields of a C_AHOY.
-fn show_ahoy<W: fmt::Write>(pdu: &Pdu, f: &mut fmt::Formatter<W>) -> fmt::Result {
-    layouts!(layout, (Ahoy, shown_rows, (pdu, f)))
-}
-
-/// Writes the fields of a C_RAND.
-fn show_random<W: fmt::Write>(pdu: &Pdu, f: &mut fmt::Formatter<W>) -> fmt::Result {
-    layouts!(layout, (Random, shown_rows, (pdu, f)))
-}
-
-/// Writes the fields of a C_ACKD.
-fn show_ackd<W: fmt::Write>(pdu: &Pdu, f: &mut fmt::Formatter<W>) -> fmt::Result {
-    layouts!(layout, (Ackd, shown_rows, (pdu, f)))
-}
-
-/// Writes the fields of a C_ACKU.
-fn show_acku<W: fmt::Write>(pdu: &Pdu, f: &mut fmt::Formatter<W>) -> fmt::Result {
-    layouts!(layout, (Acku, shown_rows, (pdu, f)))
-}
-
-/// Writes the fields of a P_CLEAR.
-fn show_clear<W: fmt::Write>(pdu: &Pdu, f: &mut fmt::Formatter<W>) -> fmt::Result {
-    layouts!(layout, (Clear, shown_rows, (pdu, f)))
-}
-
-/// Writes the fields of a PV_GRANT.
-fn show_pv_grant<W: fmt::Write>(pdu: &Pdu, f: &mut fmt::Formatter<W>) -> fmt::Result {
-    layouts!(layout, (PvGrant, shown_rows, (pdu, f)))
-}
-
-/// Writes the fields of a TV_GRANT.
-fn show_tv_grant<W: fmt::Write>(pdu: &Pdu, f: &mut fmt::Formatter<W>) -> fmt::Result {
-    layouts!(layout, (TvGrant, shown_rows, (pdu, f)))
-}
-
-/// Writes the fields of a C_MOVE.
-fn show_move<W: fmt::Write>(pdu: &Pdu, f: &mut fmt::Formatter<W>) -> fmt::Result {
-    layouts!(layout, (Move, shown_rows, (pdu, f)))
+    layouts!(shown_rows, (pdu, f))
 }
 
 /// Returns the octets of a PDU: those of its layout, or those that `Other` carries.
-#[tactic(auto, unfolding(crate::specs::Layout::SpellsPdu, crate::specs::Layout::layout))]
+#[tactic(auto, unfolding(crate::specs::Layout::SpellsPdu, crate::specs::Layout::layout, crate::specs::Layout::IsListed, crate::specs::Layout::HasChannel))]
 pub(crate) fn write_pdu(pdu: &Pdu) -> Octets10
     ensures octets { IsOctets 10 result }
     ensures is { SpellsPdu pdu.now result }
 {
-    match pdu {
-        Pdu::Aloha { .. } => write_aloha(pdu),
-        Pdu::Ahoy { .. } => write_ahoy(pdu),
-        Pdu::Random { .. } => write_random(pdu),
-        Pdu::Ackd { .. } => write_ackd(pdu),
-        Pdu::Acku { .. } => write_acku(pdu),
-        Pdu::Clear { .. } => write_clear(pdu),
-        Pdu::PvGrant { .. } => write_pv_grant(pdu),
-        Pdu::TvGrant { .. } => write_tv_grant(pdu),
-        Pdu::Move { .. } => write_move(pdu),
-        Pdu::Other(octets) => copy_of(octets),
-    }
-}
-
-/// Returns the octets of a C_ALOHA.
-#[tactic(auto, unfolding(crate::specs::Layout::layout, crate::specs::Layout::IsListed, crate::specs::Layout::HasChannel))]
-fn write_aloha(pdu: &Pdu) -> Octets10
-    requires { HasOpcode pdu.now 0x99 }
-    ensures octets { IsOctets 10 result }
-    ensures is { SpellsPdu pdu.now result }
-{
-    layouts!(layout, (Aloha, octets_of, pdu))
-}
-
-/// Returns the octets of a C_AHOY.
-#[tactic(auto, unfolding(crate::specs::Layout::layout, crate::specs::Layout::IsListed, crate::specs::Layout::HasChannel))]
-fn write_ahoy(pdu: &Pdu) -> Octets10
-    requires { HasOpcode pdu.now 0x9C }
-    ensures octets { IsOctets 10 result }
-    ensures is { SpellsPdu pdu.now result }
-{
-    layouts!(layout, (Ahoy, octets_of, pdu))
-}
-
-/// Returns the octets of a C_RAND.
-#[tactic(auto, unfolding(crate::specs::Layout::layout, crate::specs::Layout::IsListed, crate::specs::Layout::HasChannel))]
-fn write_random(pdu: &Pdu) -> Octets10
-    requires { HasOpcode pdu.now 0x9F }
-    ensures octets { IsOctets 10 result }
-    ensures is { SpellsPdu pdu.now result }
-{
-    layouts!(layout, (Random, octets_of, pdu))
-}
-
-/// Returns the octets of a C_ACKD.
-#[tactic(auto, unfolding(crate::specs::Layout::layout, crate::specs::Layout::IsListed, crate::specs::Layout::HasChannel))]
-fn write_ackd(pdu: &Pdu) -> Octets10
-    requires { HasOpcode pdu.now 0xA0 }
-    ensures octets { IsOctets 10 result }
-    ensures is { SpellsPdu pdu.now result }
-{
-    layouts!(layout, (Ackd, octets_of, pdu))
-}
-
-/// Returns the octets of a C_ACKU.
-#[tactic(auto, unfolding(crate::specs::Layout::layout, crate::specs::Layout::IsListed, crate::specs::Layout::HasChannel))]
-fn write_acku(pdu: &Pdu) -> Octets10
-    requires { HasOpcode pdu.now 0xA1 }
-    ensures octets { IsOctets 10 result }
-    ensures is { SpellsPdu pdu.now result }
-{
-    layouts!(layout, (Acku, octets_of, pdu))
-}
-
-/// Returns the octets of a P_CLEAR.
-#[tactic(auto, unfolding(crate::specs::Layout::layout, crate::specs::Layout::IsListed, crate::specs::Layout::HasChannel))]
-fn write_clear(pdu: &Pdu) -> Octets10
-    requires { HasOpcode pdu.now 0xAE }
-    ensures octets { IsOctets 10 result }
-    ensures is { SpellsPdu pdu.now result }
-{
-    layouts!(layout, (Clear, octets_of, pdu))
-}
-
-/// Returns the octets of a PV_GRANT.
-#[tactic(auto, unfolding(crate::specs::Layout::layout, crate::specs::Layout::IsListed, crate::specs::Layout::HasChannel))]
-fn write_pv_grant(pdu: &Pdu) -> Octets10
-    requires { HasOpcode pdu.now 0xB0 }
-    ensures octets { IsOctets 10 result }
-    ensures is { SpellsPdu pdu.now result }
-{
-    layouts!(layout, (PvGrant, octets_of, pdu))
-}
-
-/// Returns the octets of a TV_GRANT.
-#[tactic(auto, unfolding(crate::specs::Layout::layout, crate::specs::Layout::IsListed, crate::specs::Layout::HasChannel))]
-fn write_tv_grant(pdu: &Pdu) -> Octets10
-    requires { HasOpcode pdu.now 0xB1 }
-    ensures octets { IsOctets 10 result }
-    ensures is { SpellsPdu pdu.now result }
-{
-    layouts!(layout, (TvGrant, octets_of, pdu))
-}
-
-/// Returns the octets of a C_MOVE.
-#[tactic(auto, unfolding(crate::specs::Layout::layout, crate::specs::Layout::IsListed, crate::specs::Layout::HasChannel))]
-fn write_move(pdu: &Pdu) -> Octets10
-    requires { HasOpcode pdu.now 0xB9 }
-    ensures octets { IsOctets 10 result }
-    ensures is { SpellsPdu pdu.now result }
-{
-    layouts!(layout, (Move, octets_of, pdu))
+    layouts!(octets_of, pdu)
 }
 
 /// Returns the PDU of the table that is laid out in ten octets. `None` if there is no such PDU: the first octet is not
 /// that of a layout, a fixed bit is not as listed, or a channel number is 0 or 4095.
-#[tactic(auto, unfolding(crate::specs::Layout::layout, crate::specs::Layout::IsListed))]
+#[tactic(auto, unfolding(crate::specs::Reading::read_as, crate::specs::Layout::layout, crate::specs::Layout::IsListed, crate::specs::Layout::HasChannel))]
 pub(crate) fn read_pdu(octets: &Octets10) -> Option<Pdu>
     ensures found { IfSome result (λ pdu. IsLaidOut pdu octets.now) }
     ensures only { (pdu : APdu) → IsLaidOut pdu octets.now → result ≡ Some pdu }
 {
-    match opcode_of(octets) {
-        0x99 => read_aloha(octets),
-        0x9C => read_ahoy(octets),
-        0x9F => read_random(octets),
-        0xA0 => read_ackd(octets),
-        0xA1 => read_acku(octets),
-        0xAE => read_clear(octets),
-        0xB0 => read_pv_grant(octets),
-        0xB1 => read_tv_grant(octets),
-        0xB9 => read_move(octets),
-        _ => None,
-    }
-}
-
-/// Returns the C_ALOHA that is laid out in ten octets with its opcode.
-#[tactic(auto, unfolding(crate::specs::Reading::read_as, crate::specs::Layout::layout, crate::specs::Layout::IsListed, crate::specs::Layout::HasChannel))]
-fn read_aloha(octets: &Octets10) -> Option<Pdu>
-    requires { field_of octets.now 0 8 ≡ 0x99 }
-    ensures found { IfSome result (λ pdu. IsLaidOut pdu octets.now) }
-    ensures only { (pdu : APdu) → IsLaidOut pdu octets.now → result ≡ Some pdu }
-{
-    layouts!(layout, (Aloha, pdu_of, octets))
-}
-
-/// Returns the C_AHOY that is laid out in ten octets with its opcode.
-#[tactic(auto, unfolding(crate::specs::Reading::read_as, crate::specs::Layout::layout, crate::specs::Layout::IsListed, crate::specs::Layout::HasChannel))]
-fn read_ahoy(octets: &Octets10) -> Option<Pdu>
-    requires { field_of octets.now 0 8 ≡ 0x9C }
-    ensures found { IfSome result (λ pdu. IsLaidOut pdu octets.now) }
-    ensures only { (pdu : APdu) → IsLaidOut pdu octets.now → result ≡ Some pdu }
-{
-    layouts!(layout, (Ahoy, pdu_of, octets))
-}
-
-/// Returns the C_RAND that is laid out in ten octets with its opcode.
-#[tactic(auto, unfolding(crate::specs::Reading::read_as, crate::specs::Layout::layout, crate::specs::Layout::IsListed, crate::specs::Layout::HasChannel))]
-fn read_random(octets: &Octets10) -> Option<Pdu>
-    requires { field_of octets.now 0 8 ≡ 0x9F }
-    ensures found { IfSome result (λ pdu. IsLaidOut pdu octets.now) }
-    ensures only { (pdu : APdu) → IsLaidOut pdu octets.now → result ≡ Some pdu }
-{
-    layouts!(layout, (Random, pdu_of, octets))
-}
-
-/// Returns the C_ACKD that is laid out in ten octets with its opcode.
-#[tactic(auto, unfolding(crate::specs::Reading::read_as, crate::specs::Layout::layout, crate::specs::Layout::IsListed, crate::specs::Layout::HasChannel))]
-fn read_ackd(octets: &Octets10) -> Option<Pdu>
-    requires { field_of octets.now 0 8 ≡ 0xA0 }
-    ensures found { IfSome result (λ pdu. IsLaidOut pdu octets.now) }
-    ensures only { (pdu : APdu) → IsLaidOut pdu octets.now → result ≡ Some pdu }
-{
-    layouts!(layout, (Ackd, pdu_of, octets))
-}
-
-/// Returns the C_ACKU that is laid out in ten octets with its opcode.
-#[tactic(auto, unfolding(crate::specs::Reading::read_as, crate::specs::Layout::layout, crate::specs::Layout::IsListed, crate::specs::Layout::HasChannel))]
-fn read_acku(octets: &Octets10) -> Option<Pdu>
-    requires { field_of octets.now 0 8 ≡ 0xA1 }
-    ensures found { IfSome result (λ pdu. IsLaidOut pdu octets.now) }
-    ensures only { (pdu : APdu) → IsLaidOut pdu octets.now → result ≡ Some pdu }
-{
-    layouts!(layout, (Acku, pdu_of, octets))
-}
-
-/// Returns the P_CLEAR that is laid out in ten octets with its opcode.
-#[tactic(auto, unfolding(crate::specs::Reading::read_as, crate::specs::Layout::layout, crate::specs::Layout::IsListed, crate::specs::Layout::HasChannel))]
-fn read_clear(octets: &Octets10) -> Option<Pdu>
-    requires { field_of octets.now 0 8 ≡ 0xAE }
-    ensures found { IfSome result (λ pdu. IsLaidOut pdu octets.now) }
-    ensures only { (pdu : APdu) → IsLaidOut pdu octets.now → result ≡ Some pdu }
-{
-    layouts!(layout, (Clear, pdu_of, octets))
-}
-
-/// Returns the PV_GRANT that is laid out in ten octets with its opcode.
-#[tactic(auto, unfolding(crate::specs::Reading::read_as, crate::specs::Layout::layout, crate::specs::Layout::IsListed, crate::specs::Layout::HasChannel))]
-fn read_pv_grant(octets: &Octets10) -> Option<Pdu>
-    requires { field_of octets.now 0 8 ≡ 0xB0 }
-    ensures found { IfSome result (λ pdu. IsLaidOut pdu octets.now) }
-    ensures only { (pdu : APdu) → IsLaidOut pdu octets.now → result ≡ Some pdu }
-{
-    layouts!(layout, (PvGrant, pdu_of, octets))
-}
-
-/// Returns the TV_GRANT that is laid out in ten octets with its opcode.
-#[tactic(auto, unfolding(crate::specs::Reading::read_as, crate::specs::Layout::layout, crate::specs::Layout::IsListed, crate::specs::Layout::HasChannel))]
-fn read_tv_grant(octets: &Octets10) -> Option<Pdu>
-    requires { field_of octets.now 0 8 ≡ 0xB1 }
-    ensures found { IfSome result (λ pdu. IsLaidOut pdu octets.now) }
-    ensures only { (pdu : APdu) → IsLaidOut pdu octets.now → result ≡ Some pdu }
-{
-    layouts!(layout, (TvGrant, pdu_of, octets))
-}
-
-/// Returns the C_MOVE that is laid out in ten octets with its opcode.
-#[tactic(auto, unfolding(crate::specs::Reading::read_as, crate::specs::Layout::layout, crate::specs::Layout::IsListed, crate::specs::Layout::HasChannel))]
-fn read_move(octets: &Octets10) -> Option<Pdu>
-    requires { field_of octets.now 0 8 ≡ 0xB9 }
-    ensures found { IfSome result (λ pdu. IsLaidOut pdu octets.now) }
-    ensures only { (pdu : APdu) → IsLaidOut pdu octets.now → result ≡ Some pdu }
-{
-    layouts!(layout, (Move, pdu_of, octets))
+    layouts!(pdu_of, octets)
 }
 
 /// Returns the ten octets of an opcode and of the rows after octet 1, which is 0.

@@ -1,8 +1,7 @@
 """Shows how far long work is: what runs, what is done, how many steps are left, and about how long they take.
 
-A step has a name and the seconds that it took on the machine where it was measured. The time left follows from the speed of this machine so
-far: the time that the finished steps took here, by the time expected of them. If steps run side by side, the time left is shared among as many
-as ran on average so far.
+A step has a name and the seconds that it took on the machine that measured it. The time left follows from the speed of this machine so far: the
+time that the finished steps took here, by the time expected of them. It also follows from how many steps ran side by side so far.
 
 On a terminal one line is redrawn, and it is gone when the work ends. Elsewhere each step prints a line with the clock's time when it ends, and
 one when it begins if more than a minute is expected of it.
@@ -15,10 +14,23 @@ import threading
 import time
 from collections.abc import Callable, Iterator, Sequence
 from types import TracebackType
-from typing import Self, TextIO
+from typing import NamedTuple, Self, TextIO
 
 # a step that is expected to take longer has a line when it begins
 LONG_SECONDS = 60.0
+# for so long, the steps are taken to run as planned, whatever was seen so far
+FIRST_SECONDS = 60.0
+
+
+class Step(NamedTuple):
+    """A step of the work."""
+    name: str
+    # the seconds that it took when it was measured: processor seconds if steps run side by side
+    seconds: float
+    # the number of such steps that run side by side
+    beside: int = 1
+    # the number of processors that this step can use alone
+    parts: int = 1
 
 
 def duration(seconds: float) -> str:
@@ -47,7 +59,7 @@ def ratio(times: Sequence[tuple[float, float]]) -> float:
 
 
 class Progress:
-    """How far a list of steps is. It may be used from several threads.
+    """How far a list of steps is. Several threads may use it.
 
     As a context it also redraws the line each second, so that the time left is seen to pass, and clears it at the end:
 
@@ -57,16 +69,22 @@ class Progress:
             progress.say("the site is served on port 7100")
             with progress.step("serve"):
                 serve()
+
+    `spent` returns the seconds that a step has taken so far, or None if the clock is to say it.
     """
 
-    def __init__(self, steps: Sequence[tuple[str, float]], out: TextIO | None = None,
-                 clock: Callable[[], float] = time.monotonic) -> None:
-        self.expected, self.out, self.clock = dict(steps), out or sys.stdout, clock
+    def __init__(self, steps: Sequence[tuple[str, float] | Step], out: TextIO | None = None,
+                 clock: Callable[[], float] = time.monotonic,
+                 spent: Callable[[str], float | None] = lambda name: None) -> None:
+        self.steps = {it[0]: Step(*it) for it in steps}
+        self.out, self.clock, self.measured = out or sys.stdout, clock, spent
         self.terminal = self.out.isatty() and os.environ.get("TERM") != "dumb"
+        # when each running step began, and the seconds of each step until it last ended
         self.running: dict[str, float] = {}
         self.took: dict[str, float] = {}
         self.failed: set[str] = set()
-        self.began, self.busy, self.shown = clock(), 0.0, 0
+        self.dropped: set[str] = set()
+        self.began, self.shown = clock(), 0
         self.lock, self.closed = threading.RLock(), threading.Event()
 
     def __enter__(self) -> Self:
@@ -94,13 +112,15 @@ class Progress:
         self.end(name)
 
     def begin(self, name: str) -> None:
-        """Begins a step. Steps that have begun and not ended run side by side. A name that is not listed is added, with no time expected of it."""
+        """Begins a step. Steps that have begun and not ended run side by side. A step that was dropped is needed again. A name that is not listed
+        is added, with no time expected of it."""
         with self.lock:
             if not self.running and not self.took:
                 self.began = self.clock()
-            expected = self.expected.setdefault(name, 0.0)
+            step = self.steps.setdefault(name, Step(name, 0))
+            self.dropped.discard(name)
             self.running[name] = self.clock()
-            seconds = expected * self.slowness()
+            seconds = step.seconds * self.slowness() - self.spent(name)
             if not self.terminal and seconds > LONG_SECONDS:
                 self.print_line(f"{name} begins, about {duration(seconds)}; {self.left_text()}")
             self.draw()
@@ -108,21 +128,19 @@ class Progress:
     def end(self, name: str, failed: bool = False) -> None:
         """Ends a step that has begun. The time of one that failed says nothing of this machine's speed."""
         with self.lock:
-            seconds = self.clock() - self.running.pop(name)
-            self.took[name] = self.took.get(name, 0.0) + seconds
-            self.busy += seconds
+            self.took[name] = self.took.get(name, 0.0) + self.clock() - self.running.pop(name)
             if failed:
                 self.failed.add(name)
             if not self.terminal:
                 how = "failed after" if failed else "took"
-                self.print_line(f"{name} {how} {duration(self.took[name])}; {self.left_text()}")
+                self.print_line(f"{name} {how} {duration(self.spent(name))}; {self.left_text()}")
             self.draw()
 
     def drop(self, name: str) -> None:
-        """Takes a step from the list that is not needed, and has not begun."""
+        """Takes a step from the list that is not needed, unless it has begun."""
         with self.lock:
             if name not in self.running and name not in self.took:
-                self.expected.pop(name, None)
+                self.dropped.add(name)
             self.draw()
 
     def say(self, text: str) -> None:
@@ -139,34 +157,42 @@ class Progress:
             self.closed.set()
             self.clear()
 
+    def spent(self, name: str) -> float:
+        """The seconds that a step has taken so far."""
+        measured = self.measured(name)
+        if measured is not None:
+            return measured
+        now = self.clock()
+        return self.took.get(name, 0.0) + now - self.running.get(name, now)
+
     def slowness(self) -> float:
         """How many seconds a step takes here for each second expected of it. A running step counts once it is later than that."""
-        now = self.clock()
-        ended = [(took, self.expected[name]) for name, took in self.took.items() if name not in self.failed]
-        running = [(now - began, self.expected[name]) for name, began in self.running.items()]
+        ended = [(self.spent(it), self.steps[it].seconds) for it in self.took.keys() - self.running.keys() - self.failed]
+        running = [(self.spent(it), self.steps[it].seconds) for it in self.running]
         so_far = ratio(ended)
         return ratio(ended + [(took, expected) for took, expected in running if took > expected * so_far])
 
-    def names_left(self) -> list[str]:
+    def steps_left(self) -> list[Step]:
         """The steps that have not ended, those that run among them."""
-        return [name for name in self.expected if name not in self.took or name in self.running]
+        ended = (self.took.keys() | self.dropped) - self.running.keys()
+        return [it for it in self.steps.values() if it.name not in ended]
 
     def seconds_left(self) -> float:
         """About how long the steps left take, side by side as so far, but no less than the longest of them."""
-        now, slowness = self.clock(), self.slowness()
-        left = [max(0.0, self.expected[name] * slowness - (now - self.running.get(name, now))) for name in self.names_left()]
-        wall = now - self.began
-        busy = self.busy + sum(now - began for began in self.running.values())
-        lanes = busy / wall if wall > 0 else len(self.running)
-        return max(sum(left) / max(1.0, lanes), max(left, default=0.0))
+        slowness = self.slowness()
+        left = [(it, max(0.0, it.seconds * slowness - self.spent(it.name))) for it in self.steps_left()]
+        done = sum(self.spent(it.name) / it.beside for it in self.steps.values())
+        # how much of the work that was planned to go on side by side did so
+        share = (done + FIRST_SECONDS) / (self.clock() - self.began + FIRST_SECONDS)
+        return max(sum(seconds / it.beside for it, seconds in left) / share, max((seconds / it.parts for it, seconds in left), default=0.0))
 
     def left_text(self) -> str:
         """How many steps are left, and about how long they take."""
-        names = self.names_left()
-        if not names:
+        left = self.steps_left()
+        if not left:
             return "no step left"
-        about = f", about {duration(self.seconds_left())}" if any(self.expected[it] for it in names) else ""
-        return f"{len(names)} {'steps' if len(names) > 1 else 'step'} left{about}"
+        about = f", about {duration(self.seconds_left())}" if any(it.seconds for it in left) else ""
+        return f"{len(left)} {'steps' if len(left) > 1 else 'step'} left{about}"
 
     def draw(self) -> None:
         """Redraws the line of a terminal. There is none if nothing runs."""
@@ -177,7 +203,7 @@ class Progress:
                 self.clear()
                 return
             done = len(self.took.keys() - self.running.keys())
-            text = f"{done} of {len(self.expected)} steps done, {self.left_text()}: {', '.join(self.running)}"
+            text = f"{done} of {len(self.steps) - len(self.dropped)} steps done, {self.left_text()}: {', '.join(self.running)}"
             text = text[:max(1, width_of(self.out) - 1)]
             self.out.write(f"\r{text:<{self.shown}}")
             self.shown = len(text)

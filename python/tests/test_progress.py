@@ -39,7 +39,7 @@ class Terminal(io.StringIO):
 
 
 class Shown(unittest.TestCase):
-    """What is shown, by a clock that stands until the test moves it."""
+    """What is shown, by a clock that only the test moves."""
 
     def setUp(self) -> None:
         self.clock, self.out, self.screen = Clock(), io.StringIO(), Terminal()
@@ -77,7 +77,7 @@ class Shown(unittest.TestCase):
 
     def test_side_by_side(self) -> None:
         """Four steps of 100 seconds, two at a time: each two take 100 seconds, and what is left is shared among two."""
-        shown = progress.Progress([(it, 100) for it in "abcd"], self.out, self.clock)
+        shown = progress.Progress([progress.Step(it, 100, 2) for it in "abcd"], self.out, self.clock)
         for name in "ab":
             shown.begin(name)
         self.assertEqual(shown.seconds_left(), 200)
@@ -89,9 +89,30 @@ class Shown(unittest.TestCase):
         self.assertEqual(shown.seconds_left(), 100)
         shown.begin("c")
         self.clock.now += 50
-        self.assertEqual(shown.names_left(), ["c", "d"])
+        self.assertEqual([it.name for it in shown.steps_left()], ["c", "d"])
         # one alone runs now, and neither of two can be over before the longer one
         self.assertEqual(shown.seconds_left(), 100)
+
+    def test_fewer_side_by_side_than_planned(self) -> None:
+        """Of ten steps that were to run two at a time one runs at a time, so what is left comes to take twice as long."""
+        shown = progress.Progress([progress.Step(str(it), 1000, 2) for it in range(10)], self.out, self.clock)
+        self.assertEqual(shown.seconds_left(), 5000)
+        for name in "01234":
+            with shown.step(name):
+                self.clock.now += 1000
+        self.assertTrue(4900 < shown.seconds_left() <= 5000)
+
+    def test_measured_time(self) -> None:
+        """Times that are measured count in place of the clock's: a step of 100 processor seconds that two processors do is half done after 25 seconds."""
+        spent = {"a": 0.0}
+        shown = progress.Progress([progress.Step("a", 100, 2, 2), ("b", 30)], self.out, self.clock, spent.get)
+        shown.begin("a")
+        self.assertEqual(shown.seconds_left(), 80)
+        self.clock.now, spent["a"] = self.clock.now + 25, 50.0
+        self.assertEqual(shown.seconds_left(), 55)
+        spent["a"] = 200.0
+        shown.end("a")
+        self.assertEqual(self.lines()[-1], "12:00:00 a took 3 min; 1 step left, about 60 s")
 
     def test_late_step(self) -> None:
         """A step that takes longer than expected makes the others longer, before it ends."""
@@ -102,9 +123,12 @@ class Shown(unittest.TestCase):
         self.assertEqual(shown.seconds_left(), 40)
 
     def test_dropped_and_added(self) -> None:
-        """A step that is not needed is not left any more. One that nobody listed counts, with no time. No time is shown if none is expected."""
+        """A step that is not needed is not left any more, unless it begins. One that nobody listed counts, with no time. No time is shown if none is
+        expected."""
         shown = progress.Progress([("first", 10), ("second", 10)], self.out, self.clock)
+        shown.drop("first")
         shown.drop("second")
+        self.assertEqual(shown.left_text(), "no step left")
         shown.begin("first")
         shown.drop("first")
         shown.begin("other")
@@ -117,10 +141,10 @@ class Shown(unittest.TestCase):
         shown = progress.Progress([("first", 10)], self.out, self.clock)
         for _ in range(2):
             shown.begin("first")
-            self.assertEqual(shown.names_left(), ["first"])
+            self.assertEqual(shown.left_text(), "1 step left, about 10 s" if not shown.took else "1 step left, about 1 s")
             self.clock.now += 20
             shown.end("first")
-        self.assertEqual((shown.names_left(), shown.took), ([], {"first": 40}))
+        self.assertEqual((shown.left_text(), shown.took), ("no step left", {"first": 40}))
 
     def test_terminal(self) -> None:
         """One line is redrawn and cut to the width. Other lines come above it, and it is gone at the end."""

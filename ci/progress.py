@@ -125,15 +125,18 @@ class Progress:
                 self.print_line(f"{name} begins, about {duration(seconds)}; {self.left_text()}")
             self.draw()
 
-    def end(self, name: str, failed: bool = False) -> None:
-        """Ends a step that has begun. The time of one that failed says nothing of this machine's speed."""
+    def end(self, name: str, failed: bool = False, said: str = "") -> None:
+        """Ends a step that has begun. The time of one that failed says nothing of this machine's speed. `said` is a line on how it ended, which is
+        printed on a terminal too."""
         with self.lock:
             self.took[name] = self.took.get(name, 0.0) + self.clock() - self.running.pop(name)
             if failed:
                 self.failed.add(name)
             if not self.terminal:
                 how = "failed after" if failed else "took"
-                self.print_line(f"{name} {how} {duration(self.spent(name))}; {self.left_text()}")
+                self.print_line(f"{said or f'{name} {how} {duration(self.spent(name))}'}; {self.left_text()}")
+            elif said:
+                self.say(said)
             self.draw()
 
     def drop(self, name: str) -> None:

@@ -1,0 +1,1 @@
+"""Parts of `ci/gate`, which says what it does: the meter, the costs, and the run."""

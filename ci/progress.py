@@ -12,7 +12,7 @@ import shutil
 import sys
 import threading
 import time
-from collections.abc import Callable, Iterator, Sequence
+from collections.abc import Callable, Iterable, Iterator, Sequence
 from types import TracebackType
 from typing import NamedTuple, Self, TextIO
 
@@ -31,6 +31,8 @@ class Step(NamedTuple):
     beside: int = 1
     # the number of processors that this step can use alone
     parts: int = 1
+    # the speed of this machine is counted for each group of steps by itself
+    group: str = ""
 
 
 def duration(seconds: float) -> str:
@@ -120,7 +122,7 @@ class Progress:
             step = self.steps.setdefault(name, Step(name, 0))
             self.dropped.discard(name)
             self.running[name] = self.clock()
-            seconds = step.seconds * self.slowness() - self.spent(name)
+            seconds = step.seconds * self.slowness(step.group) - self.spent(name)
             if not self.terminal and seconds > LONG_SECONDS:
                 self.print_line(f"{name} begins, about {duration(seconds)}; {self.left_text()}")
             self.draw()
@@ -168,12 +170,15 @@ class Progress:
         now = self.clock()
         return self.took.get(name, 0.0) + now - self.running.get(name, now)
 
-    def slowness(self) -> float:
-        """How many seconds a step takes here for each second expected of it. A running step counts once it is later than that."""
-        ended = [(self.spent(it), self.steps[it].seconds) for it in self.took.keys() - self.running.keys() - self.failed]
-        running = [(self.spent(it), self.steps[it].seconds) for it in self.running]
+    def slowness(self, group: str) -> float:
+        """How many seconds a step of a group takes here for each second expected of it. A running step counts once it is later than that."""
+        ended = self.times(self.took.keys() - self.running.keys() - self.failed, group)
         so_far = ratio(ended)
-        return ratio(ended + [(took, expected) for took, expected in running if took > expected * so_far])
+        return ratio(ended + [it for it in self.times(self.running, group) if it[0] > it[1] * so_far])
+
+    def times(self, names: Iterable[str], group: str) -> list[tuple[float, float]]:
+        """Those of these steps that are of a group: the seconds that each has taken so far, and the seconds expected of it."""
+        return [(self.spent(it), self.steps[it].seconds) for it in names if self.steps[it].group == group]
 
     def steps_left(self) -> list[Step]:
         """The steps that have not ended, those that run among them."""
@@ -182,8 +187,8 @@ class Progress:
 
     def seconds_left(self) -> float:
         """About how long the steps left take, side by side as so far, but no less than the longest of them."""
-        slowness = self.slowness()
-        left = [(it, max(0.0, it.seconds * slowness - self.spent(it.name))) for it in self.steps_left()]
+        slowness = {it: self.slowness(it) for it in {step.group for step in self.steps.values()}}
+        left = [(it, max(0.0, it.seconds * slowness[it.group] - self.spent(it.name))) for it in self.steps_left()]
         done = sum(self.spent(it.name) / it.beside for it in self.steps.values())
         # how much of the work that was planned to go on side by side did so
         share = (done + FIRST_SECONDS) / (self.clock() - self.began + FIRST_SECONDS)

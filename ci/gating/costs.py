@@ -7,7 +7,7 @@ import time
 from collections.abc import Mapping
 from typing import NamedTuple, Self
 
-from gating.meter import KINDS, PROOF, TESTS, Check
+from gating.meter import EDITS, KINDS, PROOF, TESTS, Check
 
 FILE = pathlib.Path(__file__).resolve().parent.parent / "costs"
 REFERENCE = Check("dmr_calls", PROOF)
@@ -48,6 +48,12 @@ class Costs(NamedTuple):
         no tests."""
         known = Check(check.crate, PROOF) in self.checks
         return self.unit * (self.checks[check] if known else check.kind != TESTS)
+
+    def edit_seconds(self, crate: str, tried: int) -> float:
+        """About how many processor seconds an edit of a crate takes, by the `tried` edits that the gate tries. They cost the crate's proof and then a load
+        of the crate for each. A load is taken to cost an eighth of the proof if the gate tries no edit of the crate."""
+        proof, edits = self.seconds(Check(crate, PROOF)), self.seconds(Check(crate, EDITS))
+        return (edits - proof) / tried if tried and edits > proof else proof / 8
 
 
 def costs_text(minutes: Mapping[Check, float], total: float, run: str) -> str:

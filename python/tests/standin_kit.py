@@ -17,10 +17,11 @@ TAKES_WORDS = """  rt ci                   the merge gate, at the top of the rep
 TAKES_NONE = """  rt ci                   the merge gate, at the top of the repository: sets aside what earlier runs left, and
                           proves every crate and its tests from nothing
 """
+TRIES_EDITS = """  rt must-fail [NAME..]   tries the edits; it begins with what rt check kept, and --anew tries all
+"""
 HELP = """rt: proves, builds and tests the crates of a Rattle repository with the toolchain of this kit.
 
-{ci}  rt must-fail [NAME..]   tries the edits; it begins with what rt check kept, and --anew tries all
-  rt version              prints the kit's one-line identity
+{ci}{edits}  rt version              prints the kit's one-line identity
 
 Beside src/ a program may have the files stdin and stdout.
 """
@@ -56,15 +57,16 @@ class Kits(unittest.TestCase):
         self.checkout, self.commands = pathlib.Path(room.name) / "checkout", pathlib.Path(room.name) / "commands"
         self.commands.mkdir()
         (self.checkout / "ci").mkdir(parents=True)
-        for name in ("gate", "check-toolchain", "toolchain.py", "crates.py", "progress.py", "costs"):
+        for name in ("gate", "wrong-bodies", "check-toolchain", "toolchain.py", "crates.py", "progress.py", "costs"):
             shutil.copy2(TOP / "ci" / name, self.checkout / "ci")
         shutil.copytree(TOP / "ci/gating", self.checkout / "ci/gating", ignore=shutil.ignore_patterns("__pycache__"))
         (self.checkout / "toolchain").write_text("logic c0ffee  # required\nkits kit-1 kit-2\n", encoding="utf-8")
         (self.checkout / "crates.txt").write_text("dmr_bits:\ndmr_calls: dmr_bits\n", encoding="utf-8")
 
-    def put_kit(self, takes_words: bool, version: str = "kit-2 logic c0ffee", said: str = "2 passed, 0 failed", status: int = 0, burns: tuple[str, ...] = ()) -> None:
-        """Puts an `rt` on PATH that behaves as one of the two kinds."""
-        text = HELP.format(ci=TAKES_WORDS if takes_words else TAKES_NONE)
+    def put_kit(self, takes_words: bool, version: str = "kit-2 logic c0ffee", said: str = "2 passed, 0 failed", status: int = 0, burns: tuple[str, ...] = (), edits: bool = True) -> None:
+        """Puts an `rt` on PATH that behaves as one of the two kinds. Its gate proves the crates of `burns`, prints `said`, and ends with the status. `edits`
+        says whether there is `rt must-fail`."""
+        text = HELP.format(ci=TAKES_WORDS if takes_words else TAKES_NONE, edits=TRIES_EDITS if edits else "")
         script = SCRIPT.format(python=sys.executable, burns=burns, said=said, help=text, version=version, takes_words=takes_words, status=status)
         (self.commands / "rt").write_text(script, encoding="utf-8")
         (self.commands / "rt").chmod(0o755)

@@ -61,7 +61,7 @@ class Words(Kits):
     """What `ci/gate` asks of each kind of build."""
 
     def check_words(self, asked: tuple[str, ...], wanted: str) -> None:
-        """`rt` is run with the words that are wanted, and its last line and status are the gate's."""
+        """`rt` is run with these words, and its last line and status are the gate's."""
         ran = self.run_command("ci/gate", *asked)
         self.assertEqual(ran.returncode, 0, ran.stderr)
         self.assertIn(f"rt: words {wanted}\n", ran.stdout)
@@ -190,7 +190,7 @@ class Steps(unittest.TestCase):
         self.gate.progress = self.progress = progress.Progress(self.gate.steps, io.StringIO(), self.clock.monotonic, self.gate.spent)
 
     def see(self, *alive: object, rooms: int = 0, seconds: float = 1) -> list[str]:
-        """The steps that run after the meter saw these checks, and edits in so many folders, some seconds later."""
+        """The steps that run after the meter saw these checks, and edits in as many folders as `rooms` says, some seconds later."""
         self.now += seconds
         self.gate.follow(types.SimpleNamespace(alive=set(alive), rooms={EDITS: set(range(rooms))}))
         return sorted(self.progress.running)

@@ -122,6 +122,13 @@ class Shown(unittest.TestCase):
         self.clock.now += 40
         self.assertEqual(shown.seconds_left(), 40)
 
+    def test_groups(self) -> None:
+        """A step says nothing of the speed of those of another group."""
+        shown = progress.Progress([progress.Step("first", 10), progress.Step("second", 10), progress.Step("other", 10, group="others")], self.out, self.clock)
+        with shown.step("first"):
+            self.clock.now += 20
+        self.assertEqual(shown.seconds_left(), 30)
+
     def test_dropped_and_added(self) -> None:
         """A step that is not needed is not left any more, unless it begins. One that nobody listed counts, with no time. No time is shown if none is
         expected."""

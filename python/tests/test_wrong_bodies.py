@@ -1,10 +1,14 @@
-"""`ci/wrong-bodies`: which refusals say little of a contract, and what is printed of a crate's."""
+"""`ci/wrong-bodies`: which refusals say little of a contract, what is printed of a crate's, and what it does with each kind of build of the kit."""
 import contextlib
 import importlib.machinery
 import importlib.util
 import io
+import pathlib
+import shutil
+import subprocess
 import unittest
 
+from tests.standin_kit import Kits
 from tests.support import TOP
 
 LOADER = importlib.machinery.SourceFileLoader("wrong_bodies", str(TOP / "ci" / "wrong-bodies"))
@@ -52,3 +56,68 @@ class Refusals(unittest.TestCase):
 
     def test_nothing_to_look_at(self) -> None:
         self.assertEqual(printed([REFUSED + REASONS[1][0]]), ((1, 1, 0), ["dmr_link: 1 of 1 refused, 1.5 minutes"]))
+
+
+class Parts(unittest.TestCase):
+    """How the edits are shared among copies."""
+
+    def test_long_list(self) -> None:
+        """Each edit is in one part, no part has more than a copy is worth, and the highest crate comes first."""
+        wanted = {"dmr_bits": ["a"], "dmr_calls": [str(it) for it in range(wrong_bodies.PART + 1)]}
+        parts = wrong_bodies.parts_of(wanted)
+        self.assertEqual([it.step for it in parts], ["edits of dmr_calls, part 1 of 2", "edits of dmr_calls, part 2 of 2", "edits of dmr_bits"])
+        self.assertEqual(sorted(parts[0].edits + parts[1].edits), sorted(wanted["dmr_calls"]))
+        self.assertLessEqual(max(len(it.edits) for it in parts), wrong_bodies.PART)
+
+    def test_libraries(self) -> None:
+        """Each library that crates need comes once, after those that it needs, and no crate of the kit does."""
+        found = wrong_bodies.libraries_of(["dmr_calls", "dmr_pool"])
+        listed = wrong_bodies.crates.read_crates()
+        self.assertEqual(len(found), len(set(found)))
+        for at, name in enumerate(found):
+            self.assertLessEqual({it for it in listed[name] if it in listed}, set(found[:at]))
+
+
+class Commands(Kits):
+    """The command, with a stand-in for each kind of build."""
+
+    def setUp(self) -> None:
+        super().setUp()
+        crate = self.checkout / "crates/dmr_calls"
+        for path, text in (("src/a.rt", "a\n"), ("wrong-bodies/wrong.edit", "file: src/a.rt\nold: a\nnew: b\n")):
+            (crate / path).parent.mkdir(parents=True)
+            (crate / path).write_text(text, encoding="utf-8")
+        (self.checkout / "crates/dmr_bits").mkdir()
+        (self.checkout / "crates/dmr_bits/a.rt").write_text("a\n", encoding="utf-8")
+
+    def put_git(self) -> None:
+        """Makes the checkout one of git's, which lists its files."""
+        git = shutil.which("git")
+        if not git:
+            self.skipTest("there is no git: it lists the files that are copied")
+        (self.commands / "git").symlink_to(pathlib.Path(git).resolve())
+        subprocess.run([git, "init", "-q", str(self.checkout)], check=True)
+
+    def test_both_kinds(self) -> None:
+        """With either, a library and a proof come before the edit, and the closing line counts it."""
+        self.put_git()
+        for takes_words in (True, False):
+            with self.subTest(takes_words=takes_words):
+                self.put_kit(takes_words)
+                ran = self.run_command("ci/wrong-bodies", "dmr_calls")
+                self.assertEqual(ran.returncode, 0, ran.stderr)
+                steps = [line[9:].partition(" took")[0] for line in ran.stdout.splitlines() if " took " in line]
+                self.assertEqual(steps, ["library dmr_bits", "proof of dmr_calls", "edits of dmr_calls"])
+                self.assertRegex(ran.stdout, r"\ndmr_calls: 1 of 1 refused, 0\.\d minutes\n1 wrong bodies refused, 0 of them in a way that says little, 0 not refused: ")
+
+    def test_build_without_edits(self) -> None:
+        """A build that has no command for edits is refused by its name. So is a machine without the kit."""
+        self.put_kit(False, "kit-0 logic c0ffee", edits=False)
+        ran = self.run_command("ci/wrong-bodies", "dmr_calls")
+        self.assertEqual((ran.returncode, ran.stdout, ran.stderr), (1, "", "wrong-bodies: kit-0 has no command `rt must-fail`: take a build of the kit that has it\n"))
+        (self.commands / "rt").unlink()
+        self.assertIn("the Rattle kit is missing", self.run_command("ci/wrong-bodies", "dmr_calls").stderr)
+
+
+if __name__ == "__main__":
+    unittest.main()

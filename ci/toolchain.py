@@ -6,7 +6,7 @@ from typing import NamedTuple, Self
 
 TOP = pathlib.Path(__file__).resolve().parent.parent
 FILE = TOP / "toolchain"
-NO_KIT = "there is no command rt: the Rattle kit is missing (README.md says what it is)"
+NO_KIT = 'there is no command rt: the Rattle kit is missing (README.md, "Set up")'
 
 
 class Fault(Exception):

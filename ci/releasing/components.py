@@ -5,9 +5,14 @@ import re
 import subprocess
 from typing import NamedTuple
 
+from crates import read_crates
+from toolchain import ask_rt, read_kit
+
 OUR_LICENSE = "Apache-2.0 OR MIT"
 # SPDX's word for a license that nobody has stated here
 NO_ASSERTION = "NOASSERTION"
+# the lines of the kit's file WHAT that say which build it is, in addition to the line that `rt version` prints
+IDENTITY = ("archive", "commit", "compiler")
 
 
 class Component(NamedTuple):
@@ -18,22 +23,20 @@ class Component(NamedTuple):
     says: str
 
 
-def crates_of(clone: pathlib.Path) -> dict[str, list[str]]:
-    """The crates that crates.txt lists, each with the libraries that it uses."""
-    lines = (clone / "crates.txt").read_text(encoding="utf-8").splitlines()
-    pairs = [line.partition(":") for line in lines if ":" in line and not line.startswith("#")]
-    return {name.split()[0]: below.split() for name, _, below in pairs}
-
-
-def toolchain() -> str:
-    """The identity of the toolchain and of its logic, as `rt version` prints it."""
-    return subprocess.run(["rt", "version"], capture_output=True, text=True, check=True).stdout.strip()
-
-
 def kit_folder() -> pathlib.Path:
-    """The folder of the toolchain's crates."""
-    page = subprocess.run(["rt", "doc"], capture_output=True, text=True, check=True).stdout.strip()
-    return pathlib.Path(page).parent / "rattle"
+    """The folder of the toolchain: that of the page which `rt doc` names. Raises Fault if there is no kit."""
+    return pathlib.Path(ask_rt("doc").strip()).parent
+
+
+def read_identity() -> list[str]:
+    """The identity of the toolchain: the line of `rt version`, and those of its file WHAT, or why one of them is not known. Raises Fault if there is
+    no kit."""
+    try:
+        text, why = (kit_folder() / "WHAT").read_text(encoding="utf-8"), "the toolchain's file WHAT has no such line"
+    except OSError as fault:
+        text, why = "", f"the toolchain's file WHAT cannot be read: {fault.strerror}"
+    said = dict(re.findall(r"^(\w+) (\S+)$", text, re.M))
+    return [str(read_kit()), *(f"{it} {said.get(it) or f'not known: {why}'}" for it in IDENTITY)]
 
 
 def port_of(name: str, kit: pathlib.Path) -> Component:
@@ -54,12 +57,12 @@ def c_library() -> Component:
 
 def components_of(clone: pathlib.Path, version: str) -> list[Component]:
     """All components: our crates, then the toolchain and those of its crates that ours use, then the C library."""
-    ours = crates_of(clone)
+    ours = read_crates(clone)
     theirs = sorted({it for below in ours.values() for it in below if it not in ours})
-    kit = kit_folder()
+    kit, (version_line, *identity) = kit_folder() / "rattle", read_identity()
     return [
         *(Component(name, version, OUR_LICENSE, "crate of this repository, proved") for name in ours),
-        Component("rattle", toolchain(), NO_ASSERTION, "compiler, prover, and proved standard library"),
+        Component("rattle", version_line, NO_ASSERTION, f"compiler, prover, and proved standard library; {'; '.join(identity)}"),
         *(port_of(name, kit) for name in theirs),
         c_library(),
     ]

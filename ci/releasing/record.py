@@ -25,10 +25,10 @@ class Source(NamedTuple):
 
 
 class Made(NamedTuple):
-    """What was made of the sources: by which toolchain, in which runs, which of the steps were done, and whether the programs were the same from two folders."""
+    """What was made of the sources. `toolchain` has the lines of its identity, and `same_twice` says whether the programs were the same from two folders."""
     source: Source
     short: bool
-    toolchain: str
+    toolchain: Sequence[str]
     runs: Sequence[Run]
     steps: Sequence[Step]
     outcomes: Sequence[Outcome]
@@ -138,7 +138,7 @@ def record_of(made: Made, promises: Sequence[Promise]) -> str:
         "| | |", "|---|---|",
         f"| commit | `{source.commit}`, {source.date} |",
         f"| sources | {source.count} files; the SHA-256 of `SOURCES.sha256`, which has that of each, is `{source.digest}` |",
-        f"| toolchain | {made.toolchain} |",
+        *(f"| toolchain | {it} |" for it in made.toolchain),
         *runs_of(made),
         f"| the same programs from two folders | {twice} |",
         f"| steps | {passed} passed, {len(made.failed())} failed, {len(made.left_out())} left out, {len(made.to_do())} to do |",

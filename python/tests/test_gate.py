@@ -1,4 +1,4 @@
-"""`ci/gate` and `ci/check-toolchain`, with a stand-in for each kind of build of the kit; and the steps that the gate's processes and lines show."""
+"""`ci/gate`, with a stand-in for each kind of build of the kit, and the steps that the gate's processes and lines show."""
 import importlib
 import io
 import pathlib
@@ -13,48 +13,11 @@ from tests.support import TOP
 
 sys.path.insert(0, str(TOP / "ci"))
 progress = importlib.import_module("progress")
-toolchain = importlib.import_module("toolchain")
 costs = importlib.import_module("gating.costs")
 meter = importlib.import_module("gating.meter")
 run = importlib.import_module("gating.run")
 
 PROOF, TESTS, EDITS = (meter.Check("dmr_calls", kind) for kind in meter.KINDS)
-
-
-class Toolchain(Kits):
-    """What is said of a kit."""
-
-    def check(self, status: int, said: str) -> None:
-        """`ci/check-toolchain` ends with a status, and a line that has these words."""
-        ran = self.run_command("ci/check-toolchain")
-        self.assertEqual((ran.returncode, ran.stdout.count("\n")), (status, 1), ran.stderr)
-        self.assertIn(said, ran.stdout)
-
-    def test_kits(self) -> None:
-        """A build with which the gate passed, another build, another logic, and another command of the same name."""
-        for version, status, said in (
-            ("kit-1 logic c0ffee", 0, "kit-1 logic c0ffee: the gate passed with this build"),
-            ("kit-3 logic c0ffee", 0, "a note: the gate passed with kit-1 and kit-2"),
-            ("kit-1 logic bad", 1, "kit-1 logic bad: the logic c0ffee is required"),
-            ("a tool of the same name", 1, "a tool of the same name"),
-        ):
-            with self.subTest(version):
-                self.put_kit(True, version)
-                self.check(status, said)
-
-    def test_no_kit(self) -> None:
-        self.check(1, "the Rattle kit is missing")
-
-    def test_file(self) -> None:
-        """A file that lacks a line, or has one twice, or one that is not known, is refused."""
-        self.put_kit(True)
-        for text in ("", "logic c0ffee\n", "logic c0ffee\nkits\n", "logic c0ffee 1\nkits a\n", "logic a\nlogic b\nkits a\n", "logic a\nkits a\nkit b\n"):
-            with self.subTest(text):
-                (self.checkout / "toolchain").write_text(text, encoding="utf-8")
-                self.check(1, "it has to have a line `logic ID` and a line `kits NAME ..`")
-
-    def test_file_of_this_repository(self) -> None:
-        self.assertTrue(toolchain.Named.read().kits)
 
 
 class Words(Kits):

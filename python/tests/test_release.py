@@ -170,14 +170,14 @@ class Records(unittest.TestCase):
 
     def text(self, outcomes: list[object], short: bool = False, twice: bool | None = True, more: tuple[object, ...] = ()) -> str:
         """The record of these outcomes, and of more steps that are to do."""
-        made = record.Made(SOURCE, short, "a toolchain", [RUN], [*(it.step for it in outcomes), *more], outcomes, twice)
+        made = record.Made(SOURCE, short, ["a toolchain", "compiler c0ffee"], [RUN], [*(it.step for it in outcomes), *more], outcomes, twice)
         return record.record_of(made, [promises.Promise("dmr_x::run", "Runs", "pub fn run()\n    ensures { x }")])
 
     def test_whole(self) -> None:
         """A record of a release names sources, toolchain, steps and theorems."""
         text = self.text([outcome("a step", 0), outcome("another", None, "it needs root")])
         self.assertNotIn("not a release", text)
-        for part in ("# dmr_trunk 1.2.3", SOURCE.commit, SOURCE.digest, "a toolchain", "1 passed, 0 failed, 1 left out, 0 to do", "| another | left out |", "| run 1, 2026-01-02 | 2 processors; 8 GiB of memory |", "### `dmr_x::run`\n\nRuns.", "    ensures { x }\n```"):
+        for part in ("# dmr_trunk 1.2.3", SOURCE.commit, SOURCE.digest, "| toolchain | a toolchain |\n| toolchain | compiler c0ffee |\n", "1 passed, 0 failed, 1 left out, 0 to do", "| another | left out |", "| run 1, 2026-01-02 | 2 processors; 8 GiB of memory |", "### `dmr_x::run`\n\nRuns.", "    ensures { x }\n```"):
             self.assertIn(part, text)
 
     def test_what_is_not_a_release(self) -> None:
@@ -222,7 +222,23 @@ class Components(unittest.TestCase):
 
     def test_crates(self) -> None:
         """Each crate of crates.txt is there with its libraries."""
-        self.assertEqual(sorted(components.crates_of(TOP)), sorted(it.name for it in (TOP / "crates").iterdir() if it.is_dir()))
+        self.assertEqual(sorted(components.read_crates(TOP)), sorted(it.name for it in (TOP / "crates").iterdir() if it.is_dir()))
+
+    def test_identity(self) -> None:
+        """The kit's line comes first, then each line of its file WHAT, or that it is not known, and why."""
+        lines = {"archive": "archive ab", "commit": "commit cd", "compiler": "compiler ef"}
+        for text, unknown, why in (
+            ("rattle-kit-1\narchive ab\ncommit cd\ncompiler ef\n", (), ""),
+            ("archive ab\ncommit cd\n", ("compiler",), "has no such line"),
+            (None, ("archive", "commit", "compiler"), "cannot be read: No such file or directory"),
+        ):
+            with self.subTest(text), tempfile.TemporaryDirectory() as folder:
+                if text is not None:
+                    (pathlib.Path(folder) / "WHAT").write_text(text, encoding="ascii")
+                with unittest.mock.patch.multiple(components, ask_rt=lambda *_: f"{folder}/START-HERE.md\n", read_kit=lambda: "kit-1 logic c0ffee"):
+                    identity = components.read_identity()
+                wanted = [f"{it} not known: the toolchain's file WHAT {why}" if it in unknown else line for it, line in lines.items()]
+                self.assertEqual(identity, ["kit-1 logic c0ffee", *wanted])
 
     def test_document(self) -> None:
         """The document has each component and each file once, and relates the document to all of them."""

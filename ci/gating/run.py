@@ -1,4 +1,4 @@
-"""Runs `rt ci`, follows which of its checks run and have ended, and counts what it cost."""
+"""Runs `rt ci`, follows which of its checks run and have ended, counts what it cost, and records the programs that it built."""
 import os
 import re
 import subprocess
@@ -7,6 +7,7 @@ from collections.abc import Sequence
 from resource import RUSAGE_CHILDREN, getrusage
 from typing import NamedTuple
 
+import built
 from crates import TOP, edits_of, read_crates
 from gating.costs import Costs
 from gating.meter import EDITS, KINDS, TESTS, Check, Meter
@@ -84,7 +85,8 @@ class Gate:
         return self.meter.spent.get(check, 0.0) if self.meter else 0.0
 
     def run(self, words: Sequence[str], progress: Progress) -> Ran:
-        """Runs `rt ci` with these words, and prints its lines as they come, but for the closing line."""
+        """Runs `rt ci` with these words, and prints its lines as they come, but for the closing line. If all crates passed, the programs are in build/."""
+        sources = {it: built.sources_sum(it) for it in built.PROGRAMS if it in self.edits}
         began, before = time.monotonic(), getrusage(RUSAGE_CHILDREN)
         environment = {**os.environ, "RT_JOBS": str(side_by_side())}
         gate = subprocess.Popen(["rt", "ci", *words], cwd=TOP, env=environment, stdin=subprocess.DEVNULL, stdout=subprocess.PIPE,
@@ -106,6 +108,9 @@ class Gate:
         status = gate.wait()
         self.meter.stop()
         self.end_checks()
+        if not status and set(words) <= {"--anew"}:
+            for name, before_gate in sources.items():
+                built.record(name, before_gate)
         used = getrusage(RUSAGE_CHILDREN)
         total = used.ru_utime + used.ru_stime - before.ru_utime - before.ru_stime
         said = CLOSING.fullmatch(closing)

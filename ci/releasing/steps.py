@@ -69,7 +69,7 @@ def all_steps(short: bool) -> list[Step]:
     return [
         Step("checks without a proof", ["ci/check", "fast"]),
         Step("the prover's gate, from nothing", ["ci/gate", *([] if short else ["--anew"])]),
-        Step("the programs", ["make", "build"], builds=True),
+        Step("the programs", ["make", "build", "build-tests"], builds=True),
         Step("checks over the programs", ["ci/check", "programs"]),
         *(wrong_bodies(part, short) for part in range(1, WRONG_BODY_PARTS + 1)),
         Step(f"a soak of {inputs * SOAKS:,} inputs", ["build/dmr_soak", "--inputs", str(inputs), "--counts"]),

@@ -57,11 +57,12 @@ class Kits(unittest.TestCase):
         self.checkout, self.commands = pathlib.Path(room.name) / "checkout", pathlib.Path(room.name) / "commands"
         self.commands.mkdir()
         (self.checkout / "ci").mkdir(parents=True)
-        for name in ("gate", "wrong-bodies", "check-toolchain", "toolchain.py", "crates.py", "progress.py", "costs"):
+        for name in ("gate", "wrong-bodies", "check-toolchain", "toolchain.py", "crates.py", "built.py", "progress.py", "costs"):
             shutil.copy2(TOP / "ci" / name, self.checkout / "ci")
         shutil.copytree(TOP / "ci/gating", self.checkout / "ci/gating", ignore=shutil.ignore_patterns("__pycache__"))
         (self.checkout / "toolchain").write_text("logic c0ffee  # required\nkits kit-1 kit-2\n", encoding="utf-8")
-        (self.checkout / "crates.txt").write_text("dmr_bits:\ndmr_calls: dmr_bits\n", encoding="utf-8")
+        for name, text in (("crates.txt", "dmr_bits:\ndmr_calls: dmr_bits\ndmr_trunk: dmr_calls\n"), ("HANDLES", "Handles allowed: none.\n")):
+            (self.checkout / name).write_text(text, encoding="utf-8")
 
     def put_kit(self, takes_words: bool, version: str = "kit-2 logic c0ffee", said: str = "2 passed, 0 failed", status: int = 0, burns: tuple[str, ...] = (), edits: bool = True) -> None:
         """Puts an `rt` on PATH that behaves as one of the two kinds. Its gate proves the crates of `burns`, prints `said`, and ends with the status. `edits`

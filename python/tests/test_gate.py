@@ -71,6 +71,19 @@ class Ends(Kits):
             ran = self.run_command("ci/gate")
             self.assertEqual((ran.returncode, ran.stdout.splitlines()[-1]), (1, "1 passed, 1 failed"))
 
+    def test_program(self) -> None:
+        """The program that a gate built is in build/, if the whole gate passed."""
+        made, taken = self.checkout / "crates/dmr_trunk/out/dmr_trunk", self.checkout / "build/dmr_trunk"
+        made.parent.mkdir(parents=True)
+        made.write_text("a program", encoding="utf-8")
+        self.put_kit(True, status=1)
+        self.run_command("ci/gate")
+        self.put_kit(True)
+        self.run_command("ci/gate", "dmr_trunk")
+        self.assertFalse(taken.exists())
+        self.run_command("ci/gate")
+        self.assertEqual(taken.read_text(encoding="utf-8"), "a program")
+
     def test_costs(self) -> None:
         """The proofs that ran are in the table, and with --write-costs in the file, if the gate passed: the reference costs one unit, the other proof about as
         much. Each proof also prints its line with the time of day."""

@@ -16,6 +16,7 @@ from temzaar.console import Console, ReplyFrame
 from temzaar.faults import ToolFault
 from temzaar.hub.lines import HUB_LISTS
 from temzaar.hubconsole import HubConsole
+from temzaar.ports import free_ports
 from temzaar.process import ends_with_parent
 from temzaar.script import SessionFault
 
@@ -182,9 +183,9 @@ def status_of(console: Console) -> str:
 
 
 @contextlib.contextmanager
-def observe(room: str, site: str, port: int) -> Iterator[tuple[list[Observer], int]]:
+def observe(room: str, site: str) -> Iterator[tuple[list[Observer], int]]:
     """A hub on the console of a site, by its file, and all observers; the number of the hub's process. All of them end at the end."""
-    config, socket = pathlib.Path(room, "hub.toml"), f"{room}/console.sock"
+    config, socket, port = pathlib.Path(room, "hub.toml"), f"{room}/console.sock", free_ports(1)
     config.write_text(CONFIG.format(site=site, room=room, user=os.getuid(), port=port), encoding="utf-8")
     with open(f"{room}/hub-notes.txt", "wb") as notes:
         hub = subprocess.Popen([sys.executable, TOOLS / "hub", "--config", config], stdin=subprocess.DEVNULL, stderr=notes, preexec_fn=ends_with_parent())

@@ -13,11 +13,11 @@ from typing import NamedTuple
 
 TOP = pathlib.Path(__file__).resolve().parent.parent
 sys.path.insert(0, str(TOP / "python"))
-from temzaar.process import Controller  # noqa: E402  (the path comes first)
+from temzaar.ports import free_ports  # noqa: E402  (the path comes first)
+from temzaar.process import Controller  # noqa: E402
 from temzaar.script import SessionFault  # noqa: E402
 from temzaar.sitefile import Site  # noqa: E402
 
-FIRST_PORT = 17800
 # How often a carrier polls, in microseconds.
 PERIOD = 60_000
 CARRIERS, FIRST_LPCN, LPCN_STEP, CONTROL = 16, 101, 2, 3
@@ -37,10 +37,10 @@ class Answers(NamedTuple):
     longest_from_due: float
 
 
-def site_of(number: int, **keys: int) -> Site:
-    """A site of sixteen carriers on loopback, with ports of its own, those of the carriers in the order of their numbers, and with these keys."""
+def site_of(**keys: int) -> Site:
+    """A site of sixteen carriers on loopback, with ports that are free, those of the carriers in the order of their numbers, and with these keys."""
     site = Site(str(TOP / "sites" / "sixteen_carriers.toml"), **keys)
-    site.shift_ports(FIRST_PORT + number * (CARRIERS + 1) - site.console_port)
+    site.shift_ports(free_ports(CARRIERS + 1) - site.console_port)
     return site
 
 

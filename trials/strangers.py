@@ -16,11 +16,10 @@ from peers import Polling, ask, carrier, ended, figures, want
 from temzaar import code, pdus
 from temzaar.frames import POLL, active, hello, rx
 from temzaar.process import Controller, connect
-from temzaar.sitefile import Site
+from temzaar.sitefile import FREE_PORTS, Site
 
 TOP = os.path.dirname(os.path.dirname(os.path.realpath(__file__)))
 TWO, SIXTEEN = (os.path.join(TOP, "sites", name) for name in ("two_carriers.toml", "sixteen_carriers.toml"))
-FIRST_PORT = 17300
 # The strangers that hold a connection at once, and the seconds within which a base station is served all the same.
 STRANGERS, SERVED_WITHIN = 4000, 2.0
 # Waits of 100 ms after which a connection is silent: in a trial of silence, of a stop, and of other things.
@@ -37,7 +36,7 @@ RESET = struct.pack("ii", 1, 0)
 @contextmanager
 def served(program: str, path: str = TWO, **changes: int) -> Iterator[tuple[Site, Controller]]:
     """A site that is served, and its controller."""
-    site = Site(path, first_port=FIRST_PORT, **changes)
+    site = Site(path, first_port=FREE_PORTS, **changes)
     controller = Controller(program, site)
     try:
         controller.wait_until_served()

@@ -7,6 +7,7 @@ from itertools import accumulate
 from typing import Any, NamedTuple
 
 from temzaar.faults import ToolFault, read_text
+from temzaar.ports import free_ports
 from temzaar.sitekeys import WAIT_MS
 
 Row = dict[str, Any]
@@ -14,6 +15,8 @@ Row = dict[str, Any]
 MOST_OCTETS = 1 << 20
 # The address that the ports are on if the file names none.
 LOOPBACK = (127, 0, 0, 1)
+# In the place of a first port: those that nothing uses.
+FREE_PORTS = 0
 
 
 class SiteFault(ToolFault):
@@ -122,16 +125,17 @@ class Site:
     """A site: the values of its file, and its carriers.
 
     SiteFault: the file cannot be used. `carriers` is the greatest number of carriers that are kept, the control carrier always among them. With `first_port` the console listens on that port of
-    the loopback address and the carriers on the ports after it. `changes` are other keys of the file.
+    the loopback address and the carriers on the ports after it; with FREE_PORTS on ports that nothing uses. `changes` are other keys of the file.
     """
 
     def __init__(self, path: str, carriers: int = 16, first_port: int | None = None, **changes: Any) -> None:
         self.plan = read_plan(path)
         rows: list[Row] = sorted(self.plan["carrier"], key=lambda row: (row["number"] != self.plan["control"], row["number"]))[:carriers]
         if first_port is not None:
+            first = free_ports(1 + len(rows)) if first_port == FREE_PORTS else first_port
             for number, row in enumerate(rows):
-                row["port"] = first_port + 1 + number
-            self.plan["console_port"], self.plan["address"] = first_port, [*LOOPBACK]
+                row["port"] = first + 1 + number
+            self.plan["console_port"], self.plan["address"] = first, [*LOOPBACK]
         self.plan["carrier"] = sorted(rows, key=lambda row: row["number"])
         self.plan.update(changes)
 

@@ -2,7 +2,6 @@
 import os
 import queue
 import shutil
-import socket
 import subprocess
 import tempfile
 import threading
@@ -12,6 +11,7 @@ import urllib.request
 
 from temzaar import code, pdus
 from temzaar.frames import POLL, active
+from temzaar.ports import free_ports
 from temzaar.process import Controller, ends_with_parent
 from temzaar.sitefile import Site
 from tests.support import tool_words
@@ -82,8 +82,7 @@ class Scene:
         self.folder = tempfile.mkdtemp()
         self.controller = Controller(program, site, variables={"STATE_DIRECTORY": self.folder})
         self.controller.wait_until_served()
-        with socket.create_server(("127.0.0.1", 0)) as free:
-            self.port = int(free.getsockname()[1])
+        self.port = free_ports(1)
         self.base = f"http://127.0.0.1:{self.port}/"
         self.hub = self._start_hub(site, state_seconds)
         self.player = Player(site)

@@ -14,6 +14,7 @@ from collections.abc import Iterator
 from temzaar.cli.capture import StopRequests
 from temzaar.frames import DONE, POLL, hello, rx, welcome
 from temzaar.journal import Journal, JournalFault, OutputFile, read_journal
+from temzaar.ports import free_ports
 from temzaar.process import connect
 from temzaar.script import Input, read_script
 from temzaar.sitefile import Site
@@ -22,7 +23,8 @@ from tests.packets import Sent, Talk, write_pcap
 from tests.support import TOP, TWO_CARRIERS, take_signals, tool_words
 
 FAKE = str(TOP / "python" / "tests" / "fake_controller.py")
-PORT, SHIFT = 18200, 50
+# how much higher the ports of the controller are than the three of the site
+SHIFT = 3
 RX = rx(0, bytes(25))
 CARRIED = ["open 0", "bytes 0 010401000001", "bytes 0 0300", f"bytes 0 {(RX + POLL).hex().upper()}"]
 
@@ -46,7 +48,8 @@ class Recorded(unittest.TestCase):
         holder = tempfile.TemporaryDirectory()
         self.addCleanup(holder.cleanup)
         self.folder = pathlib.Path(holder.name)
-        self.site, self.out = Site(TWO_CARRIERS, first_port=PORT, tick_ms=10), self.folder / "incident.txt"
+        self.port, self.out = free_ports(2 * SHIFT), self.folder / "incident.txt"
+        self.site = Site(TWO_CARRIERS, first_port=self.port, tick_ms=10)
         self.path = self.folder / "site.toml"
         self.path.write_text(self.site.text(), encoding="utf-8")
 
@@ -66,7 +69,7 @@ class Recorded(unittest.TestCase):
 
     def talk(self) -> socket.socket:
         """A carrier's connection that had two answers."""
-        stream = connect("127.0.0.1", PORT + 1)
+        stream = connect("127.0.0.1", self.port + 1)
         for octets, end in ((hello(0, 1), welcome(1)), (POLL, DONE), (RX + POLL, DONE)):
             stream.sendall(octets)
             answer = b""
@@ -77,9 +80,9 @@ class Recorded(unittest.TestCase):
     def require_no_controller(self) -> None:
         """The stand-in has ended, within some seconds."""
         until = time.monotonic() + 10
-        while listens(PORT + SHIFT) and time.monotonic() < until:
+        while listens(self.port + SHIFT) and time.monotonic() < until:
             time.sleep(0.05)
-        self.assertFalse(listens(PORT + SHIFT), "the controller was left")
+        self.assertFalse(listens(self.port + SHIFT), "the controller was left")
 
     def test_signals_end_it_well(self) -> None:
         for number in (signal.SIGTERM, signal.SIGHUP, signal.SIGINT):
@@ -113,7 +116,7 @@ class Recorded(unittest.TestCase):
     def test_the_controller_ends_by_itself(self) -> None:
         """What led to it is a script all the same. The stand-in ends at the line `stop now`."""
         with self.recording() as capture, self.talk():
-            with connect("127.0.0.1", PORT) as console:
+            with connect("127.0.0.1", self.port) as console:
                 console.sendall(b"stop now\n")
                 said, faults = capture.communicate(timeout=60)
         self.assertEqual((capture.returncode, faults), (3, "capture: the controller ended by itself; carrier 1: listening; console: listening; stopped\n"), said)
@@ -162,9 +165,9 @@ class Recorded(unittest.TestCase):
             self.assertFalse((self.folder / "incident.txt.out").exists())
 
     def test_a_port_that_is_taken(self) -> None:
-        with socket.create_server(("127.0.0.1", PORT + 2)):
+        with socket.create_server(("127.0.0.1", self.port + 2)):
             done = subprocess.run(self.words(), capture_output=True, text=True, check=False, timeout=60)
-        self.assertEqual((done.returncode, done.stderr), (1, f"capture: cannot listen on port {PORT + 2}: Address already in use\n"))
+        self.assertEqual((done.returncode, done.stderr), (1, f"capture: cannot listen on port {self.port + 2}: Address already in use\n"))
         self.require_no_controller()
 
     def test_words_that_contradict(self) -> None:
@@ -175,7 +178,7 @@ class Recorded(unittest.TestCase):
     def play_packets(self, missing: int) -> subprocess.CompletedProcess[str]:
         """The command over a packet capture of two polls; octets are missing before the second one."""
         sent: list[Sent] = []
-        talk, aloha = Talk(sent, PORT + 1), "821a00"
+        talk, aloha = Talk(sent, self.port + 1), "821a00"
         talk.open(0.0)
         talk.send(0.1, hello(0, 1))
         talk.answer(0.11, welcome(1))
@@ -202,7 +205,7 @@ class Recorded(unittest.TestCase):
     def test_a_packet_capture_with_a_gap(self) -> None:
         done = self.play_packets(28)
         self.assertEqual((done.returncode, done.stderr), (3, ""), done.stdout)
-        gap = f"carrier 0 (10.0.0.2:40000 to 10.0.0.1:{PORT + 1}), sent: 28 octets are missing after octet 8, before packet 8; what follows is left out"
+        gap = f"carrier 0 (10.0.0.2:40000 to 10.0.0.1:{self.port + 1}), sent: 28 octets are missing after octet 8, before packet 8; what follows is left out"
         self.assertIn(gap, done.stdout)
         self.assertIn(f"# Not whole: {gap}", self.out.read_text(encoding="utf-8"))
 

@@ -6,10 +6,9 @@ import unittest
 
 from temzaar.frames import BYE, POLL, FrameType, active, hello, rx
 from temzaar.process import Controller, connect
-from temzaar.sitefile import Site
+from temzaar.sitefile import FREE_PORTS, Site
 from tests.support import TWO_CARRIERS, program, read_document, table_rows
 
-PORT = 17500
 # seconds to wait for a note or an answer, and waits of 100 ms until silence ends a connection that something else is to end
 PATIENCE = 60
 LONG = 600
@@ -48,7 +47,7 @@ class Closings(unittest.TestCase):
     def serve(self, silence: int) -> None:
         """Serves the site. A connection is silent after `silence` waits of 100 ms. If something else is to end it, these are many, so that a busy
         machine does not make it silent first."""
-        self.site = Site(TWO_CARRIERS, first_port=PORT, silence=silence)
+        self.site = Site(TWO_CARRIERS, first_port=FREE_PORTS, silence=silence)
         self.controller = Controller(program("dmr_trunk"), self.site)
         self.addCleanup(self.controller.stop)
         self.controller.wait_until_served()

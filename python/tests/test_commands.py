@@ -2,7 +2,6 @@
 import contextlib
 import os
 import pathlib
-import re
 import signal
 import socket
 import subprocess
@@ -10,12 +9,13 @@ import tempfile
 import threading
 import time
 import unittest
-from collections.abc import Callable, Iterator
+from collections.abc import Callable, Iterator, Sequence
 from typing import NamedTuple
 
 from temzaar.cli import callbook, capture, carriers, check, console, hub, siteview, timeline
+from temzaar.ports import free_ports
 from temzaar.process import connect
-from temzaar.sitefile import Site
+from temzaar.sitefile import FREE_PORTS, Site
 from tests.support import EXAMPLES, TOP, TWO_CARRIERS, call_tool, take_signals, tool_words
 
 MAINS: dict[str, Callable[[list[str]], int]] = {"siteview": siteview.main, "timeline": timeline.main, "callbook": callbook.main, "capture": capture.main, "carriers": carriers.main,
@@ -25,8 +25,6 @@ HELP_WORDS = {"capture": "--site {none} --program {none} --out {out}", "check": 
 # Those that do something without words.
 WITHOUT_WORDS = ("hub", "console", "callbook")
 FAKE = str(TOP / "python" / "tests" / "fake_controller.py")
-# The console of a stand-in, the first of some ports on which nothing listens, and the first of a controller that is started.
-CONSOLE, NOBODY, PLAYED = 18400, 18450, 18500
 SCRIPT, PRINTED = EXAMPLES / "scripts" / "operator.txt", EXAMPLES / "expected" / "operator.txt"
 # What siteview asks of a site of one carrier, in this order, and the replies.
 REPLIES = b"status carriers 1 radios 0 asks 0 lines 0 calls 0 fill aloha\nslot 0 0 control\nslot 0 1 free\nend\n"
@@ -37,7 +35,8 @@ class Case(NamedTuple):
 
     In the words {site} is a site file, {script} and {printed} are a script and its output, and {program} is a stand-in for the controller. {none} is not
     there, {folder} is a folder, {text} a file of something else, and {octets} is not text. {wrong} is a site file with wrong types, {nobody} one whose
-    ports nobody serves, and {out} can be written. {deep} has arrays in arrays, and {zeros} a user whose name no system has.
+    ports nobody serves: its console at {free}, carrier 0 at {free_carrier}. {out} can be written. {deep} has arrays in arrays, and {zeros} a user whose
+    name no system has.
     """
     tool: str
     words: str
@@ -49,9 +48,9 @@ DRAW = "--site {site} --script {script} --printed {printed}"
 RECORD = "--program {program} --out {out}"
 CASES = (
     # no controller
-    Case("siteview", f"--console 127.0.0.1:{NOBODY} --once", 1, f"cannot connect to the console 127.0.0.1:{NOBODY}: Connection refused"),
+    Case("siteview", "--console {free} --once", 1, "cannot connect to the console {free}: Connection refused"),
     Case("siteview", "--site {nobody} --once", 1, "cannot connect to the console"),
-    Case("carriers", "--site {nobody} --seconds 1", 1, f"carrier 0: cannot connect to 127.0.0.1:{NOBODY + 1}: Connection refused"),
+    Case("carriers", "--site {nobody} --seconds 1", 1, "carrier 0: cannot connect to {free_carrier}: Connection refused"),
     Case("carriers", "--site {site} --program {none}", 1, "cannot run {none}: No such file or directory"),
     Case("capture", "--site {site} --program {none} --out {out}", 1, "cannot run {none}: No such file or directory"),
     Case("capture", "--site {site} --program {folder} --out {out}", 1, "cannot run {folder}: Permission denied"),
@@ -63,7 +62,7 @@ CASES = (
     Case("siteview", "--hub {none} --once", 1, "cannot connect to the hub {none}: No such file or directory"),
     Case("console", "--socket {none} status", 1, "cannot connect to the hub {none}: No such file or directory"),
     Case("console", "--socket {text} status", 1, "cannot connect to the hub {text}: Connection refused"),
-    Case("console", f"--tcp 127.0.0.1:{NOBODY} status", 1, f"cannot connect to the console 127.0.0.1:{NOBODY}: Connection refused"),
+    Case("console", "--tcp {free} status", 1, "cannot connect to the console {free}: Connection refused"),
     # no file, a folder for a file, a file of something else
     *(Case(tool, f"--records {{{file}}}", 1, f"{{{file}}}: {said}") for tool in ("callbook", "timeline")
       for file, said in (("none", "No such file or directory"), ("folder", "Is a directory"), ("text", "not an SQLite database"), ("octets", "not an SQLite database"))),
@@ -113,10 +112,11 @@ CASES = (
 
 
 class Consoles:
-    """A console for one connection after another, which answers with given octets and then waits."""
+    """A console for one connection after another, which answers with given octets and then waits. `place` is its address and port."""
 
     def __init__(self, answer: bytes) -> None:
-        self.answer, self.listener = answer, socket.create_server(("127.0.0.1", CONSOLE))
+        self.answer, self.listener = answer, socket.create_server(("127.0.0.1", 0))
+        self.place = f"127.0.0.1:{self.listener.getsockname()[1]}"
         self.thread = threading.Thread(target=self.serve, daemon=True)
         self.thread.start()
 
@@ -143,12 +143,13 @@ class Ended(unittest.TestCase):
         holder = tempfile.TemporaryDirectory()
         self.addCleanup(holder.cleanup)
         self.folder = pathlib.Path(holder.name)
-        site = pathlib.Path(TWO_CARRIERS).read_text(encoding="utf-8")
+        site, free = pathlib.Path(TWO_CARRIERS).read_text(encoding="utf-8"), Site(TWO_CARRIERS, first_port=FREE_PORTS)
         self.names = {"site": TWO_CARRIERS, "script": str(SCRIPT), "printed": str(PRINTED), "program": FAKE, "out": str(self.folder / "out"), "none": str(self.folder / "none")}
         (self.folder / "folder").mkdir()
         for name, octets in (("text", b"This is\nsomething else.\n"), ("octets", b"\xff\xfe\0"), ("wrong", site.replace("console_port = 7100", 'console_port = "7100"').encode()),
-                             ("nobody", re.sub(r"= 710(\d)", r"= 1845\1", site).encode()), ("deep", b"a = " + b"[" * 100000), ("zeros", b'[roles]\nfull_users = ["a\\u0000"]\n')):
+                             ("nobody", free.text().encode()), ("deep", b"a = " + b"[" * 100000), ("zeros", b'[roles]\nfull_users = ["a\\u0000"]\n')):
             (self.folder / name).write_bytes(octets)
+        self.names |= {"free": f"127.0.0.1:{free.console_port}", "free_carrier": f"127.0.0.1:{free.row(0)['port']}"}
         self.names |= {name: str(self.folder / name) for name in ("folder", "text", "octets", "wrong", "nobody", "deep", "zeros")}
 
     def test_the_table(self) -> None:
@@ -187,7 +188,7 @@ class Ended(unittest.TestCase):
         draw = ("timeline", "--site", TWO_CARRIERS, "--script", str(SCRIPT), "--printed", str(PRINTED))
         consoles = Consoles(REPLIES)
         self.addCleanup(consoles.close)
-        view, ask = ("siteview", "--console", f"127.0.0.1:{CONSOLE}", "--once"), ("console", "--tcp", f"127.0.0.1:{CONSOLE}", "status")
+        view, ask = ("siteview", "--console", consoles.place, "--once"), ("console", "--tcp", consoles.place, "status")
         for words, fault in ((draw, 1), (view, 1), (ask, 1), (("check", "--no-controller", TWO_CARRIERS), 2)):
             for shell, status, said in (("> /dev/full", fault, f"{words[0]}: standard output: No space left on device\n"),
                                         (">&-", fault, f"{words[0]}: standard output is closed\n"), ("2>&- >/dev/null", 0, "")):
@@ -200,8 +201,8 @@ class Ended(unittest.TestCase):
         consoles = Consoles(REPLIES)
         self.addCleanup(consoles.close)
         for words, status in ((("timeline", "--site", TWO_CARRIERS, "--script", str(SCRIPT), "--printed", str(PRINTED)), -signal.SIGPIPE),
-                              (("siteview", "--console", f"127.0.0.1:{CONSOLE}", "--once"), -signal.SIGPIPE),
-                              (("console", "--tcp", f"127.0.0.1:{CONSOLE}", "status"), -signal.SIGPIPE), (("check", "--no-controller", TWO_CARRIERS), -signal.SIGPIPE), (("capture", "--help"), 0)):
+                              (("siteview", "--console", consoles.place, "--once"), -signal.SIGPIPE),
+                              (("console", "--tcp", consoles.place, "status"), -signal.SIGPIPE), (("check", "--no-controller", TWO_CARRIERS), -signal.SIGPIPE), (("capture", "--help"), 0)):
             with self.subTest(words[0]):
                 reader, writer = os.pipe()
                 os.close(reader)
@@ -211,11 +212,11 @@ class Ended(unittest.TestCase):
                 self.assertEqual((process.returncode, said), (status, ""))
 
     @contextlib.contextmanager
-    def waiting(self, *words: str) -> Iterator[subprocess.Popen[str]]:
-        """A command that waits for a console which does not answer."""
+    def waiting(self, words: Sequence[str], more: Sequence[str]) -> Iterator[subprocess.Popen[str]]:
+        """A command that waits for a console which does not answer, whose address and port are added to its words."""
         consoles = Consoles(b"")
         try:
-            with subprocess.Popen(tool_words(*words), stdout=subprocess.PIPE, stderr=subprocess.PIPE, text=True, preexec_fn=take_signals) as process:
+            with subprocess.Popen(tool_words(*words, consoles.place, *more), stdout=subprocess.PIPE, stderr=subprocess.PIPE, text=True, preexec_fn=take_signals) as process:
                 self.addCleanup(process.kill)
                 time.sleep(2.0)
                 yield process
@@ -224,22 +225,21 @@ class Ended(unittest.TestCase):
 
     def test_signals(self) -> None:
         for number in (signal.SIGINT, signal.SIGTERM):
-            for words in (("siteview", "--console", f"127.0.0.1:{CONSOLE}", "--once"), ("console", "--tcp", f"127.0.0.1:{CONSOLE}", "status")):
-                with self.subTest(number, tool=words[0]), self.waiting(*words) as process:
+            for words, more in ((("siteview", "--console"), ("--once",)), (("console", "--tcp"), ("status",))):
+                with self.subTest(number, tool=words[0]), self.waiting(words, more) as process:
                     process.send_signal(number)
                     self.assertEqual((process.communicate(timeout=60), process.returncode), (("", ""), -number))
 
     def test_signals_end_the_controller_too(self) -> None:
-        site = self.folder / "played"
-        site.write_text(Site(TWO_CARRIERS, first_port=PLAYED).text(), encoding="utf-8")
+        played = free_ports(3)
         for number in (signal.SIGINT, signal.SIGTERM, signal.SIGHUP):
-            words = tool_words("carriers", "--site", str(site), "--program", FAKE, "--port", str(PLAYED), "--seconds", "60")
+            words = tool_words("carriers", "--site", TWO_CARRIERS, "--program", FAKE, "--port", str(played), "--seconds", "60")
             with self.subTest(number), subprocess.Popen(words, stdout=subprocess.PIPE, stderr=subprocess.PIPE, text=True, preexec_fn=take_signals) as process:
                 self.addCleanup(process.kill)
-                connect("127.0.0.1", PLAYED, 30).close()
+                connect("127.0.0.1", played, 30).close()
                 process.send_signal(number)
                 self.assertEqual((process.communicate(timeout=60), process.returncode), (("", ""), -number))
-                self.assertRaises(ConnectionRefusedError, socket.create_connection, ("127.0.0.1", PLAYED), 1)
+                self.assertRaises(ConnectionRefusedError, socket.create_connection, ("127.0.0.1", played), 1)
 
 
 class Answers(unittest.TestCase):
@@ -252,7 +252,7 @@ class Answers(unittest.TestCase):
                              (REPLIES.split(b"\n")[0] + b"\nslot 0 1 call\nend\ncall 0\nend\n", "not a list of calls")):
             consoles = Consoles(answer)
             try:
-                done = call_tool(siteview.main, "--console", f"127.0.0.1:{CONSOLE}", "--once")
+                done = call_tool(siteview.main, "--console", consoles.place, "--once")
             finally:
                 consoles.close()
             self.assertEqual((done.returncode, done.stdout), (1, ""), done.stderr)

@@ -2,13 +2,13 @@
 away, and queries that are refused."""
 import json
 import re
-import socket
 from typing import Any
 from unittest import mock
 
 from temzaar.hub import pagefiles, service
 from temzaar.hub.service import Hub
 from temzaar.hub.web import BROWSER_RULES, CONTENT_POLICY
+from temzaar.ports import free_ports
 from tests.hub_support import wait_until
 from tests.support import TOP
 from tests.test_hub_web import Answer, WebCase
@@ -133,7 +133,7 @@ class Parts(BoardCase):
     async def test_before_the_first_picture(self) -> None:
         self.fake.octets["slots"] = b"error not yet\n"
         self.fake.octets["radios 0"] = b"nothing\nend\n"
-        self.port = free_port()
+        self.port = free_ports(1)
         await self.start(config=self.config(http={"port": self.port}))
         self.assertEqual(((await self.view("/v1/state.json"))["state"], (await self.view("/v1/state.json"))["radios"], await self.view("/v1/radios.json"), await self.calls()), (None, None, None, []))
         history = await self.view("/v1/history.json")
@@ -210,9 +210,3 @@ class History(BoardCase):
         self.assertEqual((view["controller"]["up"], bool(view["controller"]["reason"]), view["state"]["counts"]["calls"]), (False, True, 2))
         self.assertGreater(before, 0)
         self.assertEqual(sum((await self.view("/v1/history.json"))["pictures"]), before)
-
-
-def free_port() -> int:
-    """A port on which nothing listens."""
-    with socket.create_server(("127.0.0.1", 0)) as free:
-        return int(free.getsockname()[1])

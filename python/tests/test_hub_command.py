@@ -11,11 +11,9 @@ import unittest
 from temzaar.cli.hub import config_of, read_words
 from temzaar.hub.config import RecordsKeys
 from temzaar.process import Controller
-from temzaar.sitefile import Site
+from temzaar.sitefile import FREE_PORTS, Site
 from tests.fake_console import FakeConsole
 from tests.support import TWO_CARRIERS, program, run_tool, tool_words
-
-PORT = 17540
 
 
 class HubProcess(unittest.TestCase):
@@ -110,7 +108,7 @@ class OverTheController(HubProcess):
 
     def test_lines_of_several_operators(self) -> None:
         built = program("dmr_trunk")
-        site = Site(TWO_CARRIERS, first_port=PORT, silence=5)
+        site = Site(TWO_CARRIERS, first_port=FREE_PORTS, silence=5)
         path = os.path.join(self.folder, "site.toml")
         with open(path, "w", encoding="utf-8") as it:
             it.write(site.text())

@@ -8,6 +8,7 @@ from temzaar.hub.lineport import PortFault
 from temzaar.hub.lines import Line, LineCutter, LineKind, printable
 from temzaar.hub.roles import ConfigFault, Role, Rules, find_rules
 from temzaar.hub.config import RoleKeys
+from temzaar.ports import free_ports
 from tests.hub_support import FULL, ME, NOBODY, NONE, READ, HubCase, wait_until
 
 STATUS = b"status carriers 2 radios 40 asks 0 lines 1 calls 2 fill aloha\n"
@@ -184,8 +185,7 @@ class Allowed(HubCase):
         self.assertEqual(hub.desk.sessions, {})
 
     async def test_over_tcp_everybody_may_read_and_no_more(self) -> None:
-        with socket.create_server(("127.0.0.1", 0)) as free:
-            port = free.getsockname()[1]
+        port = free_ports(1)
         await self.start(FULL, self.config({"tcp_port": port}))
         reader, writer = await asyncio.open_connection("127.0.0.1", port)
         writer.write(b"status\nstay\n")

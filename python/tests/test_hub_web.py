@@ -4,7 +4,6 @@ import json
 import pathlib
 import re
 import shutil
-import socket
 import subprocess
 import time
 from typing import Any
@@ -15,6 +14,7 @@ from temzaar.hub.service import Hub
 from temzaar.hub.session import Desk
 from temzaar.hub.web import Response
 from temzaar.picture import RadioList
+from temzaar.ports import free_ports
 from tests.hub_support import FULL, HubCase, wait_until
 from tests.made_records import make_records
 
@@ -36,8 +36,7 @@ class WebCase(HubCase):
 
     async def serve(self, health: HealthKeys = HealthKeys(), records: str = "", **http: Any) -> Hub:
         """Starts it, with a file of records if one is named."""
-        with socket.create_server(("127.0.0.1", 0)) as free:
-            self.port = free.getsockname()[1]
+        self.port = free_ports(1)
         hub = await self.start(FULL, self.config(http={"port": self.port, **http}, health=health, records=records))
         await wait_until(lambda: hub.model.picture is not None and hub.model.radios is not None)
         return hub

@@ -11,11 +11,10 @@ from temzaar.console import Console, Status
 from temzaar.faults import ToolFault
 from temzaar.process import Controller
 from temzaar.records import RecordedTerm, opened_records
-from temzaar.sitefile import Site
+from temzaar.sitefile import FREE_PORTS, Site
 from tests.support import TWO_CARRIERS, program
 from tests.test_served import ACKNOWLEDGED, register_radio
 
-PORT = 17640
 # the radio that register_radio registers
 RADIO = 1001
 # A term has so few entries that one ends each half of a second, if nothing but ticks comes.
@@ -30,7 +29,7 @@ class Kept(unittest.TestCase):
         folder = tempfile.TemporaryDirectory()
         self.addCleanup(folder.cleanup)
         self.folder = folder.name
-        self.site = Site(TWO_CARRIERS, first_port=PORT, tick_ms=TICK_MS, term_entries=ENTRIES)
+        self.site = Site(TWO_CARRIERS, first_port=FREE_PORTS, tick_ms=TICK_MS, term_entries=ENTRIES)
 
     def serve(self, folder: str | None = None, words: Sequence[str] = ()) -> Controller:
         """The controller, once it listens."""

@@ -13,11 +13,11 @@ from temzaar import code, pdus
 from temzaar.console import Console
 from temzaar.frames import POLL, hello, rx
 from temzaar.process import Controller, connect
-from temzaar.sitefile import Site
+from temzaar.sitefile import FREE_PORTS, Site
 from tests.support import SITES, TWO_CARRIERS, program
 from tests.test_served import Carrier
 
-PORT, SIXTEEN_CARRIERS = 17800, str(SITES / "sixteen_carriers.toml")
+SIXTEEN_CARRIERS = str(SITES / "sixteen_carriers.toml")
 # the seconds after which an answer, an end or a note is late even on a busy machine
 PATIENCE = 120
 # waits of 100 ms until silence ends a connection that something else is to end
@@ -37,7 +37,7 @@ class Served(unittest.TestCase):
 
     def serve(self, *words: str, path: str = TWO_CARRIERS, **changes: Any) -> None:
         """Serves the site of a file with changed keys, by these further words of the command line."""
-        self.site = Site(path, first_port=PORT, **changes)
+        self.site = Site(path, first_port=FREE_PORTS, **changes)
         self.controller = Controller(program("dmr_trunk"), self.site, words)
         self.addCleanup(self.controller.stop)
         self.controller.wait_until_served()

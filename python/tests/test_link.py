@@ -8,13 +8,12 @@ from temzaar import code
 from temzaar.frames import BYE, DONE, FROM_CARRIER, POLL, TO_CARRIER, Cutter, Frame, FrameType, Link, active, burst_frame, hello, rx, welcome
 from temzaar.process import Controller, connect, replay
 from temzaar.script import read_printed
-from temzaar.sitefile import Site
+from temzaar.sitefile import FREE_PORTS, Site
 from tests.decoded import frame_lines
 from tests.support import TWO_CARRIERS, program, read_document, table_rows
 
 LINK, FORMATS = read_document("LINK.md"), read_document("FORMATS.md")
 BURSTS = {name: bytes.fromhex(burst) for name, _, _, burst in table_rows(LINK, "## Bursts for tests")}
-PORT = 17600
 # seconds to wait for the end of a connection
 PATIENCE = 60
 
@@ -184,7 +183,7 @@ class Ends(unittest.TestCase):
         return b"" if text == "closed, and nothing before" else self.ANSWERS
 
     def test_what_is_seen(self) -> None:
-        site = Site(TWO_CARRIERS, first_port=PORT, silence=20)
+        site = Site(TWO_CARRIERS, first_port=FREE_PORTS, silence=20)
         port, before, tried = site.row(0)["port"], "", set()
         with Controller(program("dmr_trunk"), site) as controller:
             controller.wait_until_served()

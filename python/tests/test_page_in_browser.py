@@ -6,12 +6,11 @@ import json
 import re
 import unittest
 
-from temzaar.sitefile import Site
+from temzaar.sitefile import FREE_PORTS, Site
 from tests.browser import Chromium, find_chromium
 from tests.page_scene import Scene
 from tests.support import TWO_CARRIERS, program
 
-PORT = 17700
 # A term of so few entries ends each six seconds.
 ENTRIES = 300
 # Everything that is shown in text of a colour too near to that of its background: less than 4.5 to 1 (WCAG 2.2, 1.4.3).
@@ -41,7 +40,7 @@ class InBrowser(unittest.TestCase):
 
     def setUp(self) -> None:
         built, found = program("dmr_trunk"), find_chromium()
-        self.scene = Scene(built, Site(TWO_CARRIERS, first_port=PORT, hang=8, term_entries=ENTRIES))
+        self.scene = Scene(built, Site(TWO_CARRIERS, first_port=FREE_PORTS, hang=8, term_entries=ENTRIES))
         self.addCleanup(self.scene.close)
         self.browser = Chromium(found)
         self.addCleanup(self.browser.close)

@@ -7,11 +7,10 @@ import unittest
 from collections.abc import Mapping, Sequence
 
 from temzaar.process import Controller
-from temzaar.sitefile import Site
+from temzaar.sitefile import FREE_PORTS, Site
 from tests.support import TWO_CARRIERS, program
 from tests.test_served import ACKNOWLEDGED, register_radio
 
-PORT = 17520
 # A term has so few entries that one ends each half of a second, if nothing but ticks comes.
 ENTRIES, TICK_MS = 50, 10
 
@@ -25,7 +24,7 @@ class Recorded(unittest.TestCase):
         self.addCleanup(folder.cleanup)
         self.folder = folder.name
         self.path = pathlib.Path(self.folder, "site.txt")
-        self.site = Site(TWO_CARRIERS, first_port=PORT, tick_ms=TICK_MS, term_entries=ENTRIES)
+        self.site = Site(TWO_CARRIERS, first_port=FREE_PORTS, tick_ms=TICK_MS, term_entries=ENTRIES)
 
     def serve(self, words: Sequence[str] = (), more: Mapping[str, str] | None = None) -> Controller:
         """The controller, once it listens."""

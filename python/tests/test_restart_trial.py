@@ -8,12 +8,10 @@ import unittest
 
 from tests.support import TOP
 
-PORT = 17580
-
 
 def run_trial(*words: str, broken: str = "") -> subprocess.CompletedProcess[str]:
     """The trial over the stand-in. The folder that a failed trial keeps is removed."""
-    line = [sys.executable, str(TOP / "trials" / "restart"), str(TOP / "python" / "tests" / "keeping_controller.py"), *words, "--port", str(PORT), "--latest", "30"]
+    line = [sys.executable, str(TOP / "trials" / "restart"), str(TOP / "python" / "tests" / "keeping_controller.py"), *words, "--latest", "30"]
     done = subprocess.run(line, capture_output=True, text=True, check=False, timeout=200, env={**os.environ, "BROKEN": broken})
     for folder in re.findall(r"the folder is (\S+)\)", done.stdout):
         shutil.rmtree(folder)

@@ -11,12 +11,12 @@ import unittest
 
 from temzaar import code, pdus
 from temzaar.frames import DONE, POLL, TO_CARRIER, Cutter, FrameType, Link, active, hello, welcome
+from temzaar.ports import free_ports
 from temzaar.process import Controller, connect, replay
 from temzaar.script import Input, read_printed, read_script
-from temzaar.sitefile import Row, Site
+from temzaar.sitefile import FREE_PORTS, Row, Site
 from tests.support import EXAMPLES, SITES, TOP, TWO_CARRIERS, program, run_tool, tool_words
 
-PORT = 17400
 # what siteview shows once the first 19 inputs of queued_call.txt have come: three calls, and a request that waits
 SHOWN = """\
 carriers 2 of 2 up   radios 4   asks 0   lines 1   calls 3   fill aloha
@@ -73,7 +73,7 @@ class Listening(unittest.TestCase):
 
     def test_a_registration_is_acknowledged(self) -> None:
         """A site is served at the address of its site file, and not at 127.0.0.1. After one term the program ends with status 0."""
-        site = Site(TWO_CARRIERS, first_port=PORT + 10, address=[int(it) for it in self.OTHER.split(".")], tick_ms=10, term_entries=300)
+        site = Site(TWO_CARRIERS, first_port=FREE_PORTS, address=[int(it) for it in self.OTHER.split(".")], tick_ms=10, term_entries=300)
         port = site.row(0)["port"]
         with Controller(program("dmr_trunk"), site, ["--terms", "1"]) as controller:
             controller.wait_until_served()
@@ -85,7 +85,7 @@ class Listening(unittest.TestCase):
 
     def test_a_port_that_is_taken(self) -> None:
         """A note has the system's reason, the text names the port, the status is 1, and nothing is served."""
-        built, site = program("dmr_trunk"), Site(TWO_CARRIERS, first_port=PORT + 15)
+        built, site = program("dmr_trunk"), Site(TWO_CARRIERS, first_port=FREE_PORTS)
         port = site.row(1)["port"]
         with tempfile.TemporaryDirectory() as folder, socket.create_server(("127.0.0.1", port)):
             path = os.path.join(folder, "site.toml")
@@ -100,12 +100,12 @@ class View(unittest.TestCase):
     """A site in a known state, as siteview shows it."""
 
     def test_queued_call(self) -> None:
-        site = Site(TWO_CARRIERS, first_port=PORT, hang=60000, maximum=60000)
+        site = Site(TWO_CARRIERS, first_port=FREE_PORTS, hang=60000, maximum=60000)
         with Controller(program("dmr_trunk"), site) as controller:
             controller.wait_until_served()
             inputs = read_script((EXAMPLES / "scripts" / "queued_call.txt").read_text(encoding="utf-8"))
             streams = self.feed(site, inputs[:next(n for n, it in enumerate(inputs) if it.kind == "tick")])
-            done = run_tool("siteview", "--console", f"127.0.0.1:{PORT}", "--once")
+            done = run_tool("siteview", "--console", f"127.0.0.1:{site.console_port}", "--once")
             for stream in streams.values():
                 stream.close()
         self.assertEqual(done.stdout.partition("\n")[2], SHOWN, done.stderr)
@@ -130,13 +130,13 @@ class Played(unittest.TestCase):
         built = program("dmr_trunk")
         for version in ("1", "2"):
             done = run_tool("carriers", "--site", str(SITES / "sixteen_carriers.toml"), "--program", built, "--carriers", "4", "--radios", "12", "--seconds", "4",
-                            "--link-version", version, "--port", str(PORT + 40))
+                            "--link-version", version)
             self.assertEqual(done.returncode, 0, done.stdout + done.stderr)
 
 
     def test_beside_another_client(self) -> None:
         """The control carrier is played while another client serves the other carrier, to which its P_CLEARs go: the slots there are not judged."""
-        site, ends = Site(TWO_CARRIERS, first_port=PORT + 80, hang=5), threading.Event()
+        site, ends = Site(TWO_CARRIERS, first_port=FREE_PORTS, hang=5), threading.Event()
         with tempfile.TemporaryDirectory() as folder, Controller(program("dmr_trunk"), site) as controller:
             path = os.path.join(folder, "site.toml")
             with open(path, "w", encoding="utf-8") as it:
@@ -231,7 +231,7 @@ class Carrier:
 class Captured(unittest.TestCase):
     """The script of a session that capture records is what went over its ports. `test_ticks` tests how well it finds ticks, on sessions that are the same each time."""
 
-    TICK_MS, HANG, SHIFT = 10, 4, 5
+    TICK_MS, HANG, SHIFT = 10, 4, 3
 
     def talk(self, site: Site, seconds: float, seed: int) -> list[Carrier]:
         """Carriers and radios: calls to all talkgroups again and again. The control carrier speaks version 2 of the link, the other version 1."""
@@ -256,8 +256,8 @@ class Captured(unittest.TestCase):
     def test_late_pieces(self) -> None:
         """A controller with ticks of 10 ms, and a relay before it, so that the site takes pieces at other ticks than their times say."""
         built, changes = program("dmr_trunk"), {"tick_ms": self.TICK_MS, "hang": self.HANG, "link_version": 2}
-        site = Site(TWO_CARRIERS, first_port=PORT + 60, **changes)
-        above = Site(TWO_CARRIERS, first_port=PORT + 60 + 2 * self.SHIFT, **changes)
+        first = free_ports(3 * self.SHIFT)
+        site, above = (Site(TWO_CARRIERS, first_port=it, **changes) for it in (first, first + 2 * self.SHIFT))
         with tempfile.TemporaryDirectory() as folder, Controller(built, above) as controller:
             path, out = os.path.join(folder, "site.toml"), os.path.join(folder, "incident.txt")
             with open(path, "w", encoding="utf-8") as it:
@@ -287,10 +287,10 @@ class Captured(unittest.TestCase):
         """Carriers that are killed while calls are active, others of version 1 after them, and an operator: captured, and replayed."""
         built = program("dmr_trunk")
         with tempfile.TemporaryDirectory() as folder:
-            site, path = Site(TWO_CARRIERS, first_port=PORT + 20, link_version=2), os.path.join(folder, "site.toml")
+            site, path = Site(TWO_CARRIERS, first_port=free_ports(2 * self.SHIFT), link_version=2), os.path.join(folder, "site.toml")
             with open(path, "w", encoding="utf-8") as it:
                 it.write(site.text())
-            with subprocess.Popen(tool_words("capture", "--site", path, "--program", built, "--out", f"{folder}/incident.txt"), stdout=subprocess.PIPE, stderr=subprocess.PIPE, text=True) as capture:
+            with subprocess.Popen(tool_words("capture", "--site", path, "--program", built, "--shift", str(self.SHIFT), "--out", f"{folder}/incident.txt"), stdout=subprocess.PIPE, stderr=subprocess.PIPE, text=True) as capture:
                 self.addCleanup(capture.kill)
                 assert capture.stderr
                 self.assertIn("listening", capture.stderr.readline())

@@ -22,9 +22,9 @@ class SiteFile(unittest.TestCase):
         self.assertEqual(tomllib.loads(site.text()), site.plan)
 
     def test_a_copy_on_loopback(self) -> None:
-        site = Site(TWO_CARRIERS, carriers=1, first_port=17000, hang=3, link_version=2)
+        site = Site(TWO_CARRIERS, carriers=1, first_port=9000, hang=3, link_version=2)
         self.assertEqual([row["number"] for row in site.rows], [site.control])
-        self.assertEqual((site.console_port, site.row(site.control)["port"], site.address, site.link_version), (17000, 17001, "127.0.0.1", 2))
+        self.assertEqual((site.console_port, site.row(site.control)["port"], site.address, site.link_version), (9000, 9001, "127.0.0.1", 2))
         self.assertEqual(site.plan["hang"], 3)
 
     def test_ports_shift(self) -> None:

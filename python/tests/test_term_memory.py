@@ -6,10 +6,9 @@ import unittest
 
 from temzaar.frames import active, hello
 from temzaar.process import Controller, connect
-from temzaar.sitefile import Site
+from temzaar.sitefile import FREE_PORTS, Site
 from tests.support import TWO_CARRIERS, program
 
-PORT = 17560
 ENTRIES = 4000
 # pages of the system, of 4,096 octets, that the entries of one journal take
 PAGES = ENTRIES * 568 // 4096
@@ -19,7 +18,7 @@ class TermMemory(unittest.TestCase):
     """A site of two carriers that send nothing but ACTIVE frames, as fast as their ports read. A term ends after less than a second."""
 
     def setUp(self) -> None:
-        self.site = Site(TWO_CARRIERS, first_port=PORT, tick_ms=60, term_entries=ENTRIES)
+        self.site = Site(TWO_CARRIERS, first_port=FREE_PORTS, tick_ms=60, term_entries=ENTRIES)
 
     def flood(self, number: int) -> None:
         """Sends ACTIVE frames of a carrier until the controller has stopped."""

@@ -33,7 +33,7 @@ from temzaar.frames import VERSIONS
 from temzaar.player import Play
 from temzaar.process import Controller, Process
 from temzaar.script import SessionFault
-from temzaar.sitefile import Site
+from temzaar.sitefile import FREE_PORTS, Site
 from temzaar.trouble import TroubledPlay
 
 
@@ -43,7 +43,7 @@ def read_words(words: Sequence[str] | None) -> argparse.Namespace:
     parser.add_argument("--site", required=True, help="the site file")
     parser.add_argument("--program", help="start this controller, on loopback, and stop it again")
     parser.add_argument("--pid", type=count_of(1, 1 << 22), help="the process of a controller that runs, to print its share of a processor")
-    parser.add_argument("--port", type=count_of(1, 65535 - 16), default=17100, help="with --program: the console's port; the carriers' follow (17100)")
+    parser.add_argument("--port", type=count_of(1, 65535 - 16), default=FREE_PORTS, help="with --program: the console's port; the carriers' follow (ports that are free)")
     parser.add_argument("--carriers", type=count_of(1, 16), default=16, help="how many of the site's carriers (16)")
     parser.add_argument("--link-version", type=int, choices=VERSIONS, help="the version of the link that carriers speak (the greatest that the site file serves)")
     parser.add_argument("--radios", type=count_of(1, 4096), default=64, help="how many radios (64)")

@@ -1,6 +1,6 @@
 # `make` alone says what there is.
 .DEFAULT_GOAL := help
-.PHONY: help demo build check fmt test gate check-fast check-programs tools-check wrong-bodies bench bench-instructions soak serve-check serve-hostile network-recipes unit-recipes restart refuse-memory pictures package package-check release maps trusted install
+.PHONY: help run demo build build-tests check fmt test gate check-fast check-programs tools-check wrong-bodies bench bench-instructions soak serve-check serve-hostile network-recipes unit-recipes restart refuse-memory pictures package package-check release maps trusted install
 
 PREFIX ?= /usr/local
 DESTDIR ?=
@@ -38,16 +38,17 @@ help: ## this list
 	@echo "trials/page-pictures takes the pictures of the hub's page"
 	@echo "each says more with --help, or in its first lines; docs/OPERATING.md has those for operators"
 
-demo: ## builds the program without its proofs and replays one registration (about a minute)
+run: ## serves a site for some seconds, plays its carriers and radios, and prints what came of it; without the proof (two minutes)
+	@ci/run-site
+
+demo: ## builds the program without its proofs and replays one registration (two minutes)
 	@cd crates/dmr_trunk && rt try -- --site data/site.toml --script data/registration.txt
 
-build: ## the proved programs, at build/dmr_trunk, dmr_decode, dmr_refusals, dmr_filing and dmr_soak (long, the first time)
-	cd crates/dmr_trunk && rt run -- --site data/site.toml --script data/registration.txt
-	cd crates/dmr_decode && rt run -- write C_RAND kind=registration source=1
-	cd crates/dmr_refusals && rt run
-	cd crates/dmr_filing && rt run -- site.db
-	cd crates/dmr_soak && rt run
-	mkdir -p build && for name in dmr_trunk dmr_decode dmr_refusals dmr_filing dmr_soak; do cp crates/$$name/out/$$name build || exit; done
+build: ## the proved programs that users run, build/dmr_trunk and build/dmr_decode: an hour or more, or nothing after a gate over the same sources
+	@ci/build dmr_trunk dmr_decode
+
+build-tests: ## the proved programs that tests and trials need, build/dmr_refusals, dmr_filing and dmr_soak: ten minutes or more after make build
+	@ci/build dmr_refusals dmr_filing dmr_soak
 
 check: ## proves one crate over what earlier runs kept: make check CRATE=dmr_pool; all crates without CRATE
 ifdef CRATE
@@ -85,10 +86,14 @@ bench-instructions: build/dmr_trunk ## instructions of an event and of each func
 	@bench/instructions
 
 soak: ## a million random inputs through the engine, in both versions of the link, compared with a reference model, by the proved program
-	@cd crates/dmr_soak && rt run -- --inputs 250000 --counts
+	@ci/build dmr_soak
+	@build/dmr_soak --inputs 250000 --counts
 
-build/dmr_trunk build/dmr_decode build/dmr_refusals:
+build/dmr_trunk build/dmr_decode:
 	@echo "no $@: run 'make build' first"; exit 2
+
+build/dmr_refusals:
+	@echo "no $@: run 'make build-tests' first"; exit 2
 
 serve-check: build/dmr_trunk ## the proved program serves sixteen carriers on loopback for half a minute, in each version of the link; what comes back is checked. FAULTS=1: ten minutes of trouble
 ifdef FAULTS

@@ -22,7 +22,8 @@ def program(name: str) -> str:
         raise unittest.SkipTest(f"they ask {name}: `make check-programs` runs them")
     path = pathlib.Path(os.environ.get("TEMZAAR_PROGRAMS") or TOP / "build") / name
     if not path.is_file():
-        raise unittest.SkipTest(f"there is no {path}: `make build` builds it, TEMZAAR_PROGRAMS names another folder")
+        target = "build" if name in ("dmr_trunk", "dmr_decode") else "build-tests"
+        raise unittest.SkipTest(f"there is no {path}: `make {target}` builds it, TEMZAAR_PROGRAMS names another folder")
     return str(path.resolve())
 
 

@@ -1,10 +1,13 @@
-"""Shows how far long work is: what runs, what is done, how many steps are left, and about how long they take.
+"""Shows how far long work is: what runs, what is done, how many steps are left, and about how long
+they take.
 
-A step has a name and the seconds that it took on the machine that measured it. The time left follows from the speed of this machine so far: the
-time that the finished steps took here, by the time expected of them. It also follows from how many steps ran side by side so far.
+A step has a name and the seconds that it took on the machine that measured it. The time left
+follows from the speed of this machine so far: the time that the finished steps took here, by the
+time expected of them. It also follows from how many steps ran side by side so far.
 
-On a terminal one line is redrawn, and it is gone when the work ends. Elsewhere each step prints a line with the clock's time when it ends, and
-one when it begins if more than a minute is expected of it.
+On a terminal one line is redrawn, and it is gone when the work ends. Elsewhere each step prints a
+line with the clock's time when it ends, and one when it begins if more than a minute is expected of
+it.
 """
 import contextlib
 import os
@@ -18,6 +21,8 @@ from typing import NamedTuple, Self, TextIO
 
 # a step that is expected to take longer has a line when it begins
 LONG_SECONDS = 60.0
+# steps of which fewer seconds are expected say nothing of this machine's speed
+FEW_SECONDS = 5.0
 # for so long, the steps are taken to run as planned, whatever was seen so far
 FIRST_SECONDS = 60.0
 
@@ -55,15 +60,18 @@ def width_of(out: TextIO) -> int:
 
 
 def ratio(times: Sequence[tuple[float, float]]) -> float:
-    """The seconds taken for each second expected, over steps of which a time is expected; 1 if there is none."""
+    """The seconds taken for each second expected; 1 if too few seconds were expected to say
+    anything."""
     known = [(took, expected) for took, expected in times if expected > 0]
-    return sum(took for took, _ in known) / sum(expected for _, expected in known) if known else 1.0
+    expected = sum(it for _, it in known)
+    return sum(it for it, _ in known) / expected if expected >= FEW_SECONDS else 1.0
 
 
 class Progress:
     """How far a list of steps is. Several threads may use it.
 
-    As a context it also redraws the line each second, so that the time left is seen to pass, and clears it at the end:
+    As a context it also redraws the line each second, so that the time left is seen to pass, and
+    clears it at the end:
 
         with Progress([("build", 30), ("serve", 10)]) as progress:
             with progress.step("build"):
@@ -94,7 +102,8 @@ class Progress:
             threading.Thread(target=self.redraw_each_second, daemon=True).start()
         return self
 
-    def __exit__(self, kind: type[BaseException] | None, fault: BaseException | None, trace: TracebackType | None) -> None:
+    def __exit__(self, kind: type[BaseException] | None, fault: BaseException | None,
+                 trace: TracebackType | None) -> None:
         self.close()
 
     def redraw_each_second(self) -> None:
@@ -114,8 +123,8 @@ class Progress:
         self.end(name)
 
     def begin(self, name: str) -> None:
-        """Begins a step. Steps that have begun and not ended run side by side. A step that was dropped is needed again. A name that is not listed
-        is added, with no time expected of it."""
+        """Begins a step. Steps that have begun and not ended run side by side. A step that was
+        dropped is needed again. A name that is not listed is added, with no time expected of it."""
         with self.lock:
             if not self.running and not self.took:
                 self.began = self.clock()
@@ -128,15 +137,15 @@ class Progress:
             self.draw()
 
     def end(self, name: str, failed: bool = False, said: str = "") -> None:
-        """Ends a step that has begun. The time of one that failed says nothing of this machine's speed. `said` is a line on how it ended, which is
-        printed on a terminal too."""
+        """Ends a step that has begun. The time of one that failed says nothing of this machine's
+        speed. `said` is a line on how it ended, which is printed on a terminal too."""
         with self.lock:
             self.took[name] = self.took.get(name, 0.0) + self.clock() - self.running.pop(name)
             if failed:
                 self.failed.add(name)
             if not self.terminal:
-                how = "failed after" if failed else "took"
-                self.print_line(f"{said or f'{name} {how} {duration(self.spent(name))}'}; {self.left_text()}")
+                took = f"{name} {'failed after' if failed else 'took'} {duration(self.spent(name))}"
+                self.print_line(f"{said or took}; {self.left_text()}")
             elif said:
                 self.say(said)
             self.draw()
@@ -171,14 +180,17 @@ class Progress:
         return self.took.get(name, 0.0) + now - self.running.get(name, now)
 
     def slowness(self, group: str) -> float:
-        """How many seconds a step of a group takes here for each second expected of it. A running step counts once it is later than that."""
+        """How many seconds a step of a group takes here for each second expected of it. A
+        running step counts once it is later than that."""
         ended = self.times(self.took.keys() - self.running.keys() - self.failed, group)
         so_far = ratio(ended)
         return ratio(ended + [it for it in self.times(self.running, group) if it[0] > it[1] * so_far])
 
     def times(self, names: Iterable[str], group: str) -> list[tuple[float, float]]:
-        """Those of these steps that are of a group: the seconds that each has taken so far, and the seconds expected of it."""
-        return [(self.spent(it), self.steps[it].seconds) for it in names if self.steps[it].group == group]
+        """Those of these steps that are of a group: the seconds that each has taken so far, and
+        the seconds expected of it."""
+        steps = [self.steps[it] for it in names]
+        return [(self.spent(it.name), it.seconds) for it in steps if it.group == group]
 
     def steps_left(self) -> list[Step]:
         """The steps that have not ended, those that run among them."""
@@ -186,13 +198,15 @@ class Progress:
         return [it for it in self.steps.values() if it.name not in ended]
 
     def seconds_left(self) -> float:
-        """About how long the steps left take, side by side as so far, but no less than the longest of them."""
+        """About how long the steps left take, side by side as so far, but no less than the
+        longest of them."""
         slowness = {it: self.slowness(it) for it in {step.group for step in self.steps.values()}}
-        left = [(it, max(0.0, it.seconds * slowness[it.group] - self.spent(it.name))) for it in self.steps_left()]
+        left = {it: max(0.0, it.seconds * slowness[it.group] - self.spent(it.name)) for it in self.steps_left()}
         done = sum(self.spent(it.name) / it.beside for it in self.steps.values())
         # how much of the work that was planned to go on side by side did so
         share = (done + FIRST_SECONDS) / (self.clock() - self.began + FIRST_SECONDS)
-        return max(sum(seconds / it.beside for it, seconds in left) / share, max((seconds / it.parts for it, seconds in left), default=0.0))
+        together = sum(seconds / it.beside for it, seconds in left.items()) / share
+        return max([together, *(seconds / it.parts for it, seconds in left.items())])
 
     def left_text(self) -> str:
         """How many steps are left, and about how long they take."""
@@ -210,8 +224,8 @@ class Progress:
             if not self.running:
                 self.clear()
                 return
-            done = len(self.took.keys() - self.running.keys())
-            text = f"{done} of {len(self.steps) - len(self.dropped)} steps done, {self.left_text()}: {', '.join(self.running)}"
+            done, count = len(self.took.keys() - self.running.keys()), len(self.steps) - len(self.dropped)
+            text = f"{done} of {count} steps done, {self.left_text()}: {', '.join(self.running)}"
             text = text[:max(1, width_of(self.out) - 1)]
             self.out.write(f"\r{text:<{self.shown}}")
             self.shown = len(text)

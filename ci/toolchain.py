@@ -1,4 +1,5 @@
-"""The Rattle kit of this machine, and the builds that the file `toolchain` names: the only file that names them."""
+"""The Rattle kit of this machine, and the builds that the file `toolchain` names: the only file
+that names them."""
 import pathlib
 import re
 import subprocess
@@ -14,18 +15,19 @@ class Fault(Exception):
 
 
 class Named(NamedTuple):
-    """What the file `toolchain` names: the logic that is required, and the builds with which the gate passed."""
+    """What the file `toolchain` names: the logic that is required, and the builds with which the
+    gate passed."""
     logic: str
     kits: list[str]
 
     @classmethod
     def read(cls, path: pathlib.Path = FILE) -> Self:
         """Reads the file. Raises Fault if a line is missing, there twice, or unknown."""
-        lines = [words for line in path.read_text(encoding="utf-8").splitlines() if (words := line.partition("#")[0].split())]
-        said = {words[0]: words[1:] for words in lines}
-        if len(said) != len(lines) or said.keys() != {"logic", "kits"} or len(said["logic"]) != 1 or not said["kits"]:
-            raise Fault(f"{path.name}: it has to have a line `logic ID` and a line `kits NAME ..`, each once, and no other")
-        return cls(said["logic"][0], said["kits"])
+        lines = [it.partition("#")[0].split() for it in path.read_text(encoding="utf-8").splitlines()]
+        match sorted(it for it in lines if it):
+            case [["kits", kit, *kits], ["logic", logic]]:
+                return cls(logic, [kit, *kits])
+        raise Fault(f"{path.name}: it has to have a line `logic ID` and a line `kits NAME ..`, and no other")
 
 
 class Kit(NamedTuple):
@@ -40,11 +42,13 @@ class Kit(NamedTuple):
 def ask_rt(*words: str) -> str:
     """What a command of rt that proves nothing prints. Raises Fault if there is no rt."""
     try:
-        ran = subprocess.run(["rt", *words], stdin=subprocess.DEVNULL, stdout=subprocess.PIPE, stderr=subprocess.STDOUT,
-                             text=True, errors="replace", check=False)
+        ran = subprocess.run(["rt", *words], stdin=subprocess.DEVNULL, capture_output=True, text=True,
+                             errors="replace", check=False)
+    except FileNotFoundError as fault:
+        raise Fault(NO_KIT) from fault
     except OSError as fault:
-        raise Fault(NO_KIT if isinstance(fault, FileNotFoundError) else f"rt: {fault.strerror}") from fault
-    return ran.stdout
+        raise Fault(f"rt: {fault.strerror}") from fault
+    return ran.stdout + ran.stderr
 
 
 def read_kit() -> Kit:
@@ -57,22 +61,25 @@ def read_kit() -> Kit:
 
 
 def describe(kit: Kit, named: Named) -> str:
-    """What to say of a kit, on one line. Raises Fault if its logic is not the one that is required."""
+    """What to say of a kit, on one line. Raises Fault if its logic is not the one that is
+    required."""
     if kit.logic != named.logic:
         raise Fault(f"{kit}: the logic {named.logic} is required (file toolchain)")
     if kit.name not in named.kits:
-        return f"{kit}: the logic that is required; a note: the gate passed with {' and '.join(named.kits)}, not yet with this build"
+        passed = " and ".join(named.kits)
+        return f"{kit}: the logic that is required; a note: the gate passed with {passed}, not yet with this build"
     return f"{kit}: the gate passed with this build"
 
 
 def help_of(verb: str, text: str) -> str:
     """The parts of rt's help that are on a verb: from its line to that of another verb."""
-    parts = re.split(r"^(?=  rt \S)", text, flags=re.M)
+    parts = re.split(r"^(?= *rt [a-z])", text, flags=re.M)
     return "".join(it for it in parts if it.split()[:2] == ["rt", verb])
 
 
 def takes_words(text: str) -> bool:
-    """Whether `rt ci` takes `--anew` and names of crates, by rt's help. A build that takes no words keeps nothing: each run begins from nothing."""
+    """Whether `rt ci` takes `--anew` and names of crates, by rt's help. A build that takes no
+    words keeps nothing: each run begins from nothing."""
     return "--anew" in help_of("ci", text)
 
 

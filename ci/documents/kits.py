@@ -19,14 +19,15 @@ def kit_faults(name: str, text: str, named: Named) -> Iterator[str]:
     kits = set(re.findall(r"\brattle-kit-\w+", text))
     if name not in NAME_THEM:
         if name != HISTORY and (logics or kits):
-            yield f"{name}: it names {', '.join(sorted(logics | kits))}, which {', '.join(NAME_THEM)} do"
+            yield f"{name}: it names {', '.join(sorted(logics | kits))}; only {', '.join(NAME_THEM)} do"
         return
-    if f"logic `{named.logic}`" not in text or logics != {named.logic}:
-        yield f"{name}: by the file toolchain it has to say \"logic `{named.logic}`\", and to name no other"
+    wanted = f"logic `{named.logic}`"
+    if wanted not in text or logics != {named.logic}:
+        yield f'{name}: by the file toolchain it has to say "{wanted}", and to name no other'
     passed = [re.findall(r"`([\w.-]+)`", it) for it in re.findall(rf"\bpassed with ({NAMES})", text)]
     if named.kits not in passed or kits != set(named.kits):
-        kits_text = " and ".join(f"`{it}`" for it in named.kits)
-        yield f"{name}: by the file toolchain it has to say \"passed with {kits_text}\", and to name no other"
+        wanted = f"passed with {' and '.join(f'`{it}`' for it in named.kits)}"
+        yield f'{name}: by the file toolchain it has to say "{wanted}", and to name no other'
 
 
 def all_kit_faults() -> Iterator[str]:

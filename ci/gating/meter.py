@@ -1,4 +1,5 @@
-"""What each check of the gate costs: the processor time of its processes, read while the gate runs."""
+"""What each check of the gate costs: the processor time of its processes, read while the gate
+runs."""
 import os
 import threading
 from collections.abc import Callable
@@ -9,7 +10,8 @@ PROOF, TESTS, EDITS = KINDS = ("proof", "tests", "edits")
 
 
 class Check(NamedTuple):
-    """A check of the gate: its crate, and whether it is the proof, the proof with its tests, or all of its must-fail edits."""
+    """A check of the gate: its crate, and whether it is the proof, the proof with its tests, or
+    all of its must-fail edits."""
     crate: str
     kind: str
 
@@ -18,7 +20,8 @@ class Check(NamedTuple):
 
 
 class Process(NamedTuple):
-    """A process: when it started, its parent, its processor seconds with those of the children that it waited for, its command line, its folder."""
+    """A process: when it started, its parent, its processor seconds with those of the children
+    that it waited for, its command line, its folder."""
     start: str
     parent: int
     seconds: float
@@ -39,7 +42,8 @@ def processes() -> dict[int, Process]:
                 folder = os.readlink(f"/proc/{entry}/cwd")
             except OSError:
                 continue
-            found[int(entry)] = Process(stat[19], int(stat[1]), sum(map(int, stat[11:15])) / TICKS, words, folder)
+            seconds = sum(map(int, stat[11:15])) / TICKS
+            found[int(entry)] = Process(stat[19], int(stat[1]), seconds, words, folder)
     return found
 
 
@@ -55,8 +59,9 @@ def check_of(process: Process) -> Check | None:
 
 
 class Meter:
-    """The processor seconds of each check that the gate has run, `spent`, and which checks run now. It reads them twice a second, so each is right to
-    within some seconds. After each reading it calls `follow`."""
+    """The processor seconds of each check that the gate has run, `spent`, and which checks run
+    now. It reads them twice a second, so each is right to within some seconds. After each
+    reading it calls `follow`."""
 
     def __init__(self, gate: int, follow: Callable[["Meter"], None] = lambda meter: None) -> None:
         self.gate, self.follow, self.ended = gate, follow, threading.Event()
@@ -83,7 +88,8 @@ class Meter:
                 above.append(now[above[-1]].parent)
             if above.pop() != self.gate:
                 continue
-            # the time of a check's processes counts with the outermost of them, which waits for the others
+            # the time of a check's processes counts with the outermost of them, which waits for the
+            # others
             checks = [(check, it) for it in above if (check := check_of(now[it]))]
             if checks:
                 totals[checks[-1]] = totals.get(checks[-1], 0) + process.seconds

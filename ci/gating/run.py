@@ -1,4 +1,5 @@
-"""Runs `rt ci`, follows which of its checks run and have ended, counts what it cost, and records the programs that it built."""
+"""Runs `rt ci`, follows which of its checks run and have ended, counts what it cost, and records
+the programs that it built."""
 import os
 import re
 import subprocess
@@ -25,7 +26,8 @@ CHECKS_ENDED = re.compile(r"rt: (must-fail \w+/|\w+ ran\b|\w+: its tests (passed
 
 
 def processors() -> int:
-    """How many processors there are to use: those that the process may run on, or fewer by the quota of its control group."""
+    """How many processors there are to use: those that the process may run on, or fewer by the
+    quota of its control group."""
     found = len(os.sched_getaffinity(0))
     try:
         with open("/sys/fs/cgroup/cpu.max", encoding="ascii") as it:
@@ -37,7 +39,8 @@ def processors() -> int:
 
 
 def side_by_side() -> int:
-    """How many checks run side by side: RT_JOBS, or one for each processor, but no more than there is free memory for."""
+    """How many checks run side by side: RT_JOBS, or one for each processor, but no more than
+    there is free memory for."""
     asked = os.environ.get("RT_JOBS", "")
     if asked.isdigit() and int(asked):
         return int(asked)
@@ -47,7 +50,8 @@ def side_by_side() -> int:
 
 
 class Ran(NamedTuple):
-    """What a run of the gate came to: its status, its counts and its closing line, the processor minutes of each check and of all, and its minutes."""
+    """What a run of the gate came to: its status, its counts and its closing line, the processor
+    minutes of each check and of all, and its minutes."""
     status: int
     passed: int
     failed: int
@@ -58,7 +62,8 @@ class Ran(NamedTuple):
 
 
 class Gate:
-    """The prover's gate, as steps of a Progress. The Progress needs `steps` and `spent`, and is handed to `run`."""
+    """The prover's gate, as steps of a Progress. The Progress needs `steps` and `spent`, and is
+    handed to `run`."""
 
     def __init__(self, costs: Costs | None = None) -> None:
         costs, lanes = costs or Costs.read(), side_by_side()
@@ -85,12 +90,13 @@ class Gate:
         return self.meter.spent.get(check, 0.0) if self.meter else 0.0
 
     def run(self, words: Sequence[str], progress: Progress) -> Ran:
-        """Runs `rt ci` with these words, and prints its lines as they come, but for the closing line. If all crates passed, the programs are in build/."""
+        """Runs `rt ci` with these words, and prints its lines as they come, but for the closing
+        line. If all crates passed, the programs are in build/."""
         sources = {it: built.sources_sum(it) for it in built.PROGRAMS if it in self.edits}
         began, before = time.monotonic(), getrusage(RUSAGE_CHILDREN)
         environment = {**os.environ, "RT_JOBS": str(side_by_side())}
-        gate = subprocess.Popen(["rt", "ci", *words], cwd=TOP, env=environment, stdin=subprocess.DEVNULL, stdout=subprocess.PIPE,
-                                stderr=subprocess.STDOUT, text=True, errors="replace")
+        gate = subprocess.Popen(["rt", "ci", *words], cwd=TOP, env=environment, stdin=subprocess.DEVNULL,
+                                stdout=subprocess.PIPE, stderr=subprocess.STDOUT, text=True, errors="replace")
         assert gate.stdout
         self.progress, self.meter = progress, Meter(gate.pid)
         self.meter.follow = self.follow
@@ -112,11 +118,12 @@ class Gate:
             for name, before_gate in sources.items():
                 built.record(name, before_gate)
         used = getrusage(RUSAGE_CHILDREN)
-        total = used.ru_utime + used.ru_stime - before.ru_utime - before.ru_stime
-        said = CLOSING.fullmatch(closing)
+        total = (used.ru_utime + used.ru_stime - before.ru_utime - before.ru_stime) / 60
+        wall = (time.monotonic() - began) / 60
         minutes = {it: seconds / 60 for it, seconds in self.meter.spent.items()}
+        said = CLOSING.fullmatch(closing)
         counts = (int(said[1]), int(said[2])) if said else (0, 1)
-        return Ran(status if status >= 0 else 128 - status, *counts, closing, minutes, total / 60, (time.monotonic() - began) / 60)
+        return Ran(status if status >= 0 else 128 - status, *counts, closing, minutes, total, wall)
 
     def hear(self, line: str) -> None:
         """Takes from a line of the gate what its processes do not show."""
@@ -129,7 +136,8 @@ class Gate:
             self.progress.begin(REST)
 
     def follow(self, meter: Meter) -> None:
-        """Begins the step of each check that has a process, and ends that of each that has none any more."""
+        """Begins the step of each check that has a process, and ends that of each that has none
+        any more."""
         assert self.progress
         with self.progress.lock:
             if self.checks_ended:
@@ -140,16 +148,19 @@ class Gate:
                 if str(check) in self.checks and str(check) not in self.progress.running:
                     self.progress.begin(str(check))
             for check in [self.checks[it] for it in self.progress.running if it in self.checks]:
-                if now - self.last_seen[check] > GAP_SECONDS and (check.kind != EDITS or self.all_tried(check, meter)):
+                gone = now - self.last_seen[check] > GAP_SECONDS
+                if gone and (check.kind != EDITS or self.all_tried(check, meter)):
                     self.progress.end(str(check))
 
     def all_tried(self, check: Check, meter: Meter) -> bool:
-        """Whether all edits of a crate were tried. If there are several, the crate is checked before them and after them too, each time in a folder."""
+        """Whether all edits of a crate were tried. If there are several, the crate is checked
+        before them and after them too, each time in a folder."""
         count = self.edits[check.crate]
         return len(meter.rooms[check]) >= (count + 2 if count > 1 else count)
 
     def end_checks(self) -> None:
-        """Ends the steps of all checks, and then also that of the rest. Those that have not begun were not needed."""
+        """Ends the steps of all checks, and then also that of the rest. Those that have not
+        begun were not needed."""
         assert self.progress
         with self.progress.lock:
             for name in [it for it in self.progress.running if it in self.checks or it == REST]:

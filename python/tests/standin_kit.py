@@ -54,21 +54,29 @@ class Kits(unittest.TestCase):
     def setUp(self) -> None:
         room = tempfile.TemporaryDirectory()
         self.addCleanup(room.cleanup)
-        self.checkout, self.commands = pathlib.Path(room.name) / "checkout", pathlib.Path(room.name) / "commands"
+        self.checkout = pathlib.Path(room.name) / "checkout"
+        self.commands = pathlib.Path(room.name) / "commands"
         self.commands.mkdir()
         (self.checkout / "ci").mkdir(parents=True)
-        for name in ("gate", "wrong-bodies", "check-toolchain", "toolchain.py", "crates.py", "built.py", "progress.py", "costs"):
+        for name in ("gate", "wrong-bodies", "check-toolchain", "toolchain.py", "crates.py", "built.py", "progress.py",
+                     "costs"):
             shutil.copy2(TOP / "ci" / name, self.checkout / "ci")
         shutil.copytree(TOP / "ci/gating", self.checkout / "ci/gating", ignore=shutil.ignore_patterns("__pycache__"))
-        (self.checkout / "toolchain").write_text("logic c0ffee  # required\nkits kit-1 kit-2\n", encoding="utf-8")
-        for name, text in (("crates.txt", "dmr_bits:\ndmr_calls: dmr_bits\ndmr_trunk: dmr_calls\n"), ("HANDLES", "Handles allowed: none.\n")):
+        for name, text in (
+            ("toolchain", "logic c0ffee  # required\nkits kit-1 kit-2\n"),
+            ("crates.txt", "dmr_bits:\ndmr_calls: dmr_bits\ndmr_trunk: dmr_calls\n"),
+            ("HANDLES", "Handles allowed: none.\n"),
+        ):
             (self.checkout / name).write_text(text, encoding="utf-8")
 
-    def put_kit(self, takes_words: bool, version: str = "kit-2 logic c0ffee", said: str = "2 passed, 0 failed", status: int = 0, burns: tuple[str, ...] = (), edits: bool = True) -> None:
-        """Puts an `rt` on PATH that behaves as one of the two kinds. Its gate proves the crates of `burns`, prints `said`, and ends with the status. `edits`
-        says whether there is `rt must-fail`."""
+    def put_kit(self, takes_words: bool, version: str = "kit-2 logic c0ffee", said: str = "2 passed, 0 failed", status: int = 0,
+                burns: tuple[str, ...] = (), edits: bool = True) -> None:
+        """Puts an `rt` on PATH that behaves as one of the two kinds. Its gate proves the crates
+        of `burns`, prints `said`, and ends with the status. `edits` says whether there is `rt
+        must-fail`."""
         text = HELP.format(ci=TAKES_WORDS if takes_words else TAKES_NONE, edits=TRIES_EDITS if edits else "")
-        script = SCRIPT.format(python=sys.executable, burns=burns, said=said, help=text, version=version, takes_words=takes_words, status=status)
+        script = SCRIPT.format(python=sys.executable, burns=burns, said=said, help=text, version=version,
+                               takes_words=takes_words, status=status)
         (self.commands / "rt").write_text(script, encoding="utf-8")
         (self.commands / "rt").chmod(0o755)
 
@@ -76,4 +84,5 @@ class Kits(unittest.TestCase):
         """Runs a command of the checkout to its end. PATH has the stand-in alone."""
         # (a machine with a kit has its rt in another folder of PATH)
         environment = {**{name: it for name, it in os.environ.items() if name != "RT_JOBS"}, "PATH": str(self.commands)}
-        return subprocess.run([sys.executable, *words], cwd=self.checkout, env=environment, capture_output=True, text=True, check=False, timeout=60)
+        return subprocess.run([sys.executable, *words], cwd=self.checkout, env=environment, capture_output=True, text=True,
+                              check=False, timeout=60)

@@ -54,7 +54,8 @@ class Skipped(unittest.TestCase):
         """Tools come together on one line, each once; other reasons each have a line."""
         (promtool, _), (chromium, _), *_, (full, _), _ = REASONS
         self.assertEqual(check.skipped_lines([promtool, full, chromium, promtool]), [
-            "skipped: 2 tests without promtool (package prometheus), 1 test without chromium (package chromium)", "skipped: 1 test: there is no /dev/full"])
+            "skipped: 2 tests without promtool (package prometheus), 1 test without chromium (package chromium)",
+            "skipped: 1 test: there is no /dev/full"])
         self.assertEqual(check.skipped_lines([]), [])
 
     def test_quotes(self) -> None:
@@ -65,24 +66,26 @@ class Skipped(unittest.TestCase):
 class Parts(unittest.TestCase):
     """Which parts run, and what is printed."""
 
-    def run_parts(self, fast: list[object], gate: tuple[int, int, int] = (0, 3, 0), programs: list[object] | None = None) -> tuple[int, list[str]]:
-        """Runs all parts with these checks, and a gate of this status and these counts of passed and failed. The status and the lines."""
+    def run_parts(self, fast: list[object], gate: tuple[int, int, int] = (0, 3, 0),
+                  programs: list[object] | None = None) -> tuple[int, list[str]]:
+        """Runs all parts with these checks, and a gate of this status and these counts of passed
+        and failed. The status and the lines."""
         ran = types.SimpleNamespace(status=gate[0], passed=gate[1], failed=gate[2], minutes={}, total=0, wall=0)
         stub = types.SimpleNamespace(steps=[("a proof", 1)], spent=lambda name: None, run=lambda words, progress: ran)
-        there = bool(programs)
-        parts = (check.Part("the fast ones", check.run_fast, fast), check.ON_GATE, check.Part("the last ones", check.run_programs, programs or []))
-        out = io.StringIO()
-        with contextlib.ExitStack() as changes:
-            for it in (unittest.mock.patch.dict(check.PARTS, {"all": parts}), unittest.mock.patch.object(check, "Gate", lambda: stub),
-                       unittest.mock.patch.multiple(check, FAST=fast, OVER_PROGRAMS=programs or []), unittest.mock.patch.object(check.built, "is_current", lambda name: there),
-                       unittest.mock.patch.object(sys, "argv", ["ci/check", "all"]), contextlib.redirect_stdout(out)):
-                changes.enter_context(it)
+        built, out = types.SimpleNamespace(is_current=lambda name: bool(programs)), io.StringIO()
+        last = check.Part("the last ones", check.run_programs, programs or [])
+        parts = {"all": (check.Part("the fast ones", check.run_fast, fast), check.ON_GATE, last)}
+        changed = {"PARTS": parts, "Gate": lambda: stub, "FAST": fast, "OVER_PROGRAMS": programs or [], "built": built}
+        with unittest.mock.patch.multiple(check, **changed), unittest.mock.patch.object(sys, "argv", ["ci/check", "all"]), \
+                contextlib.redirect_stdout(out):
             status = check.main()
         return status, out.getvalue().splitlines()
 
     def test_all_passed(self) -> None:
-        """Each part runs, what the last run of tests skipped is named before the closing line, and that counts all."""
-        status, lines = self.run_parts([sh("toolchain", "echo kit"), tests("tests", "there is no sqlite3", "they ask x")], programs=[tests("again", "there is no sqlite3")])
+        """Each part runs, what the last run of tests skipped is named before the closing line,
+        and that counts all."""
+        fast = [sh("toolchain", "echo kit"), tests("tests", "there is no sqlite3", "they ask x")]
+        status, lines = self.run_parts(fast, programs=[tests("again", "there is no sqlite3")])
         self.assertEqual((status, lines[-2:]), (0, ["skipped: 1 test without sqlite3 (package sqlite3)", "6 passed, 0 failed"]))
         self.assertRegex(lines[0], r"^\d\d:\d\d:\d\d passed  toolchain \(0 s\): kit; 3 steps left, about \d+ s$")
         self.assertIn("passed  tests (0 s): 7 tests;", lines[1])
@@ -90,7 +93,8 @@ class Parts(unittest.TestCase):
 
     def test_a_check_failed(self) -> None:
         """Its output is printed, the others run, and the status is 1."""
-        status, lines = self.run_parts([sh("toolchain", "echo kit"), sh("maps", "echo why; echo last >&2; exit 3")], programs=[sh("soak", "true")])
+        fast = [sh("toolchain", "echo kit"), sh("maps", "echo why; echo last >&2; exit 3")]
+        status, lines = self.run_parts(fast, programs=[sh("soak", "true")])
         self.assertEqual((status, lines[-1]), (1, "5 passed, 1 failed"))
         self.assertIn("FAILED  maps (0 s): last;", lines[1])
         self.assertEqual(lines[2:4], ["why", "last"])

@@ -53,7 +53,8 @@ class Shown(unittest.TestCase):
         return self.out.getvalue().splitlines()
 
     def test_plain_lines(self) -> None:
-        """A line at the end of each step, and at the beginning of a long one. A machine that is twice as slow takes twice as long for the rest."""
+        """A line at the end of each step, and at the beginning of a long one. A machine that is
+        twice as slow takes twice as long for the rest."""
         shown = progress.Progress([("build", 30), ("prove", 300), ("serve", 10)], self.out, self.clock)
         with shown.step("build"):
             self.clock.now += 60
@@ -68,7 +69,8 @@ class Shown(unittest.TestCase):
             "12:00:00 serve took 1 s; no step left"])
 
     def test_step_that_fails(self) -> None:
-        """The exception goes on, the step is counted as ended, and its time does not change the time left."""
+        """The exception goes on, the step is counted as ended, and its time does not change the
+        time left."""
         shown = progress.Progress([("first", 30), ("second", 30)], self.out, self.clock)
         with self.assertRaises(ValueError), shown.step("first"):
             self.clock.now += 1
@@ -76,7 +78,8 @@ class Shown(unittest.TestCase):
         self.assertEqual(self.lines(), ["12:00:00 first failed after 1 s; 1 step left, about 30 s"])
 
     def test_side_by_side(self) -> None:
-        """Four steps of 100 seconds, two at a time: each two take 100 seconds, and what is left is shared among two."""
+        """Four steps of 100 seconds, two at a time: each two take 100 seconds, and what is left
+        is shared among two."""
         shown = progress.Progress([progress.Step(it, 100, 2) for it in "abcd"], self.out, self.clock)
         for name in "ab":
             shown.begin(name)
@@ -94,7 +97,8 @@ class Shown(unittest.TestCase):
         self.assertEqual(shown.seconds_left(), 100)
 
     def test_fewer_side_by_side_than_planned(self) -> None:
-        """Of ten steps that were to run two at a time one runs at a time, so what is left comes to take twice as long."""
+        """Of ten steps that were to run two at a time one runs at a time, so what is left comes
+        to take twice as long."""
         shown = progress.Progress([progress.Step(str(it), 1000, 2) for it in range(10)], self.out, self.clock)
         self.assertEqual(shown.seconds_left(), 5000)
         for name in "01234":
@@ -103,7 +107,8 @@ class Shown(unittest.TestCase):
         self.assertTrue(4900 < shown.seconds_left() <= 5000)
 
     def test_measured_time(self) -> None:
-        """Times that are measured count in place of the clock's: a step of 100 processor seconds that two processors do is half done after 25 seconds."""
+        """Times that are measured count in place of the clock's: a step of 100 processor seconds
+        that two processors do is half done after 25 seconds."""
         spent = {"a": 0.0}
         shown = progress.Progress([progress.Step("a", 100, 2, 2), ("b", 30)], self.out, self.clock, spent.get)
         shown.begin("a")
@@ -124,14 +129,15 @@ class Shown(unittest.TestCase):
 
     def test_groups(self) -> None:
         """A step says nothing of the speed of those of another group."""
-        shown = progress.Progress([progress.Step("first", 10), progress.Step("second", 10), progress.Step("other", 10, group="others")], self.out, self.clock)
+        steps = [("first", 10), ("second", 10), progress.Step("other", 10, group="others")]
+        shown = progress.Progress(steps, self.out, self.clock)
         with shown.step("first"):
             self.clock.now += 20
         self.assertEqual(shown.seconds_left(), 30)
 
     def test_dropped_and_added(self) -> None:
-        """A step that is not needed is not left any more, unless it begins. One that nobody listed counts, with no time. No time is shown if none is
-        expected."""
+        """A step that is not needed is not left any more, unless it begins. One that nobody
+        listed counts, with no time. No time is shown if none is expected."""
         shown = progress.Progress([("first", 10), ("second", 10)], self.out, self.clock)
         shown.drop("first")
         shown.drop("second")
@@ -154,7 +160,8 @@ class Shown(unittest.TestCase):
         self.assertEqual((shown.left_text(), shown.took), ("no step left", {"first": 40}))
 
     def test_terminal(self) -> None:
-        """One line is redrawn and cut to the width. Other lines come above it, and it is gone at the end."""
+        """One line is redrawn and cut to the width. Other lines come above it, and it is gone at
+        the end."""
         shown = progress.Progress([("build", 600), ("a step with a name that is long", 60)], self.screen, self.clock)
         shown.begin("build")
         self.assertEqual(self.screen.screen(), ["0 of 2 steps done, 2 steps left, about 11 min: build"])
@@ -185,7 +192,8 @@ class Durations(unittest.TestCase):
     """Times for people."""
 
     def test_texts(self) -> None:
-        for seconds, text in ((0, "1 s"), (7.4, "7 s"), (12, "10 s"), (94, "90 s"), (100, "2 min"), (59 * 60, "59 min"), (60 * 60, "1 h"), (107 * 60, "1 h 50 min")):
+        for seconds, text in ((0, "1 s"), (7.4, "7 s"), (12, "10 s"), (94, "90 s"), (100, "2 min"),
+                              (59 * 60, "59 min"), (60 * 60, "1 h"), (107 * 60, "1 h 50 min")):
             with self.subTest(seconds):
                 self.assertEqual(progress.duration(seconds), text)
 

@@ -1,7 +1,8 @@
-"""Tells whether a program in build/ was proved and built from the present sources.
+"""Whether a program in build/ was proved and built from the present sources.
 
-build/SOURCES has a line for each program that was: its name, the sum of the sources that it was made from, and the sum of the program itself. The sources are
-crates.txt, HANDLES, the kit, and all files of the crate and of the crates below it, but for what rt makes and for wrong bodies, of which no program is made.
+build/SOURCES has a line for each program that was. It has the program's name, the sum of the sources that it was made from, and the sum of the program itself.
+The sources are crates.txt, HANDLES, the kit, and all files of the crate and of the crates below it. What rt makes is left out, and so are wrong bodies, from
+which no program is made.
 """
 import hashlib
 import os

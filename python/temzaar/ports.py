@@ -11,7 +11,7 @@ import sys
 
 from temzaar.faults import ToolFault
 
-# Above the ports of the examples, and below those that Linux gives to outgoing connections (net.ipv4.ip_local_port_range).
+# Above the ports of the examples, and below those that Linux chooses for outgoing connections (net.ipv4.ip_local_port_range).
 PORTS = range(20000, 32000)
 # How many ports a process claims at a time.
 REGION = 200

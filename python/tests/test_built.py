@@ -13,7 +13,7 @@ import built  # noqa: E402  (the path comes first)
 
 
 class Built(unittest.TestCase):
-    """A program `app` over the crates `low` and `lower`, beside a crate `other`."""
+    """A program `app` over the crates `low` and `lower`. It does not use the crate `other`."""
 
     def setUp(self) -> None:
         holder = tempfile.TemporaryDirectory()
@@ -65,7 +65,7 @@ class Built(unittest.TestCase):
         self.assertTrue(built.is_current("app"))
 
     def test_another_program(self) -> None:
-        """A program that was put in the place of the recorded one, and one that is gone."""
+        """A program that replaced the recorded one, and a program that is gone."""
         self.build()
         self.write("build/app", "another program")
         self.assertFalse(built.is_current("app"))

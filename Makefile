@@ -42,9 +42,11 @@ run: ## serves a site for some seconds, plays its carriers and radios, and print
 	@ci/run-site
 
 demo: ## builds the program without its proofs and replays one registration (two minutes)
+	@ci/check-toolchain
 	@cd crates/dmr_trunk && rt try -- --site data/site.toml --script data/registration.txt
 
 build: ## the proved programs that users run, build/dmr_trunk and build/dmr_decode: an hour or more, or nothing after a gate over the same sources
+	@ci/check-toolchain
 	@ci/build dmr_trunk dmr_decode
 
 build-tests: ## the proved programs that tests and trials need, build/dmr_refusals, dmr_filing and dmr_soak: ten minutes or more after make build

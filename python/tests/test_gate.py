@@ -158,6 +158,10 @@ class Meters(unittest.TestCase):
         read.stop()
         read.read(now)
         self.assertEqual((read.spent, read.alive), ({PROOF: 30, TESTS: 5, EDITS: 3}, {PROOF, TESTS, EDITS}))
+        # the inner process of the proof has ended, and its time is now with the one that waited for it
+        del now[4]
+        read.read({**now, 3: now[3]._replace(seconds=30)})
+        self.assertEqual(read.spent[PROOF], 30)
         # the proof has ended; another edit runs, in another folder, under a number that was used
         # before
         read.read({1: now[1], 2: now[2], 6: meter.Process("2", 2, 4, rattle, "/tmp/rt-edit-7-b")})

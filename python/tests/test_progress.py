@@ -135,6 +135,20 @@ class Shown(unittest.TestCase):
             self.clock.now += 20
         self.assertEqual(shown.seconds_left(), 30)
 
+    def test_short_step(self) -> None:
+        """A step of less than some seconds says nothing of the speed of this machine."""
+        shown = progress.Progress([("first", 0.1), ("second", 100)], self.out, self.clock)
+        with shown.step("first"):
+            self.clock.now += 1
+        self.assertEqual(shown.seconds_left(), 100)
+
+    def test_dropped_step_that_runs(self) -> None:
+        """A step that was dropped and begins after all is one of those that a terminal counts."""
+        shown = progress.Progress([("first", 10)], self.screen, self.clock)
+        shown.drop("first")
+        shown.begin("first")
+        self.assertEqual(self.screen.screen(), ["0 of 1 steps done, 1 step left, about 10 s: first"])
+
     def test_dropped_and_added(self) -> None:
         """A step that is not needed is not left any more, unless it begins. One that nobody
         listed counts, with no time. No time is shown if none is expected."""

@@ -113,7 +113,7 @@ class Gate:
                 self.hear(line)
         status = gate.wait()
         self.meter.stop()
-        self.end_checks()
+        self.end_steps()
         if not status and set(words) <= {"--anew"}:
             for name, before_gate in sources.items():
                 built.record(name, before_gate)
@@ -159,12 +159,21 @@ class Gate:
         return len(meter.rooms[check]) >= (count + 2 if count > 1 else count)
 
     def end_checks(self) -> None:
-        """Ends the steps of all checks, and then also that of the rest. Those that have not
-        begun were not needed."""
+        """Ends the steps of all checks. Those that have not begun were not needed."""
         assert self.progress
         with self.progress.lock:
-            for name in [it for it in self.progress.running if it in self.checks or it == REST]:
-                self.progress.end(name)
-            for name in [*self.checks, *([REST] if self.checks_ended else [])]:
-                self.progress.drop(name)
             self.checks_ended = True
+            for name in self.checks:
+                self.end_step(name)
+
+    def end_steps(self) -> None:
+        """Ends all steps of the gate."""
+        self.end_checks()
+        self.end_step(REST)
+
+    def end_step(self, name: str) -> None:
+        """Ends a step that runs, and drops one that has not begun."""
+        assert self.progress
+        if name in self.progress.running:
+            self.progress.end(name)
+        self.progress.drop(name)

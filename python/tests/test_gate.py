@@ -233,8 +233,14 @@ class Steps(unittest.TestCase):
                 self.gate.hear(line)
                 self.assertEqual((list(self.progress.running), self.left()), ([run.REST], [run.REST]))
                 self.assertEqual(self.see(EDITS), [run.REST])
-                self.gate.end_checks()
+                self.gate.end_steps()
                 self.assertEqual(self.left(), [])
+
+    def test_gate_that_ends_early(self) -> None:
+        """Nothing is left of a gate that ends before anything ran."""
+        self.see(PROOF)
+        self.gate.end_steps()
+        self.assertEqual((self.progress.running, self.left()), ({}, []))
 
     def test_expected(self) -> None:
         """Expected are six units in as many lanes as there are, and a tenth of a unit after them."""

@@ -21,6 +21,7 @@ GAP_SECONDS = 3.0
 REST = "runs of tests and programs"
 CLOSING = re.compile(r"(\d+) passed, (\d+) failed(?: \(.*\))?\n?")
 KEPT = re.compile(r"rt: (\w+) is kept: ")
+TO_TRY = re.compile(r"rt: (\w+): trying its must-fail edits \((\d+)\)")
 # the lines that come once no check is left
 CHECKS_ENDED = re.compile(r"rt: (must-fail \w+/|\w+ ran\b|\w+: its tests (passed|FAILED))")
 
@@ -68,6 +69,8 @@ class Gate:
     def __init__(self, costs: Costs | None = None) -> None:
         costs, lanes = costs or Costs.read(), side_by_side()
         self.edits = {name: len(edits_of(name, "must-fail")) for name in read_crates()}
+        # (fewer than all, if an earlier run tried some and that was kept)
+        self.to_try = dict(self.edits)
         self.checks: dict[str, Check] = {}
         self.steps: list[Step] = []
         for check in (Check(name, kind) for kind in KINDS for name in self.edits):
@@ -131,6 +134,8 @@ class Gate:
         if kept := KEPT.match(line):
             for kind in KINDS:
                 self.progress.drop(str(Check(kept[1], kind)))
+        elif to_try := TO_TRY.match(line):
+            self.to_try[to_try[1]] = int(to_try[2])
         elif CHECKS_ENDED.match(line) and not self.checks_ended:
             self.end_checks()
             self.progress.begin(REST)
@@ -153,10 +158,10 @@ class Gate:
                     self.progress.end(str(check))
 
     def all_tried(self, check: Check, meter: Meter) -> bool:
-        """Whether all edits of a crate were tried. If there are several, the crate is checked
-        before them and after them too, each time in a folder."""
-        count = self.edits[check.crate]
-        return len(meter.rooms[check]) >= (count + 2 if count > 1 else count)
+        """Whether all edits of a crate were tried, each in a folder. If there are several, the
+        crate is checked in a folder before them, and in another after them."""
+        others = 2 if self.edits[check.crate] > 1 else 0
+        return len(meter.rooms[check]) >= self.to_try[check.crate] + others
 
     def end_checks(self) -> None:
         """Ends the steps of all checks. Those that have not begun were not needed."""

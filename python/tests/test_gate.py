@@ -209,6 +209,13 @@ class Steps(unittest.TestCase):
         self.assertEqual(self.see(EDITS, rooms=4), ["edits of dmr_calls"])
         self.assertEqual(self.see(rooms=4, seconds=100), [])
 
+    def test_some_edits_were_kept(self) -> None:
+        """Only those that the gate says it tries are waited for."""
+        self.gate.hear("rt: dmr_calls: trying its must-fail edits (1)\n")
+        self.see(EDITS, rooms=2)
+        self.assertEqual(self.see(rooms=2, seconds=100), ["edits of dmr_calls"])
+        self.assertEqual(self.see(rooms=3, seconds=100), [])
+
     def test_kept(self) -> None:
         """Nothing of a crate that was kept is left, until it is seen after all."""
         self.gate.hear("rt: dmr_calls is kept: an earlier run on this machine proved the same files\n")

@@ -1,8 +1,9 @@
 """Whether a program in build/ was proved and built from the present sources.
 
-build/SOURCES has a line for each program that was. It has the program's name, the sum of the sources that it was made from, and the sum of the program itself.
-The sources are crates.txt, HANDLES, the kit, and all files of the crate and of the crates below it. What rt makes is left out, and so are wrong bodies, from
-which no program is made.
+build/SOURCES has a line for each program that was. It has the program's name, the sum of the
+sources that it was made from, and the sum of the program itself. The sources are crates.txt,
+HANDLES, the kit, and all files of the crate and of the crates below it. What rt makes is left out,
+and so are wrong bodies, from which no program is made.
 """
 import hashlib
 import os
@@ -50,7 +51,8 @@ def sources_of(program: str) -> Iterator[pathlib.Path]:
 def kit() -> str:
     """The kit, as `rt version` prints it; empty if there is none."""
     try:
-        return subprocess.run(["rt", "version"], stdin=subprocess.DEVNULL, stdout=subprocess.PIPE, text=True, check=False).stdout
+        return subprocess.run(["rt", "version"], stdin=subprocess.DEVNULL, stdout=subprocess.PIPE,
+                              text=True, check=False).stdout
     except OSError:
         return ""
 
@@ -61,7 +63,7 @@ def file_sum(path: pathlib.Path) -> str:
 
 
 def sources_sum(program: str) -> str:
-    """The sum of the sources of a program: another one if a file of them, its name or the kit changes."""
+    """The sum of a program's sources: another one if a file of them, its name or the kit changes."""
     listed = [(str(it.relative_to(TOP)), file_sum(it)) for it in sources_of(program)]
     return hashlib.sha256(repr((kit(), listed)).encode()).hexdigest()
 
@@ -75,8 +77,9 @@ def read_record() -> dict[str, list[str]]:
 
 
 def record(program: str, sources: str) -> bool:
-    """Copies a program that rt has just proved and built to build/, and records it. `sources` is the sum of its sources before that began. Whether
-    it was done: not if there is no program, or if its sources have changed since."""
+    """Copies a program that rt has just proved and built to build/, and records it. `sources` is
+    the sum of its sources before that began. Whether it was done: not if there is no program, or if
+    its sources have changed since."""
     made = TOP / "crates" / program / "out" / program
     if not made.is_file() or sources_sum(program) != sources:
         return False

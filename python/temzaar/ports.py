@@ -1,9 +1,11 @@
 """Ports of the loopback address that are free, for sites that tools, tests and trials serve.
 
-A process claims a region of ports and hands out each port of it once. No other process gets a port of that region here before the first one ends. So two runs
-on a machine do not take each other's ports between the look for free ones and their use.
+A process claims a region of ports and hands out each port of it once. No other process gets a port
+of that region here before the first one ends. So two runs on a machine do not take each other's
+ports between the look for free ones and their use.
 
-    python3 -m temzaar.ports 3      for a script: prints the first of three ports, and keeps the claim until its input ends
+    python3 -m temzaar.ports 3      for a script: prints the first of three ports, and keeps the
+                                    claim until its input ends
 """
 import random
 import socket
@@ -11,7 +13,8 @@ import sys
 
 from temzaar.faults import ToolFault
 
-# Above the ports of the examples, and below those that Linux chooses for outgoing connections (net.ipv4.ip_local_port_range).
+# Above the ports of the examples, and below those that Linux chooses for outgoing connections
+# (net.ipv4.ip_local_port_range).
 PORTS = range(20000, 32000)
 # How many ports a process claims at a time.
 REGION = 200
@@ -47,10 +50,12 @@ class Claims:
             self.claims.append(claim)
             self.left = range(first, first + REGION)
             return
-        raise ToolFault(f"no ports are left from {PORTS.start} to {PORTS.stop - 1}: other tools or tests have claimed them")
+        raise ToolFault(f"no ports are left from {PORTS.start} to {PORTS.stop - 1}: "
+                        "other tools or tests have claimed them")
 
     def take(self, count: int) -> int:
-        """The first of `count` free ports that follow each other, at most REGION. ToolFault: others have claimed all."""
+        """The first of `count` free ports that follow each other, at most REGION. ToolFault:
+        others have claimed all."""
         while True:
             if len(self.left) < count:
                 self.claim()
@@ -63,7 +68,8 @@ CLAIMS = Claims()
 
 
 def free_ports(count: int) -> int:
-    """The first of `count` ports of the loopback address that follow each other and are free, at most REGION. ToolFault: there are none."""
+    """The first of `count` ports of the loopback address that follow each other and are free, at
+    most REGION. ToolFault: others have claimed all."""
     return CLAIMS.take(count)
 
 

@@ -1,4 +1,5 @@
-"""`ci/built.py`: a program counts as built from the present sources only if no file of them has changed since; and `make run` over such a program."""
+"""`ci/built.py`: a program counts as built from the present sources only if no file of them has
+changed since; and `make run` over such a program."""
 import pathlib
 import subprocess
 import sys
@@ -19,7 +20,9 @@ class Built(unittest.TestCase):
         holder = tempfile.TemporaryDirectory()
         self.addCleanup(holder.cleanup)
         self.top = pathlib.Path(holder.name)
-        for name, value in (("TOP", self.top), ("BUILD", self.top / "build"), ("RECORD", self.top / "build" / "SOURCES"), ("kit", lambda: "a kit\n")):
+        folder = self.top / "build"
+        for name, value in (("TOP", self.top), ("BUILD", folder), ("RECORD", folder / "SOURCES"),
+                            ("kit", lambda: "a kit\n")):
             patch = mock.patch.object(built, name, value)
             patch.start()
             self.addCleanup(patch.stop)
@@ -42,11 +45,13 @@ class Built(unittest.TestCase):
         self.assertTrue(built.is_current("app"))
 
     def test_a_change_of_any_source_counts(self) -> None:
-        """A change of a file's text, a new file, and a file that is renamed, in the crate and in those below it."""
-        for path in ("crates.txt", "HANDLES", "crates/app/src/lib.rt", "crates/low/specs/A.antt", "crates/lower/src/lib.rt", "crates/lower/proofs/New.antt", "crates/low/c/a.c"):
+        """Another text, a new file, and a file that is renamed, in the crate and in those below it."""
+        for path in ("crates.txt", "HANDLES", "crates/app/src/lib.rt", "crates/low/specs/A.antt",
+                     "crates/lower/src/lib.rt", "crates/lower/proofs/New.antt", "crates/low/c/a.c"):
             with self.subTest(path):
                 self.build()
-                before = (self.top / path).read_text(encoding="utf-8") if (self.top / path).exists() else ""
+                file = self.top / path
+                before = file.read_text(encoding="utf-8") if file.exists() else ""
                 self.write(path, before + "\n# more\n")
                 self.assertFalse(built.is_current("app"))
         self.build()
@@ -60,7 +65,8 @@ class Built(unittest.TestCase):
 
     def test_what_no_program_is_made_from(self) -> None:
         self.build()
-        for path in ("crates/other/src/lib.rt", "crates/low/out/rlib", "crates/lower/must-fail/a.edit", "crates/app/wrong-bodies/a.edit"):
+        for path in ("crates/other/src/lib.rt", "crates/low/out/rlib", "crates/lower/must-fail/a.edit",
+                     "crates/app/wrong-bodies/a.edit"):
             self.write(path, "changed")
         self.assertTrue(built.is_current("app"))
 
@@ -85,8 +91,9 @@ class Run(unittest.TestCase):
     def test_it_serves_and_ends(self) -> None:
         program("dmr_trunk")
         if not built.is_current("dmr_trunk"):
-            raise unittest.SkipTest("build/dmr_trunk was not proved and built from these sources: `make build` builds it")
-        done = subprocess.run([TOP / "ci" / "run-site"], capture_output=True, text=True, check=False, timeout=120)
+            raise unittest.SkipTest("build/dmr_trunk is not of these sources: `make build` builds it")
+        done = subprocess.run([TOP / "ci" / "run-site"], capture_output=True, text=True, check=False,
+                              timeout=120)
         self.assertEqual((done.returncode, done.stderr), (0, ""), done.stdout)
         self.assertRegex(done.stdout, r"(?m)^carriers 2 of 2 up   radios 10   .*   calls [123] ")
         self.assertRegex(done.stdout, r"(?m)^\d+ polls of 2 carriers answered in \d+ s: ")

@@ -32,7 +32,8 @@ class Ports(unittest.TestCase):
     def test_each_is_handed_out_once(self) -> None:
         """Two who ask in turn, each for more than a region has."""
         both = self.claims(), self.claims()
-        ports = [port for _ in range(5) for it in both for first in [it.take(48)] for port in range(first, first + 48)]
+        firsts = [it.take(48) for _ in range(5) for it in both]
+        ports = [port for first in firsts for port in range(first, first + 48)]
         self.assertEqual(len(set(ports)), len(ports))
         self.assertTrue(all(map(is_free, ports)) and set(ports) <= set(PORTS))
 
@@ -45,7 +46,9 @@ class Ports(unittest.TestCase):
     def test_another_process(self) -> None:
         """A script's claim lasts until the script ends its input."""
         own, environment = free_ports(1), {**os.environ, "PYTHONPATH": str(TOP / "python")}
-        with subprocess.Popen([sys.executable, "-m", "temzaar.ports", "3"], stdin=subprocess.PIPE, stdout=subprocess.PIPE, text=True, env=environment) as other:
+        words = [sys.executable, "-m", "temzaar.ports", "3"]
+        with subprocess.Popen(words, stdin=subprocess.PIPE, stdout=subprocess.PIPE, text=True,
+                              env=environment) as other:
             assert other.stdin and other.stdout
             port = int(other.stdout.readline())
             self.assertTrue(is_claimed(own) and is_claimed(port))
@@ -55,8 +58,9 @@ class Ports(unittest.TestCase):
 
     def test_a_site(self) -> None:
         """The console and sixteen carriers each have a port of their own."""
-        sites = [Site(str(SITES / "sixteen_carriers.toml"), first_port=FREE_PORTS) for _ in range(2)]
-        ports = {port for site in sites for port in [site.console_port, *(row["port"] for row in site.rows)]}
+        path = str(SITES / "sixteen_carriers.toml")
+        sites = [Site(path, first_port=FREE_PORTS) for _ in range(2)]
+        ports = {site.console_port for site in sites} | {row["port"] for site in sites for row in site.rows}
         self.assertEqual((len(ports), {site.address for site in sites}), (34, {"127.0.0.1"}))
 
 

@@ -12,8 +12,6 @@ SOAK_INPUTS = 10_000_000
 SOAKS = 4
 SITE = "sites/sixteen_carriers.toml"
 HOUR = 3600
-# the console's port of the second of two sites that are served side by side; the ports of its carriers follow
-SECOND_PORT = "17200"
 # the number of steps that try the wrong bodies outside the gate, of some twenty minutes each
 WRONG_BODY_PARTS = 8
 
@@ -74,7 +72,7 @@ def all_steps(short: bool) -> list[Step]:
         *(wrong_bodies(part, short) for part in range(1, WRONG_BODY_PARTS + 1)),
         Step(f"a soak of {inputs * SOAKS:,} inputs", ["build/dmr_soak", "--inputs", str(inputs), "--counts"]),
         Step(f"served for {seconds} s", carriers("--seconds", seconds), least_seconds=serving),
-        Step(f"served in trouble for {seconds} s", carriers("--faults", "--seconds", seconds, "--port", SECOND_PORT), side_by_side=True, least_seconds=serving),
+        Step(f"served in trouble for {seconds} s", carriers("--faults", "--seconds", seconds), side_by_side=True, least_seconds=serving),
         Step("each allocation refused", ["trials/refuse-memory"]),
         Step("served to peers that behave badly", ["trials/serve-hostile", "build/dmr_trunk"]),
         Step("killed while it serves, and a file of records in trouble", ["trials/restart", "build/dmr_trunk"]),

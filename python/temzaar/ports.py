@@ -7,9 +7,12 @@ ports between the look for free ones and their use.
     python3 -m temzaar.ports 3      for a script: prints the first of three ports, and keeps the
                                     claim until its input ends
 """
+import contextlib
 import random
 import socket
 import sys
+import time
+from collections.abc import Iterator
 
 from temzaar.faults import ToolFault
 
@@ -71,6 +74,23 @@ def free_ports(count: int) -> int:
     """The first of `count` ports of the loopback address that follow each other and are free, at
     most REGION. ToolFault: others have claimed all."""
     return CLAIMS.take(count)
+
+
+@contextlib.contextmanager
+def hold_ports(first: int, seconds: float = 600.0) -> Iterator[None]:
+    """Holds ports that cannot be chosen, such as those that documents show, by the first of them.
+    While another process holds them, it waits; ToolFault: longer than `seconds`."""
+    until = time.monotonic() + seconds
+    with socket.socket(socket.AF_UNIX, socket.SOCK_DGRAM) as claim:
+        while True:
+            try:
+                claim.bind(f"\0temzaar-ports-{first}")
+                break
+            except OSError:
+                if time.monotonic() > until:
+                    raise ToolFault(f"another process holds port {first}") from None
+                time.sleep(0.2)
+        yield
 
 
 if __name__ == "__main__":

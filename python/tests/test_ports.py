@@ -5,7 +5,8 @@ import subprocess
 import sys
 import unittest
 
-from temzaar.ports import PORTS, REGION, Claims, free_ports, is_free
+from temzaar.faults import ToolFault
+from temzaar.ports import PORTS, REGION, Claims, free_ports, hold_ports, is_free
 from temzaar.sitefile import FREE_PORTS, Site
 from tests.support import SITES, TOP
 
@@ -36,6 +37,15 @@ class Ports(unittest.TestCase):
         ports = [port for first in firsts for port in range(first, first + 48)]
         self.assertEqual(len(set(ports)), len(ports))
         self.assertTrue(all(map(is_free, ports)) and set(ports) <= set(PORTS))
+
+    def test_ports_that_are_held(self) -> None:
+        """One process at a time holds them; the next one gets them when the first lets go."""
+        port = PORTS.start - 1
+        with hold_ports(port):
+            with self.assertRaises(ToolFault), hold_ports(port, 0.0):
+                pass
+        with hold_ports(port):
+            pass
 
     def test_none_in_use(self) -> None:
         claims = self.claims()

@@ -4,7 +4,7 @@ ghost use Rattle.std.specs.Prelude.{◌≡◌};
 
 use crate::kept::both;
 use crate::site::quiet_site;
-use dmr_core::{Event, Site};
+use dmr_core::{Command, Event, Reply, Site};
 use dmr_desk::{DeskLedger, OpenFault, PARTS, Report, Seat, SharedDesk};
 use dmr_link::TermOver;
 use dmr_pdu::CarrierNo;
@@ -140,5 +140,52 @@ fn an_event_that_is_refused(rt: HostRuntime) -> Result<(), Fail> {
     assert!(rt; refused);
     assert_eq!(rt; entries, 2);
     assert!(rt; same);
+    Ok(())
+}
+
+/// Returns the reply to `status` at the second of two seats, after carrier 0 came up at the first, and the report.
+/// Returns `None` if the desk cannot be opened or closed.
+fn asked_at_two<L: DeskLedger, R: Wait>(
+    rt: &R,
+    alloc: Global,
+    blank: Blank,
+    site: Site,
+) -> Option<(Option<Reply>, Report)>
+    requires name { blank.name ≡ L.name }
+    requires parts { blank.parts ≡ L.parts }
+    requires eighteen { blank.parts ≡ 18 }
+    requires desk { L.desk ≡ record { site = site; limit = 2; actors = 2 } }
+{
+    let (desk, mut seats) = SharedDesk::<L>::open(alloc, blank, site, 2, 2).ok()?;
+    let events = [Event::Up(CarrierNo::new(0)), Event::Say(Command::Status)];
+    let mut said = None;
+    for (seat, event) in seats.iter_mut().zip(&events) {
+        if let Ok(acts) = desk.deposit(rt, seat, *event) {
+            said = acts.said;
+        }
+    }
+    Some((said, desk.close(rt, seats).ok()?))
+}
+
+/// Calls `asked_at_two` with a ledger of its own.
+fn status_at_two<R: Wait>(rt: &R, alloc: Global, site: Site) -> Option<(Option<Reply>, Report)> {
+    asked_at_two::<Brand, R>(rt, alloc, Blank::new(PARTS), site)
+}
+
+/// All seats of a desk share its site: an operator is answered that the carrier of another seat is up.
+#[test]
+fn seats_share_a_site(rt: HostRuntime) -> Result<(), Fail> {
+    let site = quiet_site(rt.alloc())?;
+    let (said, report) = status_at_two(&rt, rt.alloc(), site).ok_or("a report")?;
+    drop(report);
+    let want = Reply::Status {
+        carriers: 1,
+        radios: 0,
+        asks: 0,
+        lines: 0,
+        calls: 0,
+        moving: None,
+    };
+    assert_eq!(rt; said, Some(want));
     Ok(())
 }

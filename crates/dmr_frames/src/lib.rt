@@ -2,7 +2,7 @@
 //!
 //! A frame is a type octet, a length octet that counts its body's octets, and the body. A `Cutter` takes a carrier's
 //! octets one by one, so it does not matter in which pieces they come, and returns each frame at its last octet.
-//! `write_frame` spells the frames that go to a carrier. Nothing here allocates memory.
+//! `append_spelling` and `write_frame` spell the frames that go to a carrier. Nothing here allocates memory.
 //!
 //! The versions differ in RX and TX, which in version 2 have a number octet before the slot. The first frame of a
 //! connection is of version
@@ -22,4 +22,4 @@ pub use frame::{Cause, FrameIn, FrameOut, LONGEST_FRAME, Refusal, RxFrame, Short
 pub use table::{Field, FrameKind, FrameRow};
 pub use version::{FrameTable, Version};
 pub use whole::whole_frame;
-pub use write::write_frame;
+pub use write::{append_spelling, write_frame};

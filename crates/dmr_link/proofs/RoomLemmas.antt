@@ -1,7 +1,12 @@
 -- Room for the octets that answer octets.
-use Rattle.std.proofs.Common.{◌≡◌, Bool, true, false, ℕ, ◌+◌, ◌-◌, ◌*◌, ◌^◌, ◌≤◌, min, List, Option, length, take, drop, refl, sym, ap, ◌∙◌, arith}
+use Rattle.std.proofs.Common.{◌≡◌, Bool, true, false, ℕ, ◌+◌, ◌-◌, ◌*◌, ◌^◌, ◌≤◌, min, List, Option, Some, None, length, take, drop, refl, sym, ap, ◌∙◌, arith}
+use Rattle.std.specs.Prelude.{is_some}
 use Rattle.std.proofs.lemmas.Bool.{false≢true}
 use Rattle.std.proofs.lemmas.List.{drop_all}
+use Rattle.dmr_bits.specs.Words.{word_octets}
+use Rattle.dmr_bits.proofs.Laws.{word_octets-octets}
+use Rattle.dmr_frames.specs.declared.frame.FrameOut.TheVariants.{Tx}
+use Rattle.dmr_link.specs.Numbering.{frame_text}
 use Rattle.dmr_link.specs.declared.connection.CarrierIdentity.{CarrierIdentity}
 use Rattle.dmr_link.specs.declared.connection.Connection.{Connection}
 use Rattle.dmr_link.specs.Meaning.{list_of_notice}
@@ -33,6 +38,11 @@ room_more who numbered then k later octets i n brought room most more whole brin
     added room most more whole all rest parts sum e = omega (arith, parts, sum, e)
 
 -- ---- the TX of acts
+
+-- the length of a TX
+pub tx_length : (next : Option ℕ) (slot : ℕ) (word : List Bool) → length (frame_text next (Tx None slot word)) ≡ length_of_tx (is_some next)
+tx_length None slot word = let it : length (word_octets word) ≡ 25 = (word_octets-octets word).len in omega (arith, it)
+tx_length (Some n) slot word = let it : length (word_octets word) ≡ 25 = (word_octets-octets word).len in omega (arith, it)
 
 -- one more TX is appended
 pub few_more : (b c : Bool) → c ≡ b → (now later i : ℕ) → later ≤ now + length_of_tx c → now ≤ length_of_tx b * i → later ≤ length_of_tx b * (i + 1)

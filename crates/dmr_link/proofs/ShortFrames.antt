@@ -8,6 +8,7 @@ use Rattle.dmr_frames.specs.Reading.{ProduceAtLast, rest_after_octets}
 use Rattle.dmr_frames.specs.Short.{frame_of_short}
 use Rattle.dmr_link.specs.declared.connection.CarrierIdentity.{CarrierIdentity}
 use Rattle.dmr_link.specs.declared.connection.Connection.TheVariants.{Running}
+use Rattle.dmr_link.specs.Closing.{frame_closes}
 use Rattle.dmr_link.specs.Meaning.{event_of, list_of_notice}
 use Rattle.dmr_link.specs.Notices.{Happened}
 use Rattle.dmr_link.specs.Steps.{running_produces, running_leaves, notices_of_octets, connection_after_octets}
@@ -26,6 +27,11 @@ short_leaves rest None Poll = refl
 short_leaves rest (Some n) Poll = refl
 short_leaves rest None (Active slot) = refl
 short_leaves rest (Some n) (Active slot) = refl
+
+-- it closes nothing
+pub short_closes : (short : ShortFrame) → frame_closes (frame_of_short short) ≡ None
+short_closes Poll = refl
+short_closes (Active slot) = refl
 
 pub short-piece : (who : CarrierIdentity) (newest : Option ℕ) (rest : Rest) (octets : List ℕ) (short : ShortFrame) → ProduceAtLast rest octets (Frame (frame_of_short short)) →
     (notices_of_octets who (Running rest newest) octets ≡ Happened (event_of who.carrier (frame_of_short short)) ∷ []) × (connection_after_octets who (Running rest newest) octets ≡ Running (rest_after_octets rest octets) newest)

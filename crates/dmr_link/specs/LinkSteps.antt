@@ -1,7 +1,7 @@
 -- The steps of a link. Only contracts inside this crate name these definitions, except `is_live` and `IsLinkNumbering`;
 -- nothing above depends on the others.
-use Rattle.std.specs.Prelude.{◌≡◌, ℕ, ◌≤◌, Bool, true, false, ◌||◌, List, [], Option, Some, None}
-use Rattle.std.specs.Prelude.{Result, Ok, Err}
+use Rattle.std.specs.Prelude.{◌≡◌, ℕ, ◌<◌, ◌≤◌, Bool, true, false, ◌||◌, List, [], ◌++◌, length}
+use Rattle.std.specs.Prelude.{Option, Some, None, Result, Ok, Err}
 use Rattle.dmr_core.specs.declared.event.Event.TheVariants.{Lost}
 use Rattle.dmr_wire.specs.Answers.{Answer}
 use Rattle.dmr_link.specs.Notices.{Notice}
@@ -23,7 +23,8 @@ use Rattle.dmr_link.specs.Moves.{Moves, WritesText}
 use Rattle.dmr_link.specs.Numbering.{first_number}
 use Rattle.dmr_link.specs.Sound.{IsNumberingOf}
 use Rattle.dmr_frames.specs.Versions.{version_octet}
-use Rattle.dmr_link.specs.Peers.{opened_for, is_going, up_of, produces, left_after, closes_by}
+use Rattle.dmr_link.specs.Meaning.{list_of_notice}
+use Rattle.dmr_link.specs.Peers.{opened_for, is_going, up_of, all_produce, left_after, closes_by}
 use Rattle.dmr_link.specs.Peers.{numbered}
 use Rattle.dmr_link.specs.Sessions.{Sides, IsQuiet, IsOver, is_kept, is_lost, is_pending}
 
@@ -113,22 +114,44 @@ peer_notice_of (Some (Accepted c version)) = None
 peer_notice_of (Some (Refused c refusal)) = Some (Refused c refusal)
 peer_notice_of (Some (Rejected fault)) = Some (Rejected fault)
 
--- how a connection was closed, after an octet that may have closed it
+-- how a connection was closed, after octets that may have closed it
 abbrev pub closing_then : Closing → Option Closing → Closing
 closing_then old None = old
 closing_then old (Some new) = new
 
--- a link after an octet
-abbrev pub state_after_octet : LinkState → ℕ → LinkState
-state_after_octet l x = record {
+-- a link after octets that produce this notice, if any, and close its connection in this way, if they do
+abbrev pub with_outcome : LinkState → Option Notice → Option Closing → LinkState
+with_outcome l notice closing = record {
   who = l.who;
-  connection = left_after l.connection x;
-  pending =
-      record { kept = kept_then l.pending.kept (produces l.connection x); lost = l.pending.lost };
+  connection = l.connection;
+  pending = record { kept = kept_then l.pending.kept notice; lost = l.pending.lost };
   is_cut = l.is_cut;
   unread = l.unread;
-  closing = closing_then l.closing (closes_by l.connection x);
+  closing = closing_then l.closing closing;
 }
+
+-- a link after the first of its unread octets, which produce this notice, if any, and leave the rest unread
+abbrev pub state_after : LinkState → List ℕ → Option Notice → List ℕ → LinkState
+state_after l octets notice rest = record {
+  who = l.who;
+  connection = left_after l.connection octets;
+  pending = record { kept = kept_then l.pending.kept notice; lost = l.pending.lost };
+  is_cut = l.is_cut;
+  unread = rest;
+  closing = closing_then l.closing (closes_by l.connection octets);
+}
+
+-- a link took a piece: the first of its unread octets, at least one. They produce one notice, or none. A notice for the
+-- peer alone is `aside`
+pub record TakesPiece (old new : LinkState) (aside : Option Notice) : Type 0 where
+  pub octets : List ℕ
+  pub rest : List ℕ
+  pub notice : Option Notice
+  pub few : length rest < length old.unread
+  pub in_two : old.unread ≡ octets ++ rest
+  pub means : all_produce old.connection octets ≡ list_of_notice notice
+  pub alone : aside ≡ peer_notice_of notice
+  pub leaves : new ≡ state_after old octets notice rest
 
 -- a connection is open, or an event of it is pending
 abbrev pub is_live : LinkState → Bool

@@ -1,18 +1,13 @@
 -- Carriers and operators: the meaning of octets from each, and the octets written to each.
-use Rattle.std.specs.Prelude.{ℕ, Bool, true, false, List, [], Option, Some, None, map, flat_map}
-use Rattle.std.specs.Prelude.{scan}
-use Rattle.dmr_console.specs.declared.line_cutter.LineStep.{LineStep}
-use Rattle.dmr_console.specs.declared.line_cutter.LineStep.TheVariants as step
-use Rattle.dmr_console.specs.Commands.{command_of}
+use Rattle.std.specs.Prelude.{ℕ, Bool, true, false, List, [], Option, None, map}
 use Rattle.dmr_console.specs.Lines.{open_in, first_octets_of_line}
-use Rattle.dmr_console.specs.Steps.{open_line_after_octet, line_step_at}
+use Rattle.dmr_console.specs.Steps.{open_line_after}
 use Rattle.dmr_frames.specs.declared.frame.FrameOut.TheVariants as out
 use Rattle.dmr_frames.specs.Frames.{spelling_out}
 use Rattle.dmr_core.specs.declared.act.Acts.{Acts}
 use Rattle.dmr_core.specs.declared.entry.Entry.{Entry}
 use Rattle.dmr_core.specs.declared.event.Event.TheVariants.{Say}
 use Rattle.dmr_core.specs.Journal.{unattributed_entry}
-use Rattle.dmr_link.specs.declared.notices.LineFault.TheVariants.{TooLong}
 use Rattle.dmr_link.specs.Notices.{Notice}
 use Rattle.dmr_link.specs.Notices.{Happened, Accepted, Refused, Rejected}
 use Rattle.dmr_link.specs.declared.notices.SiteNotice.{SiteNotice}
@@ -24,13 +19,13 @@ use Rattle.dmr_link.specs.declared.stream.Peer.TheVariants.{Carrier, Operator}
 use Rattle.dmr_link.specs.declared.stream.Stream.{Stream}
 use Rattle.dmr_link.specs.declared.stream.Stream.TheVariants as stream
 use Rattle.dmr_link.specs.CarrierStates.{state_on, is_open, up_by}
-use Rattle.dmr_link.specs.Closing.{closing_of_octets, closes}
-use Rattle.dmr_link.specs.Console.{notice_of_command, meaning_of_text, console_text, fault_text}
-use Rattle.dmr_link.specs.Console.{reply_text}
-use Rattle.dmr_link.specs.Meaning.{meaning_of_octets, left_by_octets, list_of_notice}
+use Rattle.dmr_link.specs.Closing.{closing_of_octets, all_closes}
+use Rattle.dmr_link.specs.Console.{meaning_of_text, said_from, console_text}
+use Rattle.dmr_link.specs.Console.{fault_text, reply_text}
+use Rattle.dmr_link.specs.Meaning.{meaning_of_octets, left_by_octets}
 use Rattle.dmr_link.specs.Numbering.{frames_text, next_after_frames}
 use Rattle.dmr_link.specs.Session.{answer_frames, session_frames, session_text}
-use Rattle.dmr_link.specs.Steps.{new_connection, notice_of_octet, connection_after_octet}
+use Rattle.dmr_link.specs.Steps.{new_connection, notices_of_octets, connection_after_octets}
 
 -- ---- the meaning of octets
 
@@ -91,7 +86,7 @@ peer_notice_text (Accepted c version) = []
 peer_notice_text (Refused c refusal) = spelling_out (out.Refused refusal)
 peer_notice_text (Rejected fault) = fault_text fault
 
--- ---- octet by octet
+-- ---- a link's connection
 
 -- a connection of this peer that has just begun
 abbrev pub opened_for : Peer → Stream
@@ -120,32 +115,22 @@ abbrev pub up_of : Stream → Option ℕ
 up_of (stream.Frames state) = up_by state.who state.connection
 up_of other = None
 
--- the notice that a step of the line cutter produces, if any
-abbrev pub line_produces : LineStep → Option Notice
-line_produces step.Need = None
-line_produces step.TooLong = Some (Rejected TooLong)
-line_produces (step.Line line) = Some (notice_of_command (command_of line.items))
-
--- the notice that an octet produces, if any
-abbrev pub produces : Stream → ℕ → Option Notice
-produces stream.Closed x = None
-produces (stream.Frames state) x = notice_of_octet state.who state.connection x
-produces (stream.Lines begun) x = line_produces (line_step_at begun x)
-
--- the connection after an octet
-abbrev pub left_after : Stream → ℕ → Stream
-left_after stream.Closed x = stream.Closed
-left_after (stream.Frames state) x =
-    stream.Frames
-    (state_on state.who (connection_after_octet state.who state.connection x) state.numbering)
-left_after (stream.Lines begun) x = stream.Lines (open_line_after_octet begun x)
-
--- how an octet closes the connection, if it does
-abbrev pub closes_by : Stream → ℕ → Option Closing
-closes_by stream.Closed x = None
-closes_by (stream.Frames state) x = closes state.who state.connection x
-closes_by (stream.Lines begun) x = None
-
 -- the notices that octets produce, one after another
 abbrev pub all_produce : Stream → List ℕ → List Notice
-all_produce k octets = flat_map list_of_notice (scan left_after produces k octets)
+all_produce stream.Closed octets = []
+all_produce (stream.Frames state) octets = notices_of_octets state.who state.connection octets
+all_produce (stream.Lines begun) octets = said_from begun octets
+
+-- the connection after octets
+abbrev pub left_after : Stream → List ℕ → Stream
+left_after stream.Closed octets = stream.Closed
+left_after (stream.Frames state) octets =
+    stream.Frames
+    (state_on state.who (connection_after_octets state.who state.connection octets)
+    state.numbering)
+left_after (stream.Lines begun) octets = stream.Lines (open_line_after begun octets)
+
+-- how octets close the connection, if they do: the first octet that does decides. An operator's never do
+abbrev pub closes_by : Stream → List ℕ → Option Closing
+closes_by (stream.Frames state) octets = all_closes state.who state.connection octets
+closes_by other octets = None

@@ -1,12 +1,11 @@
 //! Encodes the answers to a carrier's events. The engine appends them to its outputs, a link writes them. No other code
 //! encodes the answer to an event of a carrier.
 
-ghost use Rattle.std.specs.Prelude.{◌≡◌, ◌+◌, ◌*◌, ◌%◌, ◌≤◌, ◌++◌, [], ◌∷◌, None, flat_map};
+ghost use Rattle.std.specs.Prelude.{◌≡◌, ◌+◌, ◌*◌, ◌≤◌, ◌++◌, [], ◌∷◌, None, flat_map};
 ghost use Rattle.std.specs.Prelude.{is_some};
-ghost use Rattle.std.specs.Prelude.{length, option_map, MatchOption};
+ghost use Rattle.std.specs.Prelude.{length, MatchOption};
 ghost use Rattle.arrayvec.specs.ArrayVec.{array_vec_len};
 ghost use Rattle.dmr_burst.specs.Functions.{burst_of};
-ghost use Rattle.dmr_frames.specs.Frames.{spelling_out};
 ghost use Rattle.dmr_link.specs.Notices.{event_of_notice, site_notice};
 ghost use Rattle.dmr_link.specs.Answering.{IsFewAt};
 ghost use Rattle.dmr_link.specs.Numbering.{frame_text, frames_text, next_after, next_after_frames};
@@ -27,29 +26,46 @@ const LONGEST_ANSWER: usize = (16 + 1) * LONGEST_FRAME;
 /// The octets of an answer.
 pub type AnswerText = ArrayVec<u8, LONGEST_ANSWER>;
 
-/// The answer to an event: the site's answer, and its octets for the carrier.
-/// Both have room for more than most events need. So an engine keeps one answer from event to event, and no event pays
-/// for clearing or copying all of that room.
+/// Room for the octets of an answer, and the burst that was encoded last. An engine or a link keeps one from answer to
+/// answer. So no answer pays for clearing all of that room, and a PDU that is sent again is not encoded again.
+#[derive(Drop)]
+pub struct AnswerRoom {
+    /// The octets that the carrier receives.
+    pub octets: AnswerText,
+    /// The burst that was encoded last.
+    pub burst: KeptBurst,
+}
+
+impl AnswerRoom {
+    /// Returns room without octets and without a burst.
+    pub fn new() -> AnswerRoom
+        ensures { result.octets.items ≡ [] }
+    {
+        AnswerRoom {
+            octets: ArrayVec::new(),
+            burst: KeptBurst::none(),
+        }
+    }
+}
+
+/// The answer to an event: the site's answer, and room for its octets. An engine keeps one answer from event to event.
 #[derive(Drop)]
 pub struct Answer {
     /// The acts, and the reply to an operator.
     pub acts: Acts,
     /// The octets that the carrier receives.
-    pub octets: AnswerText,
-    /// The burst that was encoded last. A PDU that is sent again is not encoded again.
-    pub burst: KeptBurst,
+    pub room: AnswerRoom,
 }
 
 impl Answer {
     /// Returns an answer without acts, reply and octets.
     pub fn none() -> Answer
         ensures acts { result.acts ≡ record { list = []; said = None } }
-        ensures octets { result.octets.items ≡ [] }
+        ensures octets { result.room.octets.items ≡ [] }
     {
         Answer {
             acts: Acts::none(),
-            octets: ArrayVec::new(),
-            burst: KeptBurst::none(),
+            room: AnswerRoom::new(),
         }
     }
 }
@@ -82,50 +98,7 @@ fn append_frame(answer: &mut AnswerText, numbering: &mut Numbering, frame: &Fram
     ensures len { array_vec_len answer.new
         ≡ array_vec_len answer.old + length (frame_text numbering.old frame.now) }
 {
-    let octets = numbering.encode_frame(frame);
-    let Ok(()) = answer.try_extend_from_slice(octets.as_slice()) else {
-        unreachable!()
-    };
-}
-
-/// Appends the first octets of a TX, and then those of its word.
-fn append_parts(answer: &mut AnswerText, head: &[u8], word: &[u8; 25])
-    requires { array_vec_len answer.old + (length head.now + 25) ≤ 493 }
-    ensures items { answer.new.items ≡ answer.old.items ++ (head.now ++ word.now) }
-    ensures len { array_vec_len answer.new ≡ array_vec_len answer.old + (length head.now + 25) }
-{
-    let Ok(()) = answer.try_extend_from_slice(head) else {
-        unreachable!()
-    };
-    let Ok(()) = answer.try_extend_from_slice(word) else {
-        unreachable!()
-    };
-}
-
-/// Appends the TX of a PDU in a slot: its type, length, number and slot, and the 25 octets of the PDU's burst. It has a
-/// number only if TX are numbered.
-fn append_burst(
-    answer: &mut AnswerText,
-    numbering: &mut Numbering,
-    burst: &mut KeptBurst,
-    slot: SlotNo,
-    pdu: &Pdu,
-)
-    requires { array_vec_len answer.old + 29 ≤ 493 }
-    ensures items { answer.new.items ≡ answer.old.items
-        ++ frame_text numbering.old (FrameOut.Tx None slot (burst_of pdu.now)) }
-    ensures next { numbering.new ≡ option_map (λ n. (n + 1) % 256) numbering.old }
-    ensures numbered { is_some numbering.new ≡ is_some numbering.old }
-    ensures len { array_vec_len answer.new
-        ≡ array_vec_len answer.old + length_of_tx (is_some numbering.old) }
-{
-    let word = burst.octets_of(pdu);
-    let slot = slot.get() as u8;
-    // The contract compares these octets with the table of frames.
-    match numbering.take_number() {
-        None => append_parts(answer, &[0x82, 26, slot], &word),
-        Some(number) => append_parts(answer, &[0x82, 27, number, slot], &word),
-    }
+    numbering.append_frame(answer, frame);
 }
 
 /// Appends the TX of an act, if the act sends a PDU in a slot.
@@ -139,20 +112,13 @@ fn append_tx(answer: &mut AnswerText, numbering: &mut Numbering, burst: &mut Kep
     ensures numbered { is_some numbering.new ≡ is_some numbering.old }
 {
     if let Some((slot, pdu)) = sent_by(act) {
-        append_burst(answer, numbering, burst, slot, &pdu);
+        let tx = FrameOut::Tx {
+            number: None,
+            slot,
+            word: burst.word_of(&pdu),
+        };
+        append_frame(answer, numbering, &tx);
     }
-}
-
-/// Appends DONE.
-fn append_done(answer: &mut AnswerText)
-    requires { array_vec_len answer.old + 29 ≤ 493 }
-    ensures items { answer.new.items ≡ answer.old.items ++ spelling_out FrameOut.Done }
-    ensures len { array_vec_len answer.new ≡ array_vec_len answer.old + 2 }
-{
-    // The contract compares these octets with the table of frames.
-    let Ok(()) = answer.try_extend_from_slice(&[0x83, 0]) else {
-        unreachable!()
-    };
 }
 
 /// Appends the answer to a POLL: a TX for each act that sends a PDU, and DONE. At most 16 acts are allowed.
@@ -174,7 +140,7 @@ fn append_poll_answer(
     for act in acts {
         append_tx(answer, numbering, burst, act);
     }
-    append_done(answer);
+    append_frame(answer, numbering, &FrameOut::Done);
 }
 
 /// Appends the answer to a HELLO that is accepted: WELCOME.
@@ -187,29 +153,31 @@ fn append_hello_answer(answer: &mut AnswerText, numbering: &mut Numbering, versi
     append_frame(answer, numbering, &welcome_to(version));
 }
 
-/// Encodes the answer to a carrier's notice. `answer` becomes its octets, whatever it was before. `acts` are the site's
-/// acts for the notice, at most 16. A HELLO is answered by WELCOME, and a POLL by a TX for each PDU that is sent, and
-/// DONE. Other notices are not answered. `burst` spares the encoding of a PDU that was encoded with it last.
+/// Encodes the answer to a carrier's notice. The octets in `room` become its octets, whatever they were before. `acts`
+/// are the site's acts for the notice, at most 16. A HELLO is answered by WELCOME, and a POLL by a TX for each PDU that
+/// is sent, and DONE. Other notices are not answered.
 pub fn encode_answer(
-    answer: &mut AnswerText,
+    room: &mut AnswerRoom,
     numbering: &mut Numbering,
-    burst: &mut KeptBurst,
     notice: &SiteNotice,
     acts: &[Act],
 )
     requires { length acts.now ≤ 16 }
-    ensures items { answer.new.items
+    ensures items { room.new.octets.items
         ≡ frames_text numbering.old (answer_frames notice.now acts.now) }
     ensures next { numbering.new
         ≡ next_after_frames numbering.old (answer_frames notice.now acts.now) }
     // The answer fits into the room that is made for the notice.
     ensures few { IsFewAt (event_of_notice notice.now) acts.now
-        → array_vec_len answer.new ≤ most_of (is_some numbering.old) (site_notice notice.now) }
+        → array_vec_len room.new.octets ≤ most_of (is_some numbering.old) (site_notice notice.now) }
 {
-    answer.clear();
+    let octets = &mut room.octets;
+    octets.clear();
     match notice {
-        SiteNotice::Accepted(_, version) => append_hello_answer(answer, numbering, *version),
-        SiteNotice::Happened(Event::Poll(_)) => append_poll_answer(answer, numbering, burst, acts),
+        SiteNotice::Accepted(_, version) => append_hello_answer(octets, numbering, *version),
+        SiteNotice::Happened(Event::Poll(_)) => {
+            append_poll_answer(octets, numbering, &mut room.burst, acts);
+        }
         SiteNotice::Happened(_) => {}
     }
 }

@@ -11,14 +11,14 @@ ghost use Rattle.dmr_frames.specs.declared.frame.FrameIn.TheVariants as frame;
 ghost use Rattle.dmr_link.specs.Meaning.{list_of_notice, event_of, event_of_burst as burst_event};
 ghost use Rattle.dmr_link.specs.Meaning.{is_accepted, is_repeat as is_newest_repeat};
 ghost use Rattle.dmr_link.specs.Meaning.{refusal_of_first};
-ghost use Rattle.dmr_link.specs.Closing.{cause_of_refusal, closes, first_fault, waiting_closes};
+ghost use Rattle.dmr_link.specs.CarrierStates.{is_open, up_by};
+ghost use Rattle.dmr_link.specs.Closing.{cause_of_refusal, all_closes, first_fault, waiting_closes};
 ghost use Rattle.dmr_link.specs.Closing.{running_closes};
 ghost use Rattle.dmr_wire.specs.declared.closing.Closing.TheVariants as closed;
 ghost use Rattle.dmr_link.specs.Notices.{Accepted, Happened, Refused, notice_meant};
 ghost use Rattle.dmr_link.specs.Sound.{IsConnectionSound};
 ghost use Rattle.dmr_link.specs.Zeros.{is_up_between};
-ghost use Rattle.dmr_link.specs.Steps.{new_connection, notice_of_octet, notices_of_octets};
-ghost use Rattle.dmr_link.specs.Steps.{connection_after_octet, connection_after_octets};
+ghost use Rattle.dmr_link.specs.Steps.{new_connection, notices_of_octets, connection_after_octets};
 ghost use Rattle.dmr_link.specs.Steps.{running_produces, waiting_produces, waiting_leaves};
 ghost use Rattle.dmr_link.specs.Steps.{running_leaves};
 
@@ -59,13 +59,13 @@ pub enum Connection {
     },
 }
 
-/// The effect of an octet on a connection: the notice it produces, if any, and how it closes the connection, if it
-/// does.
+/// The effect of octets on a connection: the notice that they produce, if any, and how they close the connection, if
+/// they do.
 #[derive(Clone, Copy, Debug)]
 pub struct Outcome {
-    /// The notice that it produces, if any.
+    /// The notice that they produce, if any.
     pub notice: Option<Notice>,
-    /// How it closes the connection, if it does.
+    /// How they close the connection, if they do.
     pub closing: Option<Closing>,
 }
 
@@ -127,7 +127,7 @@ fn is_repeat(newest: Option<u8>, number: Option<u8>) -> bool
 }
 
 impl Outcome {
-    /// There is no notice, and the octet does not close the connection.
+    /// There is no notice, and the connection stays as it is: open or closed.
     pub const NOTHING: Outcome = Outcome {
         notice: None,
         closing: None,
@@ -174,6 +174,17 @@ fn event_outcome(event: Event) -> Outcome
 {
     Outcome {
         notice: Some(Notice::Site(SiteNotice::Happened(event))),
+        closing: None,
+    }
+}
+
+/// Returns the outcome of octets that produce this notice, or none. The connection stays open.
+pub fn open_outcome(notice: Option<Notice>) -> Outcome
+    ensures notice { result.notice ≡ notice }
+    ensures closing { result.closing ≡ None }
+{
+    Outcome {
+        notice,
         closing: None,
     }
 }
@@ -310,6 +321,26 @@ impl Connection {
         Connection::Waiting(Cutter::new(who.greatest))
     }
 
+    /// Returns whether the connection is open.
+    pub fn is_open(&self) -> bool
+        ensures { result ≡ is_open self.now }
+    {
+        match self {
+            Connection::Closed => false,
+            Connection::Waiting(_) | Connection::Running { .. } => true,
+        }
+    }
+
+    /// Returns the carrier, if it is up.
+    pub fn carrier_up(&self, who: &CarrierIdentity) -> Option<CarrierNo>
+        ensures { result ≡ up_by who.now self.now }
+    {
+        match self {
+            Connection::Running { .. } => Some(who.carrier),
+            Connection::Closed | Connection::Waiting(_) => None,
+        }
+    }
+
     /// Reports whether the carrier is up and no frame has begun.
     pub fn is_up_between(&self) -> bool
         ensures { result ≡ is_up_between self.now }
@@ -334,40 +365,17 @@ impl Connection {
         }
     }
 
-    /// Processes the next octet. Returns the notice that it produces, if any, and how it closes the connection, if it
-    /// does. A frame is processed at its last octet. A fault closes the connection, and so does a frame that ends it.
-    /// After that, octets have no effect.
-    pub fn receive(&mut self, who: &CarrierIdentity, octet: u8) -> Outcome
-        ensures notice { option_map notice_meant result.notice
-            ≡ notice_of_octet who.now self.old octet }
-        ensures closing { result.closing ≡ closes who.now self.old octet }
-        ensures connection { self.new ≡ connection_after_octet who.now self.old octet }
-        ensures sound { IsConnectionSound who.now.greatest self.old
-            → IsConnectionSound who.now.greatest self.new }
-    {
-        let (outcome, next) = match replace(self, Connection::Closed) {
-            Connection::Closed => return Outcome::NOTHING,
-            Connection::Waiting(mut cutter) => {
-                let step = cutter.feed_byte(octet);
-                outcome_of_first(who, cutter, &step)
-            }
-            Connection::Running { mut cutter, newest } => {
-                let step = cutter.feed_byte(octet);
-                outcome_of_step(who.carrier, cutter, newest, &step)
-            }
-        };
-        *self = next;
-        outcome
-    }
-
-    /// Takes octets up to the end of the next frame, up to a fault, or all of them. Returns how many it took, and the
-    /// notice that these produce, if any. The result is that of [`Connection::receive`] for each octet.
-    pub fn receive_piece(&mut self, who: &CarrierIdentity, octets: &[u8]) -> (usize, Option<Notice>)
+    /// Takes octets up to the end of the next frame, up to a fault, or all of them. Returns how many it took, the notice
+    /// that these produce, if any, and how they close the connection, if they do. A frame is processed at its last
+    /// octet. A fault closes the connection, and so does a frame that ends it. After that, octets have no effect.
+    pub fn receive(&mut self, who: &CarrierIdentity, octets: &[u8]) -> (usize, Outcome)
         requires { 0 < length octets.now }
         ensures some { 0 < result.0 }
         ensures count { result.0 ≤ length octets.now }
         ensures notice { notices_of_octets who.now self.old (take result.0 octets.now)
-            ≡ list_of_notice (option_map notice_meant result.1) }
+            ≡ list_of_notice (option_map notice_meant result.1.notice) }
+        ensures closing { result.1.closing
+            ≡ all_closes who.now self.old (take result.0 octets.now) }
         ensures connection { self.new
             ≡ connection_after_octets who.now self.old (take result.0 octets.now) }
         ensures sound { IsConnectionSound who.now.greatest self.old
@@ -375,21 +383,23 @@ impl Connection {
     {
         one_reading();
         if let Some((count, event)) = self.receive_short(who, octets) {
-            return (count, Some(Notice::Site(SiteNotice::Happened(event))));
+            return (count, event_outcome(event));
         }
         match self.receive_rx(who, octets) {
-            Some((count, notice)) => (count, notice),
+            Some((count, notice)) => (count, open_outcome(notice)),
             None => self.receive_any(who, octets),
         }
     }
 
     /// Takes the POLL or the ACTIVE that octets begin with, if the carrier is up and no frame has begun. Returns how
-    /// many octets it took, and the frame's event. If the result is `None`, nothing was taken, and
-    /// [`Connection::receive_any`] takes what comes.
+    /// many octets it took, and the frame's event. The connection stays open. If the result is `None`, nothing was
+    /// taken, and [`Connection::receive_any`] takes what comes.
     fn receive_short(&mut self, who: &CarrierIdentity, octets: &[u8]) -> Option<(usize, Event)>
         ensures count { IfSome result (λ r. (0 < r.0) × (r.0 ≤ length octets.now)) }
         ensures notice { IfSome result
             (λ r. notices_of_octets who.now self.old (take r.0 octets.now) ≡ Happened r.1 ∷ []) }
+        ensures closing { IfSome result
+            (λ r. all_closes who.now self.old (take r.0 octets.now) ≡ None) }
         ensures connection { IfSome result (λ r. self.new
             ≡ connection_after_octets who.now self.old (take r.0 octets.now)) }
         ensures none { result ≡ None → self.new ≡ self.old }
@@ -404,8 +414,8 @@ impl Connection {
     }
 
     /// Takes the RX that octets begin with, if the carrier is up and no frame has begun. Returns how many octets it
-    /// took, and the notice of its burst; there is none if the RX is a repeat. If the result is `None`, nothing was
-    /// taken, and [`Connection::receive_any`] takes what comes.
+    /// took, and the notice of its burst; there is none if the RX is a repeat. The connection stays open. If the result
+    /// is `None`, nothing was taken, and [`Connection::receive_any`] takes what comes.
     fn receive_rx(
         &mut self,
         who: &CarrierIdentity,
@@ -414,6 +424,8 @@ impl Connection {
         ensures count { IfSome result (λ r. (0 < r.0) × (r.0 ≤ length octets.now)) }
         ensures notice { IfSome result (λ r. notices_of_octets who.now self.old (take r.0 octets.now)
             ≡ list_of_notice (option_map notice_meant r.1)) }
+        ensures closing { IfSome result
+            (λ r. all_closes who.now self.old (take r.0 octets.now) ≡ None) }
         ensures connection { IfSome result (λ r. self.new
             ≡ connection_after_octets who.now self.old (take r.0 octets.now)) }
         ensures none { result ≡ None → self.new ≡ self.old }
@@ -429,15 +441,17 @@ impl Connection {
         }
     }
 
-    /// Does the same as [`Connection::receive_piece`].
+    /// Does the same as [`Connection::receive`].
     // Out of line: a POLL or an ACTIVE then does not clear this function's locals.
     #[inline(never)]
-    fn receive_any(&mut self, who: &CarrierIdentity, octets: &[u8]) -> (usize, Option<Notice>)
+    fn receive_any(&mut self, who: &CarrierIdentity, octets: &[u8]) -> (usize, Outcome)
         requires { 0 < length octets.now }
         ensures some { 0 < result.0 }
         ensures count { result.0 ≤ length octets.now }
         ensures notice { notices_of_octets who.now self.old (take result.0 octets.now)
-            ≡ list_of_notice (option_map notice_meant result.1) }
+            ≡ list_of_notice (option_map notice_meant result.1.notice) }
+        ensures closing { result.1.closing
+            ≡ all_closes who.now self.old (take result.0 octets.now) }
         ensures connection { self.new
             ≡ connection_after_octets who.now self.old (take result.0 octets.now) }
         ensures sound { IsConnectionSound who.now.greatest self.old
@@ -445,18 +459,18 @@ impl Connection {
     {
         one_reading();
         match replace(self, Connection::Closed) {
-            Connection::Closed => (octets.len(), None),
+            Connection::Closed => (octets.len(), Outcome::NOTHING),
             Connection::Waiting(mut cutter) => {
                 let (count, step) = cutter.feed(octets);
                 let (outcome, next) = outcome_of_first(who, cutter, &step);
                 *self = next;
-                (count, outcome.notice)
+                (count, outcome)
             }
             Connection::Running { mut cutter, newest } => {
                 let (count, step) = cutter.feed(octets);
                 let (outcome, next) = outcome_of_step(who.carrier, cutter, newest, &step);
                 *self = next;
-                (count, outcome.notice)
+                (count, outcome)
             }
         }
     }

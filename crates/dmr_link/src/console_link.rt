@@ -10,6 +10,7 @@ ghost use Rattle.dmr_link.specs.LinkSteps.{is_live};
 ghost use Rattle.dmr_link.specs.declared.desk.TermOver.{TermOver as ATermOver};
 ghost use Rattle.dmr_link.specs.declared.stream.Peer.TheVariants.{Operator};
 
+use crate::answers::AnswerRoom;
 use crate::desk::{Desk, OpenGate, TermOver};
 use crate::ended::Ended;
 use crate::link_state::LinkState;
@@ -25,6 +26,8 @@ use std::marker::Model;
 #[derive(Drop)]
 pub struct ConsoleLink {
     state: LinkState,
+    // Kept to spare each answer a room of its own.
+    room: AnswerRoom,
 }
 
 impl Model for ConsoleLink {
@@ -49,6 +52,7 @@ impl ConsoleLink {
     {
         ConsoleLink {
             state: LinkState::new(Peer::Operator),
+            room: AnswerRoom::new(),
         }
     }
 
@@ -115,7 +119,8 @@ impl ConsoleLink {
         if !self.state.is_live() {
             return Ended::from(self.state.closing);
         }
-        self.state.serve_connection(port, desk, &mut OpenGate)
+        self.state
+            .serve_connection(&mut self.room, port, desk, &mut OpenGate)
     }
 
     /// Cuts the connection, and hands in the command that is kept. It writes nothing, and an open line has no effect,

@@ -2,23 +2,22 @@
 //! than to encode it.
 
 ghost use Rattle.std.specs.Prelude.{◌≡◌, Some, None};
-ghost use Rattle.dmr_bits.specs.Words.{word_octets};
 ghost use Rattle.dmr_burst.specs.Functions.{burst_of};
 
+use dmr_bits::Word196;
 use dmr_burst::write;
 use dmr_pdu::Pdu;
 use std::marker::Model;
 
-/// The PDU that was encoded last, if there is one, and the octets of its burst. Contracts see the PDU.
+/// The PDU that was encoded last, if there is one, and its burst. Contracts see the PDU.
 #[derive(Drop)]
 pub struct KeptBurst {
     pdu: Option<Pdu>,
-    octets: [u8; 25],
+    word: Word196,
 }
 
 impl Model for KeptBurst {
     ghost use Rattle.std.specs.Prelude.{◌≡◌, Option, IfSome};
-    ghost use Rattle.dmr_bits.specs.Words.{word_octets};
     ghost use Rattle.dmr_burst.specs.Functions.{burst_of};
     ghost use Rattle.dmr_pdu.specs.declared.pdu.Pdu.{Pdu as APdu};
 
@@ -26,7 +25,7 @@ impl Model for KeptBurst {
 
     ghost view = { λ b. b.pdu };
 
-    ghost invariant = { λ b. IfSome b.pdu (λ pdu. b.octets ≡ word_octets (burst_of pdu)) };
+    ghost invariant = { λ b. IfSome b.pdu (λ pdu. b.word ≡ burst_of pdu) };
 }
 
 impl KeptBurst {
@@ -36,25 +35,25 @@ impl KeptBurst {
     {
         KeptBurst {
             pdu: None,
-            octets: [0; 25],
+            word: Word196::zero(),
         }
     }
 
-    /// Returns the 25 octets of a PDU's burst, and keeps them. If they are kept already, nothing is encoded.
-    pub fn octets_of(&mut self, pdu: &Pdu) -> [u8; 25]
-        ensures octets { result ≡ word_octets (burst_of pdu.now) }
+    /// Returns a PDU's burst, and keeps it. If it is kept already, nothing is encoded.
+    pub fn word_of(&mut self, pdu: &Pdu) -> Word196
+        ensures word { result ≡ burst_of pdu.now }
         ensures kept { self.new ≡ Some pdu.now }
     {
         if let Some(kept) = &self.pdu {
             if kept.equals(pdu) {
-                return self.octets;
+                return self.word;
             }
         }
-        let octets = write(pdu).to_octets();
+        let word = write(pdu);
         *self = KeptBurst {
             pdu: Some(*pdu),
-            octets,
+            word,
         };
-        octets
+        word
     }
 }

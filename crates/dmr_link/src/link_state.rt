@@ -1,7 +1,7 @@
 //! The state that a link keeps of its connection, and the steps of its work.
 
 ghost use Rattle.std.specs.Prelude.{◌≡◌, ◌+◌, ◌<◌, ◌≤◌, ℕ, Bool, List, [], ◌∷◌, Option, Some, None};
-ghost use Rattle.std.specs.Prelude.{option_map, Err, length, drop, true, false, IfOk, IfErr};
+ghost use Rattle.std.specs.Prelude.{option_map, Err, length, true, false, IfOk, IfErr};
 ghost use Rattle.dmr_core.specs.declared.event.Event.{Event as AnEvent};
 ghost use Rattle.dmr_wire.specs.Answers.{Answer};
 ghost use Rattle.dmr_link.specs.declared.desk.Deposit.{Deposit as ADeposit};
@@ -9,17 +9,19 @@ ghost use Rattle.dmr_link.specs.declared.desk.TermOver.{TermOver as ATermOver};
 ghost use Rattle.dmr_link.specs.Happenings.{Outside, Disordered, stage_after};
 ghost use Rattle.dmr_link.specs.Limits.{most_interruptions};
 ghost use Rattle.dmr_link.specs.Moves.{Moves};
-ghost use Rattle.dmr_link.specs.Notices.{peer_notice};
+ghost use Rattle.dmr_link.specs.Notices.{notice_meant, peer_notice};
 ghost use Rattle.dmr_link.specs.Passages.{Passage};
-ghost use Rattle.dmr_link.specs.Peers.{answer_text, peer_notice_text, produces, next_after_answer};
+ghost use Rattle.dmr_link.specs.Peers.{answer_text, peer_notice_text, next_after_answer};
 ghost use Rattle.dmr_link.specs.Peers.{numbering_of};
 ghost use Rattle.dmr_link.specs.Sessions.{IsQuiet, IsClosed, sides};
-ghost use Rattle.dmr_link.specs.LinkSteps.{state_after_octet, peer_notice_of, closed_as};
+ghost use Rattle.dmr_link.specs.LinkSteps.{with_outcome, TakesPiece, peer_notice_of, closed_as};
 ghost use Rattle.dmr_link.specs.LinkSteps.{first_pending, nothing_pending, is_live, pending_weight};
 ghost use Rattle.dmr_link.specs.LinkSteps.{Replies, IsHeld, IsSettled, row_then, row_after};
 ghost use Rattle.dmr_link.specs.LinkSteps.{with_next, stage_then_read, HasTurned, Listens};
 ghost use Rattle.dmr_link.specs.LinkSteps.{cut_state, with_new_connection};
 
+use crate::answers::AnswerRoom;
+use crate::connection::Outcome;
 use crate::desk::{Desk, Gate, TermOver};
 use crate::ended::Ended;
 use crate::limits::{MOST_INTERRUPTIONS, MOST_READS};
@@ -76,13 +78,13 @@ impl LinkState {
         self.closing = closing;
     }
 
-    /// Processes an octet. A notice for the site is kept; a notice for the peer alone is returned.
-    fn receive(&mut self, octet: u8) -> Option<PeerNotice>
-        ensures state { self.new ≡ state_after_octet self.old octet }
+    /// Keeps the outcome of octets. A notice for the site is kept; a notice for the peer alone is returned.
+    fn keep_outcome(&mut self, outcome: &Outcome) -> Option<PeerNotice>
+        ensures kept { self.new ≡ with_outcome self.old (option_map notice_meant outcome.now.notice)
+            outcome.now.closing }
         ensures aside { option_map peer_notice result
-            ≡ peer_notice_of (produces self.old.connection octet) }
+            ≡ peer_notice_of (option_map notice_meant outcome.now.notice) }
     {
-        let outcome = self.connection.receive(octet);
         if let Some(closing) = outcome.closing {
             self.closing = closing;
         }
@@ -96,6 +98,17 @@ impl LinkState {
         }
     }
 
+    /// Processes unread octets up to the end of the next frame or line, up to a fault, or all of them. A notice for the
+    /// site is kept; a notice for the peer alone is returned.
+    fn receive(&mut self) -> Option<PeerNotice>
+        requires { 0 < length self.old.unread }
+        ensures { TakesPiece self.old self.new (option_map peer_notice result) }
+    {
+        let (count, outcome) = self.connection.receive(self.unread.as_slice());
+        self.unread.skip(count);
+        self.keep_outcome(&outcome)
+    }
+
     /// Returns whether a connection is open, or an event of it is pending.
     pub fn is_live(&self) -> bool
         ensures { result ≡ is_live self.now }
@@ -104,7 +117,13 @@ impl LinkState {
     }
 
     /// Writes the answer to a notice, unless the connection was cut. If a write fails, it closes the connection.
-    fn answer_peer<W: Wire>(&mut self, notice: &SiteNotice, acts: &Acts, port: &mut W)
+    fn answer_peer<W: Wire>(
+        &mut self,
+        notice: &SiteNotice,
+        acts: &Acts,
+        room: &mut AnswerRoom,
+        port: &mut W,
+    )
         ensures { Replies self.old.is_cut self.old (W.reported port.old)
             (answer_text (numbering_of self.old.connection) notice.now acts.now) (with_next self.old
             (next_after_answer (numbering_of self.old.connection) notice.now acts.now))
@@ -114,7 +133,7 @@ impl LinkState {
             return;
         }
         let mut numbering = self.connection.numbering();
-        if write_answer(port, &mut numbering, notice, acts) {
+        if write_answer(port, room, &mut numbering, notice, acts) {
             self.connection.set_numbering(numbering);
         } else {
             self.close(Closing::WriteFailed);
@@ -137,6 +156,7 @@ impl LinkState {
     fn deposit_first<W: Wire, D: Desk, G: Gate>(
         &mut self,
         notice: &SiteNotice,
+        room: &mut AnswerRoom,
         port: &mut W,
         desk: &mut D,
         gate: &mut G,
@@ -165,7 +185,7 @@ impl LinkState {
             }
             Ok(acts) => {
                 self.pending.remove_first();
-                self.answer_peer(notice, &acts, port);
+                self.answer_peer(notice, &acts, room, port);
                 gate.leave();
                 Ok(())
             }
@@ -176,6 +196,7 @@ impl LinkState {
     /// open afterwards.
     fn deposit_pending<W: Wire, D: Desk, G: Gate>(
         &mut self,
+        room: &mut AnswerRoom,
         port: &mut W,
         desk: &mut D,
         gate: &mut G,
@@ -193,7 +214,7 @@ impl LinkState {
         ensures shut { result ≡ Err Ended.GateShut → (before : _) × G.shuts before gate.new }
     {
         while let Some(notice) = self.pending.first() {
-            self.deposit_first(&notice, port, desk, gate)?;
+            self.deposit_first(&notice, room, port, desk, gate)?;
         }
         if self.connection.is_open() {
             return Ok(());
@@ -201,20 +222,18 @@ impl LinkState {
         Err(Ended::from(self.closing))
     }
 
-    /// Processes the first unread octet, if there is one. An event that it produces is kept. The answer to another
-    /// notice is written.
+    /// Processes unread octets up to the end of the next frame or line, up to a fault, or all of them. An event that
+    /// they produce is kept. The answer to another notice is written.
     fn take_unread<W: Wire>(&mut self, port: &mut W)
-        requires { IsQuiet self.old }
+        requires some { 0 < length self.old.unread }
+        requires quiet { IsQuiet self.old }
         ensures moves { (calls : List ADeposit) (passed : Option (List Passage))
             → Moves self.old self.new (sides (W.reported port.old) calls passed)
             (sides (W.reported port.new) calls passed) 0 0 0 Outside Outside }
-        ensures unread { self.new.unread ≡ drop 1 self.old.unread }
+        ensures fewer { length self.new.unread < length self.old.unread }
     {
         lines_in_any_cutting();
-        let Some(octet) = self.unread.next() else {
-            return;
-        };
-        if let Some(aside) = self.receive(octet) {
+        if let Some(aside) = self.receive() {
             self.answer_peer_notice(&aside, port);
         }
     }
@@ -222,6 +241,7 @@ impl LinkState {
     /// Hands in all pending notices, and processes all unread octets. `Err` says why it stopped.
     fn process_unread<W: Wire, D: Desk, G: Gate>(
         &mut self,
+        room: &mut AnswerRoom,
         port: &mut W,
         desk: &mut D,
         gate: &mut G,
@@ -238,10 +258,10 @@ impl LinkState {
             × D.refuses before event over desk.new }
         ensures shut { result ≡ Err Ended.GateShut → (before : _) × G.shuts before gate.new }
     {
-        self.deposit_pending(port, desk, gate)?;
+        self.deposit_pending(room, port, desk, gate)?;
         while !self.unread.is_empty() {
             self.take_unread(port);
-            self.deposit_pending(port, desk, gate)?;
+            self.deposit_pending(room, port, desk, gate)?;
         }
         Ok(())
     }
@@ -285,6 +305,7 @@ impl LinkState {
     fn read_and_process<W: Wire, D: Desk, G: Gate>(
         &mut self,
         row: usize,
+        room: &mut AnswerRoom,
         port: &mut W,
         desk: &mut D,
         gate: &mut G,
@@ -309,13 +330,14 @@ impl LinkState {
         if row > 0 {
             return Ok(row);
         }
-        self.process_unread(port, desk, gate)?;
+        self.process_unread(room, port, desk, gate)?;
         Ok(0)
     }
 
-    /// Works until it has to stop, or has made the most reads of one call. Returns why.
+    /// Works until it has to stop, or has made the most reads of one call. Returns why. Answers are encoded in `room`.
     pub fn serve_connection<W: Wire, D: Desk, G: Gate>(
         &mut self,
+        room: &mut AnswerRoom,
         port: &mut W,
         desk: &mut D,
         gate: &mut G,
@@ -329,12 +351,12 @@ impl LinkState {
             × D.refuses before event over desk.new }
         ensures shut { result ≡ Ended.GateShut → (before : _) × G.shuts before gate.new }
     {
-        if let Err(stop) = self.process_unread(port, desk, gate) {
+        if let Err(stop) = self.process_unread(room, port, desk, gate) {
             return stop;
         }
         let mut row = 0;
         for _ in 0..MOST_READS {
-            match self.read_and_process(row, port, desk, gate) {
+            match self.read_and_process(row, room, port, desk, gate) {
                 Ok(next) => row = next,
                 Err(stop) => return stop,
             }

@@ -1,10 +1,11 @@
 //! The numbers of a connection's TX frames. A TX receives its number when it is encoded.
 
-ghost use Rattle.std.specs.Prelude.{◌≡◌, ◌+◌, ◌%◌, None, is_some, option_map};
+ghost use Rattle.std.specs.Prelude.{◌≡◌, ◌+◌, ◌%◌, ◌≤◌, ◌++◌, None, is_some, option_map};
+ghost use Rattle.arrayvec.specs.ArrayVec.{array_vec_len};
 ghost use Rattle.dmr_link.specs.Numbering.{first_number, frame_text, next_after};
 
 use arrayvec::ArrayVec;
-use dmr_frames::{FrameOut, LONGEST_FRAME, Version, write_frame};
+use dmr_frames::{FrameOut, LONGEST_FRAME, Version, append_spelling};
 use std::marker::Model;
 
 /// The number of a connection's next TX, or none if its version of the link has no numbers. Contracts see it as that
@@ -43,16 +44,17 @@ impl Numbering {
         Numbering { next: None }
     }
 
-    /// Encodes the next frame that goes out. A TX receives its number. A WELCOME starts the numbers, if its version has
+    /// Appends the next frame that goes out. A TX receives its number. A WELCOME starts the numbers, if its version has
     /// them.
-    pub fn encode_frame(&mut self, frame: &FrameOut) -> ArrayVec<u8, LONGEST_FRAME>
-        ensures octets { result.items ≡ frame_text self.old frame.now }
+    pub fn append_frame<const N: usize>(&mut self, text: &mut ArrayVec<u8, N>, frame: &FrameOut)
+        requires { array_vec_len text.old + LONGEST_FRAME ≤ N }
+        ensures octets { text.new.items ≡ text.old.items ++ frame_text self.old frame.now }
         ensures next { self.new ≡ next_after self.old frame.now }
     {
         match frame {
             FrameOut::Welcome { version } => {
                 self.next = first_number(*version);
-                write_frame(frame)
+                append_spelling(text, frame);
             }
             FrameOut::Tx { slot, word, .. } => {
                 let numbered = FrameOut::Tx {
@@ -61,20 +63,10 @@ impl Numbering {
                     word: *word,
                 };
                 self.advance();
-                write_frame(&numbered)
+                append_spelling(text, &numbered);
             }
-            _ => write_frame(frame),
+            _ => append_spelling(text, frame),
         }
-    }
-
-    /// Returns the number of the next TX, if TX are numbered, and advances it.
-    pub fn take_number(&mut self) -> Option<u8>
-        ensures number { result ≡ self.old }
-        ensures next { self.new ≡ option_map (λ n. (n + 1) % 256) self.old }
-    {
-        let number = self.next;
-        self.advance();
-        number
     }
 
     /// Returns whether TX are numbered.

@@ -82,9 +82,9 @@ pub fn room_for(
     let mut room: usize = 0;
     let mut from = 0;
     while from < octets.len() {
-        let (count, notice) = trial.receive_piece(who, &octets[from..]);
-        room = room.saturating_add(most_for_notice(&notice, numbered));
-        numbered = is_numbered_after(&notice, numbered);
+        let (count, outcome) = trial.receive(who, &octets[from..]);
+        room = room.saturating_add(most_for_notice(&outcome.notice, numbered));
+        numbered = is_numbered_after(&outcome.notice, numbered);
         from += count;
     }
     room

@@ -1,13 +1,14 @@
-//! A link's peer, and the effect of each octet from the peer.
+//! A link's peer, and the effect of octets from the peer.
 
-ghost use Rattle.std.specs.Prelude.{◌≡◌, option_map};
+ghost use Rattle.std.specs.Prelude.{◌≡◌, ◌<◌, ◌≤◌, length, option_map, take};
+ghost use Rattle.dmr_link.specs.Meaning.{list_of_notice};
 ghost use Rattle.dmr_link.specs.Notices.{notice_meant};
-ghost use Rattle.dmr_link.specs.Peers.{opened_for, is_going, up_of, produces, closes_by};
+ghost use Rattle.dmr_link.specs.Peers.{opened_for, is_going, up_of, all_produce, closes_by};
 ghost use Rattle.dmr_link.specs.Peers.{left_after, numbered, numbering_of};
 
 use crate::carrier_state::CarrierState;
-use crate::connection::{CarrierIdentity, Outcome};
-use crate::console::notice_of_line;
+use crate::connection::{CarrierIdentity, Outcome, open_outcome};
+use crate::console::receive_line;
 use crate::numbering::Numbering;
 use dmr_console::LineCutter;
 use dmr_pdu::CarrierNo;
@@ -49,7 +50,7 @@ impl Stream {
     {
         match self {
             Stream::Closed => false,
-            Stream::Frames(state) => state.is_open(),
+            Stream::Frames(state) => state.connection.is_open(),
             Stream::Lines(_) => true,
         }
     }
@@ -59,7 +60,7 @@ impl Stream {
         ensures { result ≡ up_of self.now }
     {
         match self {
-            Stream::Frames(state) => state.carrier_up(),
+            Stream::Frames(state) => state.connection.carrier_up(&state.who),
             Stream::Closed | Stream::Lines(_) => None,
         }
     }
@@ -83,20 +84,25 @@ impl Stream {
         }
     }
 
-    /// Processes the next octet. Returns the notice that it produces, if any, and how it closes the connection, if it
-    /// does. No octet of an operator closes a connection.
-    pub fn receive(&mut self, octet: u8) -> Outcome
-        ensures notice { option_map notice_meant result.notice ≡ produces self.old octet }
-        ensures closing { result.closing ≡ closes_by self.old octet }
-        ensures stream { self.new ≡ left_after self.old octet }
+    /// Takes octets up to the end of the next frame or line, up to a fault, or all of them. Returns how many it took,
+    /// the notice that these produce, if any, and how they close the connection, if they do. No octet of an operator
+    /// closes a connection.
+    pub fn receive(&mut self, octets: &[u8]) -> (usize, Outcome)
+        requires { 0 < length octets.now }
+        ensures some { 0 < result.0 }
+        ensures count { result.0 ≤ length octets.now }
+        ensures notice { all_produce self.old (take result.0 octets.now)
+            ≡ list_of_notice (option_map notice_meant result.1.notice) }
+        ensures closing { result.1.closing ≡ closes_by self.old (take result.0 octets.now) }
+        ensures stream { self.new ≡ left_after self.old (take result.0 octets.now) }
     {
         match self {
-            Stream::Closed => Outcome::NOTHING,
-            Stream::Frames(state) => state.receive(octet),
-            Stream::Lines(cutter) => Outcome {
-                notice: notice_of_line(&cutter.feed_byte(octet)),
-                closing: None,
-            },
+            Stream::Closed => (octets.len(), Outcome::NOTHING),
+            Stream::Frames(state) => state.connection.receive(&state.who, octets),
+            Stream::Lines(cutter) => {
+                let (count, notice) = receive_line(cutter, octets);
+                (count, open_outcome(notice))
+            }
         }
     }
 }

@@ -6,8 +6,7 @@ ghost use Rattle.dmr_link.specs.Moves.{WritesText};
 ghost use Rattle.dmr_link.specs.Notices.{peer_notice};
 ghost use Rattle.dmr_link.specs.Peers.{answer_text, peer_notice_text, next_after_answer};
 
-use crate::answers::{AnswerText, encode_answer};
-use crate::kept_burst::KeptBurst;
+use crate::answers::{AnswerRoom, encode_answer};
 use crate::limits::MOST_INTERRUPTIONS;
 use crate::notices::{LineFault, PeerNotice, SiteNotice};
 use crate::numbering::Numbering;
@@ -66,9 +65,10 @@ fn write_reply<W: Wire>(port: &mut W, reply: &Option<Reply>) -> bool
 /// Writes the site's answer to a notice, and returns whether the port took all of it.
 /// A carrier receives WELCOME, or the TXs and DONE of a poll; an operator receives the reply. The first write offers
 /// the whole answer. Another write follows only if the port took a part of it, or if the write was interrupted. If the
-/// port took all, `numbering` has the number of the next TX.
+/// port took all, `numbering` has the number of the next TX. The answer is encoded in `room`.
 pub fn write_answer<W: Wire>(
     port: &mut W,
+    room: &mut AnswerRoom,
     numbering: &mut Numbering,
     notice: &SiteNotice,
     acts: &Acts,
@@ -81,16 +81,8 @@ pub fn write_answer<W: Wire>(
     match notice {
         SiteNotice::Happened(Event::Say(_)) => write_reply(port, &acts.said),
         _ => {
-            let mut answer = AnswerText::new();
-            let mut burst = KeptBurst::none();
-            encode_answer(
-                &mut answer,
-                numbering,
-                &mut burst,
-                notice,
-                acts.list.as_slice(),
-            );
-            write_octets(port, answer.as_slice())
+            encode_answer(room, numbering, notice, acts.list.as_slice());
+            write_octets(port, room.octets.as_slice())
         }
     }
 }

@@ -9,15 +9,15 @@ loop-from-preserved c =
     let who = c.args.who.now in
     let octets = c.args.octets.now in
     let i = c.loop-from.from in
-    let n = c.receive_piece-count.result.0 in
+    let n = c.receive-count.result.0 in
     let k = c.loop-from.trial in
     let rest : take (length octets - i) (drop i octets) ≡ drop i octets = take_rest octets i in
-    let count : n ≤ length (take (length octets - i) (drop i octets)) = c.receive_piece-count.ensures.count in
-    let brings = ap (λ (xs : List ℕ). notices_of_octets who k (take n xs)) (sym rest) ∙ c.receive_piece-count.ensures.notice in
-    let left = c.receive_piece-count.ensures.connection ∙ ap (λ (xs : List ℕ). connection_after_octets who k (take n xs)) rest in
+    let count : n ≤ length (take (length octets - i) (drop i octets)) = c.receive-count.ensures.count in
+    let brings = ap (λ (xs : List ℕ). notices_of_octets who k (take n xs)) (sym rest) ∙ c.receive-count.ensures.notice in
+    let left = c.receive-count.ensures.connection ∙ ap (λ (xs : List ℕ). connection_after_octets who k (take n xs)) rest in
     record {
       within = omega (arith, count, ap length rest, c.loop-from.invariant.within, length-drop {A = ℕ} i octets);
-      room = room_more who c.loop-from.numbered c.is_numbered_after-numbered.result k c.receive_piece-count.new.self octets i n _ c.loop-from.room c.most_for_notice.result c.saturating_add-room.result _
+      room = room_more who c.loop-from.numbered c.is_numbered_after-numbered.result k c.receive-count.new.self octets i n _ c.loop-from.room c.most_for_notice.result c.saturating_add-room.result _
           brings left c.is_numbered_after-numbered.ensures c.most_for_notice.ensures c.saturating_add-room.ensures c.loop-from.invariant.room;
       fits = omega (arith, c.saturating_add-room.type_inv);
     }

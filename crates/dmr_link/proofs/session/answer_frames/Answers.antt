@@ -4,13 +4,10 @@ use Rattle.std.proofs.lemmas.List.{length-drop, take_rest}
 use Rattle.dmr_link.specs.Meaning.{list_of_notice}
 use Rattle.dmr_link.specs.Notices.{Notice, notice_meant}
 use Rattle.dmr_link.specs.Numbering.{next_after_frames}
-use Rattle.dmr_link.specs.Room.{most_in}
 use Rattle.dmr_link.specs.Session.{frames_said}
 use Rattle.dmr_link.specs.Steps.{notices_of_octets, connection_after_octets}
-use Rattle.dmr_link.specs.declared.carrier_state.CarrierState.{CarrierState}
-use Rattle.dmr_link.specs.declared.connection.CarrierIdentity.{CarrierIdentity}
 use Rattle.dmr_link.specs.declared.connection.Connection.{Connection}
-use Rattle.dmr_link.specs.Sound.{IsConnectionSound, IsNumberingOf}
+use Rattle.dmr_link.specs.Sound.{IsNumberingOf}
 use Rattle.dmr_link.proofs.NumbersFollowVersions.{numbered_said}
 use Rattle.dmr_link.proofs.OnePieceMore.{most_goes, connection_goes, site_goes, items_go, next_goes, room_goes}
 use Rattle.dmr_link.proofs.WholePieces.{small-taken, octets-numbered}
@@ -22,16 +19,14 @@ answer_notice-requires c =
     let k = c.loop-from.state.connection in
     let octets = c.args.octets.now in
     let i = c.loop-from.from in
-    let n = c.receive_piece-count.result.0 in
+    let n = c.receive-count.result.0 in
     let numbered = is_some c.loop-from.state.numbering in
-    let brought = option_map notice_meant c.receive_piece-count.result.1 in
+    let brought = option_map notice_meant c.receive-count.result.1.notice in
     let rest : take (length octets - i) (drop i octets) ≡ drop i octets = take_rest octets i in
-    let brings : notices_of_octets whose k (take n (drop i octets)) ≡ list_of_notice brought = ap (λ (ys : List ℕ). notices_of_octets whose k (take n ys)) (sym rest) ∙ c.receive_piece-count.ensures.notice in
-    let left = ap (λ (s : CarrierState). s.connection) c.receive_piece-count.ensures.state ∙ ap (λ (ys : List ℕ). connection_after_octets whose k (take n ys)) rest in
-    let same_next = ap (λ (s : CarrierState). s.numbering) c.receive_piece-count.ensures.state in
-    let most = most_goes c.args.state.now.who whose c.loop-from.invariant.who k c.receive_piece-count.new.self.connection octets i n brought brings left numbered in
-    let stays = ap (λ (m : Option ℕ). most_in (is_some m) (list_of_notice brought)) same_next in
-    omega (arith, c.loop-from.invariant.fits, most, stays)
+    let brings : notices_of_octets whose k (take n (drop i octets)) ≡ list_of_notice brought = ap (λ (ys : List ℕ). notices_of_octets whose k (take n ys)) (sym rest) ∙ c.receive-count.ensures.notice in
+    let left = c.receive-count.ensures.connection ∙ ap (λ (ys : List ℕ). connection_after_octets whose k (take n ys)) rest in
+    let most = most_goes c.args.state.now.who whose c.loop-from.invariant.who k c.receive-count.new.self octets i n brought brings left numbered in
+    omega (arith, c.loop-from.invariant.fits, most)
 
 pub loop-from-preserved : goal.loop-from-preserved
 loop-from-preserved c =
@@ -39,42 +34,37 @@ loop-from-preserved c =
     let who = c.args.state.now.who in
     let whose = c.loop-from.state.who in
     let k = c.loop-from.state.connection in
-    let later = c.receive_piece-count.new.self.connection in
+    let later = c.receive-count.new.self in
     let octets = c.args.octets.now in
     let i = c.loop-from.from in
-    let n = c.receive_piece-count.result.0 in
+    let n = c.receive-count.result.0 in
     let xs = take n (drop i octets) in
     let rest : take (length octets - i) (drop i octets) ≡ drop i octets = take_rest octets i in
-    let count : n ≤ length (take (length octets - i) (drop i octets)) = c.receive_piece-count.ensures.count in
-    let brings : notices_of_octets whose k xs ≡ list_of_notice (option_map notice_meant c.receive_piece-count.result.1) = ap (λ (ys : List ℕ). notices_of_octets whose k (take n ys)) (sym rest) ∙ c.receive_piece-count.ensures.notice in
-    let left : later ≡ connection_after_octets whose k xs = ap (λ (s : CarrierState). s.connection) c.receive_piece-count.ensures.state ∙ ap (λ (ys : List ℕ). connection_after_octets whose k (take n ys)) rest in
+    let count : n ≤ length (take (length octets - i) (drop i octets)) = c.receive-count.ensures.count in
+    let brings : notices_of_octets whose k xs ≡ list_of_notice (option_map notice_meant c.receive-count.result.1.notice) = ap (λ (ys : List ℕ). notices_of_octets whose k (take n ys)) (sym rest) ∙ c.receive-count.ensures.notice in
+    let left : later ≡ connection_after_octets whose k xs = c.receive-count.ensures.connection ∙ ap (λ (ys : List ℕ). connection_after_octets whose k (take n ys)) rest in
     let next = c.loop-from.state.numbering in
     let site = c.loop-from.site in
-    let whose_then = ap (λ (s : CarrierState). s.who) c.receive_piece-count.ensures.state in
-    let same_next = ap (λ (s : CarrierState). s.numbering) c.receive_piece-count.ensures.state in
-    let counts = rw same_next at c.answer_notice.ensures.next in
-    let says = rw same_next at c.answer_notice.ensures.items in
-    let few = rw same_next at c.answer_notice.ensures.few in
+    let counts = c.answer_notice.ensures.next in
     let small : (j : ℕ) → get_or (drop i octets) j 0 < 256 = λ j. let at : get_or (drop i octets) j 0 ≡ get_or octets (i + j) 0 = get_or-drop i octets j 0 in omega (arith, at, c.type_inv.octets (i + j)) in
-    let P : CarrierIdentity → Type 0 = λ w. IsConnectionSound w.greatest later in
     let N : Option ℕ → Type 0 = λ m. IsNumberingOf (connection_after_octets whose k xs) m in
     let K : Connection → Type 0 = λ l. IsNumberingOf l c.answer_notice.new.numbering in
     record {
       within = omega (arith, count, ap length rest, c.loop-from.invariant.within, length-drop {A = ℕ} i octets);
-      who = whose_then ∙ same;
+      who = same;
       connection = connection_goes who whose same k later octets i n _ brings left _ c.loop-from.invariant.connection;
       sound = λ is.
           let was = c.loop-from.invariant.sound is in (
-            subst P (sym whose_then) (c.receive_piece-count.ensures.sound was.0),
+            c.receive-count.ensures.sound was.0,
             subst K (sym left) (subst N (ap (λ (ns : List Notice). next_after_frames next (frames_said site.plan site.facts ns)) brings ∙ sym counts)
                 (octets-numbered c.one_reading.ensures.more whose site.plan site.facts next k xs (small-taken (drop i octets) n (omega (arith, count, ap length rest)) small) was.0 was.1)),
           );
       site = site_goes who whose same k later octets i n _ brings left site c.answer_notice.new.site c.answer_notice.ensures.site _ c.loop-from.invariant.site;
       items = items_go who whose same k later octets i n _ brings left site c.answer_notice.new.site c.answer_notice.ensures.site next c.answer_notice.new.numbering counts
-          c.loop-from.text.items c.answer_notice.new.text.items _ says c.loop-from.invariant.items;
+          c.loop-from.text.items c.answer_notice.new.text.items _ c.answer_notice.ensures.items c.loop-from.invariant.items;
       next = next_goes who whose same k later octets i n _ brings left site c.answer_notice.new.site c.answer_notice.ensures.site next c.answer_notice.new.numbering counts
           _ c.loop-from.invariant.next;
-      fits = room_goes who whose same k later octets i n _ brings left _ _ (ap (λ (m : Option ℕ). is_some m) counts ∙ numbered_said site.plan site.facts next (option_map notice_meant c.receive_piece-count.result.1)) _ _ _ _
-          few c.answer_notice.ensures.room c.loop-from.invariant.fits;
+      fits = room_goes who whose same k later octets i n _ brings left _ _ (ap (λ (m : Option ℕ). is_some m) counts ∙ numbered_said site.plan site.facts next (option_map notice_meant c.receive-count.result.1.notice)) _ _ _ _
+          c.answer_notice.ensures.few c.answer_notice.ensures.room c.loop-from.invariant.fits;
       room = c.answer_notice.ensures.room ∙ c.loop-from.invariant.room;
     }

@@ -1,10 +1,12 @@
 use Rattle.std.proofs.Common.{ℕ, ◌<◌, length, take, get_or, sym, ap, ◌∙◌, arith, subst}
 use Rattle.dmr_frames.specs.Rest.{Rest}
 use Rattle.dmr_link.specs.declared.connection.Connection.{Connection}
+use Rattle.dmr_link.specs.Closing.{all_closes}
 use Rattle.dmr_link.specs.Meaning.{list_of_notice}
 use Rattle.dmr_link.specs.Sound.{IsConnectionSound}
 use Rattle.dmr_link.specs.Steps.{waiting_leaves, running_leaves, notices_of_octets, connection_after_octets}
 use Rattle.dmr_link.proofs.OctetsMeanWhatTheyProduce.{closed_produced, closed_taken}
+use Rattle.dmr_link.proofs.ClosingsByOctets.{none_closed, waiting-closes, running-closes}
 use Rattle.dmr_link.proofs.WholePieces.{small-taken, waiting-piece, running-piece, octets-sound}
 use Rattle.dmr_link.proofs.connection.Connection.receive_any.Goals as goal
 
@@ -65,3 +67,23 @@ returns-in-Running-clause-sound c = λ sound.
     let P : Connection → Type 0 = λ k. IsConnectionSound who.greatest k in
     subst P (sym (returns-in-Running-clause-connection c)) (octets-sound c.one_reading.ensures.more who c.args.self.now (take c.feed-count-in-Running.result.0 c.args.octets.now)
     (small-taken c.args.octets.now c.feed-count-in-Running.result.0 c.feed-count-in-Running.ensures.count small) sound)
+
+pub returns-in-Closed-clause-closing : goal.returns-in-Closed-clause-closing
+returns-in-Closed-clause-closing c =
+    let who = c.args.who.now in
+    let xs = take (length c.args.octets.now) c.args.octets.now in
+    sym (ap (λ (k : Connection). all_closes who k xs) (sym c.replace.ensures.value ∙ c.in-Closed.is) ∙ none_closed who xs)
+
+pub returns-in-Waiting-clause-closing : goal.returns-in-Waiting-clause-closing
+returns-in-Waiting-clause-closing c =
+    let who = c.args.who.now in
+    let xs = take c.feed-count.result.0 c.args.octets.now in
+    c.outcome_of_first-outcome.ensures.closing
+    ∙ sym (ap (λ (k : Connection). all_closes who k xs) (sym c.replace.ensures.value ∙ c.in-Waiting.is) ∙ waiting-closes who c.in-Waiting.cutter xs c.feed-count.result.1 c.feed-count.ensures.step)
+
+pub returns-in-Running-clause-closing : goal.returns-in-Running-clause-closing
+returns-in-Running-clause-closing c =
+    let who = c.args.who.now in
+    let xs = take c.feed-count-in-Running.result.0 c.args.octets.now in
+    c.outcome_of_step-outcome.ensures.closing
+    ∙ sym (ap (λ (k : Connection). all_closes who k xs) (sym c.replace.ensures.value ∙ c.in-Running.is) ∙ running-closes who c.in-Running.newest c.in-Running.cutter xs c.feed-count-in-Running.result.1 c.feed-count-in-Running.ensures.step)

@@ -1,4 +1,5 @@
 pub mod FirstOctetsLemmas
+pub mod HelloLemmas
 pub mod ReadingLemmas
 pub mod RecordLemmas
 pub mod ServedLemmas

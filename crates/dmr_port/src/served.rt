@@ -1,9 +1,9 @@
 //! The connection that a port serves.
 
-ghost use Rattle.std.specs.Prelude.{◌≡◌, ◌<◌, ◌≤◌, ◌++◌, ◌||◌, [], true, false, not, length, take};
-ghost use Rattle.std.specs.Prelude.{Some, None};
-ghost use Rattle.std.specs.Option.{option_or};
-ghost use Rattle.dmr_port.specs.FirstOctets.{begins_http};
+ghost use Rattle.std.specs.Prelude.{◌≡◌, ◌<◌, ◌≤◌, ◌↔◌, ◌++◌, ◌||◌, [], true, false, not, length};
+ghost use Rattle.std.specs.Prelude.{take, Some, None, IsTrue};
+ghost use Rattle.std.specs.Option.{is_some, option_or};
+ghost use Rattle.dmr_port.specs.FirstOctets.{IsHello, begins_http};
 ghost use Rattle.dmr_port.specs.Patience.{new_patience};
 ghost use Rattle.dmr_port.specs.PortState.{HasWaitedFor, answer_of_write, connection_after_write};
 ghost use Rattle.dmr_port.specs.PortState.{connection_of, waited_by};
@@ -117,9 +117,18 @@ impl Served {
             self.ended = Some(EndCause::Http);
             return false;
         }
-        let has_hello = self.first.is_hello();
+        let has_hello = self.has_awaited_hello();
         self.patience.note_octets(octets, has_hello, !is_carrier);
         true
+    }
+
+    /// Returns whether the first octets are the HELLO that is expected. If none is expected, or none any more, the
+    /// answer makes no difference, and nobody looks.
+    fn has_awaited_hello(&self) -> bool
+        ensures { is_some self.now.patience.hello ≡ true
+            → IsTrue result ↔ IsHello (take 6 self.now.first.octets.items) }
+    {
+        self.patience.hello.is_some() && self.first.is_hello()
     }
 
     /// Notes that no octet is kept any more. While octets were kept, the system did not report octets to read.

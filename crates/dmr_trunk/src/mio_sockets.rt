@@ -90,6 +90,8 @@ pub struct MioSockets<'a, R> {
     backlog: Backlog,
     // The latest reading of the clock, in milliseconds.
     now: u64,
+    // The clock was read since the last wait, and since the connection began.
+    is_current: bool,
 }
 
 /// Ends the output, and reads the octets that came and were not read. A close with unread octets resets the connection,
@@ -235,6 +237,7 @@ impl<'a, R: Clock> MioSockets<'a, R> {
             .register(&mut stream, NEWCOMER, Interest::READABLE);
         match polled {
             Ok(()) => {
+            is_current: false,
                 self.newcomers.push_reserved(stream);
                 Accepted::Came(from)
             }
@@ -304,6 +307,17 @@ impl<'a, R: Clock> MioSockets<'a, R> {
             }
         }
     }
+    /// Reads the clock. If it cannot be read, or has gone back, the time stays as it was.
+    fn read_clock(&mut self)
+        ensures newcomers { vec_len self.new.newcomers ≡ vec_len self.old.newcomers }
+        ensures connection { self.new.connection ≡ self.old.connection }
+    {
+        if let Some(now) = milliseconds(self.rt) {
+            self.now = self.now.max(now);
+        }
+        self.is_current = true;
+    }
+
 }
 
 impl<R: Clock> Sockets for MioSockets<'_, R> {
@@ -354,6 +368,7 @@ impl<R: Clock> Sockets for MioSockets<'_, R> {
             Some(stream) => put(stream.write(octets)),
             None => unreachable!(),
         }
+        self.is_current = false;
     }
 
     fn close(&mut self) {
@@ -363,8 +378,8 @@ impl<R: Clock> Sockets for MioSockets<'_, R> {
     }
 
     fn now(&mut self) -> u64 {
-        if let Some(now) = milliseconds(self.rt) {
-            self.now = self.now.max(now);
+        if !self.is_current {
+            self.read_clock();
         }
         self.now
     }
@@ -377,6 +392,8 @@ impl<R: Clock> Sockets for MioSockets<'_, R> {
             milliseconds
         };
         let (mut ready, listener) = self.wait_for_events(most);
+    /// Returns the time at the first question after a wait, or after a connection began. Until the next wait it is the
+    /// same, so the clock is read once for a poll.
         if listener {
             self.backlog = Backlog::Waiting;
         }
@@ -390,3 +407,4 @@ impl<R: Clock> Sockets for MioSockets<'_, R> {
         self.wakers.wake_all();
     }
 }
+        self.is_current = false;

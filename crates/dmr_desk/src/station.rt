@@ -118,10 +118,12 @@ impl<P: Port, G: Gate> Serving for Station<P, G> {
         self.port.wait()
     }
 
+    #[inline(never)]
     fn cut<D: Desk>(&mut self, desk: &mut D) -> Result<(), TermOver> {
         self.link.cut(desk)
     }
 
+    #[inline(never)]
     fn report_closing(&mut self) {
         self.port.closed(self.link.closing());
     }

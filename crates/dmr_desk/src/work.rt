@@ -1,4 +1,5 @@
-//! The workers of links: one for each carrier, and one for the console.
+//! The workers of links: one for each carrier, and one for the console. What a poll does not run is marked
+//! `#[inline(never)]`: its code then does not lie between that of a poll.
 
 ghost use Rattle.std.specs.Prelude.{◌≡◌, ◌⊎◌, true, false, None, Some};
 ghost use Rattle.dmr_core.specs.declared.event.Event.{Event as AnEvent};
@@ -15,6 +16,7 @@ use dmr_wire::{Connect, Port, Waited};
 use std::sync::Wait;
 
 /// Asks the port once for a connection, and opens it if there is one. Returns `Some` if the work has ended.
+#[inline(never)]
 fn ask_for_connection<S: Serving, D: Desk>(station: &mut S, desk: &mut D) -> Option<Ending>
     requires { is_live (S.state station.old).link ≡ false }
     ensures actor { D.actor desk.new ≡ D.actor desk.old }

@@ -57,6 +57,7 @@ impl FirstOctets {
 }
 
 /// Returns whether the octets begin with a method of HTTP (RFC 9110, section 9, and RFC 5789) and a space.
+#[inline(never)]
 fn begins_http(octets: &[u8]) -> bool
     ensures { result ≡ begins_http octets.now }
 {
@@ -74,6 +75,7 @@ fn begins_http(octets: &[u8]) -> bool
 /// Returns whether the octets are those of a HELLO, of any version, carrier and channel. A HELLO is the first frame of
 /// a connection, so its spelling is that of version 1 of the link.
 #[tactic(auto, using(crate::proofs::FirstOctetsLemmas::hello_from_frame))]
+#[inline(never)]
 fn is_hello(octets: &[u8]) -> bool
     ensures { IsTrue result ↔ IsHello octets.now }
 {

@@ -4,6 +4,9 @@
 //! limits what a connection may send. It ends a connection that is silent, does not read, or is in the way of the base
 //! station. The rules are pure parts with exact contracts. The system is hidden by the trait [`Sockets`]. The port
 //! reports what happens to [`PortNotes`].
+//!
+//! A port that is polled reads, writes and waits once for each poll. Whatever else it does is in functions marked
+//! `#[inline(never)]`. Their code then does not lie between that of a poll, which has left the caches by the next one.
 #![tactic(auto)]
 
 mod budget;

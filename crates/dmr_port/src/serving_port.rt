@@ -200,6 +200,7 @@ impl<S: Sockets + Drop, N: PortNotes + Drop, W: Witness + Drop> ServingPort<S, N
     }
 
     /// Writes a note.
+    #[inline(never)]
     fn note(&mut self, note: &Note<'_>)
         ensures { self.new ≡ self.old }
     {
@@ -208,6 +209,7 @@ impl<S: Sockets + Drop, N: PortNotes + Drop, W: Witness + Drop> ServingPort<S, N
     }
 
     /// Closes the connection that is served, if there is one. Kept octets that it does not take at once are lost.
+    #[inline(never)]
     fn let_go(&mut self)
         ensures { self.new
             ≡ record self.old { connection = None; unsent = []; log = self.new.log } }
@@ -334,6 +336,7 @@ impl<S: Sockets + Drop, N: PortNotes + Drop, W: Witness + Drop> ServingPort<S, N
     }
 
     /// Accepts the connections that have come, and looks at what the newcomers have sent.
+    #[inline(never)]
     fn admit(&mut self)
         ensures { self.new ≡ record self.old { waiting = self.new.waiting } }
     {
@@ -384,6 +387,7 @@ impl<S: Sockets + Drop, N: PortNotes + Drop, W: Witness + Drop> ServingPort<S, N
     }
 
     /// Notes that the connection yields its place to a claimant, if it was given up for that.
+    #[inline(never)]
     fn note_displaced(&mut self, cause: EndCause, from: SocketAddr, quiet: u32)
         ensures { self.new ≡ self.old }
     {

@@ -68,6 +68,7 @@ impl Unsent {
     }
 
     /// Appends the first octets to the kept ones, as many as there is room for, and returns their number.
+    #[inline(never)]
     fn keep(&mut self, octets: &[u8]) -> usize
         ensures count { result ≡ min (length octets.now) (65536 - length self.old) }
         ensures octets { self.new ≡ self.old ++ take result octets.now }
@@ -100,6 +101,7 @@ impl Unsent {
 
     /// Sends the kept octets, as many as the connection takes, without waiting.
     #[tactic(auto, using(crate::proofs::UnsentLemmas::passes_nothing, crate::proofs::UnsentLemmas::passes_on))]
+    #[inline(never)]
     pub fn send_all<S: Sockets>(&mut self, sockets: &mut S) -> Sent
         requires { S.is_open sockets.old ≡ true }
         ensures passes { PassesOctets (S.log sockets.old) self.old [] (S.log sockets.new) self.new }

@@ -1,5 +1,5 @@
 //! The sockets of a port: TCP over the system's poll. Here are the calls of the system, and no rule of a port
-//! (`dmr_port` has those).
+//! (`dmr_port` has those). As there, what a poll does not run is marked `#[inline(never)]`.
 
 ghost use Rattle.std.specs.Prelude.{◌≡◌, ◌<◌, ◌≤◌, ℕ, None, vec_len, vec_capacity, IfOk};
 ghost use Rattle.dmr_wire.specs.Answers.{GotWithin, PutWithin};
@@ -96,6 +96,7 @@ pub struct MioSockets<'a, R> {
 
 /// Ends the output, and reads the octets that came and were not read. A close with unread octets resets the connection,
 /// and the other side may then lose the last octets written to it, such as a REFUSED.
+#[inline(never)]
 fn finish(stream: &mut TcpStream) {
     if stream.shutdown(Shutdown::Write).is_err() {
         return;
@@ -132,11 +133,19 @@ fn got(read: io::Result<usize>) -> Got
     match read {
         Ok(0) => Got::End,
         Ok(count) => Got::Octets(count),
-        Err(error) => match error.kind() {
-            ErrorKind::WouldBlock => Got::Block,
-            ErrorKind::Interrupted => Got::Interrupted,
-            _ => Got::Fault,
-        },
+        Err(error) => got_none(error),
+    }
+}
+
+/// The answer to a read of the system that returned an error.
+#[inline(never)]
+fn got_none(error: io::Error) -> Got
+    ensures { (len : ℕ) → GotWithin result len }
+{
+    match error.kind() {
+        ErrorKind::WouldBlock => Got::Block,
+        ErrorKind::Interrupted => Got::Interrupted,
+        _ => Got::Fault,
     }
 }
 
@@ -146,11 +155,19 @@ fn put(written: io::Result<usize>) -> Put
 {
     match written {
         Ok(count) => Put::Octets(count),
-        Err(error) => match error.kind() {
-            ErrorKind::WouldBlock => Put::Block,
-            ErrorKind::Interrupted => Put::Interrupted,
-            _ => Put::Fault,
-        },
+        Err(error) => put_none(error),
+    }
+}
+
+/// The answer to a write of the system that returned an error.
+#[inline(never)]
+fn put_none(error: io::Error) -> Put
+    ensures { (len : ℕ) → PutWithin result len }
+{
+    match error.kind() {
+        ErrorKind::WouldBlock => Put::Block,
+        ErrorKind::Interrupted => Put::Interrupted,
+        _ => Put::Fault,
     }
 }
 
@@ -220,6 +237,7 @@ impl<'a, R: Clock> MioSockets<'a, R> {
             sends: false,
             backlog: Backlog::Waiting,
             now: 0,
+            is_current: false,
         })
     }
 
@@ -237,7 +255,6 @@ impl<'a, R: Clock> MioSockets<'a, R> {
             .register(&mut stream, NEWCOMER, Interest::READABLE);
         match polled {
             Ok(()) => {
-            is_current: false,
                 self.newcomers.push_reserved(stream);
                 Accepted::Came(from)
             }
@@ -269,13 +286,11 @@ impl<'a, R: Clock> MioSockets<'a, R> {
 
     /// Polls the connection for sending, or otherwise for octets that come. Returns `false` if it cannot be polled for
     /// that.
+    #[inline(never)]
     fn poll_connection(&mut self, sends: bool) -> bool
         ensures newcomers { vec_len self.new.newcomers ≡ vec_len self.old.newcomers }
         ensures connection { self.new.connection ≡ self.old.connection }
     {
-        if sends == self.sends {
-            return true;
-        }
         let Some(stream) = &mut self.connection else {
             return true;
         };
@@ -290,6 +305,17 @@ impl<'a, R: Clock> MioSockets<'a, R> {
             self.sends = sends;
         }
         is_polled
+    }
+
+    /// Reads the clock. If it cannot be read, or has gone back, the time stays as it was.
+    fn read_clock(&mut self)
+        ensures newcomers { vec_len self.new.newcomers ≡ vec_len self.old.newcomers }
+        ensures connection { self.new.connection ≡ self.old.connection }
+    {
+        if let Some(now) = milliseconds(self.rt) {
+            self.now = self.now.max(now);
+        }
+        self.is_current = true;
     }
 
     /// Waits for the poll, at most this many milliseconds.
@@ -307,17 +333,6 @@ impl<'a, R: Clock> MioSockets<'a, R> {
             }
         }
     }
-    /// Reads the clock. If it cannot be read, or has gone back, the time stays as it was.
-    fn read_clock(&mut self)
-        ensures newcomers { vec_len self.new.newcomers ≡ vec_len self.old.newcomers }
-        ensures connection { self.new.connection ≡ self.old.connection }
-    {
-        if let Some(now) = milliseconds(self.rt) {
-            self.now = self.now.max(now);
-        }
-        self.is_current = true;
-    }
-
 }
 
 impl<R: Clock> Sockets for MioSockets<'_, R> {
@@ -353,6 +368,7 @@ impl<R: Clock> Sockets for MioSockets<'_, R> {
             .reregister(&mut stream, CONNECTION, Interest::READABLE)?;
         self.connection = Some(stream);
         self.sends = false;
+        self.is_current = false;
         Ok(())
     }
 
@@ -368,7 +384,6 @@ impl<R: Clock> Sockets for MioSockets<'_, R> {
             Some(stream) => put(stream.write(octets)),
             None => unreachable!(),
         }
-        self.is_current = false;
     }
 
     fn close(&mut self) {
@@ -377,6 +392,8 @@ impl<R: Clock> Sockets for MioSockets<'_, R> {
         }
     }
 
+    /// Returns the time at the first question after a wait, or after a connection began. Until the next wait it is the
+    /// same, so the clock is read once for a poll.
     fn now(&mut self) -> u64 {
         if !self.is_current {
             self.read_clock();
@@ -385,15 +402,14 @@ impl<R: Clock> Sockets for MioSockets<'_, R> {
     }
 
     fn wait(&mut self, milliseconds: u64, sends: bool) -> Ready {
-        let is_polled = self.poll_connection(sends);
+        let is_polled = sends == self.sends || self.poll_connection(sends);
         let most = if self.backlog == Backlog::Waiting {
             0
         } else {
             milliseconds
         };
         let (mut ready, listener) = self.wait_for_events(most);
-    /// Returns the time at the first question after a wait, or after a connection began. Until the next wait it is the
-    /// same, so the clock is read once for a poll.
+        self.is_current = false;
         if listener {
             self.backlog = Backlog::Waiting;
         }
@@ -407,4 +423,3 @@ impl<R: Clock> Sockets for MioSockets<'_, R> {
         self.wakers.wake_all();
     }
 }
-        self.is_current = false;

@@ -88,6 +88,7 @@ pub fn open_polls<R: Net>(
 }
 
 /// Sleeps in place of a wait of at most this long, if the system cannot wait.
+#[inline(never)]
 pub fn nap<R: Clock>(rt: &R, most: Duration) {
     thread::sleep(rt, most.min(Duration::from_millis(NAP_MS)));
 }

@@ -68,7 +68,7 @@ def notes() -> dict[str, str]:
 def causes() -> list[str]:
     """The causes of a connection's end: the plain ones, and each fault of the link with the numbers that follow it."""
     text = source("dmr_port/src/cause.rt")
-    plain = [it for it in literals(function(text, "impl fmt::Display for EndCause"), r'write!\(f, ') if "{" not in it and it != ")"]
+    plain = [it for it in literals(function(text, "impl fmt::Display for CloseCause"), r'write!\(f, ') if "{" not in it and it != ")"]
     with_both, with_version = literals(function(text, "fn write_numbers"), r"write!\(\s*f,\s*")
     faults = literals(function(source("dmr_frames/src/frame.rt"), "impl fmt::Display for Cause"), r"=> ")
     more = {"BadVersion": f" ({with_version})", "WrongCarrier": f" ({with_both})"}

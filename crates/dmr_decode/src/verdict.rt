@@ -7,7 +7,7 @@ use crate::desk::SiteDesk;
 use dmr_core::{Event, State};
 use dmr_link::Deposit;
 use dmr_pdu::{Address, CarrierNo, Kind, Number, OutOfMemory, Pdu, Slot};
-use dmr_port::{EndCause, Whose};
+use dmr_port::{CloseCause, Whose};
 use dmr_wire::Closing;
 use std::alloc::Global;
 use std::fmt;
@@ -38,9 +38,9 @@ pub enum Verdict {
     /// ACTIVE on a slot without a call.
     NoCall,
     /// The HELLO is refused, and the connection ends.
-    Refused(EndCause),
+    Refused(CloseCause),
     /// The connection ends.
-    Ended(EndCause),
+    Ended(CloseCause),
 }
 
 impl fmt::Display for Verdict {
@@ -67,7 +67,7 @@ impl fmt::Display for Verdict {
 pub fn verdict_of_end(closing: Closing, whose: Whose) -> Verdict
     ensures { result ≡ verdict_of_closing closing whose }
 {
-    let cause = EndCause::of_closing(closing, whose);
+    let cause = CloseCause::of_closing(closing, whose);
     match closing {
         Closing::Refused(_, _) => Verdict::Refused(cause),
         _ => Verdict::Ended(cause),

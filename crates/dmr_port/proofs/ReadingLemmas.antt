@@ -5,8 +5,8 @@ use Rattle.std.proofs.lemmas.Bool.{or_parts, not-false}
 use Rattle.dmr_wire.specs.declared.wire.Got.{Got}
 use Rattle.dmr_wire.specs.declared.wire.Got.TheVariants as got
 use Rattle.dmr_wire.specs.Answers.{Answer, Came, InputEnded, GotWithin, Reports, of_read}
-use Rattle.dmr_port.specs.declared.cause.EndCause.{EndCause}
-use Rattle.dmr_port.specs.declared.cause.EndCause.TheVariants.{EndOfInput, Http}
+use Rattle.dmr_port.specs.declared.cause.CloseCause.{CloseCause}
+use Rattle.dmr_port.specs.declared.cause.CloseCause.TheVariants.{EndOfInput, Http}
 use Rattle.dmr_port.specs.declared.patience.Patience.{Patience}
 use Rattle.dmr_port.specs.declared.served.Served.{Served}
 use Rattle.dmr_port.specs.FirstOctets.{begins_http}
@@ -45,7 +45,7 @@ read_octets octets is_carrier old mid new n asked is first given hears = record 
 }
 
 -- octets came that complete a request of HTTP
-pub read_http : (is_carrier http result : Bool) (ended : Option EndCause) → result ≡ false → result ≡ (is_carrier || not http) → ended ≡ Some Http
+pub read_http : (is_carrier http result : Bool) (ended : Option CloseCause) → result ≡ false → result ≡ (is_carrier || not http) → ended ≡ Some Http
     → (ended ≡ Some EndOfInput) ⊎ ((is_carrier ≡ false) × (http ≡ true) × (ended ≡ Some Http))
 read_http is_carrier http result ended off given is =
     let parts = or_parts is_carrier (not http) (sym given ∙ off) in inr (parts.0, not-false http parts.1, is)

@@ -2,7 +2,7 @@
 use Rattle.std.proofs.Common.{◌≡◌, ◌≤◌, ℕ, Bool, Some, None, ap, sym, ◌∙◌}
 use Rattle.std.specs.Option.{option_or}
 use Rattle.dmr_wire.specs.declared.port.Waited.TheVariants.{Again, Silent}
-use Rattle.dmr_port.specs.declared.cause.EndCause.{EndCause}
+use Rattle.dmr_port.specs.declared.cause.CloseCause.{CloseCause}
 use Rattle.dmr_port.specs.declared.served.Served.{Served}
 use Rattle.dmr_port.specs.declared.sockets.Ready.{Ready}
 use Rattle.dmr_port.specs.PortState.{HasWaitedFor, connection_of, waited_by}
@@ -23,7 +23,7 @@ goes_on silence ms keeps is_claimed ready old new within after none = record {
 }
 
 -- the connection is given up
-pub is_given_up : (silence ms : ℕ) (keeps is_claimed : Bool) (ready : Ready) (old new : Served) (cause : EndCause) → ms ≤ 100 → new ≡ after_wait ready ms keeps old
+pub is_given_up : (silence ms : ℕ) (keeps is_claimed : Bool) (ready : Ready) (old new : Served) (cause : CloseCause) → ms ≤ 100 → new ≡ after_wait ready ms keeps old
     → cause_of_served silence keeps ready.connection is_claimed new.patience ≡ Some cause
     → HasWaitedFor silence keeps (connection_of old) (connection_of (record new { ended = Some cause })) Silent
 is_given_up silence ms keeps is_claimed ready old new cause within after some = record {

@@ -1,13 +1,13 @@
 -- Why a connection ended, as its link reports it.
-use Rattle.dmr_port.specs.declared.cause.EndCause.{EndCause}
-use Rattle.dmr_port.specs.declared.cause.EndCause.TheVariants as cause
+use Rattle.dmr_port.specs.declared.cause.CloseCause.{CloseCause}
+use Rattle.dmr_port.specs.declared.cause.CloseCause.TheVariants as cause
 use Rattle.dmr_port.specs.declared.whose.Whose.{Whose}
 use Rattle.dmr_wire.specs.declared.closing.Closing.{Closing}
 use Rattle.dmr_wire.specs.declared.closing.Closing.TheVariants.{Over, Bye, ReadFailed, WriteFailed}
 use Rattle.dmr_wire.specs.declared.closing.Closing.TheVariants.{Bad, Refused}
 
 -- the cause of a closing on the port of this owner
-abbrev pub cause_of_closing : Closing → Whose → EndCause
+abbrev pub cause_of_closing : Closing → Whose → CloseCause
 cause_of_closing Over whose = cause.Controller
 cause_of_closing Bye whose = cause.Bye
 cause_of_closing ReadFailed whose = cause.ReadFault

@@ -4,8 +4,8 @@ use Rattle.std.specs.Prelude.{◌||◌, if◌then◌else◌, List, length, slice
 use Rattle.std.specs.Prelude.{option_map}
 use Rattle.std.specs.Option.{is_some, unwrap_or}
 use Rattle.std.specs.List.{list_any}
-use Rattle.dmr_port.specs.declared.cause.EndCause.{EndCause}
-use Rattle.dmr_port.specs.declared.cause.EndCause.TheVariants.{Silence, NoHello, OpenLine, NotRead}
+use Rattle.dmr_port.specs.declared.cause.CloseCause.{CloseCause}
+use Rattle.dmr_port.specs.declared.cause.CloseCause.TheVariants.{Silence, NoHello, OpenLine, NotRead}
 use Rattle.dmr_port.specs.declared.patience.Patience.{Patience}
 
 -- a time after some more milliseconds. It stops at 2 ^ 32 - 1
@@ -58,7 +58,7 @@ is_displaceable p = is_some p.hello || nat_le 1000 p.quiet
 
 -- why a connection is given up after a wait. Silence: nothing is kept, and nothing came for `silence` waits of 100 ms.
 -- No HELLO came, or a line did not end, for as long. Kept octets were not taken for 50 waits
-abbrev pub cause_after_wait : ℕ → Bool → Bool → Patience → Option EndCause
+abbrev pub cause_after_wait : ℕ → Bool → Bool → Patience → Option CloseCause
 cause_after_wait silence keeps ready p =
     if not keeps && not ready && nat_le (100 * silence) p.quiet then Some Silence
     else if has_lasted_if (100 * silence) p.hello then Some NoHello

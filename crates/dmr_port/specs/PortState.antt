@@ -10,9 +10,9 @@ use Rattle.dmr_wire.specs.declared.port.Waited.TheVariants.{Again, Silent}
 use Rattle.dmr_wire.specs.declared.wire.Put.{Put}
 use Rattle.dmr_wire.specs.declared.wire.Put.TheVariants as put
 use Rattle.dmr_wire.specs.Answers.{Answer}
-use Rattle.dmr_port.specs.declared.cause.EndCause.{EndCause}
-use Rattle.dmr_port.specs.declared.cause.EndCause.TheVariants.{EndOfInput, Http, NotRead, ReadFault}
-use Rattle.dmr_port.specs.declared.cause.EndCause.TheVariants.{WriteFault}
+use Rattle.dmr_port.specs.declared.cause.CloseCause.{CloseCause}
+use Rattle.dmr_port.specs.declared.cause.CloseCause.TheVariants.{EndOfInput, Http, NotRead, ReadFault}
+use Rattle.dmr_port.specs.declared.cause.CloseCause.TheVariants.{WriteFault}
 use Rattle.dmr_port.specs.declared.patience.Patience.{Patience}
 use Rattle.dmr_port.specs.declared.served.Served.{Served}
 use Rattle.dmr_port.specs.declared.settings.PortSettings.{PortSettings}
@@ -29,7 +29,7 @@ use Rattle.dmr_port.specs.Unsent.{PassesOctets, ReadsAfterSending}
 pub record Connection : Type 0 where
   pub patience : Patience
   pub first : List ℕ
-  pub ended : Option EndCause
+  pub ended : Option CloseCause
 
 -- the connection that callers see
 abbrev pub connection_of : Served → Connection
@@ -165,7 +165,7 @@ abbrev pub keeps_octets : List ℕ → Bool
 keeps_octets unsent = not (nat_eq (length unsent) 0)
 
 -- the answer of a wait after which the connection is given up for a cause, or for none
-abbrev pub waited_by : Option EndCause → Waited
+abbrev pub waited_by : Option CloseCause → Waited
 waited_by None = Again
 waited_by (Some cause) = Silent
 
@@ -190,5 +190,5 @@ HasWaited silence keeps (Some old) (Some new) result = HasWaitedFor silence keep
 HasWaited silence keeps old new result = ⊥
 
 -- the cause is kept, unless the connection has one
-abbrev pub with_cause : EndCause → Connection → Connection
+abbrev pub with_cause : CloseCause → Connection → Connection
 with_cause cause c = record c { ended = option_or c.ended (Some cause) }

@@ -3,8 +3,8 @@ use Rattle.std.specs.Prelude.{◌≡◌, ◌↔◌, ℕ, ◌==◌, Bool, false, 
 use Rattle.std.specs.Prelude.{take, Option, Some, IsTrue}
 use Rattle.dmr_wire.specs.declared.wire.Got.{Got}
 use Rattle.dmr_wire.specs.declared.wire.Got.TheVariants as got
-use Rattle.dmr_port.specs.declared.cause.EndCause.{EndCause}
-use Rattle.dmr_port.specs.declared.cause.EndCause.TheVariants.{EndOfInput, ReadFault, Displaced}
+use Rattle.dmr_port.specs.declared.cause.CloseCause.{CloseCause}
+use Rattle.dmr_port.specs.declared.cause.CloseCause.TheVariants.{EndOfInput, ReadFault, Displaced}
 use Rattle.dmr_port.specs.declared.patience.Patience.{Patience}
 use Rattle.dmr_port.specs.declared.served.Served.{Served}
 use Rattle.dmr_port.specs.declared.sockets.Ready.{Ready}
@@ -40,7 +40,7 @@ pub record HearsOctets (octets : List ℕ) (is_carrier : Bool) (old new : Served
 
 -- why the connection is given up after a wait. It is displaced if its place is claimed and it has sent no whole HELLO,
 -- or no octet for 1 s
-abbrev pub cause_of_served : ℕ → Bool → Bool → Bool → Patience → Option EndCause
+abbrev pub cause_of_served : ℕ → Bool → Bool → Bool → Patience → Option CloseCause
 cause_of_served silence keeps ready is_claimed p =
     if is_claimed && is_displaceable p then Some Displaced
     else cause_after_wait silence keeps ready p

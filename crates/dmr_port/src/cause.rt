@@ -10,7 +10,7 @@ use std::fmt;
 
 /// Why a connection ended.
 #[derive(Clone, Copy, Debug, PartialEq, Eq)]
-pub enum EndCause {
+pub enum CloseCause {
     /// The other side ended its output.
     EndOfInput,
     /// A read failed, for example because the other side reset the connection.
@@ -46,18 +46,18 @@ pub enum EndCause {
     Controller,
 }
 
-impl EndCause {
+impl CloseCause {
     /// Returns the cause for a link's report of how it closed the connection to a port.
-    pub fn of_closing(closing: Closing, whose: Whose) -> EndCause
+    pub fn of_closing(closing: Closing, whose: Whose) -> CloseCause
         ensures { result ≡ cause_of_closing closing whose }
     {
         match closing {
-            Closing::Over => EndCause::Controller,
-            Closing::Bye => EndCause::Bye,
-            Closing::ReadFailed => EndCause::ReadFault,
-            Closing::WriteFailed => EndCause::WriteFault,
-            Closing::Bad(fault) => EndCause::LinkFault(fault),
-            Closing::Refused(fault, hello) => EndCause::Refused {
+            Closing::Over => CloseCause::Controller,
+            Closing::Bye => CloseCause::Bye,
+            Closing::ReadFailed => CloseCause::ReadFault,
+            Closing::WriteFailed => CloseCause::WriteFault,
+            Closing::Bad(fault) => CloseCause::LinkFault(fault),
+            Closing::Refused(fault, hello) => CloseCause::Refused {
                 fault,
                 hello,
                 whose,
@@ -66,21 +66,21 @@ impl EndCause {
     }
 }
 
-impl fmt::Display for EndCause {
+impl fmt::Display for CloseCause {
     fn fmt<W: fmt::Write>(&self, f: &mut fmt::Formatter<W>) -> fmt::Result {
         match self {
-            EndCause::EndOfInput => write!(f, "end of input"),
-            EndCause::ReadFault => write!(f, "a read failed"),
-            EndCause::WriteFault => write!(f, "a write failed"),
-            EndCause::NotRead => write!(f, "what was written was not read"),
-            EndCause::Silence => write!(f, "silence"),
-            EndCause::NoHello => write!(f, "no HELLO"),
-            EndCause::OpenLine => write!(f, "a line did not end"),
-            EndCause::Displaced => write!(f, "displaced by a newcomer"),
-            EndCause::Http => write!(f, "a request of HTTP"),
-            EndCause::Bye => write!(f, "BYE"),
-            EndCause::LinkFault(fault) => write!(f, "link fault: {fault}"),
-            EndCause::Refused {
+            CloseCause::EndOfInput => write!(f, "end of input"),
+            CloseCause::ReadFault => write!(f, "a read failed"),
+            CloseCause::WriteFault => write!(f, "a write failed"),
+            CloseCause::NotRead => write!(f, "what was written was not read"),
+            CloseCause::Silence => write!(f, "silence"),
+            CloseCause::NoHello => write!(f, "no HELLO"),
+            CloseCause::OpenLine => write!(f, "a line did not end"),
+            CloseCause::Displaced => write!(f, "displaced by a newcomer"),
+            CloseCause::Http => write!(f, "a request of HTTP"),
+            CloseCause::Bye => write!(f, "BYE"),
+            CloseCause::LinkFault(fault) => write!(f, "link fault: {fault}"),
+            CloseCause::Refused {
                 fault,
                 hello,
                 whose,
@@ -89,7 +89,7 @@ impl fmt::Display for EndCause {
                 write_numbers(*fault, *hello, *whose, f)?;
                 write!(f, ")")
             }
-            EndCause::Controller => write!(f, "by the controller"),
+            CloseCause::Controller => write!(f, "by the controller"),
         }
     }
 }

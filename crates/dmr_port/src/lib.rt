@@ -28,7 +28,7 @@ mod waiting_room;
 mod whose;
 mod witness;
 
-pub use cause::EndCause;
+pub use cause::CloseCause;
 pub use note_limit::{NoteLimit, Verdict};
 pub use notes::{Note, NoteKind, PortNotes};
 pub use port_laws::empty_records_agree;

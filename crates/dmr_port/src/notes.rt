@@ -1,6 +1,6 @@
 //! Notes: what a port reports to the operator's log.
 
-use crate::cause::EndCause;
+use crate::cause::CloseCause;
 use std::net::SocketAddr;
 use std::{fmt, io};
 
@@ -17,7 +17,7 @@ pub enum Note<'a> {
         /// The address of the other side.
         from: SocketAddr,
         /// Why it ended.
-        cause: EndCause,
+        cause: CloseCause,
     },
     /// A newcomer waits while another connection is served; `count` newcomers wait.
     Waits {

@@ -7,7 +7,7 @@ ghost use Rattle.dmr_port.specs.Patience.{cause_after_wait, has_lasted_if, is_di
 ghost use Rattle.dmr_port.specs.Patience.{line_after, new_patience, patience_after_octets};
 ghost use Rattle.dmr_port.specs.Patience.{patience_after_wait};
 
-use crate::cause::EndCause;
+use crate::cause::CloseCause;
 
 /// The milliseconds of a wait, by which the site file counts.
 const WAIT_MS: u32 = 100;
@@ -92,21 +92,21 @@ impl Patience {
 
     /// Returns why the connection is given up after a wait, if it is. `keeps`: octets are kept. `ready`: the connection
     /// can now be read; or if octets are kept, written.
-    pub fn cause_after_wait(&self, silence: u16, keeps: bool, ready: bool) -> Option<EndCause>
+    pub fn cause_after_wait(&self, silence: u16, keeps: bool, ready: bool) -> Option<CloseCause>
         ensures { result ≡ cause_after_wait silence keeps ready self.now }
     {
         let most = WAIT_MS * u32::from(silence);
         if !keeps && !ready && self.quiet >= most {
-            return Some(EndCause::Silence);
+            return Some(CloseCause::Silence);
         }
         if has_lasted(self.hello, most) {
-            return Some(EndCause::NoHello);
+            return Some(CloseCause::NoHello);
         }
         if has_lasted(self.line, most) {
-            return Some(EndCause::OpenLine);
+            return Some(CloseCause::OpenLine);
         }
         if keeps && !ready && self.unread >= WAIT_MS * SEND_WAITS {
-            return Some(EndCause::NotRead);
+            return Some(CloseCause::NotRead);
         }
         None
     }

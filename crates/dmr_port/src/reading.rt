@@ -8,7 +8,7 @@ ghost use Rattle.dmr_port.specs.Record.{Reads};
 ghost use Rattle.dmr_port.specs.Unsent.{PassesOctets, ReadsAfterSending};
 
 use crate::budget::Budget;
-use crate::cause::EndCause;
+use crate::cause::CloseCause;
 use crate::served::Served;
 use crate::sockets::Sockets;
 use crate::unsent::{Sent, Unsent};
@@ -24,7 +24,7 @@ fn send_kept<S: Sockets>(sockets: &mut S, unsent: &mut Unsent, served: &mut Serv
     ensures part { result ≡ Sent.Part → unsent.new ≢ [] }
     ensures goes { result ≢ Sent.Fault
         → HasReadNothing (connection_of served.old) (connection_of served.new) }
-    ensures fault { result ≡ Sent.Fault → served.new.ended ≡ Some EndCause.WriteFault }
+    ensures fault { result ≡ Sent.Fault → served.new.ended ≡ Some CloseCause.WriteFault }
     ensures unread { result ≢ Sent.All → served.new.patience.unread ≡ served.old.patience.unread }
     ensures none_kept { unsent.old ≡ []
         → served.new.patience.unread ≡ served.old.patience.unread }
@@ -43,7 +43,7 @@ fn send_kept<S: Sockets>(sockets: &mut S, unsent: &mut Unsent, served: &mut Serv
         }
         Sent::Part => Sent::Part,
         Sent::Fault => {
-            served.ended = Some(EndCause::WriteFault);
+            served.ended = Some(CloseCause::WriteFault);
             Sent::Fault
         }
     }

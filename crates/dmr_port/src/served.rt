@@ -9,7 +9,7 @@ ghost use Rattle.dmr_port.specs.PortState.{HasWaitedFor, answer_of_write, connec
 ghost use Rattle.dmr_port.specs.PortState.{connection_of, waited_by};
 ghost use Rattle.dmr_port.specs.Served.{HearsOctets, after_read, after_wait, cause_of_served};
 
-use crate::cause::EndCause;
+use crate::cause::CloseCause;
 use crate::first_octets::FirstOctets;
 use crate::patience::Patience;
 use crate::sockets::Ready;
@@ -32,7 +32,7 @@ pub struct Served {
     /// end.
     pub input_closed: bool,
     /// Why the connection ended, once that is known.
-    pub ended: Option<EndCause>,
+    pub ended: Option<CloseCause>,
 }
 
 impl Served {
@@ -54,7 +54,7 @@ impl Served {
     }
 
     /// Keeps why the link closed the connection, unless the port has already noted its end.
-    pub fn keep_cause(&mut self, cause: EndCause)
+    pub fn keep_cause(&mut self, cause: CloseCause)
         ensures { self.new ≡ record self.old { ended = option_or self.old.ended (Some cause) } }
     {
         self.ended = self.ended.or(Some(cause));
@@ -73,10 +73,10 @@ impl Served {
     {
         match got {
             Got::Octets(count) => self.may_read = count == asked,
-            Got::End => self.ended = Some(EndCause::EndOfInput),
+            Got::End => self.ended = Some(CloseCause::EndOfInput),
             Got::Interrupted => {}
             Got::Block => self.may_read = false,
-            Got::Fault => self.ended = Some(EndCause::ReadFault),
+            Got::Fault => self.ended = Some(CloseCause::ReadFault),
         }
     }
 
@@ -89,11 +89,11 @@ impl Served {
     {
         match put {
             Put::Octets(0) | Put::Block => {
-                self.ended = Some(EndCause::NotRead);
+                self.ended = Some(CloseCause::NotRead);
                 Put::Block
             }
             Put::Fault => {
-                self.ended = Some(EndCause::WriteFault);
+                self.ended = Some(CloseCause::WriteFault);
                 Put::Fault
             }
             Put::Octets(count) => Put::Octets(count),
@@ -110,11 +110,11 @@ impl Served {
         ensures given { result ≡ (is_carrier || not (begins_http self.new.first.octets.items)) }
         ensures heard { result ≡ true → HearsOctets octets.now is_carrier self.old self.new }
         ensures http { result ≡ false
-            → self.new ≡ record self.old { first = self.new.first; ended = Some EndCause.Http } }
+            → self.new ≡ record self.old { first = self.new.first; ended = Some CloseCause.Http } }
     {
         self.first.add(octets);
         if !is_carrier && self.first.is_http() {
-            self.ended = Some(EndCause::Http);
+            self.ended = Some(CloseCause::Http);
             return false;
         }
         let has_hello = self.has_awaited_hello();
@@ -159,11 +159,11 @@ impl Served {
         keeps: bool,
         ready: bool,
         is_claimed: bool,
-    ) -> Option<EndCause>
+    ) -> Option<CloseCause>
         ensures { result ≡ cause_of_served silence keeps ready is_claimed self.now.patience }
     {
         if is_claimed && self.patience.is_displaceable() {
-            return Some(EndCause::Displaced);
+            return Some(CloseCause::Displaced);
         }
         self.patience.cause_after_wait(silence, keeps, ready)
     }
@@ -178,7 +178,7 @@ impl Served {
         keeps: bool,
         silence: u16,
         is_claimed: bool,
-    ) -> Option<EndCause>
+    ) -> Option<CloseCause>
         requires { milliseconds ≤ 100 }
         ensures { HasWaitedFor silence keeps (connection_of self.old) (connection_of self.new)
             (waited_by result) }

@@ -17,7 +17,7 @@ ghost use Rattle.dmr_port.specs.Settings.{is_carrier};
 ghost use Rattle.dmr_port.specs.Sockets.{taken_by};
 
 use crate::budget::Budget;
-use crate::cause::EndCause;
+use crate::cause::CloseCause;
 use crate::newcomers::{look_at_all, make_room};
 use crate::notes::{Note, PortNotes};
 use crate::port_log::PortLog;
@@ -220,7 +220,7 @@ impl<S: Sockets + Drop, N: PortNotes + Drop, W: Witness + Drop> ServingPort<S, N
         let _ = self.unsent.send_all(&mut self.sockets);
         self.unsent.clear();
         self.sockets.close();
-        let cause = served.ended.unwrap_or(EndCause::Controller);
+        let cause = served.ended.unwrap_or(CloseCause::Controller);
         self.note(&Note::Ended {
             from: served.from,
             cause,
@@ -256,7 +256,7 @@ impl<S: Sockets + Drop, N: PortNotes + Drop, W: Witness + Drop> ServingPort<S, N
                 self.note(&Note::CannotAccept(&error));
                 self.note(&Note::Ended {
                     from,
-                    cause: EndCause::Controller,
+                    cause: CloseCause::Controller,
                 });
                 false
             }
@@ -388,10 +388,10 @@ impl<S: Sockets + Drop, N: PortNotes + Drop, W: Witness + Drop> ServingPort<S, N
 
     /// Notes that the connection yields its place to a claimant, if it was given up for that.
     #[inline(never)]
-    fn note_displaced(&mut self, cause: EndCause, from: SocketAddr, quiet: u32)
+    fn note_displaced(&mut self, cause: CloseCause, from: SocketAddr, quiet: u32)
         ensures { self.new ≡ self.old }
     {
-        if cause != EndCause::Displaced {
+        if cause != CloseCause::Displaced {
             return;
         }
         if let Some(place) = self.room.place_of_claimant() {
@@ -561,7 +561,7 @@ impl<S: Sockets + Drop, N: PortNotes + Drop, W: Witness + Drop> Port for Serving
               self.old.connection;
         } }
     {
-        let cause = EndCause::of_closing(closing, self.settings.whose);
+        let cause = CloseCause::of_closing(closing, self.settings.whose);
         if let Some(served) = &mut self.served {
             served.keep_cause(cause);
         }

@@ -1,21 +1,21 @@
 //! How often connections came and ended, for the note of a term.
 
-use dmr_port::{EndCause, Note};
+use dmr_port::{CloseCause, Note};
 use std::fmt;
 
 /// The causes that are counted one by one. All faults of the link, and refused HELLOs, are counted together.
-const PLAIN: [EndCause; 11] = [
-    EndCause::EndOfInput,
-    EndCause::Bye,
-    EndCause::Silence,
-    EndCause::NoHello,
-    EndCause::OpenLine,
-    EndCause::Displaced,
-    EndCause::Http,
-    EndCause::NotRead,
-    EndCause::ReadFault,
-    EndCause::WriteFault,
-    EndCause::Controller,
+const PLAIN: [CloseCause; 11] = [
+    CloseCause::EndOfInput,
+    CloseCause::Bye,
+    CloseCause::Silence,
+    CloseCause::NoHello,
+    CloseCause::OpenLine,
+    CloseCause::Displaced,
+    CloseCause::Http,
+    CloseCause::NotRead,
+    CloseCause::ReadFault,
+    CloseCause::WriteFault,
+    CloseCause::Controller,
 ];
 
 /// The connections of one port or of several: how many were served, how many were refused, and how many ended for which
@@ -47,7 +47,7 @@ impl Ends {
     };
 
     /// Counts the end of a connection.
-    fn add(&mut self, cause: EndCause) {
+    fn add(&mut self, cause: CloseCause) {
         match PLAIN.iter().position(|plain| *plain == cause) {
             Some(place) => self.plain[place] = self.plain[place].saturating_add(1),
             None => self.link_faults = self.link_faults.saturating_add(1),

@@ -12,17 +12,12 @@ from collections.abc import Iterator, Sequence
 from typing import NamedTuple
 
 TOP = pathlib.Path(__file__).resolve().parent.parent
-sys.path.insert(0, str(TOP / "python"))
-from temzaar.ports import free_ports  # noqa: E402  (the path comes first)
+sys.path[:0] = [str(TOP / "python"), str(TOP / "bench")]
+from serving import CARRIERS, PERIOD, REGISTRATIONS, start_carriers  # noqa: E402  (the path comes first)
 from temzaar.process import Controller  # noqa: E402
 from temzaar.script import SessionFault  # noqa: E402
 from temzaar.sitefile import Site  # noqa: E402
 
-# How often a carrier polls, in microseconds.
-PERIOD = 60_000
-CARRIERS, FIRST_LPCN, LPCN_STEP, CONTROL = 16, 101, 2, 3
-# One poll in four of the control carrier has a registration before it.
-REGISTRATIONS = 4
 TITLES = ("site", "polls", "median, µs", "99 %, µs", "99.9 %, µs", "longest, µs", "longest from due, µs", "controller, % of a processor")
 PRINTED = re.compile(r"(\d+) polls, .*median ([\d.]+), 99 % ([\d.]+), 99\.9 % ([\d.]+), most ([\d.]+); from due: 99\.9 % [\d.]+, most ([\d.]+)")
 
@@ -35,20 +30,6 @@ class Answers(NamedTuple):
     thousandth: float
     longest: float
     longest_from_due: float
-
-
-def site_of(**keys: int) -> Site:
-    """A site of sixteen carriers on loopback, with ports that are free, those of the carriers in the order of their numbers, and with these keys."""
-    site = Site(str(TOP / "sites" / "sixteen_carriers.toml"), **keys)
-    site.shift_ports(free_ports(CARRIERS + 1) - site.console_port)
-    return site
-
-
-def start_carriers(generator: str, site: Site, seconds: int, offset: int, carriers: int = CARRIERS) -> subprocess.Popen[str]:
-    """Starts the first carriers of a site. Their polls are due this many microseconds after those of a site with offset 0."""
-    words = {"-u": PERIOD, "-o": offset, "-p": site.console_port + 1, "-n": carriers, "-l": FIRST_LPCN, "-L": LPCN_STEP, "-s": seconds, "-c": CONTROL, "-r": REGISTRATIONS, "-v": site.link_version}
-    command = [generator, *(str(it) for pair in words.items() for it in pair)]
-    return subprocess.Popen(command, stdin=subprocess.DEVNULL, stdout=subprocess.PIPE, stderr=subprocess.STDOUT, text=True)
 
 
 def answers_of(carriers: subprocess.Popen[str], name: str) -> Answers:
@@ -65,7 +46,7 @@ def play(generator: str, controllers: list[Controller], sites: list[Site], names
     and the share of a processor that each controller took. SessionFault: one was not served."""
     before, began = [it.seconds() for it in controllers], time.monotonic()
     step = PERIOD // CARRIERS // len(sites)
-    players = [start_carriers(generator, site, seconds, number * step, carriers) for number, site in enumerate(sites)]
+    players = [start_carriers(generator, site, seconds, "-o", number * step, "-n", carriers, "-r", REGISTRATIONS) for number, site in enumerate(sites)]
     try:
         answers = [answers_of(it, name) for it, name in zip(players, names, strict=True)]
     finally:

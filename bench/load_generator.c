@@ -3,9 +3,10 @@
  * radios too and looks at each answer; this one looks at the frames alone, and disturbs the machine less.
  *
  *     load_generator [-p BASE_PORT] [-n CARRIERS] [-l FIRST_LPCN] [-L LPCN_STEP] [-v VERSION] [-s SECONDS] [-u MICROSECONDS]
- *                    [-o OFFSET] [-f] [-S] [-T THREADS] [-P PID] [-a ACTIVES] [-r POLLS] [-c CONTROL]
+ *                    [-o OFFSET] [-A] [-f] [-S] [-T THREADS] [-P PID] [-a ACTIVES] [-r POLLS] [-c CONTROL]
  *
  *     -u N   each carrier polls each N microseconds (60,000, the rate of the air), the carriers spread evenly
+ *     -A     all carriers poll at once, as those of a site whose base stations share their frames
  *     -o N   the first carrier's polls are due N microseconds after a whole number of periods of the machine's clock, so that
  *            generators which run at once poll at times of their own (without it: from when the carriers are connected)
  *     -f     as fast as possible: the next POLL follows the DONE of the last
@@ -46,8 +47,8 @@ static const uint8_t REGISTRATION[25] = {0x0E, 0xB4, 0x9C, 0xDF, 0x34, 0xF2, 0x7
 static struct {
     int base_port, carriers, first_lpcn, lpcn_step, version, seconds, threads, actives, rx_every, control, server;
     long period, offset; /* microseconds; no offset: -1 */
-    bool fast, spins;
-} options = {7101, 16, 101, 2, 1, 10, 1, 0, 0, 0, 0, 60000, -1, false, false};
+    bool at_once, fast, spins;
+} options = {7101, 16, 101, 2, 1, 10, 1, 0, 0, 0, 0, 60000, -1, false, false, false};
 
 static __attribute__((noreturn)) void die(const char *what) {
     perror(what);
@@ -103,6 +104,54 @@ static double quantile(const Times *times, double part) {
     return times->most / 1e3;
 }
 
+/* ---- the server's process */
+
+typedef struct {
+    uint64_t read, used;  /* nanoseconds: when this was read, and the processor time by the process's own clock */
+    double user, system;  /* seconds, in steps of the system's */
+    long memory, threads, switches;
+} Usage;
+
+static long status_field(const char *path, const char *field) {
+    char line[256];
+    long value = 0;
+    FILE *file = fopen(path, "r");
+    while (file && fgets(line, sizeof line, file))
+        if (!strncmp(line, field, strlen(field))) value = atol(line + strlen(field) + 1);
+    if (file) fclose(file);
+    return value;
+}
+
+static Usage read_usage(int pid) {
+    char path[64], line[1024], *rest;
+    unsigned long user = 0, system = 0;
+    Usage usage = {.read = nanoseconds_now()};
+    clockid_t clock;
+    struct timespec used;
+    if (!clock_getcpuclockid(pid, &clock) && !clock_gettime(clock, &used)) usage.used = used.tv_sec * SECOND + used.tv_nsec;
+    snprintf(path, sizeof path, "/proc/%d/stat", pid);
+    FILE *file = fopen(path, "r");
+    if (file && fgets(line, sizeof line, file) && (rest = strrchr(line, ')')))
+        sscanf(rest + 2, "%*c %*d %*d %*d %*d %*d %*u %*u %*u %*u %*u %lu %lu", &user, &system);
+    if (file) fclose(file);
+    usage.user = user / (double)sysconf(_SC_CLK_TCK);
+    usage.system = system / (double)sysconf(_SC_CLK_TCK);
+    snprintf(path, sizeof path, "/proc/%d/status", pid);
+    usage.memory = status_field(path, "VmRSS:");
+    usage.threads = status_field(path, "Threads:");
+    snprintf(path, sizeof path, "/proc/%d/task", pid);
+    DIR *tasks = opendir(path);
+    for (struct dirent *task; tasks && (task = readdir(tasks));) {
+        char status[384];
+        if (task->d_name[0] == '.') continue;
+        snprintf(status, sizeof status, "%s/%s/status", path, task->d_name);
+        usage.switches +=
+            status_field(status, "voluntary_ctxt_switches:") + status_field(status, "nonvoluntary_ctxt_switches:");
+    }
+    if (tasks) closedir(tasks);
+    return usage;
+}
+
 /* ---- carriers */
 
 typedef struct {
@@ -116,6 +165,8 @@ typedef struct {
     int count;
     Carrier carrier[MOST_CARRIERS];
     Times times, from_due;
+    bool reads_usage; /* of the server's process, from the first poll to the last */
+    Usage before, after;
 } Player;
 
 static int dial(int port) {
@@ -241,12 +292,13 @@ static void *play(void *argument) {
         come_up(&player->carrier[i]);
         epoll_ctl(epoll, EPOLL_CTL_ADD, player->carrier[i].stream, &event);
     }
+    if (player->reads_usage) player->before = read_usage(options.server);
     start = nanoseconds_now();
     end = start + options.seconds * SECOND;
     due = first_due(start);
     for (int i = 0; i < player->count; i++) {
         Carrier *c = &player->carrier[i];
-        c->next = due + (uint64_t)options.period * 1000 * c->carrier / options.carriers;
+        c->next = due + (options.at_once ? 0 : options.period * 1000ull * c->carrier / options.carriers);
         if (options.fast) send_poll(c, start);
     }
     for (uint64_t now; (now = nanoseconds_now()) < end;) {
@@ -257,68 +309,24 @@ static void *play(void *argument) {
         int count = epoll_pwait2(epoll, events, MOST_CARRIERS, &time, 0);
         for (int i = 0; i < count; i++) read_answer(player, events[i].data.ptr);
     }
+    if (player->reads_usage) player->after = read_usage(options.server);
     for (int i = 0; i < player->count; i++) close(player->carrier[i].stream);
     return 0;
 }
 
-/* ---- the server's process */
+/* ---- the whole */
 
-typedef struct {
-    double user, system; /* seconds */
-    long memory, threads, switches;
-} Usage;
-
-static long status_field(const char *path, const char *field) {
-    char line[256];
-    long value = 0;
-    FILE *file = fopen(path, "r");
-    while (file && fgets(line, sizeof line, file))
-        if (!strncmp(line, field, strlen(field))) value = atol(line + strlen(field) + 1);
-    if (file) fclose(file);
-    return value;
-}
-
-static Usage read_usage(int pid) {
-    char path[64], line[1024], *rest;
-    unsigned long user = 0, system = 0;
-    Usage usage = {0};
-    snprintf(path, sizeof path, "/proc/%d/stat", pid);
-    FILE *file = fopen(path, "r");
-    if (file && fgets(line, sizeof line, file) && (rest = strrchr(line, ')')))
-        sscanf(rest + 2, "%*c %*d %*d %*d %*d %*d %*u %*u %*u %*u %*u %lu %lu", &user, &system);
-    if (file) fclose(file);
-    usage.user = user / (double)sysconf(_SC_CLK_TCK);
-    usage.system = system / (double)sysconf(_SC_CLK_TCK);
-    snprintf(path, sizeof path, "/proc/%d/status", pid);
-    usage.memory = status_field(path, "VmRSS:");
-    usage.threads = status_field(path, "Threads:");
-    snprintf(path, sizeof path, "/proc/%d/task", pid);
-    DIR *tasks = opendir(path);
-    for (struct dirent *task; tasks && (task = readdir(tasks));) {
-        char status[384];
-        if (task->d_name[0] == '.') continue;
-        snprintf(status, sizeof status, "%s/%s/status", path, task->d_name);
-        usage.switches +=
-            status_field(status, "voluntary_ctxt_switches:") + status_field(status, "nonvoluntary_ctxt_switches:");
-    }
-    if (tasks) closedir(tasks);
-    return usage;
-}
-
-static void print_usage(const Usage *before, const Usage *after, double seconds, double polls_per_second) {
-    double user = after->user - before->user, system = after->system - before->system;
-    double share = (user + system) / seconds;
+static void print_usage(const Usage *before, const Usage *after, uint64_t polls) {
+    double seconds = (after->read - before->read) / (double)SECOND, used = (after->used - before->used) / (double)SECOND;
     printf("  server: user %.2f s, system %.2f s of %.1f s: %.2f %% of a processor, %.2f us a poll; "
            "%ld kB, %ld threads, %.0f context switches a second\n",
-           user, system, seconds, 100 * share, polls_per_second > 0 ? 1e6 * share / polls_per_second : 0, after->memory,
-           after->threads, (after->switches - before->switches) / seconds);
+           after->user - before->user, after->system - before->system, seconds, 100 * used / seconds,
+           polls ? 1e6 * used / polls : 0, after->memory, after->threads, (after->switches - before->switches) / seconds);
 }
-
-/* ---- the whole */
 
 static int read_options(int argc, char **argv) {
     int option;
-    while ((option = getopt(argc, argv, "p:n:l:L:v:s:u:o:fST:P:a:r:c:")) != -1) switch (option) {
+    while ((option = getopt(argc, argv, "p:n:l:L:v:s:u:o:AfST:P:a:r:c:")) != -1) switch (option) {
         case 'p': options.base_port = atoi(optarg); break;
         case 'n': options.carriers = atoi(optarg); break;
         case 'l': options.first_lpcn = atoi(optarg); break;
@@ -327,6 +335,7 @@ static int read_options(int argc, char **argv) {
         case 's': options.seconds = atoi(optarg); break;
         case 'u': options.period = atol(optarg); break;
         case 'o': options.offset = atol(optarg); break;
+        case 'A': options.at_once = true; break;
         case 'f': options.fast = true; break;
         case 'S': options.spins = true; break;
         case 'T': options.threads = atoi(optarg); break;
@@ -346,22 +355,14 @@ int main(int argc, char **argv) {
     static Player players[MOST_THREADS];
     static Times times, from_due;
     pthread_t threads[MOST_THREADS];
-    uint64_t octets = 0, polls, start;
-    Usage before = {0}, after = {0};
+    uint64_t octets = 0, polls;
     if (read_options(argc, argv)) return 2;
     for (int carrier = 0; carrier < options.carriers; carrier++) {
         Player *player = &players[carrier % options.threads];
         player->carrier[player->count++].carrier = carrier;
     }
-    if (options.server) before = read_usage(options.server);
-    start = nanoseconds_now();
+    players[0].reads_usage = options.server;
     for (int i = 0; i < options.threads; i++) pthread_create(&threads[i], 0, play, &players[i]);
-    /* A little before the end, while the server still has its threads. */
-    if (options.server) {
-        nanosleep(&(struct timespec){options.seconds - 1, 700000000}, 0);
-        after = read_usage(options.server);
-    }
-    double seconds = (nanoseconds_now() - start) / (double)SECOND;
     for (int i = 0; i < options.threads; i++) {
         pthread_join(threads[i], 0);
         add_times(&times, &players[i].times);
@@ -374,6 +375,6 @@ int main(int argc, char **argv) {
            quantile(&times, 0.5), quantile(&times, 0.99), quantile(&times, 0.999), times.most / 1e3);
     if (!options.fast) printf("from due: 99.9 %% %.1f, most %.1f; ", quantile(&from_due, 0.999), from_due.most / 1e3);
     printf("%.1f octets a poll\n", octets / (double)(polls ? polls : 1));
-    if (options.server) print_usage(&before, &after, seconds, polls / (double)options.seconds);
+    if (options.server) print_usage(&players[0].before, &players[0].after, polls);
     return 0;
 }

@@ -1,13 +1,13 @@
 /*
- * The least that serving costs: servers in C that cut the frames of the link, and answer a HELLO by a WELCOME and a POLL by
- * constant octets, over loopback. They are measured with bench/load_generator.c, as `dmr_trunk --serve` is.
+ * The least that serving costs: a server in C that answers constants. It cuts the frames of the link, and answers a HELLO by a
+ * WELCOME and a POLL by constant octets. It is measured with bench/load_generator.c over loopback, as `dmr_trunk --serve` is.
  *
- *     serve_floor epoll|threads|mutex [-p BASE_PORT] [-n CARRIERS] [-a OCTETS] [-c CONTROL]
+ *     serve_floor [-p BASE_PORT] [-n CARRIERS] [-a OCTETS] [-c CONTROL]
  *
- *     epoll     one thread, one epoll, one read and one write for each wake-up
- *     threads   a thread for each connection, with blocking reads and writes
- *     mutex     as threads, and each POLL takes one lock, as the desk of the proved controller does
- *     -a N      answers each POLL by N octets, 2 at least; else the control carrier's by a TX and DONE, the others' by DONE
+ * It has a thread and an epoll for each carrier, as the proved controller has. The epoll has the carrier's listener, its
+ * connection, and an eventfd by which the end of a term would wake the thread.
+ *
+ *     -a N   answers each POLL by N octets, 2 at least; else the control carrier's by a TX and DONE, the others' by DONE
  *
  * It is not a controller: it has no site, ignores what a carrier says, and runs until it is killed.
  */
@@ -17,12 +17,12 @@
 #include <netinet/in.h>
 #include <netinet/tcp.h>
 #include <pthread.h>
-#include <stdbool.h>
 #include <stdint.h>
 #include <stdio.h>
 #include <stdlib.h>
 #include <string.h>
 #include <sys/epoll.h>
+#include <sys/eventfd.h>
 #include <sys/socket.h>
 #include <unistd.h>
 
@@ -37,10 +37,7 @@ typedef struct {
 } Connection;
 
 static int base_port = 7101, carriers = 16, answer_octets, control;
-static bool takes_lock;
 static uint8_t answer_of[2][31]; /* by version: a TX and DONE */
-static pthread_mutex_t lock = PTHREAD_MUTEX_INITIALIZER;
-static volatile uint64_t polls;
 
 static int body_length(int type, int version) {
     switch (type) {
@@ -56,11 +53,6 @@ static int body_length(int type, int version) {
 /* Writes the answer of a POLL. How many octets it has. */
 static int answer_poll(const Connection *c, uint8_t *out) {
     int count = answer_octets ? answer_octets : c->carrier == control ? 29 + c->version : 2;
-    if (takes_lock) {
-        pthread_mutex_lock(&lock);
-        polls++;
-        pthread_mutex_unlock(&lock);
-    }
     memset(out, 0, count);
     if (count > 2) memcpy(out, answer_of[c->version == 2], count < 31 ? count : 31);
     out[count - 2] = DONE;
@@ -118,26 +110,6 @@ static void begin(Connection *c, int stream) {
     c->version = 1;
 }
 
-/* ---- a thread for each connection */
-
-static void *serve_in_thread(void *argument) {
-    Connection *c = argument;
-    uint8_t octets[READ_ROOM], out[WRITE_ROOM];
-    for (;;) {
-        int stream = accept(c->listener, 0, 0), count, written = 0;
-        if (stream < 0) continue;
-        begin(c, stream);
-        while ((count = read(stream, octets, sizeof octets)) > 0) {
-            written = take(c, octets, count, out);
-            if (written < 0 || (written && write(stream, out, written) != written)) break;
-        }
-        close(stream);
-    }
-    return 0;
-}
-
-/* ---- one thread */
-
 static void watch(int epoll, int operation, int stream, Connection *c) {
     struct epoll_event event = {.events = EPOLLIN, .data.ptr = c};
     epoll_ctl(epoll, operation, stream, &event);
@@ -163,14 +135,17 @@ static void serve_event(int epoll, Connection *c) {
     watch(epoll, EPOLL_CTL_ADD, c->listener, c);
 }
 
-static void serve_by_epoll(Connection *connections) {
-    struct epoll_event events[MOST_CARRIERS];
-    int epoll = epoll_create1(0);
-    for (int i = 0; i < carriers; i++) watch(epoll, EPOLL_CTL_ADD, connections[i].listener, &connections[i]);
+/* The thread of one carrier. */
+static void *serve_carrier(void *argument) {
+    Connection *c = argument;
+    int epoll = epoll_create1(0), waker = eventfd(0, EFD_NONBLOCK);
+    watch(epoll, EPOLL_CTL_ADD, c->listener, c);
+    watch(epoll, EPOLL_CTL_ADD, waker, 0);
     for (;;) {
-        int count = epoll_wait(epoll, events, MOST_CARRIERS, -1);
-        for (int i = 0; i < count; i++) serve_event(epoll, events[i].data.ptr);
+        struct epoll_event event;
+        if (epoll_wait(epoll, &event, 1, -1) == 1 && event.data.ptr) serve_event(epoll, c);
     }
+    return 0;
 }
 
 static int read_options(int argc, char **argv) {
@@ -187,18 +162,14 @@ static int read_options(int argc, char **argv) {
 
 int main(int argc, char **argv) {
     static Connection connections[MOST_CARRIERS];
-    const char *kind = argc > 1 ? argv[1] : "";
     pthread_t thread;
-    optind = 2;
-    if ((strcmp(kind, "epoll") && strcmp(kind, "threads") && strcmp(kind, "mutex")) || read_options(argc, argv)) return 2;
-    takes_lock = !strcmp(kind, "mutex");
+    if (read_options(argc, argv)) return 2;
     for (int version = 1; version <= 2; version++) {
         answer_of[version - 1][0] = TX;
         answer_of[version - 1][1] = 25 + version;
     }
     for (int i = 0; i < carriers; i++)
         connections[i] = (Connection){.stream = -1, .listener = listen_on(base_port + i), .carrier = i, .version = 1};
-    if (!strcmp(kind, "epoll")) serve_by_epoll(connections);
-    for (int i = 0; i < carriers; i++) pthread_create(&thread, 0, serve_in_thread, &connections[i]);
+    for (int i = 0; i < carriers; i++) pthread_create(&thread, 0, serve_carrier, &connections[i]);
     for (;;) pause();
 }

@@ -2,9 +2,10 @@
  * The site of site.h over TCP ports: one thread, one epoll, a timer for the ticks. It is measured with
  * bench/load_generator.c, as `dmr_trunk --serve` is.
  *
- *     site_server [-p BASE_PORT] [-n CARRIERS] [-c CONTROL] [-l FIRST_LPCN] [-L LPCN_STEP] [-j]
+ *     site_server [-p BASE_PORT] [-n CARRIERS] [-c CONTROL] [-l FIRST_LPCN] [-L LPCN_STEP] [-t MILLISECONDS] [-j]
  *
- *     -j   keeps a journal too: the answer of each event, 64 octets each, in a ring of 100,000
+ *     -t N   a tick lasts N milliseconds (60)
+ *     -j     keeps a journal too: the answer of each event, 64 octets each, in a ring of 100,000
  *
  * It is not a controller. It reads no site file, has no operators, no terms and no audit. It does not wait for a peer that
  * reads nothing: a write that is not taken whole ends the connection. It runs until it is killed.
@@ -21,13 +22,13 @@
 #include <sys/timerfd.h>
 #include <unistd.h>
 
-enum { JOURNAL_ENTRIES = 100000, READ_ROOM = 4096, WRITE_ROOM = 262144, EVENTS = 32, TICK_NANOSECONDS = 60000000 };
+enum { JOURNAL_ENTRIES = 100000, READ_ROOM = 4096, WRITE_ROOM = 262144, EVENTS = 32 };
 
 typedef struct {
     int stream, listener, carrier;
 } Connection;
 
-static int base_port = 7101, carriers = 16, control, first_lpcn = 101, lpcn_step = 2;
+static int base_port = 7101, carriers = 16, control, first_lpcn = 101, lpcn_step = 2, tick_ms = 60;
 static bool has_journal;
 static Site *site;
 
@@ -104,23 +105,26 @@ static void begin_site(void) {
 
 static int read_options(int argc, char **argv) {
     int option;
-    while ((option = getopt(argc, argv, "p:n:c:l:L:j")) != -1) switch (option) {
+    while ((option = getopt(argc, argv, "p:n:c:l:L:t:j")) != -1) switch (option) {
         case 'p': base_port = atoi(optarg); break;
         case 'n': carriers = atoi(optarg); break;
         case 'c': control = atoi(optarg); break;
         case 'l': first_lpcn = atoi(optarg); break;
         case 'L': lpcn_step = atoi(optarg); break;
+        case 't': tick_ms = atoi(optarg); break;
         case 'j': has_journal = true; break;
         default: return -1;
         }
-    return carriers < 1 || carriers > CARRIERS || control < 0 || control >= carriers ? -1 : 0;
+    bool fits = carriers >= 1 && carriers <= CARRIERS && control >= 0 && control < carriers && tick_ms >= 1;
+    return fits ? 0 : -1;
 }
 
 int main(int argc, char **argv) {
     static Connection connections[CARRIERS];
-    const struct itimerspec every_tick = {{0, TICK_NANOSECONDS}, {0, TICK_NANOSECONDS}};
     int epoll = epoll_create1(0), timer = timerfd_create(CLOCK_MONOTONIC, TFD_NONBLOCK);
     if (read_options(argc, argv)) return 2;
+    const struct timespec tick_time = {tick_ms / 1000, tick_ms % 1000 * 1000000l};
+    const struct itimerspec every_tick = {tick_time, tick_time};
     begin_site();
     timerfd_settime(timer, 0, &every_tick, 0);
     watch(epoll, EPOLL_CTL_ADD, timer, 0);

@@ -77,13 +77,13 @@ check-programs: ## tools, documents, a soak and serving, over the programs that 
 wrong-bodies: ## every wrong body that must be refused, those outside the gate too: of CRATE=name, of the k-th of n parts with PART=k/n, or all
 	@ci/wrong-bodies $(if $(PART),--part $(PART)) $(CRATE)
 
-bench: build/dmr_trunk ## times of the proved coder, engine and replay beside those in C, in one run, and all words with three flips (bench/README.md)
+bench: build/dmr_trunk ## times of served polls, and of the proved coder, engine and replay, beside those in C, in one run; and all words with three flips (bench/README.md)
 	@date -u +%Y-%m-%d
 	@sed -n 's/^model name[^:]*: *//p' /proc/cpuinfo | uniq -c
 	@cd crates/dmr_bench && rt run -- --flips
 	@bench/compare
 
-bench-instructions: build/dmr_trunk ## instructions of an event and of each function, ours beside C, counted by valgrind: figures that no other work on the machine changes
+bench-instructions: build/dmr_trunk ## instructions of a served poll, of an event and of each function, ours beside C, counted by valgrind: figures that no other work on the machine changes
 	@cd crates/dmr_bench && rt run >/dev/null
 	@bench/instructions
 

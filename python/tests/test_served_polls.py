@@ -1,0 +1,157 @@
+"""The counts and times of served polls (bench/served.py, touched.py, poll_times.py). Their parsing and arithmetic are tried
+over texts and figures that are written out here. A carrier plays against the servers in C. No time is judged."""
+import collections
+import shutil
+import sys
+import tempfile
+import unittest
+
+from temzaar import code, frames
+from tests.support import TOP
+
+sys.path.insert(0, str(TOP / "bench"))
+import poll_times  # noqa: E402  (the path comes first)
+import served  # noqa: E402
+import serving  # noqa: E402
+import touched  # noqa: E402
+from callgrind import BadProfile, Profile  # noqa: E402
+from programs import RT_PROCESSOR, Missing, build  # noqa: E402
+
+CALLS = """SYSCALL[7,1](257) sys_openat ( -100, 0x1(/etc/a) ) --> [async] ...
+SYSCALL[7,1](257) ... [async] --> Success(0x3)
+SYSCALL[7,3](232) sys_epoll_wait ( 8, 0x1, 4, 25 ) --> [async] ...
+SYSCALL[7,3](232) ... [async] --> Success(0x1)
+SYSCALL[7,3]( 45) sys_recvfrom ( 9, 0x1, 512, 0 ) --> [async] ...
+SYSCALL[7,3]( 45) ... [async] --> Success(0x2)
+SYSCALL[7,3](228) sys_clock_gettime( 1, 0x2 )[sync] --> Success(0x0)
+SYSCALL[7,3](232) sys_epoll_wait ( 8, 0x1, 4, 25 ) --> [async] ...
+==7== SYSCALL[7,3](1) sys_write in a line of another kind
+"""
+# Two waits of thread 2 with work between them, once while thread 1 begins and ends a wait without work.
+TRACE = """I  00000f00,4
+SYSCALL[7,1](232) sys_epoll_wait ( 3, 0x1, 4, 25 ) --> [async] ...
+SYSCALL[7,2](232) sys_epoll_wait ( 8, 0x1, 4, 25 ) --> [async] ...
+SYSCALL[7,2](232) ... [async] --> Success(0x1)
+I  00001000,3
+I  0000103e,4
+ L 00003000,8
+SYSCALL[7,2]( 45) sys_recvfrom ( 9, 0x1, 512, 0 ) --> [async] ...
+SYSCALL[7,2]( 45) ... [async] --> Success(0x2)
+ S 00003ffc,8
+SYSCALL[7,2](232) sys_epoll_wait ( 8, 0x1, 4, 25 ) --> [async] ...
+SYSCALL[7,1](232) ... [async] --> Success(0x0)
+I  00000f00,4
+SYSCALL[7,1](232) sys_epoll_wait ( 3, 0x1, 4, 25 ) --> [async] ...
+SYSCALL[7,2](232) ... [async] --> Success(0x1)
+I  00001000,3
+SYSCALL[7,2](232) sys_epoll_wait ( 8, 0x1, 4, 25 ) --> [async] ...
+""".splitlines()
+
+
+def thread_of(total: int, **calls: int) -> served.Thread:
+    """A thread with this number of instructions and these calls."""
+    return served.Thread(Profile(total, {"work": total}), collections.Counter(calls))
+
+
+class Counted(unittest.TestCase):
+    """Instructions and system calls."""
+
+    def test_calls_by_thread(self) -> None:
+        expected = {1: {"openat": 1}, 3: {"epoll_wait": 2, "recvfrom": 1, "clock_gettime": 1}}
+        self.assertEqual({thread: dict(it) for thread, it in served.calls_in(CALLS).items()}, expected)
+
+    def test_the_thread_that_grows_most_is_the_carriers(self) -> None:
+        few = {1: thread_of(9000), 2: thread_of(500, write=10, clock_gettime=30, brk=1), 3: thread_of(40)}
+        more = {1: thread_of(9010), 2: thread_of(2500, write=30, clock_gettime=90, brk=1), 3: thread_of(40)}
+        cost = served.cost_of_thread(few, more, 20)
+        self.assertEqual((cost.instructions, cost.system_calls, cost.clock_readings), (100, 1, 3))
+        self.assertEqual(cost.profile.own, {"work": 2000})
+
+    def test_no_thread_in_both_runs(self) -> None:
+        with self.assertRaises(BadProfile):
+            served.cost_of_thread({1: thread_of(10)}, {2: thread_of(10)}, 1)
+
+
+class TouchedBetweenWaits(unittest.TestCase):
+    """Lines and pages."""
+
+    def test_an_access_over_the_end_of_a_line_touches_two(self) -> None:
+        found = touched.count_accesses(["I  0000103e,4", " L 00003038,8", " S 00003ffc,8", " M 00003001,2", "==7== a note"])
+        self.assertEqual(found, touched.Touched(1, code_lines=2, data_lines=3, code_pages=1, data_pages=2, written=10))
+
+    def test_the_work_between_two_waits_of_each_thread(self) -> None:
+        found = [(thread, [it for it in lines if it.startswith(("I", " "))]) for thread, lines in touched.between_waits(TRACE)]
+        first = ["I  00001000,3", "I  0000103e,4", " L 00003000,8", " S 00003ffc,8"]
+        self.assertEqual(found, [(2, first), (1, ["I  00000f00,4"]), (2, ["I  00001000,3"])])
+
+    def test_the_median_of_the_thread_that_waits_most(self) -> None:
+        self.assertEqual(touched.median_of(TRACE), touched.Touched(1.5, 1.5, 1.5, 1, 1, 4))
+
+    def test_no_thread_that_waits_twice(self) -> None:
+        with self.assertRaises(BadProfile):
+            touched.median_of(TRACE[:8])
+
+
+class Timed(unittest.TestCase):
+    """Processor times."""
+
+    def test_terms_in_notes(self) -> None:
+        notes = ("[INFO  dmr_trunk] console: listening\n[INFO  dmr_trunk] term ended: 9 entries\n"
+                 "[INFO  dmr_trunk] 12 more terms ended: 99 entries\n")
+        self.assertEqual((poll_times.terms_in(""), poll_times.terms_in(notes)), (0, 13))
+
+    def test_the_time_of_a_poll(self) -> None:
+        line = "  server: user 0.07 s, system 0.05 s of 10.0 s: 1.21 % of a processor, 45.31 us a poll; 9000 kB"
+        self.assertEqual(poll_times.time_in(f"2670 polls, 267 a second\n{line}\n"), 45.31)
+
+    def test_a_load_that_measured_nothing(self) -> None:
+        for printed in ("connect: Connection refused\n", "% of a processor, 0.00 us a poll"):
+            with self.assertRaises(Missing):
+                poll_times.time_in(printed)
+
+    def test_ratios_are_those_of_a_round(self) -> None:
+        times = {poll_times.OURS: [30.0, 60.0, 36.0], poll_times.FLOOR: [20.0, 30.0, 20.0]}
+        self.assertEqual(poll_times.ratios_of(times), {poll_times.OURS: 1.8, poll_times.FLOOR: 1.0})
+
+    def test_noise_is_more_than_fifteen_percent(self) -> None:
+        noise = poll_times.noise_of({"even": [100.0, 115.0], "uneven": [120.0, 100.0, 110.0]})
+        self.assertEqual(noise.keys(), {"uneven"})
+        self.assertAlmostEqual(noise["uneven"], 0.2)
+
+    def test_polls_of_different_sites_are_due_at_different_times(self) -> None:
+        at_once, spread = poll_times.kinds_of(3)
+        due = {number * spread.step + carrier * serving.PERIOD // serving.CARRIERS for number in range(3) for carrier in range(16)}
+        self.assertEqual((at_once.step, len(due), max(due) < serving.PERIOD), (20_000, 48, True))
+
+
+@unittest.skipUnless(shutil.which("cc"), "they are built with cc, which is not there")
+class Played(unittest.TestCase):
+    """Carriers that play against the servers in C."""
+
+    @classmethod
+    def setUpClass(cls) -> None:
+        folder = tempfile.TemporaryDirectory()
+        cls.addClassCleanup(folder.cleanup)
+        cls.programs = {it: build(f"{it}.c", RT_PROCESSOR, folder.name)[0] for it in ("site_server", "serve_floor", "load_generator")}
+
+    def test_each_kind_of_round_is_answered(self) -> None:
+        site = serving.site_of(**serving.AS_IN_C, tick_ms=served.TICK_MS)
+        with serving.running(serving.site_server_words(self.programs["site_server"], site)):
+            control, other, registering = (served.Carrier(site, kind).play(3) for kind in served.KINDS)
+        self.assertEqual(other, frames.welcome(2) + 3 * frames.DONE)
+        for received, first_octet in ((control, 0x99), (registering, 0xA0)):
+            bursts = [it.burst() for it in frames.Cutter(frames.TO_CARRIER).feed(received) if it.kind == frames.FrameType.TX]
+            self.assertEqual([it.number for it in bursts], [0, 1, 2])
+            self.assertEqual({(code.octets_of(it.word) or b'-')[0] for it in bursts}, {first_octet})
+
+    def test_the_load_generator_reads_the_time_that_the_server_uses(self) -> None:
+        site = serving.site_of()
+        with serving.running(serving.floor_words(self.programs["serve_floor"], site)) as floor:
+            for kind in poll_times.kinds_of(1):
+                load = serving.start_carriers(self.programs["load_generator"], site, 1, "-P", floor.pid, *kind.options)
+                time = poll_times.time_in(load.communicate(timeout=30)[0])
+                self.assertTrue(0 < time < serving.PERIOD, time)
+
+
+if __name__ == "__main__":
+    unittest.main()

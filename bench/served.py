@@ -1,11 +1,12 @@
-"""Counts what a served poll takes in our controller and in the site in C: instructions, system calls, and the lines and
-pages that it touches. The thread that serves the carrier counts alone.
+"""Counts what a served poll takes in our controller and in the site in C: instructions, system
+calls, and the lines and pages that it touches. The thread that serves the carrier counts alone.
 
-A server runs under valgrind. A carrier connects, and sends the same octets in each round, after the DONE that ends the
-last answer. For instructions and calls it does so twice, longer the second time (`valgrind --tool=callgrind`, with a
-profile for each thread). The further instructions and calls of the carrier's thread, divided by the further rounds, are
-the cost of a round: start and end cancel out. The lines and pages are those of single rounds (touched.py). The carrier
-is so slow that its port never waits for the next 512 octets. Ticks last a second, so few are counted.
+A server runs under valgrind. A carrier connects, and sends the same octets in each round, after the
+DONE that ends the last answer. For instructions and calls it does so twice, longer the second time
+(`valgrind --tool=callgrind`, with a profile for each thread). The further instructions and calls of
+the carrier's thread, divided by the further rounds, are the cost of a round: start and end cancel
+out. The lines and pages are those of single rounds (touched.py). The carrier is so slow that its
+port never waits for the next 512 octets. Ticks last a second, so few are counted.
 """
 import collections
 import contextlib
@@ -38,8 +39,8 @@ LONGEST_WAIT = 60.0
 # The longest tick of a site file.
 TICK_MS = 1000
 OTHER = 5
-# The call that reads the clock under valgrind. Without valgrind the C library reads it without a call of the system, if
-# the clock source allows that.
+# The call that reads the clock under valgrind. Without valgrind the C library reads it without a
+# call of the system, if the clock source allows that.
 CLOCK = "clock_gettime"
 # The end of a trace that is kept, in pieces of these octets: several rounds.
 TRACE_PIECE, TRACE_PIECES = 1 << 20, 16
@@ -47,13 +48,14 @@ _CALL = re.compile(r"^SYSCALL\[\d+,(\d+)\]\( *\d+\) sys_(\w+)", re.M)
 
 
 class Kind(NamedTuple):
-    """What a carrier sends in each round: its number, and whether a registration comes before the POLL."""
+    """What a carrier sends in each round: its number, and whether a registration comes first."""
     name: str
     carrier: int
     registers: bool
 
 
-KINDS = (Kind("a POLL of the control carrier", CONTROL, False), Kind("a POLL of another carrier", OTHER, False),
+KINDS = (Kind("a POLL of the control carrier", CONTROL, False),
+         Kind("a POLL of another carrier", OTHER, False),
          Kind("the RX of a registration, and a POLL", CONTROL, True))
 
 
@@ -92,7 +94,8 @@ class Cost(NamedTuple):
 
 
 class Row(NamedTuple):
-    """A line of the tables: what a round takes and touches in ours, and in the C with the fewest instructions."""
+    """A line of the tables: what a round takes and touches in ours, and in the C with the fewest
+    instructions."""
     name: str
     ours: Cost
     c: Cost
@@ -112,13 +115,15 @@ class Carrier:
         self.read_to(frames.FrameType.WELCOME)
 
     def read_to(self, last: frames.FrameType) -> None:
-        """Reads up to a frame of this type. BadProfile: the server ends the connection, or sends no frames."""
+        """Reads up to a frame of this type. BadProfile: the server ends the connection, or sends no
+        frames."""
         while True:
             octets = self.stream.recv(4096)
             came = self.cutter.feed(octets)
             self.received += octets
             if not octets or self.cutter.fault:
-                raise BadProfile(f"a server does not answer {self.kind.name}: {self.received[-40:].hex()}")
+                last_octets = self.received[-40:].hex()
+                raise BadProfile(f"a server does not answer {self.kind.name}: {last_octets}")
             if any(it.kind == last for it in came):
                 return
 
@@ -127,7 +132,8 @@ class Carrier:
         if not self.kind.registers:
             return frames.POLL
         radio = FIRST_RADIO + number % RADIOS
-        request = pdus.random_access(pdus.REGISTRATION, self.site.plan["regi"], radio, self.site.register_options())
+        request = pdus.random_access(pdus.REGISTRATION, self.site.plan["regi"], radio,
+                                     self.site.register_options())
         return self.link.rx(0, code.burst_of(request)) + frames.POLL
 
     def play(self, rounds: int) -> bytes:
@@ -152,8 +158,8 @@ def calls_in(log: str) -> dict[int, collections.Counter[str]]:
 
 
 def cost_of_thread(few: dict[int, Thread], more: dict[int, Thread], rounds: int) -> Cost:
-    """The cost of the further rounds, in the thread whose instructions grew most: the carrier's. BadProfile: no thread
-    is in both runs."""
+    """The cost of the further rounds, in the thread whose instructions grew most: the carrier's.
+    BadProfile: no thread is in both runs."""
     both = few.keys() & more.keys()
     if not both:
         raise BadProfile("valgrind wrote no profile of a thread")
@@ -164,13 +170,15 @@ def cost_of_thread(few: dict[int, Thread], more: dict[int, Thread], rounds: int)
     return Cost(rounds, grown[thread], calls)
 
 
-def play_profiled(server: Server, kind: Kind, rounds: int, keep: str) -> tuple[bytes, dict[int, Thread]]:
-    """Serves rounds of a carrier. What the carrier received, and what each thread did. Valgrind's files are in `keep`."""
+def play_profiled(server: Server, kind: Kind, rounds: int,
+                  keep: str) -> tuple[bytes, dict[int, Thread]]:
+    """Serves rounds of a carrier. What the carrier received, and what each thread did. Valgrind's
+    files are in `keep`."""
     site = site_of(**AS_IN_C, tick_ms=TICK_MS)
     folder = tempfile.mkdtemp(dir=keep, prefix=f"{server.name}-")
     profile, log = pathlib.Path(folder, "profile"), pathlib.Path(folder, "calls")
-    under = ["valgrind", "--tool=callgrind", "--separate-threads=yes", f"--callgrind-out-file={profile}",
-             "--trace-syscalls=yes", f"--log-file={log}"]
+    under = ["valgrind", "--tool=callgrind", "--separate-threads=yes",
+             f"--callgrind-out-file={profile}", "--trace-syscalls=yes", f"--log-file={log}"]
     with running([*under, *server.words(site, folder)]):
         received = Carrier(site, kind).play(rounds)
     calls = calls_in(log.read_text(encoding="utf-8", errors="replace"))
@@ -218,8 +226,8 @@ def touch_rounds(server: Server, kind: Kind) -> Touched:
     """What a round of a carrier touches."""
     site = site_of(**AS_IN_C, tick_ms=TICK_MS)
     with tempfile.TemporaryDirectory() as folder, end_of_pipe() as (log, lines):
-        under = ["valgrind", "--tool=lackey", "--trace-mem=yes", "--basic-counts=no", "--trace-syscalls=yes",
-                 f"--log-fd={log}"]
+        under = ["valgrind", "--tool=lackey", "--trace-mem=yes", "--basic-counts=no",
+                 "--trace-syscalls=yes", f"--log-fd={log}"]
         with running([*under, *server.words(site, folder)], pass_fds=[log]):
             Carrier(site, kind).play(TRACED_ROUNDS)
     return median_of(lines)
@@ -230,7 +238,8 @@ def touch_rounds(server: Server, kind: Kind) -> Touched:
 def our_server() -> Server:
     """Our controller, for one term."""
     program = proved("dmr_trunk")
-    return Server("dmr_trunk", lambda site, folder: [*controller_words(program, site, folder), "--terms", "1"])
+    return Server("dmr_trunk",
+                  lambda site, folder: [*controller_words(program, site, folder), "--terms", "1"])
 
 
 def server_in_c(program: str) -> Server:
@@ -250,6 +259,7 @@ def row_of(ours: Server, others: Sequence[Server], kind: Kind, keep: str) -> Row
 
 
 def count_served(folder: str, keep: str) -> list[Row]:
-    """The rows, one for each kind. The C is built in `folder`, and valgrind's files are left in `keep`."""
+    """The rows, one for each kind. The C is built in `folder`, and valgrind's files are left in
+    `keep`."""
     others = [server_in_c(it) for it in build("site_server.c", RT_PROCESSOR, folder)]
     return [row_of(our_server(), others, kind, keep) for kind in KINDS]

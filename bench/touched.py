@@ -1,9 +1,9 @@
-"""Reads the trace of `valgrind --tool=lackey --trace-mem=yes --trace-syscalls=yes`: the lines of the cache and the pages
-that a thread touches between two waits for octets.
+"""Reads the trace of `valgrind --tool=lackey --trace-mem=yes --trace-syscalls=yes`: the lines of
+the cache and the pages that a thread touches between two waits for octets.
 
-The trace names each instruction and each access to memory, in their order, and no thread. Its lines of system calls name
-the thread that makes one. So what lies between the end of a thread's wait and the thread's next wait is the thread's, if no
-other thread has anything to do.
+The trace names each instruction and each access to memory, in their order, and no thread. Its lines
+of system calls name the thread that makes one. So what lies between the end of a thread's wait and
+the thread's next wait is the thread's, if no other thread has anything to do.
 """
 import re
 import statistics
@@ -20,7 +20,8 @@ _CALL = re.compile(r"SYSCALL\[\d+,(\d+)\]\( *(\d+)\)(?: sys_(\w+))?")
 
 
 class Touched(NamedTuple):
-    """What was executed and touched: instructions, lines and pages of code and data, octets that were written to memory."""
+    """What was executed and touched: instructions, lines and pages of code and data, and octets
+    that were written to memory."""
     instructions: float
     code_lines: float
     data_lines: float
@@ -65,8 +66,8 @@ def between_waits(trace: Iterable[str]) -> Iterator[tuple[int, list[str]]]:
 
 
 def median_of(trace: Iterable[str]) -> Touched:
-    """What the thread that waits most often touches between two waits: the median of each figure. BadProfile: no thread
-    waits twice."""
+    """What the thread that waits most often touches between two waits: the median of each figure.
+    BadProfile: no thread waits twice."""
     by_thread: dict[int, list[Touched]] = {}
     for thread, lines in between_waits(trace):
         by_thread.setdefault(thread, []).append(count_accesses(lines))

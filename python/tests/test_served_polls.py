@@ -1,7 +1,9 @@
-"""The counts and times of served polls (bench/served.py, touched.py, poll_times.py). Their parsing and arithmetic are tried
-over texts and figures that are written out here. A carrier plays against the servers in C. No time is judged."""
+"""The counts and times of served polls (bench/served.py, touched.py, poll_times.py). Their parsing
+and arithmetic are tried over texts and figures that are written out here. A carrier plays against
+the servers in C. No time is judged."""
 import collections
 import shutil
+import subprocess
 import sys
 import tempfile
 import unittest
@@ -15,7 +17,7 @@ import served  # noqa: E402
 import serving  # noqa: E402
 import touched  # noqa: E402
 from callgrind import BadProfile, Profile  # noqa: E402
-from programs import RT_PROCESSOR, Missing, build  # noqa: E402
+from programs import Missing  # noqa: E402
 
 CALLS = """SYSCALL[7,1](257) sys_openat ( -100, 0x1(/etc/a) ) --> [async] ...
 SYSCALL[7,1](257) ... [async] --> Success(0x3)
@@ -27,7 +29,7 @@ SYSCALL[7,3](228) sys_clock_gettime( 1, 0x2 )[sync] --> Success(0x0)
 SYSCALL[7,3](232) sys_epoll_wait ( 8, 0x1, 4, 25 ) --> [async] ...
 ==7== SYSCALL[7,3](1) sys_write in a line of another kind
 """
-# Two waits of thread 2 with work between them, once while thread 1 begins and ends a wait without work.
+# Thread 2 works twice between its waits, and thread 1 once.
 TRACE = """I  00000f00,4
 SYSCALL[7,1](232) sys_epoll_wait ( 3, 0x1, 4, 25 ) --> [async] ...
 SYSCALL[7,2](232) sys_epoll_wait ( 8, 0x1, 4, 25 ) --> [async] ...
@@ -53,16 +55,24 @@ def thread_of(total: int, **calls: int) -> served.Thread:
     return served.Thread(Profile(total, {"work": total}), collections.Counter(calls))
 
 
+def figures_of(*processor: float) -> list[poll_times.Figures]:
+    """The figures of rounds with these processor times; the times of answers differ more."""
+    return [poll_times.Figures(it, answer=10.0 ** number) for number, it in enumerate(processor)]
+
+
 class Counted(unittest.TestCase):
     """Instructions and system calls."""
 
     def test_calls_by_thread(self) -> None:
+        found = {thread: dict(it) for thread, it in served.calls_in(CALLS).items()}
         expected = {1: {"openat": 1}, 3: {"epoll_wait": 2, "recvfrom": 1, "clock_gettime": 1}}
-        self.assertEqual({thread: dict(it) for thread, it in served.calls_in(CALLS).items()}, expected)
+        self.assertEqual(found, expected)
 
     def test_the_thread_that_grows_most_is_the_carriers(self) -> None:
-        few = {1: thread_of(9000), 2: thread_of(500, write=10, clock_gettime=30, brk=1), 3: thread_of(40)}
-        more = {1: thread_of(9010), 2: thread_of(2500, write=30, clock_gettime=90, brk=1), 3: thread_of(40)}
+        few = {1: thread_of(9000), 2: thread_of(500, write=10, clock_gettime=30, brk=1),
+               3: thread_of(40)}
+        more = {1: thread_of(9010), 2: thread_of(2500, write=30, clock_gettime=90, brk=1),
+                3: thread_of(40)}
         cost = served.cost_of_thread(few, more, 20)
         self.assertEqual((cost.instructions, cost.system_calls, cost.clock_readings), (100, 1, 3))
         self.assertEqual(cost.profile.own, {"work": 2000})
@@ -76,11 +86,14 @@ class TouchedBetweenWaits(unittest.TestCase):
     """Lines and pages."""
 
     def test_an_access_over_the_end_of_a_line_touches_two(self) -> None:
-        found = touched.count_accesses(["I  0000103e,4", " L 00003038,8", " S 00003ffc,8", " M 00003001,2", "==7== a note"])
-        self.assertEqual(found, touched.Touched(1, code_lines=2, data_lines=3, code_pages=1, data_pages=2, written=10))
+        trace = ["I  0000103e,4", " L 00003038,8", " S 00003ffc,8", " M 00003001,2", "==7== a note"]
+        expected = touched.Touched(instructions=1, code_lines=2, data_lines=3, code_pages=1,
+                                   data_pages=2, written=10)
+        self.assertEqual(touched.count_accesses(trace), expected)
 
     def test_the_work_between_two_waits_of_each_thread(self) -> None:
-        found = [(thread, [it for it in lines if it.startswith(("I", " "))]) for thread, lines in touched.between_waits(TRACE)]
+        found = [(thread, [it for it in lines if it.startswith(("I", " "))])
+                 for thread, lines in touched.between_waits(TRACE)]
         first = ["I  00001000,3", "I  0000103e,4", " L 00003000,8", " S 00003ffc,8"]
         self.assertEqual(found, [(2, first), (1, ["I  00000f00,4"]), (2, ["I  00001000,3"])])
 
@@ -101,27 +114,32 @@ class Timed(unittest.TestCase):
         self.assertEqual((poll_times.terms_in(""), poll_times.terms_in(notes)), (0, 13))
 
     def test_the_time_of_a_poll(self) -> None:
-        line = "  server: user 0.07 s, system 0.05 s of 10.0 s: 1.21 % of a processor, 45.31 us a poll; 9000 kB"
-        self.assertEqual(poll_times.time_in(f"2670 polls, 267 a second\n{line}\n"), 45.31)
+        printed = ("2670 polls, 267 a second; microseconds: mean 81.0, median 70.5, 99 % 99.0\n"
+                   "  server: user 0.07 s: 1.21 % of a processor, 45.31 us a poll; 9000 kB\n")
+        self.assertEqual(poll_times.figures_in(printed), poll_times.Figures(45.31, 70.5))
 
     def test_a_load_that_measured_nothing(self) -> None:
-        for printed in ("connect: Connection refused\n", "% of a processor, 0.00 us a poll"):
+        for printed in ("connect: Connection refused\n",
+                        "microseconds: mean 1.0, median 1.0; % of a processor, 0.00 us a poll"):
             with self.assertRaises(Missing):
-                poll_times.time_in(printed)
+                poll_times.figures_in(printed)
 
     def test_ratios_are_those_of_a_round(self) -> None:
-        times = {poll_times.OURS: [30.0, 60.0, 36.0], poll_times.FLOOR: [20.0, 30.0, 20.0]}
-        self.assertEqual(poll_times.ratios_of(times), {poll_times.OURS: 1.8, poll_times.FLOOR: 1.0})
+        rounds = {poll_times.OURS: figures_of(30, 60, 36), poll_times.FLOOR: figures_of(20, 30, 20)}
+        expected = {poll_times.OURS: 1.8, poll_times.FLOOR: 1.0}
+        self.assertEqual(poll_times.ratios_of(rounds), expected)
 
     def test_noise_is_more_than_fifteen_percent(self) -> None:
-        noise = poll_times.noise_of({"even": [100.0, 115.0], "uneven": [120.0, 100.0, 110.0]})
+        noise = poll_times.noise_of({"even": figures_of(100, 115),
+                                     "uneven": figures_of(120, 100, 110)})
         self.assertEqual(noise.keys(), {"uneven"})
         self.assertAlmostEqual(noise["uneven"], 0.2)
 
     def test_polls_of_different_sites_are_due_at_different_times(self) -> None:
         at_once, spread = poll_times.kinds_of(3)
-        due = {number * spread.step + carrier * serving.PERIOD // serving.CARRIERS for number in range(3) for carrier in range(16)}
-        self.assertEqual((at_once.step, len(due), max(due) < serving.PERIOD), (20_000, 48, True))
+        due = {number * spread.step + carrier * serving.PERIOD // serving.CARRIERS
+               for number in range(3) for carrier in range(16)}
+        self.assertEqual((at_once.step, len(due), max(due)), (20_000, 48, 58_750))
 
 
 @unittest.skipUnless(shutil.which("cc"), "they are built with cc, which is not there")
@@ -132,15 +150,20 @@ class Played(unittest.TestCase):
     def setUpClass(cls) -> None:
         folder = tempfile.TemporaryDirectory()
         cls.addClassCleanup(folder.cleanup)
-        cls.programs = {it: build(f"{it}.c", RT_PROCESSOR, folder.name)[0] for it in ("site_server", "serve_floor", "load_generator")}
+        cls.programs = {}
+        for name in ("site_server", "serve_floor", "load_generator"):
+            cls.programs[name], source = f"{folder.name}/{name}", str(TOP / "bench" / f"{name}.c")
+            subprocess.run(["cc", "-std=c11", "-O1", "-o", cls.programs[name], source, "-lpthread"],
+                           check=True, timeout=120)
 
     def test_each_kind_of_round_is_answered(self) -> None:
         site = serving.site_of(**serving.AS_IN_C, tick_ms=served.TICK_MS)
         with serving.running(serving.site_server_words(self.programs["site_server"], site)):
-            control, other, registering = (served.Carrier(site, kind).play(3) for kind in served.KINDS)
+            control, other, registering = [served.Carrier(site, it).play(3) for it in served.KINDS]
         self.assertEqual(other, frames.welcome(2) + 3 * frames.DONE)
         for received, first_octet in ((control, 0x99), (registering, 0xA0)):
-            bursts = [it.burst() for it in frames.Cutter(frames.TO_CARRIER).feed(received) if it.kind == frames.FrameType.TX]
+            came = frames.Cutter(frames.TO_CARRIER).feed(received)
+            bursts = [it.burst() for it in came if it.kind == frames.FrameType.TX]
             self.assertEqual([it.number for it in bursts], [0, 1, 2])
             self.assertEqual({(code.octets_of(it.word) or b'-')[0] for it in bursts}, {first_octet})
 
@@ -148,8 +171,9 @@ class Played(unittest.TestCase):
         site = serving.site_of()
         with serving.running(serving.floor_words(self.programs["serve_floor"], site)) as floor:
             for kind in poll_times.kinds_of(1):
-                load = serving.start_carriers(self.programs["load_generator"], site, 1, "-P", floor.pid, *kind.options)
-                time = poll_times.time_in(load.communicate(timeout=30)[0])
+                load = serving.start_carriers(self.programs["load_generator"], site, 1,
+                                              "-P", floor.pid, *kind.options)
+                time = poll_times.figures_in(load.communicate(timeout=30)[0]).processor
                 self.assertTrue(0 < time < serving.PERIOD, time)
 
 

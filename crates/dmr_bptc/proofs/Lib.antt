@@ -16,4 +16,3 @@ pub mod MendingLemmas
 pub mod CodewordSumLemmas
 pub mod CodeTableLemmas
 pub mod MaskTableLemmas
-pub mod Laws

@@ -27,4 +27,3 @@ pub use decoding::decode;
 pub use encoding::encode;
 pub use equations::{column_ok, row_ok};
 pub use law::{codewords_are_apart, nearest_codeword};
-pub use table::GroupTable;

@@ -1,2 +1,1 @@
 pub mod MeaningLemmas
-pub mod SealedTableLemmas

@@ -13,12 +13,9 @@ ghost use Rattle.dmr_pdu.specs.Layout.{IsReadable};
 ghost use Rattle.dmr_burst.specs.Burst.{MeansPdu, IsBurst};
 ghost use Rattle.dmr_burst.specs.Functions.{meaning_of, burst_of};
 
-mod sealed;
-
-use crate::sealed::seal_and_encode;
 use dmr_bits::Word196;
-use dmr_bptc::{decode, nearest_codeword};
-use dmr_csbk::{open_sealed, seals_open};
+use dmr_bptc::{decode, encode, nearest_codeword};
+use dmr_csbk::{open_sealed, seal, seals_open};
 use dmr_pdu::{Pdu, octets_mean_one_pdu};
 
 /// Returns the word of a PDU: the codeword of its octets and their check, with place 0 and the reserved cells 0.
@@ -28,8 +25,7 @@ pub fn write(pdu: &Pdu) -> Word196
     ensures alone { (word : List Bool) → IsBurst pdu.now word → word ≡ result }
     ensures burst { result ≡ burst_of pdu.now }
 {
-    nearest_codeword();
-    seal_and_encode(&pdu.to_octets())
+    encode(&seal(&pdu.to_octets()))
 }
 
 /// Returns the PDU that a word means, or `None` if it means none.

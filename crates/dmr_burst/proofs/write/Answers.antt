@@ -2,8 +2,12 @@ use Rattle.std.proofs.Common.{◌≡◌, ap, sym, subst, ◌∙◌}
 use Rattle.dmr_csbk.specs.Check.{with_check}
 use Rattle.dmr_bptc.specs.Bptc.{IsEncoding}
 use Rattle.dmr_bptc.specs.Functions.{encoding_of}
-use Rattle.dmr_burst.specs.Functions.{burst_of}
 use Rattle.dmr_burst.proofs.write.Goals as goal
+use Rattle.dmr_burst.proofs.write.Goals.{After-encode}
+use Rattle.dmr_burst.specs.Functions.{burst_of}
+
+is_encoding : (c : After-encode) → IsEncoding (with_check c.to_octets.result) c.encode.result
+is_encoding c = subst (λ octets. IsEncoding octets c.encode.result) c.seal.ensures.is c.encode.ensures.is
 
 pub returns-clause-is : goal.returns-clause-is
 returns-clause-is c = (
@@ -11,19 +15,15 @@ returns-clause-is c = (
   record {
     are_octets = c.to_octets.ensures.octets;
     spells = c.to_octets.ensures.is;
-    is_encoding = c.seal_and_encode.ensures;
+    is_encoding = is_encoding c;
   },
 )
 
 pub returns-clause-alone : goal.returns-clause-alone
 returns-clause-alone c = λ word burst.
     let octets : burst.0 ≡ c.to_octets.result = c.to_octets.ensures.alone burst.0 burst.1.are_octets burst.1.spells in
-    let is : IsEncoding (with_check c.to_octets.result) word = subst (λ octets. IsEncoding (with_check octets) word) octets burst.1.is_encoding in
-    (c.nearest_codeword.ensures.encoding (with_check c.to_octets.result) word).0 is
-    ∙ sym ((c.nearest_codeword.ensures.encoding (with_check c.to_octets.result) c.seal_and_encode.result).0 c.seal_and_encode.ensures)
+    c.encode.ensures.alone word (subst (λ octets. IsEncoding octets word) (ap with_check octets ∙ sym c.seal.ensures.is) burst.1.is_encoding)
 
 pub returns-clause-burst : goal.returns-clause-burst
 unfolding burst_of
-returns-clause-burst c =
-    (c.nearest_codeword.ensures.encoding (with_check c.to_octets.result) c.seal_and_encode.result).0 c.seal_and_encode.ensures
-    ∙ ap (λ octets. encoding_of (with_check octets)) c.to_octets.ensures.written
+returns-clause-burst c = c.encode.ensures.encoding ∙ ap encoding_of (c.seal.ensures.is ∙ ap with_check c.to_octets.ensures.written)

@@ -152,6 +152,14 @@ numbered-fits number slot octets small pad zero lt = refl
 numbered-fits number slot octets small pad (suc zero) lt = slot-fits slot small
 numbered-fits number slot octets small pad (suc (suc i)) lt = numbered_word i (get_or octets i 0) ∙ word-fits true octets i pad
 
+-- the body of an RX whose slot and pad are right
+pub rx-fits : (b : Bool) (body : List ℕ) → IsRxBody b body → AreFitting b kind.Rx body
+rx-fits false [] is = absurd is
+rx-fits false (slot ∷ octets) is = plain-fits slot octets is.0 (sym (pad-last octets) ∙ is.2)
+rx-fits true [] is = absurd is
+rx-fits true (number ∷ []) is = absurd is
+rx-fits true (number ∷ slot ∷ octets) is = numbered-fits number slot octets is.0 (sym (pad-last octets) ∙ is.2)
+
 pub active-fits : (b : Bool) (slot : ℕ) → slot < 2 → AreFitting b kind.Active (slot ∷ [])
 active-fits b slot small zero lt = slot-fits slot small
 active-fits b slot small (suc i) lt = absurd (omega arith)

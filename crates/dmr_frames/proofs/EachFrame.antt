@@ -16,11 +16,11 @@ use Rattle.dmr_frames.specs.declared.table.Field.{Field}
 use Rattle.dmr_frames.specs.Table.{frame_row, carrier_kind, carrier_kinds, body_length, body_fault, field_length, field_fault, fields_fault}
 use Rattle.dmr_frames.specs.Versions.{is_since}
 use Rattle.dmr_frames.specs.Frames.{IsFrame, frame_octets, spelling, whole_step, hello_step, active_step}
-use Rattle.dmr_frames.specs.Shape.{AreSmall, AreFitting, IsWhole}
+use Rattle.dmr_frames.specs.Shape.{AreSmall, AreFitting, IsWhole, IsActiveBody, IsClean}
 use Rattle.dmr_frames.specs.Limits.{longest_frame}
 use Rattle.dmr_frames.specs.Stream.{fault_at}
 use Rattle.dmr_frames.proofs.TableLemmas.{none_small, small-cons, small-append, small-zeros, AreFree, free_none, AreAll, among_is, fitting-append, rx_cause, active_cause, free_cause}
-use Rattle.dmr_frames.proofs.BodyLemmas.{IsFrameStep, hello_whole, rx_whole, none_left, active_whole, active-fits, IsRxSpelled, rx_spelled}
+use Rattle.dmr_frames.proofs.BodyLemmas.{IsFrameStep, rx_body, active_body, hello_whole, rx_whole, none_left, active_whole, rx-fits, active-fits, IsRxSpelled, rx_spelled}
 use Rattle.dmr_frames.proofs.SpellingLemmas.{length-burst, burst-le}
 
 -- ---- from the table
@@ -131,6 +131,38 @@ whole-zeros b k body n small fitting e = record {
   small = small-append body (replicate n 0) small (small-zeros n);
   fitting = fitting-zeros b k body n fitting;
 }
+
+-- ---- a body of the right length is whole if its slot and its pad are right
+
+one_slot : (b : Bool) (body : List ℕ) → length body ≡ 1 → IsActiveBody body → AreFitting b kind.Active body
+one_slot b [] len is = absurd is
+one_slot b (slot ∷ []) len is = active-fits b slot is
+one_slot b (slot ∷ x ∷ body) len is = absurd (omega (arith, len))
+
+clean_fits : (b : Bool) (k : FrameKind) (body : List ℕ) → IsCarriers k → length body ≡ body_length b k → IsClean b k body → AreFitting b k body
+clean_fits b kind.Hello body is len clean = λ i lt. free_none b (frame_row kind.Hello).body i (get_or body i 0) hello_free
+clean_fits b kind.Rx body is len clean = rx-fits b body clean
+clean_fits b kind.Poll body is len clean = λ i lt. refl
+clean_fits b kind.Active body is len clean = one_slot b body len clean
+clean_fits b kind.Bye body is len clean = λ i lt. refl
+clean_fits b kind.Welcome body is len clean = absurd is
+clean_fits b kind.Tx body is len clean = absurd is
+clean_fits b kind.Done body is len clean = absurd is
+clean_fits b kind.Refused body is len clean = absurd is
+
+pub clean-whole : (b : Bool) (k : FrameKind) (body : List ℕ) → IsCarriers k → length body ≡ body_length b k → AreSmall body → IsClean b k body → IsWhole b k body
+clean-whole b k body is len small clean = record { all = len; small = small; fitting = clean_fits b k body is len clean }
+
+pub whole-clean : (b : Bool) (k : FrameKind) (body : List ℕ) → IsWhole b k body → IsClean b k body
+whole-clean b kind.Hello body w = tt
+whole-clean b kind.Rx body w = rx_body b body w
+whole-clean b kind.Poll body w = tt
+whole-clean b kind.Active body w = active_body b body w
+whole-clean b kind.Bye body w = tt
+whole-clean b kind.Welcome body w = tt
+whole-clean b kind.Tx body w = tt
+whole-clean b kind.Done body w = tt
+whole-clean b kind.Refused body w = tt
 
 -- ---- a whole body is that of a frame
 

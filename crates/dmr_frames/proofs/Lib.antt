@@ -9,6 +9,5 @@ pub mod StepLemmas
 pub mod StreamLemmas
 pub mod ReadingLemmas
 pub mod WholeFrameLemmas
-pub mod PartLemmas
 pub mod OneFrameLemmas
-pub mod VersionLaws
+pub mod FrameLaws

@@ -1,8 +1,8 @@
 -- The table of frames: the frame of each type octet, and the octets of a body that are faults.
 use Rattle.std.proofs.Common.{◌≡◌, ◌==◌, ℕ, zero, suc, ◌+◌, ◌-◌, ◌%◌, ◌<◌, ◌≤◌, nat_lt, cond, Bool, true, false, Some, None, List, [], ◌∷◌, ◌++◌, length, take, drop, get_or, replicate, refl, sym, ap, ◌∙◌, arith, ⊎_elim, length-append, take-append-drop, subst}
 use Rattle.std.proofs.Math.Seq.{get_or-append_seam}
-use Rattle.std.proofs.lemmas.Bool.{cases_lt, eqb-true, ne_eqb, le-ltb, lt-ltb}
-use Rattle.std.proofs.lemmas.List.{get_or_append_left, get_or-append_right}
+use Rattle.std.proofs.lemmas.Bool.{cases_lt, eqb-true, le-ltb, lt-ltb}
+use Rattle.std.proofs.lemmas.List.{get_or_append_left}
 use Rattle.dmr_frames.specs.declared.frame.Cause.{Cause}
 use Rattle.dmr_frames.specs.declared.frame.Cause.TheVariants.{BadSlot, BadPad}
 use Rattle.dmr_frames.specs.declared.table.Field.{Field}
@@ -13,7 +13,7 @@ use Rattle.dmr_frames.specs.declared.version.Version.{Version}
 use Rattle.dmr_frames.specs.Versions.{is_since}
 use Rattle.dmr_frames.specs.Table.{frame_row, carrier_kind, carrier_kinds, kind_among, field_length, body_length, field_fault, fields_fault, body_fault}
 use Rattle.dmr_frames.specs.Stream.{fault_at}
-use Rattle.dmr_frames.specs.Shape.{AreSmall, AreFaultless, AreFitting, IsBegun, IsWhole}
+use Rattle.dmr_frames.specs.Shape.{AreSmall, AreFitting, IsBegun, IsWhole}
 
 pub none_small : AreSmall []
 none_small = λ k. omega arith
@@ -139,37 +139,6 @@ whole-last b k body x h lt none le = record {
   small = small-append body (x ∷ []) h.small (small-cons x [] lt none_small);
   fitting = fitting-one b k body x h.fitting none;
 }
-
--- ---- fields one after another
-
--- before the last octet of a field none is a fault
-early_none : (b : Bool) (f : Field) (place x : ℕ) → place + 1 < field_length b f → field_fault f place x ≡ None
-early_none b field.Version place x lt = refl
-early_none b field.Carrier place x lt = refl
-early_none b field.Lpcn place x lt = refl
-early_none b field.Number place x lt = refl
-early_none b field.Slot place x lt = absurd (omega (arith, lt))
-early_none b field.Word place x lt = rw (ne_eqb place 24 (λ e. omega (arith, lt, e))) refl
-early_none b field.Reason place x lt = refl
-
--- the octets of a field, of which the last is no fault, and of those after it
-pub faultless-field : (b : Bool) (f : Field) (fields : List Field) (octets rest : List ℕ) → length octets ≡ field_length b f →
-    ((k : ℕ) → k + 1 ≡ length octets → field_fault f k (get_or octets k 0) ≡ None) → AreFaultless b fields rest → AreFaultless b (f ∷ fields) (octets ++ rest)
-faultless-field b f fields octets rest len last later k lt =
-    ⊎_elim
-    (λ (inside : k < length octets).
-    let P : ℕ → Type 0 = λ x. fields_fault b (f ∷ fields) k x ≡ None in
-    let at : fields_fault b (f ∷ fields) k (get_or octets k 0) ≡ field_fault f k (get_or octets k 0) = in_field b f fields k (get_or octets k 0) (omega (arith, inside, len)) in
-    subst P (sym (get_or_append_left octets rest 0 k inside)) (at ∙ one k inside))
-    (λ (past : length octets ≤ k).
-    let P : ℕ → Type 0 = λ x. fields_fault b (f ∷ fields) k x ≡ None in
-    let n : ℕ = k - length octets in
-    let at : get_or (octets ++ rest) k 0 ≡ get_or rest n 0 = get_or-append_right octets rest (length octets) k 0 refl past in
-    subst P (sym at) (after_field b f fields k n (get_or rest n 0) (omega (arith, past, len)) ∙ later n (omega (arith, lt, past, length-append octets rest))))
-    (cases_lt k (length octets))
-  where
-    one : (k : ℕ) → k < length octets → field_fault f k (get_or octets k 0) ≡ None
-    one k inside = ⊎_elim (λ (early : k + 1 < length octets). early_none b f k (get_or octets k 0) (omega (arith, early, len))) (λ (le : length octets ≤ k + 1). last k (omega (arith, le, inside))) (cases_lt (k + 1) (length octets))
 
 -- ---- which fault an octet is
 

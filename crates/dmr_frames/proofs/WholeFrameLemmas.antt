@@ -8,10 +8,10 @@ use Rattle.dmr_frames.specs.declared.version.Version.{Version}
 use Rattle.dmr_frames.specs.Versions.{has_numbers}
 use Rattle.dmr_frames.specs.Table.{frame_row, body_length, carrier_kind}
 use Rattle.dmr_frames.specs.Frames.{IsFrame, spelling, whole_step}
-use Rattle.dmr_frames.specs.Shape.{AreSmall, AreFitting, IsWhole}
+use Rattle.dmr_frames.specs.Shape.{AreSmall, IsWhole, IsClean}
 use Rattle.dmr_frames.proofs.TableLemmas.{small-tail, small-take}
 use Rattle.dmr_frames.proofs.BodyLemmas.{IsFrameStep}
-use Rattle.dmr_frames.proofs.EachFrame.{IsCarriersIn, kind_found, whole_frame}
+use Rattle.dmr_frames.proofs.EachFrame.{IsCarriersIn, kind_found, clean-whole, whole_frame}
 use Rattle.dmr_frames.proofs.OneSpelling.{frame_same}
 
 -- the octets after a type octet and a length octet
@@ -23,13 +23,10 @@ small-after [] h l = absurd (omega (arith, l))
 small-after (a ∷ []) h l = absurd (omega (arith, l))
 small-after (a ∷ b ∷ more) h l = small-take (length (a ∷ b ∷ more) - 2) more (small-tail b more (small-tail a (b ∷ more) h))
 
-pub whole-front : (v : Version) (octets : List ℕ) (k : FrameKind) (n : ℕ) → AreSmall octets → 2 ≤ length octets → n ≡ body_length (has_numbers v) k → n ≤ length (after_two octets) →
-    AreFitting (has_numbers v) k (take n (after_two octets)) → IsWhole (has_numbers v) k (take n (after_two octets))
-whole-front v octets k n small l len le fitting = record {
-  all = length-take-le n (after_two octets) le ∙ len;
-  small = small-take n (after_two octets) (small-after octets small l);
-  fitting = fitting;
-}
+pub whole-front : (v : Version) (octets : List ℕ) (k : FrameKind) (n : ℕ) → carrier_kind v (get_or octets 0 0) ≡ Some k → AreSmall octets → 2 ≤ length octets → n ≡ body_length (has_numbers v) k → n ≤ length (after_two octets) →
+    IsClean (has_numbers v) k (take n (after_two octets)) → IsWhole (has_numbers v) k (take n (after_two octets))
+whole-front v octets k n known small l len le clean =
+    clean-whole (has_numbers v) k (take n (after_two octets)) (kind_found v (get_or octets 0 0) k known).1.0 (length-take-le n (after_two octets) le ∙ len) (small-take n (after_two octets) (small-after octets small l)) clean
 
 pub frame-front : (v : Version) (octets : List ℕ) (k : FrameKind) (n : ℕ) (f : FrameIn) → 2 ≤ length octets → carrier_kind v (get_or octets 0 0) ≡ Some k → n ≡ body_length (has_numbers v) k → get_or octets 1 0 ≡ n →
     n ≤ length (after_two octets) → IsWhole (has_numbers v) k (take n (after_two octets)) → Frame f ≡ whole_step (has_numbers v) k (take n (after_two octets)) →

@@ -7,4 +7,3 @@ pub mod Reading
 pub mod Shape
 pub mod Limits
 pub mod Between
-pub mod Short

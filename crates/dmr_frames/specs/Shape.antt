@@ -5,6 +5,10 @@ use Rattle.std.specs.Prelude.{Option, Some, None}
 use Rattle.dmr_bits.specs.Bits.{field_of}
 use Rattle.dmr_frames.specs.declared.table.Field.{Field}
 use Rattle.dmr_frames.specs.declared.table.FrameKind.{FrameKind}
+use Rattle.dmr_frames.specs.declared.table.FrameKind.TheVariants as kind
+use Rattle.dmr_frames.specs.declared.cutter.Step.{Step}
+use Rattle.dmr_frames.specs.declared.cutter.Step.TheVariants.{Frame}
+use Rattle.dmr_frames.specs.declared.frame.FrameIn.{FrameIn}
 use Rattle.dmr_frames.specs.declared.version.Version.{Version}
 use Rattle.dmr_frames.specs.Table.{frame_row, body_length, fields_fault, carrier_kind}
 use Rattle.dmr_frames.specs.Versions.{has_numbers}
@@ -49,6 +53,16 @@ IsRxBody true (number ∷ body) = IsBurst body
 abbrev pub IsActiveBody : List ℕ → Type 0
 IsActiveBody [] = ⊥
 IsActiveBody (slot ∷ more) = slot < 2
+
+-- a whole body without a fault: only a slot and a word can have one
+abbrev pub IsClean : Bool → FrameKind → List ℕ → Type 0
+IsClean numbered kind.Rx body = IsRxBody numbered body
+IsClean numbered kind.Active body = IsActiveBody body
+IsClean numbered other body = Unit {0}
+
+-- octets of which this proposition holds are read as this step, and others as no frame
+abbrev pub IsReadIf : Type 0 → Step → Step → Type 0
+IsReadIf P step result = (P → result ≡ step) × ((f : FrameIn) → result ≡ Frame f → P)
 
 -- octets from which a frame can follow, after the type octet of this frame
 abbrev pub IsShapeOf : Bool → Option FrameKind → List ℕ → Type 0

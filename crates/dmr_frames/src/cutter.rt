@@ -1,18 +1,18 @@
 //! Cuts a carrier's octets into frames.
 
-ghost use Rattle.std.specs.Prelude.{◌≡◌, ℕ, ◌+◌, ◌-◌, ◌<◌, ◌≤◌, List, [], ◌∷◌, ◌++◌, drop, length, take, IfSome};
-ghost use Rattle.std.specs.Prelude.{None};
+ghost use Rattle.std.specs.Prelude.{◌≡◌, ℕ, ◌<◌, ◌≤◌, List, [], ◌∷◌, ◌++◌, length, take, IfSome, SomeIff};
 ghost use Rattle.dmr_bits.specs.Bits.{field_of};
-ghost use Rattle.dmr_bits.specs.Words.{word_octets, word_of};
+ghost use Rattle.dmr_bits.specs.Words.{word_of};
 ghost use Rattle.dmr_frames.specs.Between.{is_between};
 ghost use Rattle.dmr_frames.specs.Rest.{Open};
 ghost use Rattle.dmr_frames.specs.Versions.{has_numbers};
-ghost use Rattle.dmr_frames.specs.Shape.{IsShape, IsBegun, IsWhole, IsRxBody, IsBurst};
-ghost use Rattle.dmr_frames.specs.Shape.{IsActiveBody};
+ghost use Rattle.dmr_frames.specs.Shape.{IsShape, IsBegun, IsClean, IsRxBody, IsBurst};
+ghost use Rattle.dmr_frames.specs.Shape.{IsActiveBody, IsReadIf};
+ghost use Rattle.dmr_frames.specs.Table.{body_length};
+ghost use Rattle.dmr_frames.specs.declared.table.FrameKind.TheVariants as kind;
 ghost use Rattle.dmr_frames.specs.declared.frame.FrameIn.{FrameIn};
 ghost use Rattle.dmr_frames.specs.declared.version.FrameTable.{FrameTable};
 ghost use Rattle.dmr_frames.specs.declared.version.Version.{Version};
-ghost use Rattle.dmr_frames.specs.Short.{frame_of_rx, frame_of_short};
 ghost use Rattle.dmr_frames.specs.Stream.{Reads};
 ghost use Rattle.dmr_frames.specs.Reading.{ProduceAtLast, frame_of, step_from, rest_after_octet};
 ghost use Rattle.dmr_frames.specs.Reading.{rest_after_octets};
@@ -20,7 +20,7 @@ ghost use Rattle.dmr_frames.specs.Frames.{IsFrame, spelling, whole_step, hello_s
 ghost use Rattle.dmr_frames.specs.Frames.{burst_step, active_step};
 ghost use Rattle.dmr_frames.specs.Reading.{step_at, length_step, body_step};
 
-use crate::frame::{Cause, FrameIn, LONGEST_FRAME, RxFrame, ShortFrame};
+use crate::frame::{Cause, FrameIn, LONGEST_FRAME};
 use crate::table::FrameKind;
 use crate::version::{FrameTable, Version};
 use dmr_bits::Word196;
@@ -136,84 +136,12 @@ impl Cutter {
                 return (count, Step::Frame(frame));
             }
         }
-        if let Some(taken) = self.feed_part(octets) {
-            return taken;
-        }
         self.feed_one_by_one(octets)
     }
 
-    /// Takes octets with which a frame goes on, up to its end, if it is a frame with some octets after these. If the
-    /// result is `None`, nothing was taken.
-    fn feed_part(&mut self, octets: &[u8]) -> Option<(usize, Step)>
-        requires { 0 < length octets.now }
-        ensures count { IfSome result (λ r. r.0 ≤ length octets.now) }
-        ensures all { IfSome result (λ r. r.1 ≡ Step.Need → r.0 ≡ length octets.now) }
-        ensures step { IfSome result (λ r. ProduceAtLast self.old (take r.0 octets.now) r.1) }
-        ensures rest { IfSome result
-            (λ r. self.new ≡ rest_after_octets self.old (take r.0 octets.now)) }
-        ensures none { result ≡ None → self.new ≡ self.old }
-    {
-        if self.fault.is_some() {
-            return None;
-        }
-        let kept = self.count;
-        write_after(&mut self.octets, kept, octets);
-        let (length, frame) = read_frame(self.table.version(), &self.octets)?;
-        if length <= kept {
-            return None;
-        }
-        let more = length - kept;
-        if more > octets.len() {
-            self.count = kept + octets.len();
-            return Some((octets.len(), Step::Need));
-        }
-        self.count = 0;
-        self.table = self.table.next_table(&frame);
-        Some((more, Step::Frame(frame)))
-    }
-
-    /// Takes the POLL or the ACTIVE that octets begin with, if no frame has begun and there was no fault. Returns how
-    /// many octets it took, and the frame. The result is that of [`Cutter::feed`], which costs more: its result has
-    /// room for a word. If the result is `None`, nothing was taken, and [`Cutter::feed`] takes what comes.
-    pub fn feed_short(&mut self, octets: &[u8]) -> Option<(usize, ShortFrame)>
-        ensures count { IfSome result (λ r. (0 < r.0) × (r.0 ≤ length octets.now)) }
-        ensures step { IfSome result (λ r. ProduceAtLast self.old (take r.0 octets.now)
-            (Step.Frame (frame_of_short r.1))) }
-        ensures rest { IfSome result
-            (λ r. self.new ≡ rest_after_octets self.old (take r.0 octets.now)) }
-        ensures none { result ≡ None → self.new ≡ self.old }
-    {
-        if self.fault.is_none() && self.count == 0 {
-            if let Some((count, short)) = read_short(octets) {
-                self.table = self.table.next_after_short(&short);
-                return Some((count, short));
-            }
-        }
-        None
-    }
-
-    /// Takes the RX that octets begin with, if the connection's first frame has come, no other has begun, and there was
-    /// no fault. Returns how many octets it took, and the RX. The result is that of [`Cutter::feed`], which costs more:
-    /// it reads any frame. If the result is `None`, nothing was taken, and [`Cutter::feed`] takes what comes.
-    pub fn feed_rx(&mut self, octets: &[u8]) -> Option<(usize, RxFrame)>
-        ensures count { IfSome result (λ r. (0 < r.0) × (r.0 ≤ length octets.now)) }
-        ensures step { IfSome result (λ r. ProduceAtLast self.old (take r.0 octets.now)
-            (Step.Frame (frame_of_rx r.1))) }
-        ensures rest { IfSome result
-            (λ r. self.new ≡ rest_after_octets self.old (take r.0 octets.now)) }
-        ensures none { result ≡ None → self.new ≡ self.old }
-    {
-        if self.fault.is_some() || self.count > 0 {
-            return None;
-        }
-        let FrameTable::Later(version) = self.table else {
-            return None;
-        };
-        let (count, rx) = read_rx_frame(version, octets)?;
-        Some((count, rx))
-    }
-
     /// Does the same as [`Cutter::feed`], one octet after another.
+    // Out of line: a whole frame then does not clear this function's locals.
+    #[inline(never)]
     fn feed_one_by_one(&mut self, octets: &[u8]) -> (usize, Step)
         requires { 0 < length octets.now }
         ensures count { result.0 ≤ length octets.now }
@@ -259,65 +187,6 @@ impl Cutter {
     }
 }
 
-/// Writes octets after those that are kept, as far as there is room.
-fn write_after(frame: &mut [u8; LONGEST_FRAME], kept: usize, octets: &[u8])
-    requires { kept ≤ LONGEST_FRAME }
-    ensures { frame.new ≡ take kept frame.old
-        ++ (take (LONGEST_FRAME - kept) octets.now ++ drop (kept + length octets.now) frame.old) }
-{
-    let room = LONGEST_FRAME - kept;
-    let count = octets.len().min(room);
-    frame[kept..kept + count].copy_from_slice(&octets[..count]);
-}
-
-/// Returns the RX of this version that octets begin with, and how many octets it has.
-fn read_rx_frame(version: Version, octets: &[u8]) -> Option<(usize, RxFrame)>
-    ensures count { IfSome result (λ r. (0 < r.0) × (r.0 ≤ length octets.now)) }
-    ensures frame { IfSome result (λ r. IsFrame version (frame_of_rx r.1)) }
-    // The octets below are those of the table of frames.
-    ensures octets { IfSome result (λ r. take r.0 octets.now ≡ spelling (frame_of_rx r.1)) }
-{
-    match (version, octets) {
-        (Version::V1, [0x02, 26, burst @ ..]) => Some((28, read_slot_and_word(None, burst)?)),
-        (Version::V2, [0x02, 27, number, burst @ ..]) => {
-            Some((29, read_slot_and_word(Some(*number), burst)?))
-        }
-        _ => None,
-    }
-}
-
-/// Returns the RX with this number whose slot and word octets begin with.
-fn read_slot_and_word(number: Option<u8>, octets: &[u8]) -> Option<RxFrame>
-    ensures frame { IfSome result (λ rx. (rx.number ≡ number) × (rx.slot < 2) × (length rx.word ≡ 196)) }
-    ensures octets { IfSome result (λ rx. (26 ≤ length octets.now)
-        × (take 26 octets.now ≡ rx.slot ∷ word_octets rx.word)) }
-{
-    let (slot, rest) = octets.split_first()?;
-    let slot = SlotNo::try_new(u32::from(*slot))?;
-    let (word, _) = rest.split_first_chunk::<25>()?;
-    match Word196::from_octets(word) {
-        Ok(word) => Some(RxFrame { number, slot, word }),
-        Err(_) => None,
-    }
-}
-
-/// Returns the short frame that octets begin with, and how many octets it has.
-fn read_short(octets: &[u8]) -> Option<(usize, ShortFrame)>
-    ensures count { IfSome result (λ r. (0 < r.0) × (r.0 ≤ length octets.now)) }
-    ensures frame { IfSome result (λ r. (version : Version) → IsFrame version (frame_of_short r.1)) }
-    // The octets below are those of the table of frames.
-    ensures octets { IfSome result (λ r. take r.0 octets.now ≡ spelling (frame_of_short r.1)) }
-{
-    match octets {
-        [0x03, 0x00, ..] => Some((2, ShortFrame::Poll)),
-        [0x04, 0x01, slot, ..] if *slot < 2 => {
-            let slot = SlotNo::new(u32::from(*slot));
-            Some((3, ShortFrame::Active(slot)))
-        }
-        _ => None,
-    }
-}
-
 /// Returns the whole frame of this version that octets begin with, and how many octets it has.
 fn read_frame(version: Version, octets: &[u8]) -> Option<(usize, FrameIn)>
     ensures { IfSome result (λ r. (r.0 ≤ length octets.now)
@@ -331,11 +200,7 @@ fn read_frame(version: Version, octets: &[u8]) -> Option<(usize, FrameIn)>
     if usize::from(*length) != count || rest.len() < count {
         return None;
     }
-    let body = &rest[..count];
-    if !kind.admits(version, body) {
-        return None;
-    }
-    match read_whole(version, kind, body) {
+    match read_whole(version, kind, &rest[..count]) {
         Step::Frame(frame) => Some((count + 2, frame)),
         _ => None,
     }
@@ -403,11 +268,12 @@ fn read_body(version: Version, kind: FrameKind, body: &[u8], octet: u8) -> Step
     read_whole(version, kind, &whole[..place + 1])
 }
 
-/// Returns the frame of a whole body.
+/// Returns the frame of a whole body. `Need`: an octet of the body is a fault.
 #[tactic(auto, unfolding(crate::specs::Frames::whole_step))]
 fn read_whole(version: Version, kind: FrameKind, body: &[u8]) -> Step
-    requires { IsWhole (has_numbers version) kind body.now }
-    ensures { result ≡ whole_step (has_numbers version) kind body.now }
+    requires { length body.now ≡ body_length (has_numbers version) kind }
+    ensures { IsReadIf (IsClean (has_numbers version) kind body.now)
+        (whole_step (has_numbers version) kind body.now) result }
 {
     match kind {
         FrameKind::Hello => read_hello(body),
@@ -434,11 +300,11 @@ fn read_hello(body: &[u8]) -> Step
     }
 }
 
-/// Returns the RX that has this body, which begins with a number if `numbered`.
+/// Returns the RX that has this body, which begins with a number if `numbered`. `Need`: an octet is a fault.
 #[tactic(auto, unfolding(crate::specs::Frames::rx_step))]
 fn read_rx(numbered: bool, body: &[u8]) -> Step
-    requires { IsRxBody numbered body.now }
-    ensures { result ≡ rx_step numbered body.now }
+    requires { length body.now ≡ body_length numbered kind.Rx }
+    ensures { IsReadIf (IsRxBody numbered body.now) (rx_step numbered body.now) result }
 {
     if !numbered {
         return read_burst(None, body);
@@ -449,46 +315,44 @@ fn read_rx(numbered: bool, body: &[u8]) -> Step
     }
 }
 
-/// Returns the RX of a slot and a word, after the number, if there is one.
+/// Returns the RX of a slot and a word, after the number, if there is one. `Need`: an octet is a fault.
 #[tactic(auto, unfolding(crate::specs::Frames::burst_step))]
 fn read_burst(number: Option<u8>, burst: &[u8]) -> Step
-    requires { IsBurst burst.now }
-    ensures { result ≡ burst_step number burst.now }
+    requires { length burst.now ≡ 26 }
+    ensures { IsReadIf (IsBurst burst.now) (burst_step number burst.now) result }
 {
     let [slot, octets @ ..] = burst else {
         return Step::Need;
     };
-    Step::Frame(FrameIn::Rx {
-        number,
-        slot: SlotNo::new(u32::from(*slot)),
-        word: read_word(octets),
-    })
+    match (SlotNo::try_new(u32::from(*slot)), read_word(octets)) {
+        (Some(slot), Some(word)) => Step::Frame(FrameIn::Rx { number, slot, word }),
+        _ => Step::Need,
+    }
 }
 
-/// Returns the word that 25 octets begin with, whose last four bits are 0.
-fn read_word(octets: &[u8]) -> Word196
-    requires length { length octets.now ≡ 25 }
-    requires pad { field_of octets.now 196 4 ≡ 0 }
-    ensures { result ≡ word_of octets.now }
+/// Returns the word of 25 octets, or `None` if one of their last four bits is 1.
+fn read_word(octets: &[u8]) -> Option<Word196>
+    requires { length octets.now ≡ 25 }
+    ensures { SomeIff result (field_of octets.now 196 4 ≡ 0) (word_of octets.now) }
 {
     let mut whole = [0; 25];
     whole.copy_from_slice(octets);
     match Word196::from_octets(&whole) {
-        Ok(word) => word,
-        Err(_) => Word196::zero(),
+        Ok(word) => Some(word),
+        Err(_) => None,
     }
 }
 
-/// Returns the ACTIVE that has this body.
+/// Returns the ACTIVE that has this body. `Need`: the slot is a fault.
 #[tactic(auto, unfolding(crate::specs::Frames::active_step))]
 fn read_active(body: &[u8]) -> Step
-    requires { IsActiveBody body.now }
-    ensures { result ≡ active_step body.now }
+    ensures { IsReadIf (IsActiveBody body.now) (active_step body.now) result }
 {
-    match body {
-        [slot] => Step::Frame(FrameIn::Active {
-            slot: SlotNo::new(u32::from(*slot)),
-        }),
-        _ => Step::Need,
+    let [slot] = body else {
+        return Step::Need;
+    };
+    match SlotNo::try_new(u32::from(*slot)) {
+        Some(slot) => Step::Frame(FrameIn::Active { slot }),
+        None => Step::Need,
     }
 }

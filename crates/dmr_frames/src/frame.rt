@@ -46,27 +46,6 @@ pub enum FrameIn {
     Bye,
 }
 
-/// A frame that a carrier sends in most of its frame times, and that has no fields but a slot: POLL or ACTIVE. It is in
-/// each version, with the same octets.
-#[derive(Clone, Copy, Debug, PartialEq, Eq)]
-pub enum ShortFrame {
-    /// POLL: the carrier asks for the bursts that it is to send.
-    Poll,
-    /// ACTIVE: there is traffic on this slot.
-    Active(SlotNo),
-}
-
-/// An RX: a burst was received on a slot. It has a number in version 2 of the link format, and none in version 1.
-#[derive(Clone, Copy)]
-pub struct RxFrame {
-    /// The number of the RX, if it has one.
-    pub number: Option<u8>,
-    /// The slot.
-    pub slot: SlotNo,
-    /// The burst.
-    pub word: Word196,
-}
-
 /// The frame's name and its fields, except the word of an RX.
 impl fmt::Display for FrameIn {
     fn fmt<W: fmt::Write>(&self, f: &mut fmt::Formatter<W>) -> fmt::Result {

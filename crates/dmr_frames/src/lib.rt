@@ -18,7 +18,7 @@ mod whole;
 mod write;
 
 pub use cutter::{Cutter, Step};
-pub use frame::{Cause, FrameIn, FrameOut, LONGEST_FRAME, Refusal, RxFrame, ShortFrame};
+pub use frame::{Cause, FrameIn, FrameOut, LONGEST_FRAME, Refusal};
 pub use table::{Field, FrameKind, FrameRow};
 pub use version::{FrameTable, Version};
 pub use whole::whole_frame;

@@ -3,10 +3,9 @@
 //! its body, and the body (this project's profile). The values that a field may have are here too; the meaning of a
 //! frame is not.
 
-ghost use Rattle.std.specs.Prelude.{◌≡◌, ◌<◌, IsTrue, length, slice_index};
+ghost use Rattle.std.specs.Prelude.{◌≡◌, ◌<◌, slice_index};
 ghost use Rattle.dmr_frames.specs.Frames.{spelling, spelling_out};
 ghost use Rattle.dmr_frames.specs.declared.version.Version.{Version};
-ghost use Rattle.dmr_frames.specs.Shape.{AreFaultless, AreFitting};
 ghost use Rattle.dmr_frames.specs.Versions.{has_numbers};
 ghost use Rattle.dmr_frames.specs.Table.{body_fault, body_length, carrier_kind, field_fault};
 ghost use Rattle.dmr_frames.specs.Table.{field_length, fields_fault, fields_length, frame_row};
@@ -162,14 +161,6 @@ impl FrameKind {
     {
         find_fault(version, self.row().body, place, octet)
     }
-
-    /// Reports whether no octet of a whole body of the frame is a fault.
-    pub(crate) fn admits(self, version: Version, body: &[u8]) -> bool
-        requires { length body.now ≡ body_length (has_numbers version) self }
-        ensures { IsTrue result → AreFitting (has_numbers version) self body.now }
-    {
-        are_faultless(version, self.row().body, body)
-    }
 }
 
 impl FrameIn {
@@ -254,23 +245,6 @@ fn add_lengths(version: Version, fields: &[Field]) -> u8
     match fields {
         [] => 0,
         [field, others @ ..] => field.length(version) + add_lengths(version, others),
-    }
-}
-
-/// Reports whether no octet of a body with these fields is a fault. Only the last octet of a field can be one.
-fn are_faultless(version: Version, fields: &[Field], body: &[u8]) -> bool
-    requires { fields_length (has_numbers version) fields.now ≡ length body.now }
-    ensures { IsTrue result → AreFaultless (has_numbers version) fields.now body.now }
-{
-    match fields {
-        [] => true,
-        [field, others @ ..] => {
-            let (octets, rest) = body.split_at(usize::from(field.length(version)));
-            match octets {
-                [front @ .., last] if field.fault_at(front.len(), *last).is_some() => false,
-                _ => are_faultless(version, others, rest),
-            }
-        }
     }
 }
 

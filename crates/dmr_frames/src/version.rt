@@ -4,10 +4,9 @@ ghost use Rattle.std.specs.Prelude.{◌≡◌};
 ghost use Rattle.dmr_frames.specs.declared.version.Version.{Version};
 ghost use Rattle.dmr_frames.specs.Versions.{chosen_by, has_numbers, is_since, named_or_first};
 ghost use Rattle.dmr_frames.specs.Versions.{version_by, version_named, version_octet, version_of};
-ghost use Rattle.dmr_frames.specs.Short.{frame_of_short};
 ghost use Rattle.dmr_frames.specs.Versions.{table_after};
 
-use crate::frame::{FrameIn, ShortFrame};
+use crate::frame::FrameIn;
 
 /// A version of the link format. Versions differ in RX and TX alone: in whether bursts have numbers.
 #[derive(Clone, Copy, Debug, PartialEq, Eq)]
@@ -132,18 +131,6 @@ impl FrameTable {
         match self {
             FrameTable::First(greatest) => FrameTable::Later(greatest.chosen_by(frame)),
             FrameTable::Later(version) => FrameTable::Later(version),
-        }
-    }
-
-    /// The table after a short frame. A first frame that is one chooses version 1.
-    pub(crate) fn next_after_short(self, short: &ShortFrame) -> FrameTable
-        ensures { result ≡ table_after self (frame_of_short short.now) }
-    {
-        match (self, short) {
-            (FrameTable::First(_), ShortFrame::Poll | ShortFrame::Active(_)) => {
-                FrameTable::Later(Version::V1)
-            }
-            (FrameTable::Later(version), _) => FrameTable::Later(version),
         }
     }
 }

@@ -13,7 +13,7 @@ use Rattle.dmr_frames.specs.declared.version.Version.TheVariants.{V1}
 use Rattle.dmr_frames.specs.declared.version.FrameTable.{FrameTable}
 use Rattle.dmr_frames.specs.declared.version.FrameTable.TheVariants.{First, Later}
 use Rattle.dmr_frames.specs.Frames.{IsNumbered, IsNumberWhere}
-use Rattle.dmr_frames.proofs.VersionLaws.{octet_names}
+use Rattle.dmr_frames.proofs.FrameLaws.{octet_names}
 use Rattle.dmr_frames.specs.Reading.{step_at, rest_after}
 use Rattle.dmr_frames.specs.Rest.{Open, Faulty}
 use Rattle.dmr_frames.specs.Versions.{has_numbers, version_octet, chosen_by}

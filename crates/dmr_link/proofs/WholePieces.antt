@@ -2,12 +2,10 @@
 use Rattle.std.proofs.Common.{◌≡◌, ℕ, suc, ◌<◌, ◌≤◌, List, [], ◌∷◌, ◌++◌, Option, length, length-take-le, take, get_or, sym, ap, ◌∙◌, arith, ⊎_elim, subst}
 use Rattle.std.proofs.lemmas.Bool.{cases_lt}
 use Rattle.std.proofs.lemmas.List.{append-nil, get_or_past, get_or-take}
-use Rattle.dmr_frames.specs.declared.frame.FrameIn.{FrameIn}
 use Rattle.dmr_frames.specs.declared.cutter.Step.{Step}
-use Rattle.dmr_frames.specs.declared.version.FrameTable.{FrameTable}
 use Rattle.dmr_frames.specs.Rest.{Rest}
-use Rattle.dmr_frames.specs.Reading.{ProduceAtLast, frame_of, step_from, rest_after_octet, rest_after_octets}
-use Rattle.dmr_frames.specs.Stream.{Reads}
+use Rattle.dmr_frames.specs.Reading.{ProduceAtLast, step_from, rest_after_octet, rest_after_octets}
+use Rattle.dmr_frames.proofs.FrameLaws.{reads_on}
 use Rattle.dmr_plan.specs.declared.settings.Settings.{Settings}
 use Rattle.dmr_core.specs.Facts.{Facts}
 use Rattle.dmr_link.specs.declared.connection.CarrierIdentity.{CarrierIdentity}
@@ -20,7 +18,7 @@ use Rattle.dmr_link.specs.Numbering.{next_after_frames}
 use Rattle.dmr_link.specs.Session.{frames_said}
 use Rattle.dmr_link.specs.Sound.{IsConnectionSound, IsNumberingOf}
 use Rattle.dmr_link.specs.Steps.{waiting_produces, waiting_leaves, running_produces, running_leaves, notice_of_octet, connection_after_octet, notices_of_octets, connection_after_octets}
-use Rattle.dmr_link.proofs.ConnectionsStaySound.{GoesBy, waiting_stays, running_stays}
+use Rattle.dmr_link.proofs.ConnectionsStaySound.{waiting_stays, running_stays}
 use Rattle.dmr_link.proofs.NumberingLemmas.{next_after_frames-append}
 use Rattle.dmr_link.proofs.NumbersFollowVersions.{next_by, numbering_goes}
 use Rattle.dmr_link.proofs.PiecesInTwo.{frames_said-append}
@@ -58,32 +56,24 @@ small-taken octets n le small i =
     (λ (past : n ≤ i). let none : get_or (take n octets) i 0 ≡ 0 = get_or_past (take n octets) i 0 (omega (arith, past, length-take-le n octets le)) in omega (arith, none))
     (cases_lt i n)
 
--- the law of readings: a reading continues with one more octet, from the rest before it
-abbrev pub AreReadOn : Type 0
-AreReadOn = (table : FrameTable) (octets : List ℕ) (fs : List FrameIn) (r : Rest) (x : ℕ) → x < 256 → Reads table octets fs r →
-    Reads table (octets ++ x ∷ []) (fs ++ frame_of (step_from r x)) (rest_after_octet r x)
+octet_sound : (who : CarrierIdentity) (k : Connection) (x : ℕ) → x < 256 → IsConnectionSound who.greatest k → IsConnectionSound who.greatest (connection_after_octet who k x)
+octet_sound who Closed x small sound = tt
+octet_sound who (Waiting rest) x small sound = waiting_stays who rest x (λ table octets fs h. reads_on table octets fs rest x small h) sound
+octet_sound who (Running rest newest) x small sound = running_stays who rest newest x (λ table octets fs h. reads_on table octets fs rest x small h) sound
 
-goes : AreReadOn → (rest : Rest) (x : ℕ) → x < 256 → GoesBy rest x
-goes law rest x small = λ table octets fs h. law table octets fs rest x small h
+pub octets-sound : (who : CarrierIdentity) (k : Connection) (octets : List ℕ) → ((i : ℕ) → get_or octets i 0 < 256) → IsConnectionSound who.greatest k → IsConnectionSound who.greatest (connection_after_octets who k octets)
+octets-sound who k [] small sound = sound
+octets-sound who k (x ∷ octets) small sound = octets-sound who (connection_after_octet who k x) octets (λ i. small (suc i)) (octet_sound who k x (small 0) sound)
 
-octet_sound : AreReadOn → (who : CarrierIdentity) (k : Connection) (x : ℕ) → x < 256 → IsConnectionSound who.greatest k → IsConnectionSound who.greatest (connection_after_octet who k x)
-octet_sound law who Closed x small sound = tt
-octet_sound law who (Waiting rest) x small sound = waiting_stays who rest x (goes law rest x small) sound
-octet_sound law who (Running rest newest) x small sound = running_stays who rest newest x (goes law rest x small) sound
-
-pub octets-sound : AreReadOn → (who : CarrierIdentity) (k : Connection) (octets : List ℕ) → ((i : ℕ) → get_or octets i 0 < 256) → IsConnectionSound who.greatest k → IsConnectionSound who.greatest (connection_after_octets who k octets)
-octets-sound law who k [] small sound = sound
-octets-sound law who k (x ∷ octets) small sound = octets-sound law who (connection_after_octet who k x) octets (λ i. small (suc i)) (octet_sound law who k x (small 0) sound)
-
-pub octets-numbered : AreReadOn → (who : CarrierIdentity) (plan : Settings) (facts : Facts) (next : Option ℕ) (k : Connection) (octets : List ℕ) → ((i : ℕ) → get_or octets i 0 < 256) →
+pub octets-numbered : (who : CarrierIdentity) (plan : Settings) (facts : Facts) (next : Option ℕ) (k : Connection) (octets : List ℕ) → ((i : ℕ) → get_or octets i 0 < 256) →
     IsConnectionSound who.greatest k → IsNumberingOf k next → IsNumberingOf (connection_after_octets who k octets) (next_after_frames next (frames_said plan facts (notices_of_octets who k octets)))
-octets-numbered law who plan facts next k [] small sound is = is
-octets-numbered law who plan facts next k (x ∷ octets) small sound is =
+octets-numbered who plan facts next k [] small sound is = is
+octets-numbered who plan facts next k (x ∷ octets) small sound is =
     let brought : List Notice = list_of_notice (notice_of_octet who k x) in
     let after : Connection = connection_after_octet who k x in
     let later : List Notice = notices_of_octets who after octets in
     let counts : next_after_frames next (frames_said plan facts (brought ++ later)) ≡ next_after_frames (next_by who plan facts next (notice_of_octet who k x)) (frames_said plan (facts_from plan facts brought) later) =
     ap (next_after_frames next) (frames_said-append plan facts brought later) ∙ next_after_frames-append next (frames_said plan facts brought) (frames_said plan (facts_from plan facts brought) later) in
     let P : Option ℕ → Type 0 = λ n. IsNumberingOf (connection_after_octets who after octets) n in
-    subst P (sym counts) (octets-numbered law who plan (facts_from plan facts brought) (next_by who plan facts next (notice_of_octet who k x)) after octets (λ i. small (suc i))
-    (octet_sound law who k x (small 0) sound) (numbering_goes who plan facts next k x sound is))
+    subst P (sym counts) (octets-numbered who plan (facts_from plan facts brought) (next_by who plan facts next (notice_of_octet who k x)) after octets (λ i. small (suc i))
+    (octet_sound who k x (small 0) sound) (numbering_goes who plan facts next k x sound is))

@@ -1,14 +1,12 @@
 //! A carrier's connection, and the effect of its octets.
 
 ghost use Rattle.std.specs.Prelude.{◌≡◌, ◌<◌, ◌≤◌, Some, None, false, true, length, option_map};
-ghost use Rattle.std.specs.Prelude.{take, IfErr, IfOk, IfSome, [], ◌∷◌};
+ghost use Rattle.std.specs.Prelude.{take, IfErr, IfOk};
 ghost use Rattle.dmr_burst.specs.Functions.{meaning_of};
-ghost use Rattle.dmr_frames.specs.Short.{frame_of_rx, frame_of_short};
 ghost use Rattle.dmr_frames.specs.Versions.{chosen_by};
 ghost use Rattle.dmr_core.specs.declared.event.Event.TheVariants.{Lost};
-ghost use Rattle.dmr_frames.specs.declared.cutter.Step.TheVariants as step;
 ghost use Rattle.dmr_frames.specs.declared.frame.FrameIn.TheVariants as frame;
-ghost use Rattle.dmr_link.specs.Meaning.{list_of_notice, event_of, event_of_burst as burst_event};
+ghost use Rattle.dmr_link.specs.Meaning.{list_of_notice, event_of_burst as burst_event};
 ghost use Rattle.dmr_link.specs.Meaning.{is_accepted, is_repeat as is_newest_repeat};
 ghost use Rattle.dmr_link.specs.Meaning.{refusal_of_first};
 ghost use Rattle.dmr_link.specs.CarrierStates.{is_open, up_by};
@@ -20,14 +18,13 @@ ghost use Rattle.dmr_link.specs.Sound.{IsConnectionSound};
 ghost use Rattle.dmr_link.specs.Zeros.{is_up_between};
 ghost use Rattle.dmr_link.specs.Steps.{new_connection, notices_of_octets, connection_after_octets};
 ghost use Rattle.dmr_link.specs.Steps.{running_produces, waiting_produces, waiting_leaves};
-ghost use Rattle.dmr_link.specs.Steps.{running_leaves};
+ghost use Rattle.dmr_link.specs.Steps.{newest_after_step};
 
 use crate::notices::{Notice, PeerNotice, SiteNotice};
 use dmr_bits::Word196;
 use dmr_burst::read;
 use dmr_core::Event;
-use dmr_frames::laws::one_reading;
-use dmr_frames::{Cause, Cutter, FrameIn, Refusal, RxFrame, ShortFrame, Step, Version};
+use dmr_frames::{Cause, Cutter, FrameIn, Refusal, Step, Version};
 use dmr_pdu::{CarrierNo, Lpcn, Slot};
 use dmr_wire::{Closing, Hello};
 use std::mem::replace;
@@ -202,13 +199,13 @@ fn loss(carrier: CarrierNo, closing: Closing) -> Outcome
 }
 
 /// Returns the outcome of a cutter's step on a connection that waits for its first frame, and the connection after it.
-fn outcome_of_first(who: &CarrierIdentity, cutter: Cutter, step: &Step) -> (Outcome, Connection)
+fn outcome_of_first(who: &CarrierIdentity, cutter: &Cutter, step: &Step) -> (Outcome, Connection)
     ensures notice { option_map notice_meant result.0.notice ≡ waiting_produces who.now step.now }
     ensures closing { result.0.closing ≡ waiting_closes who.now step.now }
-    ensures connection { result.1 ≡ waiting_leaves who.now cutter step.now }
+    ensures connection { result.1 ≡ waiting_leaves who.now cutter.now step.now }
 {
     match step {
-        Step::Need => (Outcome::NOTHING, Connection::Waiting(cutter)),
+        Step::Need => (Outcome::NOTHING, Connection::Waiting(cutter.fork())),
         Step::Fault(cause) => (fault_outcome(*cause), Connection::Closed),
         Step::Frame(
             FrameIn::Hello {
@@ -220,7 +217,7 @@ fn outcome_of_first(who: &CarrierIdentity, cutter: Cutter, step: &Step) -> (Outc
             Ok(version) => (
                 acceptance(who.carrier, version),
                 Connection::Running {
-                    cutter,
+                    cutter: cutter.fork(),
                     newest: None,
                 },
             ),
@@ -237,79 +234,30 @@ fn outcome_of_first(who: &CarrierIdentity, cutter: Cutter, step: &Step) -> (Outc
     }
 }
 
-/// Returns the outcome of a cutter's step while the carrier is up, and the connection after it. `newest` is the number
-/// of the newest RX, if it has one.
-fn outcome_of_step(
-    carrier: CarrierNo,
-    cutter: Cutter,
-    newest: Option<u8>,
-    step: &Step,
-) -> (Outcome, Connection)
-    ensures notice { option_map notice_meant result.0.notice
-        ≡ running_produces carrier newest step.now }
-    ensures closing { result.0.closing ≡ running_closes step.now }
-    ensures connection { result.1 ≡ running_leaves cutter newest step.now }
+/// Returns the outcome of a cutter's step while the carrier is up. An RX becomes the newest: `newest` is its number
+/// from then on, if it has one.
+fn outcome_of_step(carrier: CarrierNo, newest: &mut Option<u8>, step: &Step) -> Outcome
+    ensures notice { option_map notice_meant result.notice
+        ≡ running_produces carrier newest.old step.now }
+    ensures closing { result.closing ≡ running_closes step.now }
+    ensures newest { newest.new ≡ newest_after_step newest.old step.now }
 {
     match step {
-        Step::Need => (Outcome::NOTHING, Connection::Running { cutter, newest }),
-        Step::Fault(cause) => (loss(carrier, Closing::Bad(*cause)), Connection::Closed),
+        Step::Need => Outcome::NOTHING,
+        Step::Fault(cause) => loss(carrier, Closing::Bad(*cause)),
         Step::Frame(FrameIn::Rx { number, slot, word }) => {
-            let slot = Slot {
-                carrier,
-                slot: *slot,
-            };
-            let outcome = if is_repeat(newest, *number) {
-                Outcome::NOTHING
-            } else {
-                event_outcome(event_of_burst(slot, word))
-            };
-            let newest = *number;
-            (outcome, Connection::Running { cutter, newest })
+            let before = replace(newest, *number);
+            if is_repeat(before, *number) {
+                return Outcome::NOTHING;
+            }
+            event_outcome(event_of_burst(Slot::new(carrier, *slot), word))
         }
-        Step::Frame(FrameIn::Poll) => (
-            event_outcome(Event::Poll(carrier)),
-            Connection::Running { cutter, newest },
-        ),
-        Step::Frame(FrameIn::Active { slot }) => {
-            let slot = Slot {
-                carrier,
-                slot: *slot,
-            };
-            (
-                event_outcome(Event::Active(slot)),
-                Connection::Running { cutter, newest },
-            )
-        }
-        Step::Frame(FrameIn::Hello { .. }) => (
-            loss(carrier, Closing::Bad(Cause::SecondHello)),
-            Connection::Closed,
-        ),
-        Step::Frame(FrameIn::Bye) => (loss(carrier, Closing::Bye), Connection::Closed),
-    }
-}
-
-/// Returns the notice of an RX of a carrier that is up. There is none if the RX repeats the newest.
-fn notice_of_rx(carrier: CarrierNo, newest: Option<u8>, rx: &RxFrame) -> Option<Notice>
-    ensures { option_map notice_meant result
-        ≡ running_produces carrier newest (step.Frame (frame_of_rx rx.now)) }
-{
-    if is_repeat(newest, rx.number) {
-        return None;
-    }
-    let slot = Slot {
-        carrier,
-        slot: rx.slot,
-    };
-    Some(Notice::Site(SiteNotice::Happened(event_of_burst(slot, &rx.word))))
-}
-
-/// Returns the event of a short frame of a carrier that is up.
-fn event_of_short(carrier: CarrierNo, short: ShortFrame) -> Event
-    ensures { result ≡ event_of carrier (frame_of_short short) }
-{
-    match short {
-        ShortFrame::Poll => Event::Poll(carrier),
-        ShortFrame::Active(slot) => Event::Active(Slot { carrier, slot }),
+        Step::Frame(FrameIn::Poll) => event_outcome(Event::Poll(carrier)),
+        Step::Frame(FrameIn::Active { slot }) => event_outcome(Event::Active(Slot::new(
+            carrier, *slot,
+        ))),
+        Step::Frame(FrameIn::Hello { .. }) => loss(carrier, Closing::Bad(Cause::SecondHello)),
+        Step::Frame(FrameIn::Bye) => loss(carrier, Closing::Bye),
     }
 }
 
@@ -381,95 +329,20 @@ impl Connection {
         ensures sound { IsConnectionSound who.now.greatest self.old
             → IsConnectionSound who.now.greatest self.new }
     {
-        one_reading();
-        if let Some((count, event)) = self.receive_short(who, octets) {
-            return (count, event_outcome(event));
-        }
-        match self.receive_rx(who, octets) {
-            Some((count, notice)) => (count, open_outcome(notice)),
-            None => self.receive_any(who, octets),
-        }
-    }
-
-    /// Takes the POLL or the ACTIVE that octets begin with, if the carrier is up and no frame has begun. Returns how
-    /// many octets it took, and the frame's event. The connection stays open. If the result is `None`, nothing was
-    /// taken, and [`Connection::receive_any`] takes what comes.
-    fn receive_short(&mut self, who: &CarrierIdentity, octets: &[u8]) -> Option<(usize, Event)>
-        ensures count { IfSome result (λ r. (0 < r.0) × (r.0 ≤ length octets.now)) }
-        ensures notice { IfSome result
-            (λ r. notices_of_octets who.now self.old (take r.0 octets.now) ≡ Happened r.1 ∷ []) }
-        ensures closing { IfSome result
-            (λ r. all_closes who.now self.old (take r.0 octets.now) ≡ None) }
-        ensures connection { IfSome result (λ r. self.new
-            ≡ connection_after_octets who.now self.old (take r.0 octets.now)) }
-        ensures none { result ≡ None → self.new ≡ self.old }
-    {
         match self {
-            Connection::Running { cutter, .. } => match cutter.feed_short(octets) {
-                Some((count, short)) => Some((count, event_of_short(who.carrier, short))),
-                None => None,
-            },
-            Connection::Closed | Connection::Waiting(_) => None,
-        }
-    }
-
-    /// Takes the RX that octets begin with, if the carrier is up and no frame has begun. Returns how many octets it
-    /// took, and the notice of its burst; there is none if the RX is a repeat. The connection stays open. If the result
-    /// is `None`, nothing was taken, and [`Connection::receive_any`] takes what comes.
-    fn receive_rx(
-        &mut self,
-        who: &CarrierIdentity,
-        octets: &[u8],
-    ) -> Option<(usize, Option<Notice>)>
-        ensures count { IfSome result (λ r. (0 < r.0) × (r.0 ≤ length octets.now)) }
-        ensures notice { IfSome result (λ r. notices_of_octets who.now self.old (take r.0 octets.now)
-            ≡ list_of_notice (option_map notice_meant r.1)) }
-        ensures closing { IfSome result
-            (λ r. all_closes who.now self.old (take r.0 octets.now) ≡ None) }
-        ensures connection { IfSome result (λ r. self.new
-            ≡ connection_after_octets who.now self.old (take r.0 octets.now)) }
-        ensures none { result ≡ None → self.new ≡ self.old }
-    {
-        match self {
-            Connection::Running { cutter, newest } => {
-                let (count, rx) = cutter.feed_rx(octets)?;
-                let notice = notice_of_rx(who.carrier, *newest, &rx);
-                *newest = rx.number;
-                Some((count, notice))
-            }
-            Connection::Closed | Connection::Waiting(_) => None,
-        }
-    }
-
-    /// Does the same as [`Connection::receive`].
-    // Out of line: a POLL or an ACTIVE then does not clear this function's locals.
-    #[inline(never)]
-    fn receive_any(&mut self, who: &CarrierIdentity, octets: &[u8]) -> (usize, Outcome)
-        requires { 0 < length octets.now }
-        ensures some { 0 < result.0 }
-        ensures count { result.0 ≤ length octets.now }
-        ensures notice { notices_of_octets who.now self.old (take result.0 octets.now)
-            ≡ list_of_notice (option_map notice_meant result.1.notice) }
-        ensures closing { result.1.closing
-            ≡ all_closes who.now self.old (take result.0 octets.now) }
-        ensures connection { self.new
-            ≡ connection_after_octets who.now self.old (take result.0 octets.now) }
-        ensures sound { IsConnectionSound who.now.greatest self.old
-            → IsConnectionSound who.now.greatest self.new }
-    {
-        one_reading();
-        match replace(self, Connection::Closed) {
             Connection::Closed => (octets.len(), Outcome::NOTHING),
-            Connection::Waiting(mut cutter) => {
+            Connection::Waiting(cutter) => {
                 let (count, step) = cutter.feed(octets);
                 let (outcome, next) = outcome_of_first(who, cutter, &step);
                 *self = next;
                 (count, outcome)
             }
-            Connection::Running { mut cutter, newest } => {
+            Connection::Running { cutter, newest } => {
                 let (count, step) = cutter.feed(octets);
-                let (outcome, next) = outcome_of_step(who.carrier, cutter, newest, &step);
-                *self = next;
+                let outcome = outcome_of_step(who.carrier, newest, &step);
+                if outcome.closing.is_some() {
+                    *self = Connection::Closed;
+                }
                 (count, outcome)
             }
         }

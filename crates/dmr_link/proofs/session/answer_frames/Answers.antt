@@ -57,7 +57,7 @@ loop-from-preserved c =
           let was = c.loop-from.invariant.sound is in (
             c.receive-count.ensures.sound was.0,
             subst K (sym left) (subst N (ap (λ (ns : List Notice). next_after_frames next (frames_said site.plan site.facts ns)) brings ∙ sym counts)
-                (octets-numbered c.one_reading.ensures.more whose site.plan site.facts next k xs (small-taken (drop i octets) n (omega (arith, count, ap length rest)) small) was.0 was.1)),
+                (octets-numbered whose site.plan site.facts next k xs (small-taken (drop i octets) n (omega (arith, count, ap length rest)) small) was.0 was.1)),
           );
       site = site_goes who whose same k later octets i n _ brings left site c.answer_notice.new.site c.answer_notice.ensures.site _ c.loop-from.invariant.site;
       items = items_go who whose same k later octets i n _ brings left site c.answer_notice.new.site c.answer_notice.ensures.site next c.answer_notice.new.numbering counts

@@ -1,7 +1,7 @@
 -- The table of frames: the frame of each type octet, and the octets of a body that are faults.
 use Rattle.std.proofs.Common.{◌≡◌, ◌==◌, ℕ, zero, suc, ◌+◌, ◌-◌, ◌%◌, ◌<◌, ◌≤◌, nat_lt, cond, Bool, true, false, Some, None, List, [], ◌∷◌, ◌++◌, length, take, drop, get_or, replicate, refl, sym, ap, ◌∙◌, arith, ⊎_elim, length-append, take-append-drop, subst}
 use Rattle.std.proofs.Math.Seq.{get_or-append_seam}
-use Rattle.std.proofs.lemmas.Bool.{cases_lt, eqb-true, le-ltb, lt-ltb}
+use Rattle.std.proofs.lemmas.Bool.{cases_lt, eqb-true, le-ltb}
 use Rattle.std.proofs.lemmas.List.{get_or_append_left}
 use Rattle.dmr_frames.specs.declared.frame.Cause.{Cause}
 use Rattle.dmr_frames.specs.declared.frame.Cause.TheVariants.{BadSlot, BadPad}
@@ -95,10 +95,6 @@ free_none b (f ∷ fields) place x all = at (nat_lt place (field_length b f)) (f
     at : (c : Bool) → fields_fault b fields (place - field_length b f) x ≡ None → cond c (field_fault f place x) (fields_fault b fields (place - field_length b f) x) ≡ None
     at true later = all.0 place x
     at false later = later
-
--- a place of a field
-in_field : (b : Bool) (f : Field) (fields : List Field) (place x : ℕ) → place < field_length b f → fields_fault b (f ∷ fields) place x ≡ field_fault f place x
-in_field b f fields place x lt = rw (lt-ltb place (field_length b f) lt) refl
 
 -- a place after a field is one of the fields after it
 after_field : (b : Bool) (f : Field) (fields : List Field) (place n x : ℕ) → field_length b f + n ≡ place → fields_fault b (f ∷ fields) place x ≡ fields_fault b fields n x

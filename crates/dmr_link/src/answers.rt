@@ -26,8 +26,8 @@ const LONGEST_ANSWER: usize = (16 + 1) * LONGEST_FRAME;
 /// The octets of an answer.
 pub type AnswerText = ArrayVec<u8, LONGEST_ANSWER>;
 
-/// Room for the octets of an answer, and the burst that was encoded last. An engine or a link keeps one from answer to
-/// answer. So no answer pays for clearing all of that room, and a PDU that is sent again is not encoded again.
+/// Room for the octets of an answer, and the burst that was encoded last. It is kept from answer to answer. So no answer
+/// pays for clearing all of that room, and a PDU that is sent again is not encoded again.
 #[derive(Drop)]
 pub struct AnswerRoom {
     /// The octets that the carrier receives.
@@ -48,7 +48,8 @@ impl AnswerRoom {
     }
 }
 
-/// The answer to an event: the site's answer, and room for its octets. An engine keeps one answer from event to event.
+/// The answer to an event: the site's answer, and room for its octets. An engine or a link keeps one answer from event
+/// to event.
 #[derive(Drop)]
 pub struct Answer {
     /// The acts, and the reply to an operator.

@@ -10,7 +10,7 @@ ghost use Rattle.dmr_link.specs.LinkSteps.{is_live};
 ghost use Rattle.dmr_link.specs.declared.desk.TermOver.{TermOver as ATermOver};
 ghost use Rattle.dmr_link.specs.declared.stream.Peer.TheVariants.{Operator};
 
-use crate::answers::AnswerRoom;
+use crate::answers::Answer;
 use crate::desk::{Desk, OpenGate, TermOver};
 use crate::ended::Ended;
 use crate::link_state::LinkState;
@@ -26,8 +26,8 @@ use std::marker::Model;
 #[derive(Drop)]
 pub struct ConsoleLink {
     state: LinkState,
-    // Kept to spare each answer a room of its own.
-    room: AnswerRoom,
+    // The newest answer. It is kept to spare each answer a room of its own.
+    answer: Answer,
 }
 
 impl Model for ConsoleLink {
@@ -52,7 +52,7 @@ impl ConsoleLink {
     {
         ConsoleLink {
             state: LinkState::new(Peer::Operator),
-            room: AnswerRoom::new(),
+            answer: Answer::none(),
         }
     }
 
@@ -120,7 +120,7 @@ impl ConsoleLink {
             return Ended::from(self.state.closing);
         }
         self.state
-            .serve_connection(&mut self.room, port, desk, &mut OpenGate)
+            .serve_connection(&mut self.answer, port, desk, &mut OpenGate)
     }
 
     /// Cuts the connection, and hands in the command that is kept. It writes nothing, and an open line has no effect,
@@ -142,7 +142,7 @@ impl ConsoleLink {
             return Ok(());
         }
         self.state.cut_connection();
-        self.state.flush_pending(desk)
+        self.state.flush_pending(&mut self.answer, desk)
     }
 }
 

@@ -3,7 +3,7 @@
 ghost use Rattle.std.specs.Prelude.{◌≡◌, ◌+◌, ◌<◌, ◌≤◌, ℕ, Bool, List, [], ◌∷◌, Option, Some, None};
 ghost use Rattle.std.specs.Prelude.{option_map, Err, length, true, false, IfOk, IfErr};
 ghost use Rattle.dmr_core.specs.declared.event.Event.{Event as AnEvent};
-ghost use Rattle.dmr_wire.specs.Answers.{Answer};
+ghost use Rattle.dmr_wire.specs.Answers.{Answer as PortAnswer};
 ghost use Rattle.dmr_link.specs.declared.desk.Deposit.{Deposit as ADeposit};
 ghost use Rattle.dmr_link.specs.declared.desk.TermOver.{TermOver as ATermOver};
 ghost use Rattle.dmr_link.specs.Happenings.{Outside, Disordered, stage_after};
@@ -20,7 +20,7 @@ ghost use Rattle.dmr_link.specs.LinkSteps.{Replies, IsHeld, IsSettled, row_then,
 ghost use Rattle.dmr_link.specs.LinkSteps.{with_next, stage_then_read, HasTurned, Listens};
 ghost use Rattle.dmr_link.specs.LinkSteps.{cut_state, with_new_connection};
 
-use crate::answers::AnswerRoom;
+use crate::answers::Answer;
 use crate::connection::Outcome;
 use crate::desk::{Desk, Gate, TermOver};
 use crate::ended::Ended;
@@ -31,7 +31,6 @@ use crate::stream::{Peer, Stream};
 use crate::unread::Unread;
 use crate::writing::{write_answer, write_peer_answer};
 use dmr_console::lines_in_any_cutting;
-use dmr_core::Acts;
 use dmr_wire::{Closing, Got, Wire};
 
 /// The state that a link keeps of its connection.
@@ -117,21 +116,17 @@ impl LinkState {
     }
 
     /// Writes the answer to a notice, unless the connection was cut. If a write fails, it closes the connection.
-    fn answer_peer<W: Wire>(
-        &mut self,
-        notice: &SiteNotice,
-        acts: &Acts,
-        room: &mut AnswerRoom,
-        port: &mut W,
-    )
+    fn answer_peer<W: Wire>(&mut self, notice: &SiteNotice, answer: &mut Answer, port: &mut W)
         ensures { Replies self.old.is_cut self.old (W.reported port.old)
-            (answer_text (numbering_of self.old.connection) notice.now acts.now) (with_next self.old
-            (next_after_answer (numbering_of self.old.connection) notice.now acts.now))
+            (answer_text (numbering_of self.old.connection) notice.now answer.old.acts)
+            (with_next self.old
+            (next_after_answer (numbering_of self.old.connection) notice.now answer.old.acts))
             self.new (W.reported port.new) }
     {
         if self.is_cut {
             return;
         }
+        let Answer { acts, room } = answer;
         let mut numbering = self.connection.numbering();
         if write_answer(port, room, &mut numbering, notice, acts) {
             self.connection.set_numbering(numbering);
@@ -156,7 +151,7 @@ impl LinkState {
     fn deposit_first<W: Wire, D: Desk, G: Gate>(
         &mut self,
         notice: &SiteNotice,
-        room: &mut AnswerRoom,
+        answer: &mut Answer,
         port: &mut W,
         desk: &mut D,
         gate: &mut G,
@@ -178,14 +173,14 @@ impl LinkState {
         if !gate.enter() {
             return Err(Ended::GateShut);
         }
-        match desk.deposit(notice.event()) {
+        match desk.deposit_to(&notice.event(), &mut answer.acts) {
             Err(over) => {
                 gate.leave();
                 Err(Ended::from(over))
             }
-            Ok(acts) => {
+            Ok(()) => {
                 self.pending.remove_first();
-                self.answer_peer(notice, &acts, room, port);
+                self.answer_peer(notice, answer, port);
                 gate.leave();
                 Ok(())
             }
@@ -196,7 +191,7 @@ impl LinkState {
     /// open afterwards.
     fn deposit_pending<W: Wire, D: Desk, G: Gate>(
         &mut self,
-        room: &mut AnswerRoom,
+        answer: &mut Answer,
         port: &mut W,
         desk: &mut D,
         gate: &mut G,
@@ -214,7 +209,7 @@ impl LinkState {
         ensures shut { result ≡ Err Ended.GateShut → (before : _) × G.shuts before gate.new }
     {
         while let Some(notice) = self.pending.first() {
-            self.deposit_first(&notice, room, port, desk, gate)?;
+            self.deposit_first(&notice, answer, port, desk, gate)?;
         }
         if self.connection.is_open() {
             return Ok(());
@@ -241,7 +236,7 @@ impl LinkState {
     /// Hands in all pending notices, and processes all unread octets. `Err` says why it stopped.
     fn process_unread<W: Wire, D: Desk, G: Gate>(
         &mut self,
-        room: &mut AnswerRoom,
+        answer: &mut Answer,
         port: &mut W,
         desk: &mut D,
         gate: &mut G,
@@ -258,10 +253,10 @@ impl LinkState {
             × D.refuses before event over desk.new }
         ensures shut { result ≡ Err Ended.GateShut → (before : _) × G.shuts before gate.new }
     {
-        self.deposit_pending(room, port, desk, gate)?;
+        self.deposit_pending(answer, port, desk, gate)?;
         while !self.unread.is_empty() {
             self.take_unread(port);
-            self.deposit_pending(room, port, desk, gate)?;
+            self.deposit_pending(answer, port, desk, gate)?;
         }
         Ok(())
     }
@@ -305,7 +300,7 @@ impl LinkState {
     fn read_and_process<W: Wire, D: Desk, G: Gate>(
         &mut self,
         row: usize,
-        room: &mut AnswerRoom,
+        answer: &mut Answer,
         port: &mut W,
         desk: &mut D,
         gate: &mut G,
@@ -330,14 +325,14 @@ impl LinkState {
         if row > 0 {
             return Ok(row);
         }
-        self.process_unread(room, port, desk, gate)?;
+        self.process_unread(answer, port, desk, gate)?;
         Ok(0)
     }
 
-    /// Works until it has to stop, or has made the most reads of one call. Returns why. Answers are encoded in `room`.
+    /// Works until it has to stop, or has made the most reads of one call. Returns why. `answer` becomes the newest answer.
     pub fn serve_connection<W: Wire, D: Desk, G: Gate>(
         &mut self,
-        room: &mut AnswerRoom,
+        answer: &mut Answer,
         port: &mut W,
         desk: &mut D,
         gate: &mut G,
@@ -351,12 +346,12 @@ impl LinkState {
             × D.refuses before event over desk.new }
         ensures shut { result ≡ Ended.GateShut → (before : _) × G.shuts before gate.new }
     {
-        if let Err(stop) = self.process_unread(room, port, desk, gate) {
+        if let Err(stop) = self.process_unread(answer, port, desk, gate) {
             return stop;
         }
         let mut row = 0;
         for _ in 0..MOST_READS {
-            match self.read_and_process(row, room, port, desk, gate) {
+            match self.read_and_process(row, answer, port, desk, gate) {
                 Ok(next) => row = next,
                 Err(stop) => return stop,
             }
@@ -387,10 +382,14 @@ impl LinkState {
 
     /// Hands in all pending notices, in order, and writes nothing. `Err`: the term is over, and the remaining notices
     /// are still pending.
-    pub fn flush_pending<D: Desk>(&mut self, desk: &mut D) -> Result<(), TermOver>
+    pub fn flush_pending<D: Desk>(
+        &mut self,
+        answer: &mut Answer,
+        desk: &mut D,
+    ) -> Result<(), TermOver>
         requires { self.old.is_cut ≡ true }
         ensures actor { D.actor desk.new ≡ D.actor desk.old }
-        ensures moves { (reported : Option (List Answer)) (passed : Option (List Passage))
+        ensures moves { (reported : Option (List PortAnswer)) (passed : Option (List Passage))
             → Moves self.old self.new (sides reported (D.calls desk.old) passed)
             (sides reported (D.calls desk.new) passed) 0 0 0 Disordered Disordered }
         ensures ok { IfOk result (λ _. (self.new.pending.kept ≡ None)
@@ -402,7 +401,7 @@ impl LinkState {
         ensures closing { self.new.closing ≡ self.old.closing }
     {
         while let Some(notice) = self.pending.first() {
-            desk.deposit(notice.event())?;
+            desk.deposit_to(&notice.event(), &mut answer.acts)?;
             self.pending.remove_first();
         }
         Ok(())

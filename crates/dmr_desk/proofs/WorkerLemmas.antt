@@ -14,6 +14,7 @@ use Rattle.dmr_link.specs.Peers.{is_going}
 use Rattle.dmr_link.specs.Recorded.{sessions_after_silence}
 use Rattle.dmr_link.specs.Sessions.{How, Going, InputOver, ReadFaulty, WriteFaulty, CutAfter, how_then, Session, new_session, with_how, with_calls, Progress, progress_at, in_writing, octets_taken, progress_after_answer, progress_after_answers, IsQuiet, IsOver, HasPast, sessions_after, is_kept, is_lost, how_cut, cut_past, EndsAs, Sides, Happens, Serves, Cuts}
 use Rattle.dmr_link.specs.LinkSteps.{is_live}
+use Rattle.dmr_link.proofs.LinkLaws.{dead_over, over_dead, happens_none, happens_more}
 use Rattle.dmr_desk.specs.declared.ending.Ending.TheVariants as ending
 use Rattle.dmr_desk.specs.Work.{StationState, WorkState, work_state, sides_at, Answers, ChangesLink, Step, Asked, Served, Waited, happened_in, happened_of, with_newest_deposits, past_then, past_after, deposits_of_sessions, IsAsk, StopsAt, IsCall, IsOrderly, Steps, WorksUntil, IsAboutToWait as IsWaiting, IsAtWork as IsGoing}
 
@@ -24,275 +25,267 @@ going_live false kept lost h = absurd (h refl)
 pub quiet_live : (l : LinkState) → IsQuiet l → is_live l ≡ true
 quiet_live l h = going_live (is_going l.connection) (is_kept l.pending.kept) (is_lost l.pending.lost) h.stays
 
--- facts about every link, and about what happened in one step and then in another
-pub record LinkLaws : Type 0 where
-  pub dead_over : (l : LinkState) → is_live l ≡ false → IsOver l
-  pub over_dead : (l : LinkState) → IsOver l → is_live l ≡ false
-  pub happens_none : (x : Sides) → Happens x [] x
-  pub happens_more : (x y z : Sides) (first second : List Happening) → Happens x first y → Happens y second z → Happens x (first ++ second) z
+-- ---- one step more
 
-module _ (laws : LinkLaws) where
-  -- ---- one step more
+went_nowhere : (m : WorkState) → Steps m m []
+went_nowhere m = record {
+  who = refl;
+  happens = happens_none (sides_at m.at m.calls);
+  stands = λ past h. h;
+  view = λ past h. sym (append-nil (deposits_of_sessions past));
+  orderly = λ past h. tt;
+}
 
-  went_nowhere : (m : WorkState) → Steps m m []
-  went_nowhere m = record {
-    who = refl;
-    happens = laws.happens_none (sides_at m.at m.calls);
-    stands = λ past h. h;
-    view = λ past h. sym (append-nil (deposits_of_sessions past));
-    orderly = λ past h. tt;
-  }
+pub going_from : (m : WorkState) → IsGoing m m
+going_from m = ([], went_nowhere m, λ live. tt)
 
-  pub going_from : (m : WorkState) → IsGoing m m
-  going_from m = ([], went_nowhere m, λ live. tt)
+deposits_both : (xs ys : List Happening) → deposits_in (xs ++ ys) ≡ deposits_in xs ++ deposits_in ys
+deposits_both [] ys = refl
+deposits_both (Answered a ∷ xs) ys = deposits_both xs ys
+deposits_both (Deposited d ∷ xs) ys = ap (λ (r : List Deposit). d ∷ r) (deposits_both xs ys)
+deposits_both (Passed p ∷ xs) ys = deposits_both xs ys
 
-  deposits_both : (xs ys : List Happening) → deposits_in (xs ++ ys) ≡ deposits_in xs ++ deposits_in ys
-  deposits_both [] ys = refl
-  deposits_both (Answered a ∷ xs) ys = deposits_both xs ys
-  deposits_both (Deposited d ∷ xs) ys = ap (λ (r : List Deposit). d ∷ r) (deposits_both xs ys)
-  deposits_both (Passed p ∷ xs) ys = deposits_both xs ys
+-- one more step
+went_on : (m n o : WorkState) (ds : List Step) (d : Step) → Steps m n ds → o.at.link.who ≡ n.at.link.who → Happens (sides_at n.at n.calls) (happened_in d) (sides_at o.at o.calls)
+    → ((past : List Session) → HasPast n.at.link past → HasPast o.at.link (past_then past d))
+    → ((past : List Session) → HasPast n.at.link past → deposits_of_sessions (past_then past d) ≡ deposits_of_sessions past ++ deposits_in (happened_in d))
+    → ((past : List Session) → HasPast n.at.link (past_after past ds) → IsOrderly m.at.link.who past ds → IsOrderly m.at.link.who past (d ∷ ds))
+    → Steps m o (d ∷ ds)
+went_on m n o ds d w who happens stands view orderly = record {
+  who = who ∙ w.who;
+  happens = happens_more (sides_at m.at m.calls) (sides_at n.at n.calls) (sides_at o.at o.calls) (happened_of ds) (happened_in d) w.happens happens;
+  stands = λ past h. stands (past_after past ds) (w.stands past h);
+  view = λ past h.
+      view (past_after past ds) (w.stands past h)
+      ∙ ap (λ (c : List Deposit). c ++ deposits_in (happened_in d)) (w.view past h)
+      ∙ append_assoc (deposits_of_sessions past) (deposits_in (happened_of ds)) (deposits_in (happened_in d))
+      ∙ ap (λ (c : List Deposit). deposits_of_sessions past ++ c) (sym (deposits_both (happened_of ds) (happened_in d)));
+  orderly = λ past h. orderly past (w.stands past h) (w.orderly past h);
+}
 
-  -- one more step
-  went_on : (m n o : WorkState) (ds : List Step) (d : Step) → Steps m n ds → o.at.link.who ≡ n.at.link.who → Happens (sides_at n.at n.calls) (happened_in d) (sides_at o.at o.calls)
-      → ((past : List Session) → HasPast n.at.link past → HasPast o.at.link (past_then past d))
-      → ((past : List Session) → HasPast n.at.link past → deposits_of_sessions (past_then past d) ≡ deposits_of_sessions past ++ deposits_in (happened_in d))
-      → ((past : List Session) → HasPast n.at.link (past_after past ds) → IsOrderly m.at.link.who past ds → IsOrderly m.at.link.who past (d ∷ ds))
-      → Steps m o (d ∷ ds)
-  went_on m n o ds d w who happens stands view orderly = record {
-    who = who ∙ w.who;
-    happens = laws.happens_more (sides_at m.at m.calls) (sides_at n.at n.calls) (sides_at o.at o.calls) (happened_of ds) (happened_in d) w.happens happens;
-    stands = λ past h. stands (past_after past ds) (w.stands past h);
-    view = λ past h.
-        view (past_after past ds) (w.stands past h)
-        ∙ ap (λ (c : List Deposit). c ++ deposits_in (happened_in d)) (w.view past h)
-        ∙ append_assoc (deposits_of_sessions past) (deposits_in (happened_of ds)) (deposits_in (happened_in d))
-        ∙ ap (λ (c : List Deposit). deposits_of_sessions past ++ c) (sym (deposits_both (happened_of ds) (happened_in d)));
-    orderly = λ past h. orderly past (w.stands past h) (w.orderly past h);
-  }
+-- ---- what happened in a step
 
-  -- ---- what happened in a step
+passes_none : (before after : Option (List Passage)) → after ≡ before → Passes before [] after
+passes_none before after same = record { follows = λ whole e. (whole, sym same ∙ e, sym (append-nil whole)) }
 
-  passes_none : (before after : Option (List Passage)) → after ≡ before → Passes before [] after
-  passes_none before after same = record { follows = λ whole e. (whole, sym same ∙ e, sym (append-nil whole)) }
+no_answers : (deposits : List Deposit) → answers_in (map Deposited deposits) ≡ []
+no_answers [] = refl
+no_answers (d ∷ deposits) = no_answers deposits
 
-  no_answers : (deposits : List Deposit) → answers_in (map Deposited deposits) ≡ []
-  no_answers [] = refl
-  no_answers (d ∷ deposits) = no_answers deposits
+all_deposits : (deposits : List Deposit) → deposits_in (map Deposited deposits) ≡ deposits
+all_deposits [] = refl
+all_deposits (d ∷ deposits) = ap (λ (r : List Deposit). d ∷ r) (all_deposits deposits)
 
-  all_deposits : (deposits : List Deposit) → deposits_in (map Deposited deposits) ≡ deposits
-  all_deposits [] = refl
-  all_deposits (d ∷ deposits) = ap (λ (r : List Deposit). d ∷ r) (all_deposits deposits)
+no_passages : (deposits : List Deposit) → passages_in (map Deposited deposits) ≡ []
+no_passages [] = refl
+no_passages (d ∷ deposits) = no_passages deposits
 
-  no_passages : (deposits : List Deposit) → passages_in (map Deposited deposits) ≡ []
-  no_passages [] = refl
-  no_passages (d ∷ deposits) = no_passages deposits
+-- the port gave an answer, and the desk took these
+answered : (n o : WorkState) (x : Answer) (deposits : List Deposit) → Reports n.at.reported (x ∷ []) o.at.reported → o.at.passed ≡ n.at.passed → o.calls ≡ n.calls ++ deposits
+    → Happens (sides_at n.at n.calls) (Answered x ∷ map Deposited deposits) (sides_at o.at o.calls)
+answered n o x deposits reported passed desk =
+    let P : List Answer → Type 0 = λ r. Reports n.at.reported (x ∷ r) o.at.reported in
+    let Q : List Passage → Type 0 = λ r. Passes n.at.passed r o.at.passed in
+    record {
+      port = subst P (sym (no_answers deposits)) reported;
+      desk = desk ∙ ap (λ (r : List Deposit). n.calls ++ r) (sym (all_deposits deposits));
+      gate = subst Q (sym (no_passages deposits)) (passes_none n.at.passed o.at.passed passed);
+    }
 
-  -- the port gave an answer, and the desk took these
-  answered : (n o : WorkState) (x : Answer) (deposits : List Deposit) → Reports n.at.reported (x ∷ []) o.at.reported → o.at.passed ≡ n.at.passed → o.calls ≡ n.calls ++ deposits
-      → Happens (sides_at n.at n.calls) (Answered x ∷ map Deposited deposits) (sides_at o.at o.calls)
-  answered n o x deposits reported passed desk =
-      let P : List Answer → Type 0 = λ r. Reports n.at.reported (x ∷ r) o.at.reported in
-      let Q : List Passage → Type 0 = λ r. Passes n.at.passed r o.at.passed in
-      record {
-        port = subst P (sym (no_answers deposits)) reported;
-        desk = desk ∙ ap (λ (r : List Deposit). n.calls ++ r) (sym (all_deposits deposits));
-        gate = subst Q (sym (no_passages deposits)) (passes_none n.at.passed o.at.passed passed);
-      }
+-- ---- what the desk took, in one list
 
-  -- ---- what the desk took, in one list
+either : (t : Bool) (a b : Progress) (calls : List Deposit) → a.session.calls ≡ calls → b.session.calls ≡ calls → (cond t a b).session.calls ≡ calls
+either true a b calls p q = p
+either false a b calls p q = q
 
-  either : (t : Bool) (a b : Progress) (calls : List Deposit) → a.session.calls ≡ calls → b.session.calls ≡ calls → (cond t a b).session.calls ≡ calls
-  either true a b calls p q = p
-  either false a b calls p q = q
+took_calls : (s : Session) (octets : List ℕ) → (octets_taken s octets).session.calls ≡ s.calls
+took_calls s [] = refl
+took_calls s (x ∷ octets) = refl
 
-  took_calls : (s : Session) (octets : List ℕ) → (octets_taken s octets).session.calls ≡ s.calls
-  took_calls s [] = refl
-  took_calls s (x ∷ octets) = refl
+progress_calls : (h : Progress) (a : Answer) → (progress_after_answer h a).session.calls ≡ h.session.calls
+progress_calls h Opened = refl
+progress_calls h NotYet = refl
+progress_calls h Finished = refl
+progress_calls h (Came octets) = refl
+progress_calls h InputEnded = refl
+progress_calls h ReadInterrupted = either (nat_lt h.row 16) (progress_at h.session (h.row + 1)) (progress_at (with_how h.session ReadFaulty) 0) h.session.calls refl refl
+progress_calls h ReadBlocked = refl
+progress_calls h ReadFailed = refl
+progress_calls h (Took octets) = took_calls h.session octets
+progress_calls h WriteInterrupted = either (nat_lt h.writing 16) (in_writing h.session (h.writing + 1)) (progress_at (with_how h.session WriteFaulty) 0) h.session.calls refl refl
+progress_calls h WriteBlocked = refl
+progress_calls h WriteFailed = refl
+progress_calls h Again = refl
+progress_calls h Silent = refl
 
-  progress_calls : (h : Progress) (a : Answer) → (progress_after_answer h a).session.calls ≡ h.session.calls
-  progress_calls h Opened = refl
-  progress_calls h NotYet = refl
-  progress_calls h Finished = refl
-  progress_calls h (Came octets) = refl
-  progress_calls h InputEnded = refl
-  progress_calls h ReadInterrupted = either (nat_lt h.row 16) (progress_at h.session (h.row + 1)) (progress_at (with_how h.session ReadFaulty) 0) h.session.calls refl refl
-  progress_calls h ReadBlocked = refl
-  progress_calls h ReadFailed = refl
-  progress_calls h (Took octets) = took_calls h.session octets
-  progress_calls h WriteInterrupted = either (nat_lt h.writing 16) (in_writing h.session (h.writing + 1)) (progress_at (with_how h.session WriteFaulty) 0) h.session.calls refl refl
-  progress_calls h WriteBlocked = refl
-  progress_calls h WriteFailed = refl
-  progress_calls h Again = refl
-  progress_calls h Silent = refl
+all_calls : (h : Progress) (answers : List Answer) → (progress_after_answers h answers).session.calls ≡ h.session.calls
+all_calls h [] = refl
+all_calls h (a ∷ answers) = all_calls (progress_after_answer h a) answers ∙ progress_calls h a
 
-  all_calls : (h : Progress) (answers : List Answer) → (progress_after_answers h answers).session.calls ≡ h.session.calls
-  all_calls h [] = refl
-  all_calls h (a ∷ answers) = all_calls (progress_after_answer h a) answers ∙ progress_calls h a
+ask_view : (past : List Session) (x : Answer) → IsAsk x → deposits_of_sessions (past_then past (Asked x)) ≡ deposits_of_sessions past ++ []
+ask_view past Opened is = refl
+ask_view past NotYet is = sym (append-nil (deposits_of_sessions past))
+ask_view past Finished is = sym (append-nil (deposits_of_sessions past))
+ask_view past x is = absurd is
 
-  ask_view : (past : List Session) (x : Answer) → IsAsk x → deposits_of_sessions (past_then past (Asked x)) ≡ deposits_of_sessions past ++ []
-  ask_view past Opened is = refl
-  ask_view past NotYet is = sym (append-nil (deposits_of_sessions past))
-  ask_view past Finished is = sym (append-nil (deposits_of_sessions past))
-  ask_view past x is = absurd is
+-- a live link has a connection
+serve_view : (l : LinkState) (past : List Session) (answers : List Answer) (deposits : List Deposit) → is_live l ≡ true → HasPast l past
+    → deposits_of_sessions (sessions_after past answers deposits) ≡ deposits_of_sessions past ++ deposits
+serve_view l [] answers deposits live h = let dead : is_live l ≡ false = over_dead l h.0 in absurd (cc (dead, live))
+serve_view l (s ∷ ss) answers deposits live h =
+    ap (λ (c : List Deposit). deposits_of_sessions ss ++ (c ++ deposits)) (all_calls (progress_at s 0) answers) ∙ sym (append_assoc (deposits_of_sessions ss) s.calls deposits)
 
-  -- a live link has a connection
-  serve_view : (l : LinkState) (past : List Session) (answers : List Answer) (deposits : List Deposit) → is_live l ≡ true → HasPast l past
-      → deposits_of_sessions (sessions_after past answers deposits) ≡ deposits_of_sessions past ++ deposits
-  serve_view l [] answers deposits live h = let dead : is_live l ≡ false = laws.over_dead l h.0 in absurd (cc (dead, live))
-  serve_view l (s ∷ ss) answers deposits live h =
-      ap (λ (c : List Deposit). deposits_of_sessions ss ++ (c ++ deposits)) (all_calls (progress_at s 0) answers) ∙ sym (append_assoc (deposits_of_sessions ss) s.calls deposits)
+silent_view : (l : LinkState) (past : List Session) (deposits : List Deposit) → is_live l ≡ true → HasPast l past → deposits_of_sessions (with_newest_deposits (sessions_after_silence past) deposits) ≡ deposits_of_sessions past ++ deposits
+silent_view l [] deposits live h = let dead : is_live l ≡ false = over_dead l h.0 in absurd (cc (dead, live))
+silent_view l (s ∷ ss) deposits live h = sym (append_assoc (deposits_of_sessions ss) s.calls deposits)
 
-  silent_view : (l : LinkState) (past : List Session) (deposits : List Deposit) → is_live l ≡ true → HasPast l past → deposits_of_sessions (with_newest_deposits (sessions_after_silence past) deposits) ≡ deposits_of_sessions past ++ deposits
-  silent_view l [] deposits live h = let dead : is_live l ≡ false = laws.over_dead l h.0 in absurd (cc (dead, live))
-  silent_view l (s ∷ ss) deposits live h = sym (append_assoc (deposits_of_sessions ss) s.calls deposits)
+-- ---- an ask
 
-  -- ---- an ask
+went_asking : (m n o : WorkState) (g : IsGoing m n) (x : Answer) → is_live n.at.link ≡ false → IsAsk x → o.at.link.who ≡ n.at.link.who → Reports n.at.reported (x ∷ []) o.at.reported → o.at.passed ≡ n.at.passed → o.calls ≡ n.calls
+    → ((past : List Session) → HasPast n.at.link past → HasPast o.at.link (past_then past (Asked x))) → Steps m o (Asked x ∷ g.0)
+went_asking m n o g x dead is who reported passed desk stands =
+    went_on m n o g.0 (Asked x) g.1 who (answered n o x [] reported passed (desk ∙ sym (append-nil n.calls))) stands
+    (λ past h. ask_view past x is)
+    (λ past h orderly. (is, (n.at.link, dead_over n.at.link dead, h), orderly))
 
-  went_asking : (m n o : WorkState) (g : IsGoing m n) (x : Answer) → is_live n.at.link ≡ false → IsAsk x → o.at.link.who ≡ n.at.link.who → Reports n.at.reported (x ∷ []) o.at.reported → o.at.passed ≡ n.at.passed → o.calls ≡ n.calls
-      → ((past : List Session) → HasPast n.at.link past → HasPast o.at.link (past_then past (Asked x))) → Steps m o (Asked x ∷ g.0)
-  went_asking m n o g x dead is who reported passed desk stands =
-      went_on m n o g.0 (Asked x) g.1 who (answered n o x [] reported passed (desk ∙ sym (append-nil n.calls))) stands
-      (λ past h. ask_view past x is)
-      (λ past h orderly. (is, (n.at.link, laws.dead_over n.at.link dead, h), orderly))
+still_has_past : (l k : LinkState) (past : List Session) → k ≡ l → HasPast l past → HasPast k past
+still_has_past l k past same h = let P : LinkState → Type 0 = λ t. HasPast t past in subst P (sym same) h
 
-  still_has_past : (l k : LinkState) (past : List Session) → k ≡ l → HasPast l past → HasPast k past
-  still_has_past l k past same h = let P : LinkState → Type 0 = λ t. HasPast t past in subst P (sym same) h
+pub went_ready : (m n : WorkState) (mid o : StationState) → IsGoing m n → is_live n.at.link ≡ false → Answers n.at Opened mid → ChangesLink mid o
+    → ((past : List Session) → HasPast mid.link past → HasPast o.link (new_session ∷ past)) → IsGoing m (work_state o n.calls)
+went_ready m n mid o g dead answers turns stands =
+    let P : Option (List Answer) → Type 0 = λ reported. Reports n.at.reported (Opened ∷ []) reported in (
+      Asked Opened ∷ g.0,
+      went_asking m n (work_state o n.calls) g Opened dead tt (turns.who ∙ ap (λ (l : LinkState). l.who) answers.link) (subst P (sym turns.reported) answers.reported) (turns.passed ∙ answers.passed) refl
+          (λ past h. stands past (still_has_past n.at.link mid.link past answers.link h)),
+      λ live. tt,
+    )
 
-  pub went_ready : (m n : WorkState) (mid o : StationState) → IsGoing m n → is_live n.at.link ≡ false → Answers n.at Opened mid → ChangesLink mid o
-      → ((past : List Session) → HasPast mid.link past → HasPast o.link (new_session ∷ past)) → IsGoing m (work_state o n.calls)
-  went_ready m n mid o g dead answers turns stands =
-      let P : Option (List Answer) → Type 0 = λ reported. Reports n.at.reported (Opened ∷ []) reported in (
-        Asked Opened ∷ g.0,
-        went_asking m n (work_state o n.calls) g Opened dead tt (turns.who ∙ ap (λ (l : LinkState). l.who) answers.link) (subst P (sym turns.reported) answers.reported) (turns.passed ∙ answers.passed) refl
-            (λ past h. stands past (still_has_past n.at.link mid.link past answers.link h)),
-        λ live. tt,
-      )
+pub went_not_yet : (m n : WorkState) (o : StationState) → IsGoing m n → is_live n.at.link ≡ false → Answers n.at NotYet o → IsGoing m (work_state o n.calls)
+went_not_yet m n o g dead answers = (
+  Asked NotYet ∷ g.0,
+  went_asking m n (work_state o n.calls) g NotYet dead tt (ap (λ (l : LinkState). l.who) answers.link) answers.reported answers.passed refl (λ past h. still_has_past n.at.link o.link past answers.link h),
+  λ live. let e : is_live o.link ≡ false = ap is_live answers.link ∙ dead in absurd (cc (e, live)),
+)
 
-  pub went_not_yet : (m n : WorkState) (o : StationState) → IsGoing m n → is_live n.at.link ≡ false → Answers n.at NotYet o → IsGoing m (work_state o n.calls)
-  went_not_yet m n o g dead answers = (
-    Asked NotYet ∷ g.0,
-    went_asking m n (work_state o n.calls) g NotYet dead tt (ap (λ (l : LinkState). l.who) answers.link) answers.reported answers.passed refl (λ past h. still_has_past n.at.link o.link past answers.link h),
-    λ live. let e : is_live o.link ≡ false = ap is_live answers.link ∙ dead in absurd (cc (e, live)),
-  )
+pub went_finished : (m n : WorkState) (o : StationState) → IsGoing m n → is_live n.at.link ≡ false → Answers n.at Finished o → WorksUntil m (work_state o n.calls) ending.Finished
+went_finished m n o g dead answers = (
+  Asked Finished ∷ g.0,
+  went_asking m n (work_state o n.calls) g Finished dead tt (ap (λ (l : LinkState). l.who) answers.link) answers.reported answers.passed refl (λ past h. still_has_past n.at.link o.link past answers.link h),
+  (tt, subst IsOver (sym answers.link) (dead_over n.at.link dead)),
+)
 
-  pub went_finished : (m n : WorkState) (o : StationState) → IsGoing m n → is_live n.at.link ≡ false → Answers n.at Finished o → WorksUntil m (work_state o n.calls) ending.Finished
-  went_finished m n o g dead answers = (
-    Asked Finished ∷ g.0,
-    went_asking m n (work_state o n.calls) g Finished dead tt (ap (λ (l : LinkState). l.who) answers.link) answers.reported answers.passed refl (λ past h. still_has_past n.at.link o.link past answers.link h),
-    (tt, subst IsOver (sym answers.link) (laws.dead_over n.at.link dead)),
-  )
+-- ---- a call of serve
 
-  -- ---- a call of serve
+stops_at : (e : Ended) (l : LinkState) (answers : List Answer) → EndsAs e l answers → StopsAt e answers
+stops_at ended.Idle l answers h = h.2
+stops_at ended.Paused l answers h = h.2
+stops_at ended.TermOver l answers h = tt
+stops_at ended.GateShut l answers h = tt
+stops_at ended.Closed l answers h = tt
+stops_at ended.ReadFault l answers h = tt
+stops_at ended.WriteFault l answers h = tt
+stops_at (ended.BadFrame why) l answers h = tt
 
-  stops_at : (e : Ended) (l : LinkState) (answers : List Answer) → EndsAs e l answers → StopsAt e answers
-  stops_at ended.Idle l answers h = h.2
-  stops_at ended.Paused l answers h = h.2
-  stops_at ended.TermOver l answers h = tt
-  stops_at ended.GateShut l answers h = tt
-  stops_at ended.Closed l answers h = tt
-  stops_at ended.ReadFault l answers h = tt
-  stops_at ended.WriteFault l answers h = tt
-  stops_at (ended.BadFrame why) l answers h = tt
+was_call : (n o : WorkState) (who : Peer) (past : List Session) (e : Ended) (s : Serves n.at.link o.at.link (sides_at n.at n.calls) (sides_at o.at o.calls) e) → n.at.link.who ≡ who → HasPast n.at.link past → IsCall who past s.happened e
+was_call n o who past e s same h =
+    let P : Peer → Type 0 = λ p. IsCall p past s.happened e in
+    let is : IsCall n.at.link.who past s.happened e = record {
+      wire = s.wire;
+      few = s.few;
+      order = s.order;
+      passages = s.passages;
+      turns = λ t ts e. s.turns t ts (subst (HasPast n.at.link) e h);
+      rested = λ t ts e. s.rested t ts (subst (HasPast n.at.link) e h);
+      stops = stops_at e o.at.link (answers_in s.happened) s.ends;
+    } in
+    subst P same is
 
-  was_call : (n o : WorkState) (who : Peer) (past : List Session) (e : Ended) (s : Serves n.at.link o.at.link (sides_at n.at n.calls) (sides_at o.at o.calls) e) → n.at.link.who ≡ who → HasPast n.at.link past → IsCall who past s.happened e
-  was_call n o who past e s same h =
-      let P : Peer → Type 0 = λ p. IsCall p past s.happened e in
-      let is : IsCall n.at.link.who past s.happened e = record {
-        wire = s.wire;
-        few = s.few;
-        order = s.order;
-        passages = s.passages;
-        turns = λ t ts e. s.turns t ts (subst (HasPast n.at.link) e h);
-        rested = λ t ts e. s.rested t ts (subst (HasPast n.at.link) e h);
-        stops = stops_at e o.at.link (answers_in s.happened) s.ends;
-      } in
-      subst P same is
+went_serving : (m n o : WorkState) (e : Ended) (g : IsGoing m n) → is_live n.at.link ≡ true → (s : Serves n.at.link o.at.link (sides_at n.at n.calls) (sides_at o.at o.calls) e) → Steps m o (Served s.happened e ∷ g.0)
+went_serving m n o e g live s =
+    went_on m n o g.0 (Served s.happened e) g.1 s.same s.happens s.stands
+    (λ past h. serve_view n.at.link past (answers_in s.happened) (deposits_in s.happened) live h)
+    (λ past h orderly. (was_call n o m.at.link.who (past_after past g.0) e s g.1.who h, g.2 live, orderly))
 
-  went_serving : (m n o : WorkState) (e : Ended) (g : IsGoing m n) → is_live n.at.link ≡ true → (s : Serves n.at.link o.at.link (sides_at n.at n.calls) (sides_at o.at o.calls) e) → Steps m o (Served s.happened e ∷ g.0)
-  went_serving m n o e g live s =
-      went_on m n o g.0 (Served s.happened e) g.1 s.same s.happens s.stands
-      (λ past h. serve_view n.at.link past (answers_in s.happened) (deposits_in s.happened) live h)
-      (λ past h orderly. (was_call n o m.at.link.who (past_after past g.0) e s g.1.who h, g.2 live, orderly))
+pub went_idle : (m n o : WorkState) → IsGoing m n → is_live n.at.link ≡ true → Serves n.at.link o.at.link (sides_at n.at n.calls) (sides_at o.at o.calls) ended.Idle → IsWaiting m o
+went_idle m n o g live s = (Served s.happened ended.Idle ∷ g.0, went_serving m n o ended.Idle g live s, tt, s.ends.0, s.ends.1)
 
-  pub went_idle : (m n o : WorkState) → IsGoing m n → is_live n.at.link ≡ true → Serves n.at.link o.at.link (sides_at n.at n.calls) (sides_at o.at o.calls) ended.Idle → IsWaiting m o
-  went_idle m n o g live s = (Served s.happened ended.Idle ∷ g.0, went_serving m n o ended.Idle g live s, tt, s.ends.0, s.ends.1)
+pub went_paused : (m n o : WorkState) → IsGoing m n → is_live n.at.link ≡ true → Serves n.at.link o.at.link (sides_at n.at n.calls) (sides_at o.at o.calls) ended.Paused → IsGoing m o
+went_paused m n o g live s = (Served s.happened ended.Paused ∷ g.0, went_serving m n o ended.Paused g live s, λ alive. tt)
 
-  pub went_paused : (m n o : WorkState) → IsGoing m n → is_live n.at.link ≡ true → Serves n.at.link o.at.link (sides_at n.at n.calls) (sides_at o.at o.calls) ended.Paused → IsGoing m o
-  went_paused m n o g live s = (Served s.happened ended.Paused ∷ g.0, went_serving m n o ended.Paused g live s, λ alive. tt)
+pub went_refused : (m n o : WorkState) → IsGoing m n → is_live n.at.link ≡ true → Serves n.at.link o.at.link (sides_at n.at n.calls) (sides_at o.at o.calls) ended.TermOver → WorksUntil m o ending.TermOver
+went_refused m n o g live s = (Served s.happened ended.TermOver ∷ g.0, went_serving m n o ended.TermOver g live s, tt)
 
-  pub went_refused : (m n o : WorkState) → IsGoing m n → is_live n.at.link ≡ true → Serves n.at.link o.at.link (sides_at n.at n.calls) (sides_at o.at o.calls) ended.TermOver → WorksUntil m o ending.TermOver
-  went_refused m n o g live s = (Served s.happened ended.TermOver ∷ g.0, went_serving m n o ended.TermOver g live s, tt)
+pub went_shut : (m n o : WorkState) → IsGoing m n → is_live n.at.link ≡ true → Serves n.at.link o.at.link (sides_at n.at n.calls) (sides_at o.at o.calls) ended.GateShut → WorksUntil m o ending.GateShut
+went_shut m n o g live s = (Served s.happened ended.GateShut ∷ g.0, went_serving m n o ended.GateShut g live s, tt)
 
-  pub went_shut : (m n o : WorkState) → IsGoing m n → is_live n.at.link ≡ true → Serves n.at.link o.at.link (sides_at n.at n.calls) (sides_at o.at o.calls) ended.GateShut → WorksUntil m o ending.GateShut
-  went_shut m n o g live s = (Served s.happened ended.GateShut ∷ g.0, went_serving m n o ended.GateShut g live s, tt)
+-- the endings of a connection, and no other
+closing_over : (e : Ended) (l : LinkState) (answers : List Answer) → (e ≡ ended.Idle → ⊥) → (e ≡ ended.TermOver → ⊥) → (e ≡ ended.GateShut → ⊥) → (e ≡ ended.Paused → ⊥) → EndsAs e l answers → IsOver l
+closing_over ended.Idle l answers a b c d h = absurd (a refl)
+closing_over ended.TermOver l answers a b c d h = absurd (b refl)
+closing_over ended.GateShut l answers a b c d h = absurd (c refl)
+closing_over ended.Paused l answers a b c d h = absurd (d refl)
+closing_over ended.Closed l answers a b c d h = h.0
+closing_over ended.ReadFault l answers a b c d h = h.0
+closing_over ended.WriteFault l answers a b c d h = h.0
+closing_over (ended.BadFrame why) l answers a b c d h = h.0
 
-  -- the endings of a connection, and no other
-  closing_over : (e : Ended) (l : LinkState) (answers : List Answer) → (e ≡ ended.Idle → ⊥) → (e ≡ ended.TermOver → ⊥) → (e ≡ ended.GateShut → ⊥) → (e ≡ ended.Paused → ⊥) → EndsAs e l answers → IsOver l
-  closing_over ended.Idle l answers a b c d h = absurd (a refl)
-  closing_over ended.TermOver l answers a b c d h = absurd (b refl)
-  closing_over ended.GateShut l answers a b c d h = absurd (c refl)
-  closing_over ended.Paused l answers a b c d h = absurd (d refl)
-  closing_over ended.Closed l answers a b c d h = h.0
-  closing_over ended.ReadFault l answers a b c d h = h.0
-  closing_over ended.WriteFault l answers a b c d h = h.0
-  closing_over (ended.BadFrame why) l answers a b c d h = h.0
+pub went_closed : (m n o : WorkState) (e : Ended) → IsGoing m n → is_live n.at.link ≡ true → Serves n.at.link o.at.link (sides_at n.at n.calls) (sides_at o.at o.calls) e
+    → (e ≡ ended.Idle → ⊥) → (e ≡ ended.TermOver → ⊥) → (e ≡ ended.GateShut → ⊥) → (e ≡ ended.Paused → ⊥) → IsGoing m o
+went_closed m n o e g live s a b c d = (
+  Served s.happened e ∷ g.0,
+  went_serving m n o e g live s,
+  λ alive. let dead : is_live o.at.link ≡ false = over_dead o.at.link (closing_over e o.at.link (answers_in s.happened) a b c d s.ends) in absurd (cc (dead, alive)),
+)
 
-  pub went_closed : (m n o : WorkState) (e : Ended) → IsGoing m n → is_live n.at.link ≡ true → Serves n.at.link o.at.link (sides_at n.at n.calls) (sides_at o.at o.calls) e
-      → (e ≡ ended.Idle → ⊥) → (e ≡ ended.TermOver → ⊥) → (e ≡ ended.GateShut → ⊥) → (e ≡ ended.Paused → ⊥) → IsGoing m o
-  went_closed m n o e g live s a b c d = (
-    Served s.happened e ∷ g.0,
-    went_serving m n o e g live s,
-    λ alive. let dead : is_live o.at.link ≡ false = laws.over_dead o.at.link (closing_over e o.at.link (answers_in s.happened) a b c d s.ends) in absurd (cc (dead, alive)),
-  )
+-- ---- a wait
 
-  -- ---- a wait
+pub went_again : (m n : WorkState) (o : StationState) → IsWaiting m n → Answers n.at Again o → IsGoing m (work_state o n.calls)
+went_again m n o g answers = (
+  Waited Again [] ∷ g.0,
+  went_on m n (work_state o n.calls) g.0 (Waited Again []) g.1 (ap (λ (l : LinkState). l.who) answers.link) (answered n (work_state o n.calls) Again [] answers.reported answers.passed (sym (append-nil n.calls)))
+      (λ past h. still_has_past n.at.link o.link past answers.link h)
+      (λ past h. sym (append-nil (deposits_of_sessions past)))
+      (λ past h orderly. (refl, g.2, orderly)),
+  λ live. tt,
+)
 
-  pub went_again : (m n : WorkState) (o : StationState) → IsWaiting m n → Answers n.at Again o → IsGoing m (work_state o n.calls)
-  went_again m n o g answers = (
-    Waited Again [] ∷ g.0,
-    went_on m n (work_state o n.calls) g.0 (Waited Again []) g.1 (ap (λ (l : LinkState). l.who) answers.link) (answered n (work_state o n.calls) Again [] answers.reported answers.passed (sym (append-nil n.calls)))
-        (λ past h. still_has_past n.at.link o.link past answers.link h)
-        (λ past h. sym (append-nil (deposits_of_sessions past)))
-        (λ past h orderly. (refl, g.2, orderly)),
-    λ live. tt,
-  )
+cut_how : (l : LinkState) (s : Session) (how : How) → l.pending.kept ≡ None → l.unread ≡ [] → how_cut l s how ≡ how_then how (CutAfter (length s.came) false)
+cut_how l s Going kept unread =
+    let none : length s.came - 0 ≡ length s.came = omega arith in
+    (λ i. CutAfter (length s.came - length (unread i)) (is_kept (kept i))) ∙ ap (λ (n : ℕ). CutAfter n false) none
+cut_how l s InputOver kept unread = refl
+cut_how l s ReadFaulty kept unread = refl
+cut_how l s WriteFaulty kept unread = refl
+cut_how l s (CutAfter n b) kept unread = refl
 
-  cut_how : (l : LinkState) (s : Session) (how : How) → l.pending.kept ≡ None → l.unread ≡ [] → how_cut l s how ≡ how_then how (CutAfter (length s.came) false)
-  cut_how l s Going kept unread =
-      let none : length s.came - 0 ≡ length s.came = omega arith in
-      (λ i. CutAfter (length s.came - length (unread i)) (is_kept (kept i))) ∙ ap (λ (n : ℕ). CutAfter n false) none
-  cut_how l s InputOver kept unread = refl
-  cut_how l s ReadFaulty kept unread = refl
-  cut_how l s WriteFaulty kept unread = refl
-  cut_how l s (CutAfter n b) kept unread = refl
+-- a cut of a link that keeps nothing and has nothing unread is what silence does
+silent_cut : (l : LinkState) (past : List Session) (deposits : List Deposit) → l.pending.kept ≡ None → l.unread ≡ [] → cut_past l past deposits ≡ with_newest_deposits (sessions_after_silence past) deposits
+silent_cut l [] deposits kept unread = refl
+silent_cut l (s ∷ ss) deposits kept unread =
+    (λ i. with_calls (record { came = s.came; taken = s.taken; how = cut_how l s s.how kept unread i; is_cut = true; calls = s.calls }) deposits ∷ ss)
 
-  -- a cut of a link that keeps nothing and has nothing unread is what silence does
-  silent_cut : (l : LinkState) (past : List Session) (deposits : List Deposit) → l.pending.kept ≡ None → l.unread ≡ [] → cut_past l past deposits ≡ with_newest_deposits (sessions_after_silence past) deposits
-  silent_cut l [] deposits kept unread = refl
-  silent_cut l (s ∷ ss) deposits kept unread =
-      (λ i. with_calls (record { came = s.came; taken = s.taken; how = cut_how l s s.how kept unread i; is_cut = true; calls = s.calls }) deposits ∷ ss)
+went_cutting : (m n : WorkState) (o : StationState) (later : List Deposit) (g : IsWaiting m n) (mid : StationState) → Answers n.at Silent mid → ChangesLink mid o → (k : Cuts mid.link o.link n.calls later)
+    → Steps m (work_state o later) (Waited Silent k.deposits ∷ g.0)
+went_cutting m n o later g mid answers turns k =
+    let reported : Reports n.at.reported (Silent ∷ []) o.reported = let P : Option (List Answer) → Type 0 = λ t. Reports n.at.reported (Silent ∷ []) t in subst P (sym turns.reported) answers.reported in
+    let kept : mid.link.pending.kept ≡ None = ap (λ (l : LinkState). l.pending.kept) answers.link ∙ g.3.kept in
+    let unread : mid.link.unread ≡ [] = ap (λ (l : LinkState). l.unread) answers.link ∙ g.4 in
+    went_on m n (work_state o later) g.0 (Waited Silent k.deposits) g.1 (k.same ∙ ap (λ (l : LinkState). l.who) answers.link)
+    (answered n (work_state o later) Silent k.deposits reported (turns.passed ∙ answers.passed) k.desk)
+    (λ past h. let P : List Session → Type 0 = HasPast o.link in subst P (silent_cut mid.link past k.deposits kept unread) (k.stands past (still_has_past n.at.link mid.link past answers.link h)))
+    (λ past h. silent_view n.at.link past k.deposits (quiet_live n.at.link g.3) h ∙ ap (λ (c : List Deposit). deposits_of_sessions past ++ c) (sym (all_deposits k.deposits)))
+    (λ past h orderly. (tt, g.2, orderly))
 
-  went_cutting : (m n : WorkState) (o : StationState) (later : List Deposit) (g : IsWaiting m n) (mid : StationState) → Answers n.at Silent mid → ChangesLink mid o → (k : Cuts mid.link o.link n.calls later)
-      → Steps m (work_state o later) (Waited Silent k.deposits ∷ g.0)
-  went_cutting m n o later g mid answers turns k =
-      let reported : Reports n.at.reported (Silent ∷ []) o.reported = let P : Option (List Answer) → Type 0 = λ t. Reports n.at.reported (Silent ∷ []) t in subst P (sym turns.reported) answers.reported in
-      let kept : mid.link.pending.kept ≡ None = ap (λ (l : LinkState). l.pending.kept) answers.link ∙ g.3.kept in
-      let unread : mid.link.unread ≡ [] = ap (λ (l : LinkState). l.unread) answers.link ∙ g.4 in
-      went_on m n (work_state o later) g.0 (Waited Silent k.deposits) g.1 (k.same ∙ ap (λ (l : LinkState). l.who) answers.link)
-      (answered n (work_state o later) Silent k.deposits reported (turns.passed ∙ answers.passed) k.desk)
-      (λ past h. let P : List Session → Type 0 = HasPast o.link in subst P (silent_cut mid.link past k.deposits kept unread) (k.stands past (still_has_past n.at.link mid.link past answers.link h)))
-      (λ past h. silent_view n.at.link past k.deposits (quiet_live n.at.link g.3) h ∙ ap (λ (c : List Deposit). deposits_of_sessions past ++ c) (sym (all_deposits k.deposits)))
-      (λ past h orderly. (tt, g.2, orderly))
+pub went_cut : (m n : WorkState) (o : StationState) (later : List Deposit) (mid : StationState) → IsWaiting m n → Answers n.at Silent mid → ChangesLink mid o → Cuts mid.link o.link n.calls later → IsOver o.link → IsGoing m (work_state o later)
+went_cut m n o later mid g answers turns k over = (
+  Waited Silent k.deposits ∷ g.0,
+  went_cutting m n o later g mid answers turns k,
+  λ live. let dead : is_live o.link ≡ false = over_dead o.link over in absurd (cc (dead, live)),
+)
 
-  pub went_cut : (m n : WorkState) (o : StationState) (later : List Deposit) (mid : StationState) → IsWaiting m n → Answers n.at Silent mid → ChangesLink mid o → Cuts mid.link o.link n.calls later → IsOver o.link → IsGoing m (work_state o later)
-  went_cut m n o later mid g answers turns k over = (
-    Waited Silent k.deposits ∷ g.0,
-    went_cutting m n o later g mid answers turns k,
-    λ live. let dead : is_live o.link ≡ false = laws.over_dead o.link over in absurd (cc (dead, live)),
-  )
-
-  pub went_cut_over : (m n : WorkState) (o : StationState) (later : List Deposit) (mid : StationState) → IsWaiting m n → Answers n.at Silent mid → ChangesLink mid o → Cuts mid.link o.link n.calls later → WorksUntil m (work_state o later) ending.TermOver
-  went_cut_over m n o later mid g answers turns k = (Waited Silent k.deposits ∷ g.0, went_cutting m n o later g mid answers turns k, tt)
+pub went_cut_over : (m n : WorkState) (o : StationState) (later : List Deposit) (mid : StationState) → IsWaiting m n → Answers n.at Silent mid → ChangesLink mid o → Cuts mid.link o.link n.calls later → WorksUntil m (work_state o later) ending.TermOver
+went_cut_over m n o later mid g answers turns k = (Waited Silent k.deposits ∷ g.0, went_cutting m n o later g mid answers turns k, tt)
 
 -- ---- the desk was asked whether the term is over
 

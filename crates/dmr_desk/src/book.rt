@@ -1,6 +1,7 @@
 //! A site and the journal of its events.
 
 ghost use Rattle.std.specs.Prelude.{◌≡◌, ◌<◌, [], length, reverse, IsOk, IsTrue, ◌↔◌, IfOk, IfErr};
+ghost use Rattle.std.specs.Prelude.{OnOk};
 ghost use Rattle.dmr_link.specs.Runs.{IsSafe};
 ghost use Rattle.dmr_desk.specs.BookState.{IsSoundBook, answer_to, book_with_entry};
 ghost use Rattle.dmr_desk.specs.BookState.{site_after_entries};
@@ -105,16 +106,24 @@ impl Book {
             × (over.entries ≡ length self.old.entries)
             × (length self.old.entries ≡ self.old.limit)) }
     {
-        self.apply_borrowed(actor, &event)
+        let mut acts = Acts::none();
+        self.apply_to(actor, &event, &mut acts)?;
+        Ok(acts)
     }
 
-    /// Does the same as [`apply`](Book::apply), for a borrowed event.
-    fn apply_borrowed(&mut self, actor: u8, event: &Event) -> Result<Acts, TermOver>
-        ensures acts { IfOk result (λ acts. acts ≡ answer_to self.old event.now) }
-        ensures entered { IfOk result
-            (λ acts. self.new ≡ book_with_entry self.old actor event.now acts) }
+    /// Answers an event as [`apply`](Book::apply) does. `acts` becomes the answer, whatever it was before. On an error
+    /// `acts` is unchanged too.
+    pub(crate) fn apply_to(
+        &mut self,
+        actor: u8,
+        event: &Event,
+        acts: &mut Acts,
+    ) -> Result<(), TermOver>
+        ensures acts { OnOk result (acts.new ≡ answer_to self.old event.now) }
+        ensures entered { OnOk result
+            (self.new ≡ book_with_entry self.old actor event.now acts.new) }
         ensures room { length self.old.entries < self.old.limit → IsOk result }
-        ensures over { IfErr result (λ over. (self.new ≡ self.old)
+        ensures over { IfErr result (λ over. (self.new ≡ self.old) × (acts.new ≡ acts.old)
             × (over.entries ≡ length self.old.entries)
             × (length self.old.entries ≡ self.old.limit)) }
     {
@@ -122,9 +131,9 @@ impl Book {
         if entries >= self.limit {
             return Err(TermOver { entries });
         }
-        let acts = self.site.apply(*event);
-        push_copy(&mut self.journal, &entry_of(actor, event, &acts));
-        Ok(acts)
+        self.site.apply_to(event, acts);
+        push_copy(&mut self.journal, &entry_of(actor, event, acts));
+        Ok(())
     }
 
     /// The number of entries.

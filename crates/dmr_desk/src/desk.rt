@@ -43,16 +43,22 @@ struct Locked<L: DeskLedger> {
 }
 
 impl<L: DeskLedger> Locked<L> {
-    /// Applies an event to the site for a seat, and returns the answer. On an error the book has no room or the desk
-    /// was abandoned; nothing has changed, and the error has the number of the book's entries.
-    fn deposit(&mut self, seat: &mut Seat<L>, event: &Event) -> Result<Acts, TermOver>
-        ensures acts { IfOk result (λ acts. acts ≡ answer_to self.old.book event.now) }
-        ensures entered { IfOk result
-            (λ acts. self.new.book ≡ book_with_entry self.old.book seat.old.actor event.now acts) }
-        ensures deposited { IfOk result
-            (λ acts. seat.new ≡ seat_with_deposit seat.old event.now acts) }
+    /// Applies an event to the site for a seat. `acts` becomes the answer, whatever it was before. On an error the book
+    /// has no room or the desk was abandoned; nothing has changed, `acts` neither, and the error has the number of the
+    /// book's entries.
+    fn deposit_to(
+        &mut self,
+        seat: &mut Seat<L>,
+        event: &Event,
+        acts: &mut Acts,
+    ) -> Result<(), TermOver>
+        ensures acts { OnOk result (acts.new ≡ answer_to self.old.book event.now) }
+        ensures entered { OnOk result (self.new.book
+            ≡ book_with_entry self.old.book seat.old.actor event.now acts.new) }
+        ensures deposited { OnOk result
+            (seat.new ≡ seat_with_deposit seat.old event.now acts.new) }
         ensures over { IfErr result (λ over. (self.new.book ≡ self.old.book) × (seat.new ≡ seat.old)
-            × (over.entries ≡ length self.old.book.entries)) }
+            × (acts.new ≡ acts.old) × (over.entries ≡ length self.old.book.entries)) }
         ensures among { IfErr result (λ over. length seat.old.deposits ≤ over.entries) }
         ensures taken { OnOk result (self.old.abandoned ≡ false) }
         ensures abandoned { self.new.abandoned ≡ self.old.abandoned }
@@ -66,7 +72,7 @@ impl<L: DeskLedger> Locked<L> {
         if *abandoned {
             return Err(seat.refusal(book, total));
         }
-        seat.apply_event(book, total, event)
+        seat.apply_event_to(book, total, event, acts)
     }
 
     /// Whether the term is over: the book is at its limit, or the desk was abandoned.
@@ -303,7 +309,26 @@ impl<L: DeskLedger> SharedDesk<L> {
         ensures over { IfErr result (λ over. (seat.new ≡ seat.old)
             × (length seat.old.deposits ≤ over.entries)) }
     {
-        self.locked.lock(rt).deposit(seat, &event)
+        let mut acts = Acts::none();
+        self.deposit_to(rt, seat, &event, &mut acts)?;
+        Ok(acts)
+    }
+
+    /// Does the same as [`deposit`](SharedDesk::deposit). `acts` becomes the answer, whatever it was before. On an error
+    /// `acts` is unchanged too.
+    pub(crate) fn deposit_to<R: Wait>(
+        &self,
+        rt: &R,
+        seat: &mut Seat<L>,
+        event: &Event,
+        acts: &mut Acts,
+    ) -> Result<(), TermOver>
+        ensures ok { OnOk result (seat.new ≡ seat_with_deposit seat.old event.now acts.new) }
+        ensures over { IfErr result (λ over. (seat.new ≡ seat.old)
+            × (length seat.old.deposits ≤ over.entries)) }
+        ensures acts { IfErr result (λ _. acts.new ≡ acts.old) }
+    {
+        self.locked.lock(rt).deposit_to(seat, event, acts)
     }
 
     /// Whether the journal is at its limit, or a thread of the desk's term could not be started. It waits for the lock,

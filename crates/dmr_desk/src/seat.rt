@@ -77,34 +77,38 @@ impl<L: Ledger> Seat<L> {
         }
     }
 
-    /// Applies an event to the book for this actor, counts it in the ledger, and keeps it with the answer. On an error
-    /// the book or the seat has no room, and nothing has changed; the error has the number of the book's entries.
-    pub(crate) fn apply_event(
+    /// Applies an event to the book for this actor, counts it in the ledger, and keeps it with the answer. `acts` becomes
+    /// the answer, whatever it was before. On an error the book or the seat has no room, and nothing has changed, `acts`
+    /// neither; the error has the number of the book's entries.
+    pub(crate) fn apply_event_to(
         &mut self,
         book: &mut Book,
         total: &mut ledger::Book<L>,
         event: &Event,
-    ) -> Result<Acts, TermOver>
-        ensures acts { IfOk result (λ acts. acts ≡ answer_to book.old event.now) }
-        ensures entered { IfOk result
-            (λ acts. book.new ≡ book_with_entry book.old self.old.actor event.now acts) }
-        ensures deposited { IfOk result
-            (λ acts. self.new ≡ seat_with_deposit self.old event.now acts) }
-        ensures among { length self.old.deposits ≤ total.old.total }
+        acts: &mut Acts,
+    ) -> Result<(), TermOver>
+        ensures acts { OnOk result (acts.new ≡ answer_to book.old event.now) }
+        ensures entered { OnOk result
+            (book.new ≡ book_with_entry book.old self.old.actor event.now acts.new) }
+        ensures deposited { OnOk result
+            (self.new ≡ seat_with_deposit self.old event.now acts.new) }
         ensures counted { OnOk result (total.new.total ≡ total.old.total + 1) }
+        ensures among { IfErr result (λ over. length self.old.deposits ≤ total.old.total) }
         ensures over { IfErr result (λ over. (book.new ≡ book.old) × (self.new ≡ self.old)
-            × (total.new.total ≡ total.old.total) × (over.entries ≡ length book.old.entries)) }
+            × (acts.new ≡ acts.old) × (total.new.total ≡ total.old.total)
+            × (over.entries ≡ length book.old.entries)) }
     {
-        let over = self.refusal(book, total);
         // If the seat is full, the book is full too, since each deposit is an entry. No contract says so: nothing ties
         // the two limits.
         if self.deposits.len() >= self.limit {
-            return Err(over);
+            return Err(self.refusal(book, total));
         }
-        let acts = book.apply(self.actor, *event)?;
+        if book.apply_to(self.actor, event, acts).is_err() {
+            return Err(self.refusal(book, total));
+        }
         total.add(&mut self.share, 1);
-        push_copy(&mut self.deposits, &deposit_of(event, &acts));
-        Ok(acts)
+        push_copy(&mut self.deposits, &deposit_of(event, acts));
+        Ok(())
     }
 
     /// Returns the deposits, and the seat's part of the ledger, whose amount is their number.

@@ -10,7 +10,6 @@ ghost use Rattle.dmr_desk.specs.Work.{IsNextStep, WorksUntil};
 
 use crate::ending::Ending;
 use crate::station::{ConsoleStation, Serving, Station};
-use dmr_link::laws::{happenings_follow, links_rest};
 use dmr_link::{Desk, Ended, Gate};
 use dmr_wire::{Connect, Port, Waited};
 use std::sync::Wait;
@@ -25,8 +24,6 @@ fn ask_for_connection<S: Serving, D: Desk>(station: &mut S, desk: &mut D) -> Opt
     ensures shut { result ≡ Some Ending.GateShut → ⊥ }
     ensures over { result ≡ Some Ending.TermOver → (before : _) × D.ends before desk.new }
 {
-    links_rest();
-    happenings_follow();
     if desk.over() {
         return Some(Ending::TermOver);
     }
@@ -53,8 +50,6 @@ fn wait_for_port<S: Serving, D: Desk>(station: &mut S, desk: &mut D) -> Option<E
         × D.refuses before event over desk.new)
         ⊎ ((before : _) × D.ends before desk.new) }
 {
-    links_rest();
-    happenings_follow();
     if desk.over() {
         return Some(Ending::TermOver);
     }
@@ -83,8 +78,6 @@ fn serve_once<S: Serving, D: Desk>(station: &mut S, desk: &mut D) -> Option<Endi
         × D.refuses before event over desk.new)
         ⊎ ((before : _) × D.ends before desk.new) }
 {
-    links_rest();
-    happenings_follow();
     if desk.over() {
         return Some(Ending::TermOver);
     }
@@ -130,8 +123,6 @@ pub fn work_station<R: Wait, S: Serving, D: Desk>(rt: &R, station: &mut S, desk:
         × D.refuses before event over desk.new)
         ⊎ ((before : _) × D.ends before desk.new) }
 {
-    links_rest();
-    happenings_follow();
     for _ in rt.forever() {
         if let Some(ending) = do_step(station, desk) {
             return ending;

@@ -2,6 +2,7 @@
 //! desk keeps both, so that the judgement can be printed.
 
 ghost use Rattle.std.specs.Prelude.{◌≡◌, ◌<◌, [], ◌∷◌, ◌++◌, vec_len, vec_capacity, IfOk, IfErr};
+ghost use Rattle.std.specs.Prelude.{OnOk};
 ghost use Rattle.dmr_core.specs.Facts.{facts_after, no_facts};
 ghost use Rattle.dmr_core.specs.Journal.{unattributed_entry};
 ghost use Rattle.dmr_core.specs.Rules.{acts_of};
@@ -45,28 +46,29 @@ impl SiteDesk {
         Ok(SiteDesk { site, taken })
     }
 
-    /// Lets the site answer an event, and keeps both. `Err`: too many are kept, and nothing has changed.
-    fn take(&mut self, event: &Event) -> Result<Acts, TermOver>
+    /// Lets the site answer an event, and keeps both. `acts` becomes the answer. `Err`: too many are kept, and nothing
+    /// has changed.
+    fn take(&mut self, event: &Event, acts: &mut Acts) -> Result<(), TermOver>
         // The answer is that of the controller's rules.
-        ensures acts { IfOk result
-            (λ acts. acts.list ≡ acts_of self.old.site.plan self.old.site.facts event.now) }
-        ensures ok { IfOk result (λ acts. self.new ≡ record {
+        ensures acts { OnOk result
+            (acts.new.list ≡ acts_of self.old.site.plan self.old.site.facts event.now) }
+        ensures ok { OnOk result (self.new ≡ record {
           site = record {
             plan = self.old.site.plan;
             facts = facts_after self.old.site.plan self.old.site.facts
-                (unattributed_entry event.now acts ∷ []);
+                (unattributed_entry event.now acts.new ∷ []);
           };
-          taken = self.old.taken ++ record { event = event.now; acts = acts } ∷ [];
+          taken = self.old.taken ++ record { event = event.now; acts = acts.new } ∷ [];
         }) }
-        ensures err { IfErr result (λ over. self.new ≡ self.old) }
+        ensures err { IfErr result (λ over. (self.new ≡ self.old) × (acts.new ≡ acts.old)) }
     {
         let entries = self.taken.len();
         if entries >= MOST_TAKEN {
             return Err(TermOver { entries });
         }
-        let acts = self.site.apply(*event);
-        push_copy(&mut self.taken, &deposit_of(event, &acts));
-        Ok(acts)
+        self.site.apply_to(event, acts);
+        push_copy(&mut self.taken, &deposit_of(event, acts));
+        Ok(())
     }
 
     /// Returns the events that the desk keeps, each with its answer, oldest first.
@@ -122,8 +124,8 @@ impl Desk for SiteDesk {
 
     ghost ends = { λ d f. f ≡ d };
 
-    fn deposit(&mut self, event: Event) -> Result<Acts, TermOver> {
-        self.take(&event)
+    fn deposit_to(&mut self, event: &Event, acts: &mut Acts) -> Result<(), TermOver> {
+        self.take(event, acts)
     }
 
     fn over(&mut self) -> bool {

@@ -29,7 +29,7 @@ impl Desk for AskedDesk {
 
     ghost ends = { λ d f. ⊤ };
 
-    fn deposit(&mut self, _event: Event) -> Result<Acts, TermOver> {
+    fn deposit_to(&mut self, _event: &Event, _acts: &mut Acts) -> Result<(), TermOver> {
         Err(TermOver { entries: 0 })
     }
 

@@ -1,7 +1,7 @@
 //! A desk that keeps a list of the events that it took.
 
 ghost use Rattle.std.specs.Prelude.{◌≡◌, ◌<◌, [], ◌∷◌, ◌++◌, length, vec_len, vec_capacity, IfOk};
-ghost use Rattle.std.specs.Prelude.{IfErr};
+ghost use Rattle.std.specs.Prelude.{IfErr, OnOk};
 
 use dmr_core::{Acts, Event, Site};
 use dmr_link::{Deposit, Desk, TermOver};
@@ -58,21 +58,22 @@ impl ListDesk {
         Ok(())
     }
 
-    /// Applies an event to the site and keeps it with the answer. If the term is over, it changes nothing.
-    fn take(&mut self, event: &Event) -> Result<Acts, TermOver>
-        ensures ok { IfOk result (λ acts. self.new ≡ record self.old {
-          calls = self.old.calls ++ record { event = event.now; acts = acts } ∷ [];
+    /// Applies an event to the site and keeps it with the answer, which `acts` becomes. If the term is over, it changes
+    /// nothing.
+    fn take(&mut self, event: &Event, acts: &mut Acts) -> Result<(), TermOver>
+        ensures ok { OnOk result (self.new ≡ record self.old {
+          calls = self.old.calls ++ record { event = event.now; acts = acts.new } ∷ [];
         }) }
-        ensures err { IfErr result (λ over. (self.new ≡ self.old)
+        ensures err { IfErr result (λ over. (self.new ≡ self.old) × (acts.new ≡ acts.old)
             × (length self.old.calls ≡ self.old.limit) × (over.entries ≡ self.old.limit)) }
     {
         let entries = self.calls.len();
         if entries >= self.limit {
             return Err(TermOver { entries });
         }
-        let acts = self.site.apply(*event);
-        push_copy(&mut self.calls, &deposit_of(event, &acts));
-        Ok(acts)
+        self.site.apply_to(event, acts);
+        push_copy(&mut self.calls, &deposit_of(event, acts));
+        Ok(())
     }
 
     /// Returns the events that the desk took in this term, oldest first.
@@ -94,8 +95,8 @@ impl Desk for ListDesk {
 
     ghost ends = { λ d f. (f ≡ d) × (length d.calls ≡ d.limit) };
 
-    fn deposit(&mut self, event: Event) -> Result<Acts, TermOver> {
-        self.take(&event)
+    fn deposit_to(&mut self, event: &Event, acts: &mut Acts) -> Result<(), TermOver> {
+        self.take(event, acts)
     }
 
     fn over(&mut self) -> bool {

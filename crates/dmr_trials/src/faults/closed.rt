@@ -21,7 +21,7 @@ impl Desk for ClosedDesk {
 
     ghost ends = { λ d f. ⊤ };
 
-    fn deposit(&mut self, _event: Event) -> Result<Acts, TermOver> {
+    fn deposit_to(&mut self, _event: &Event, _acts: &mut Acts) -> Result<(), TermOver> {
         self.turns = self.turns.saturating_add(1);
         Err(TermOver { entries: 0 })
     }

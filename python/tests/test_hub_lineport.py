@@ -113,6 +113,12 @@ class Served(HubCase):
             await operator.ask(line)
             self.assertEqual(len(calls), count, line)
 
+    async def test_counters_have_the_name_of_a_command(self) -> None:
+        hub = await self.start()
+        operator = await self.connect()
+        self.assertEqual(await operator.ask(b" stay\r"), b"ok\n")
+        self.assertEqual(hub.counts.changes.values, {(("command", "stay"), ("outcome", "answered")): 1})
+
     async def test_own_commands(self) -> None:
         await self.start()
         operator = await self.connect()

@@ -11,7 +11,8 @@ from temzaar.hub.fairqueue import FairQueue
 from temzaar.hub.link import Backoff, ConsoleLink, NoAnswer
 from temzaar.hub.model import SiteModel
 from temzaar.hub.moment import Moment
-from temzaar.hub.poller import Pacer, Poller
+from temzaar.hub.poller import Poller
+from temzaar.hub.turn import Pacer
 from temzaar.picture import Age, RadioList, ask_picture, ask_radios
 from temzaar.sitefile import ConsolePlace, SiteFault
 from tests.fake_console import REPLIES, FakeConsole
@@ -138,6 +139,27 @@ class Linked(unittest.IsolatedAsyncioTestCase):
         self.assertLess(seconds, 1.0)
         fake.is_hung = False
         await wait_until(lambda: link.state.is_up)
+
+    async def test_an_answer_that_comes_with_the_limit_is_an_answer(self) -> None:
+        """The loop stands still until the limit is over, as when the process is stopped. The answer has come meanwhile."""
+        fake = FakeConsole()
+        link = await self.start_up(fake, ControllerKeys(answer_seconds=0.2, reconnect_seconds=0.2))
+        asking = asyncio.create_task(link.ask("a", b"drop 1001"))
+        await asyncio.sleep(0)
+        await asyncio.sleep(0)
+        time.sleep(0.4)
+        self.assertEqual(await asking, b"ok\n")
+        self.assertTrue(link.state.is_up)
+
+    async def test_a_line_that_nobody_asked_for(self) -> None:
+        """It ends the connection when it comes, after a list too, and is no answer to the next question."""
+        fake = FakeConsole()
+        link = await self.start_up(fake, PATIENT)
+        await link.ask("a", b"slots")
+        fake.streams[-1].sendall(b"ok\n")
+        await wait_until(lambda: "what nobody asked for" in link.state.reason)
+        await wait_until(lambda: link.state.is_up)
+        self.assertEqual(await link.ask("a", b"drop 5"), b"error not registered\n")
 
     async def test_a_slow_controller(self) -> None:
         """A question whose turn does not come in time fails, and is not sent."""

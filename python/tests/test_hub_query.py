@@ -3,7 +3,7 @@ import unittest
 
 from temzaar.hub.boardviews import CALL_KEYS, HISTORY_KEYS
 from temzaar.hub.query import read_query
-from temzaar.hub.web import BadRequest
+from temzaar.hub.httpread import BadRequest
 
 
 class Read(unittest.TestCase):
@@ -24,7 +24,7 @@ class Read(unittest.TestCase):
                             ("radio=\xb2", "radio: not a whole number: 1 to 16777215")):
             with self.subTest(query[:40]), self.assertRaises(BadRequest) as refused:
                 read_query(query, CALL_KEYS)
-            self.assertEqual((refused.exception.response.status, refused.exception.response.body.decode()), (400, f"{said}\n"))
+            self.assertEqual((refused.exception.status, refused.exception.reason), (400, said))
         with self.assertRaises(BadRequest) as refused:
             read_query("span=week", HISTORY_KEYS)
         self.assertEqual(str(refused.exception), 'span: not "hour" or "day"')

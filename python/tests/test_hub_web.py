@@ -182,6 +182,11 @@ class Harmless(WebCase):
         self.assertEqual((await self.send(b"GET /metr", ends=True)).status, 400)
         await self.assert_unharmed()
 
+    async def test_a_host_of_the_config_in_capitals(self) -> None:
+        await self.serve(hosts=("Board.Example",))
+        for host, status in (("board.example", 200), ("BOARD.example:1", 200), ("localhost", 421)):
+            self.assertEqual((await self.send(f"GET /metrics HTTP/1.1\r\nHost: {host}\r\n\r\n".encode())).status, status)
+
     async def test_commands_in_a_request_reach_no_console(self) -> None:
         await self.serve()
         for path in ("/v1/site.json?drop=1001", "/metrics?line=stay%0a", "/healthz?%0D%0Amove%207"):

@@ -7,6 +7,7 @@ Modules, lowest first:
     moment     times, and their text
     counts     counters, gauges and histograms, and their text for Prometheus
     fairqueue  a queue in which those who ask take turns
+    turn       long work has a part of the loop's time, and users a pace
     link       the connection to the controller's console
     seencalls  the calls that the hub has seen, in memory of a fixed size
     samples    figures of the last hour and the last day, in memory of a fixed size
@@ -23,6 +24,7 @@ Modules, lowest first:
     session    an operator's connection: lines and their replies
     lineport   the port that operators connect to
     views      the site as JSON and as metrics, and whether all is well
+    httpread   requests of HTTP, read from octets
     web        the HTTP port
     query      the queries of HTTP paths
     boardviews the site's parts, seen calls and samples as JSON

@@ -2,6 +2,7 @@
 from dataclasses import dataclass
 from typing import Any
 
+from temzaar.hub.httpread import Request
 from temzaar.hub.keys import Choice, Whole
 from temzaar.hub.model import SiteModel
 from temzaar.hub.moment import Moment, utc_text
@@ -11,7 +12,7 @@ from temzaar.hub.recordsamples import KINDS
 from temzaar.hub.samples import FIGURES, SPANS, Span, Summary
 from temzaar.hub.seencalls import CallFilter, SeenCall
 from temzaar.hub.views import MISSED_POLLS, Views, json_octets, rounded
-from temzaar.hub.web import JSON, Request, Response, tagged_response
+from temzaar.hub.web import JSON, Response, tagged_response
 from temzaar.picture import LAST_RADIO
 
 # How many calls a response has, if the query does not say, and at most.

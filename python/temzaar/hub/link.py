@@ -102,13 +102,16 @@ class ConsoleProtocol(asyncio.Protocol):
 
     def data_received(self, data: bytes) -> None:
         """Octets of a reply came."""
+        if self.pending is None:
+            self.break_off("the controller sent what nobody asked for")
+            return
         self.octets += data
         while (end := self.octets.find(b"\n", self.cut)) >= 0:
             is_last = self.frame.take(bytes(self.octets[self.cut:end]))
             self.cut = end + 1
             if not is_last:
                 continue
-            if self.pending is None or self.cut < len(self.octets):
+            if self.cut < len(self.octets):
                 self.break_off("the controller sent what nobody asked for")
                 return
             if not self.pending.done():
@@ -251,12 +254,14 @@ class ConsoleLink:
             try:
                 pending = console.ask(question.line)
                 question.was_sent = True
-                async with asyncio.timeout(self.keys.answer_seconds):
-                    reply = await pending
-            except (LinkBroken, TimeoutError) as fault:
-                reason = str(fault) if isinstance(fault, LinkBroken) else f"no answer in {self.keys.answer_seconds:g} s"
-                question.fail(reason)
-                raise LinkBroken(reason) from fault
+                # an answer that came in the turn in which the time was over is an answer
+                await asyncio.wait({pending}, timeout=self.keys.answer_seconds)
+                if not pending.done():
+                    raise LinkBroken(f"no answer in {self.keys.answer_seconds:g} s")
+                reply = pending.result()
+            except LinkBroken as fault:
+                question.fail(str(fault))
+                raise
             except asyncio.CancelledError:
                 question.fail("the hub ends")
                 raise

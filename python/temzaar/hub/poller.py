@@ -10,6 +10,7 @@ from temzaar.hub.config import PollKeys
 from temzaar.hub.link import HUB, ConsoleLink, NoAnswer
 from temzaar.hub.model import SiteModel
 from temzaar.hub.moment import Moment
+from temzaar.hub.turn import Pacer
 from temzaar.picture import ask_picture, ask_radios
 
 Answer = TypeVar("Answer")
@@ -17,21 +18,6 @@ Poll = Callable[[], Coroutine[Any, Any, None]]
 # How many registered radios the model holds at most.
 MOST_RADIOS = 100_000
 SHORTEST_PAUSE = 0.01
-
-
-class Pacer:
-    """Spreads questions: `per_second` of them at most."""
-
-    def __init__(self, per_second: float) -> None:
-        self.gap, self.next = 1.0 / per_second, 0.0
-
-    async def wait(self) -> None:
-        """Waits until the next question may be asked."""
-        now = asyncio.get_running_loop().time()
-        begins = max(now, self.next)
-        self.next = begins + self.gap
-        if begins > now:
-            await asyncio.sleep(begins - now)
 
 
 @dataclass

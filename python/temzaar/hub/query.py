@@ -3,8 +3,8 @@ from collections.abc import Mapping
 from http import HTTPStatus
 from typing import Any
 
+from temzaar.hub.httpread import BadRequest
 from temzaar.hub.keys import Kind
-from temzaar.hub.web import BadRequest
 
 # How many digits a number has at most, and how much of an unknown key is shown.
 MOST_DIGITS, MOST_SHOWN = 8, 40

@@ -32,6 +32,11 @@ class Peer:
     uid: int | None = None
     pid: int | None = None
 
+    @property
+    def key(self) -> str:
+        """What limits for each user go by: not the name, which cannot always be found out."""
+        return self.user if self.uid is None else f"uid {self.uid}"
+
 
 @dataclass(frozen=True)
 class Rules:

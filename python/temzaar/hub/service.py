@@ -9,6 +9,7 @@ from temzaar.hub.audit import AuditFault, AuditLog
 from temzaar.hub.boardviews import BoardViews
 from temzaar.hub.config import Config
 from temzaar.hub.counts import HubCounts
+from temzaar.hub.httpread import Request
 from temzaar.hub.lineport import STOP_SECONDS, LinePort
 from temzaar.hub.link import ConsoleLink
 from temzaar.hub.model import SiteModel
@@ -20,7 +21,7 @@ from temzaar.hub.recordreader import RecordReader
 from temzaar.hub.roles import Rules
 from temzaar.hub.session import Desk
 from temzaar.hub.views import Views
-from temzaar.hub.web import JSON, METRICS, TEXT, Request, Response, View, WebPort
+from temzaar.hub.web import JSON, METRICS, TEXT, Response, View, WebPort
 from temzaar.sitefile import ConsolePlace, read_console_place
 
 

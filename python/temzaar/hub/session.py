@@ -14,10 +14,13 @@ from temzaar.hub.lines import NO_ANSWER, Line, LineCutter, LineKind, printable
 from temzaar.hub.link import ConsoleLink, NoAnswer
 from temzaar.hub.moment import utc_text
 from temzaar.hub.notes import warn
-from temzaar.hub.poller import Pacer
 from temzaar.hub.roles import Peer, Role
+from temzaar.hub.turn import LongWork, Paces
 
-PIECE = 1024
+# How many octets are read at once.
+PIECE = 4096
+# How many lines a user may send in a second, and at once after a rest. A piece without the end of a line counts as one.
+LINES_PER_SECOND, LINES_AT_ONCE = 200.0, 400
 # The reply to a command that has changed the site.
 DONE = b"ok\n"
 # How many commands without the role for them a user may send in a second. Each is a record of the audit log.
@@ -48,7 +51,9 @@ class Desk:
     counts: HubCounts
     on_change: Callable[[], None]
     sessions: dict[int, "Session"] = field(default_factory=dict)
-    refusals: dict[str, Pacer] = field(default_factory=dict)
+    lines: Paces = field(default_factory=lambda: Paces(LINES_PER_SECOND, LINES_AT_ONCE))
+    refusals: Paces = field(default_factory=lambda: Paces(REFUSALS_PER_SECOND))
+    own_work: LongWork = field(default_factory=LongWork)
     changes: int = 0
 
     def next_change(self) -> str:
@@ -82,16 +87,26 @@ class Session:
                     octets = await self.reader.read(PIECE)
                 if not octets:
                     return "end of input"
-                for line in cutter.feed(octets):
-                    self.is_busy = True
-                    await self._write(await self._answer(line))
+                if lines := cutter.feed(octets):
+                    await self._answer_all(lines)
                     until = loop.time() + keys.idle_seconds
+                else:
+                    await self.desk.lines.wait(self.peer.key)
         except TimeoutError:
             return "idle"
         except SlowReader:
             return "slow reader"
         except OSError:
             return "broke off"
+
+    async def _answer_all(self, lines: list[bytes | None]) -> None:
+        """Answers lines at their user's pace. SlowReader: the peer does not read."""
+        for line in lines:
+            await self.desk.lines.wait(self.peer.key)
+            self.is_busy = True
+            await self._write(await self._answer(line))
+            # lines that are there already do not keep the loop from turning
+            await asyncio.sleep(0)
 
     async def _write(self, reply: bytes) -> None:
         """Writes a reply. SlowReader: the peer does not read."""
@@ -114,7 +129,9 @@ class Session:
             return await self._ask(line)
         if line.kind == LineKind.CHANGE:
             return await self._change(line)
-        return self._answer_own(line) if line.kind == LineKind.OWN else UNKNOWN
+        if line.kind == LineKind.OWN:
+            return await self.desk.own_work.do(lambda: self._answer_own(line))
+        return UNKNOWN
 
     async def _ask(self, line: Line) -> bytes:
         """The controller's reply, or why there is none."""
@@ -126,7 +143,7 @@ class Session:
     @property
     def asker(self) -> str:
         """Those who share a turn: the connections of one user."""
-        return f"user {self.peer.user}"
+        return f"user {self.peer.key}"
 
     async def _change(self, line: Line) -> bytes:
         """Does a command that changes the site, if the role allows it and the audit log has it."""
@@ -134,18 +151,18 @@ class Session:
                   "connection": self.number, "line": line.text}
         if self.peer.role < Role.FULL:
             reply = error_line("not allowed: this needs the role full")
-            await self.desk.refusals.setdefault(self.peer.user, Pacer(REFUSALS_PER_SECOND)).wait()
+            await self.desk.refusals.wait(self.peer.key)
             with contextlib.suppress(AuditFault):
-                await self._record(record, "refused", reply)
+                await self._record(line, record, "refused", reply)
             return reply
         try:
-            await self._record(record, "asked")
+            await self._record(line, record, "asked")
         except AuditFault:
             self.desk.counts.changes.add(command=line.name, outcome="not recorded")
             return error_line("not done: the audit log cannot be written")
         outcome, reply = await self._do(line)
         with contextlib.suppress(AuditFault):
-            await self._record(record, outcome, reply)
+            await self._record(line, record, outcome, reply)
         return reply
 
     async def _do(self, line: Line) -> tuple[str, bytes]:
@@ -161,7 +178,7 @@ class Session:
             self.desk.on_change()
         return "answered", reply
 
-    async def _record(self, record: dict[str, Any], event: str, reply: bytes | None = None) -> None:
+    async def _record(self, line: Line, record: dict[str, Any], event: str, reply: bytes | None = None) -> None:
         """Writes a record of the audit log. AuditFault: it cannot be written."""
         said = printable(reply.rstrip(b"\n")) if reply is not None else None
         now = time.time()
@@ -173,7 +190,7 @@ class Session:
             raise
         self.desk.counts.audit_records.add()
         if event != "asked":
-            self.desk.counts.changes.add(command=record["line"].split()[0], outcome=event)
+            self.desk.counts.changes.add(command=line.name, outcome=event)
 
     def _answer_own(self, line: Line) -> bytes:
         """The reply to one of the hub's own commands."""

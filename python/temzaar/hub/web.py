@@ -1,34 +1,34 @@
-"""A small HTTP server on loopback: GET and HEAD of a few paths, a request a connection, limits on all of it. Nothing of a request goes anywhere else."""
+"""A small HTTP server on loopback: GET and HEAD of a few paths, a request a connection, limits on all of it. Nothing of a request goes anywhere else.
+
+Here are connections and their times. `httpread` reads the requests.
+"""
 import asyncio
 import contextlib
 import email.utils
 import hashlib
-import re
-from collections.abc import Callable, Iterable, Iterator, Mapping
+from collections.abc import Callable, Iterable, Mapping
 from dataclasses import dataclass, field
 from http import HTTPStatus
 
 from temzaar.hub.config import HttpKeys
 from temzaar.hub.counts import HubCounts
+from temzaar.hub.httpread import END, BadRequest, Request
 from temzaar.hub.lineport import LOOPBACK, PortFault
 from temzaar.hub.notes import note
+from temzaar.hub.turn import LongWork
 
 BACKLOG = 64
-MOST_HEADERS = 64
 # After a refusal the hub reads on for a moment, so that the response is not lost with octets that were not read.
 LINGER_SECONDS, LINGER_OCTETS = 0.5, 65536
 TEXT, JSON, METRICS = "text/plain; charset=utf-8", "application/json", "text/plain; version=0.0.4; charset=utf-8"
-REQUEST = re.compile(r"([!-~]+) ([!-~]+) HTTP/(\d\.\d)")
 # What a browser may do with a response: load nothing but the page's own files, from here, and send nothing to anywhere else.
 CONTENT_POLICY = ("default-src 'none'; script-src 'self'; style-src 'self'; connect-src 'self'; img-src 'self'; "
                   "base-uri 'none'; form-action 'none'; frame-ancestors 'none'")
 BROWSER_RULES = {"X-Content-Type-Options": "nosniff", "Content-Security-Policy": CONTENT_POLICY, "Referrer-Policy": "no-referrer",
                  "Cross-Origin-Resource-Policy": "same-origin"}
 TAG_DIGITS = 32
-TAG = re.compile(r'(?:W/)?("[^"]*")|(\*)')
 # The statuses after which the hub has read the whole request, and need not read on.
 WHOLE = (HTTPStatus.OK, HTTPStatus.NOT_MODIFIED, HTTPStatus.SERVICE_UNAVAILABLE)
-HEADER = re.compile(r"([!#$%&'*+.^_`|~0-9A-Za-z-]+):[ \t]*(.*?)[ \t]*")
 
 
 @dataclass(frozen=True)
@@ -46,78 +46,6 @@ def tagged_response(body: bytes, kind: str, is_stored: bool = False) -> Response
     return Response(body, kind, HTTPStatus.OK, {"Cache-Control": "no-cache" if is_stored else "no-store", "ETag": tag})
 
 
-class BadRequest(Exception):
-    """A request that is refused, with the response to it."""
-
-    def __init__(self, status: HTTPStatus, reason: str, headers: Mapping[str, str] | None = None) -> None:
-        super().__init__(reason)
-        self.response = Response(f"{reason}\n".encode(), TEXT, status, headers or {})
-
-
-@dataclass(frozen=True)
-class Request:
-    """What the hub needs of a request: its path and query, and the tags of the responses that the client has."""
-    is_head: bool
-    path: str
-    query: str = ""
-    tags: tuple[str, ...] = ()
-
-    @classmethod
-    def read(cls, octets: bytes, hosts: tuple[str | int, ...]) -> "Request":
-        """The request of some octets, up to the empty line. BadRequest: it is refused."""
-        lines = octets.decode("latin-1").removesuffix("\r\n\r\n").split("\r\n")
-        found = REQUEST.fullmatch(lines[0])
-        if not found:
-            raise BadRequest(HTTPStatus.BAD_REQUEST, "not a request")
-        method, target, version = found.groups()
-        if version not in ("1.0", "1.1"):
-            raise BadRequest(HTTPStatus.HTTP_VERSION_NOT_SUPPORTED, "HTTP/1.0 or HTTP/1.1")
-        if method not in ("GET", "HEAD"):
-            raise BadRequest(HTTPStatus.METHOD_NOT_ALLOWED, "only GET and HEAD", {"Allow": "GET, HEAD"})
-        headers = read_headers(lines[1:])
-        check_headers(headers, version, hosts)
-        if not target.startswith("/"):
-            raise BadRequest(HTTPStatus.BAD_REQUEST, "a path is needed")
-        path, _, query = target.partition("?")
-        return cls(method == "HEAD", path, query, tuple(read_tags(headers)))
-
-    def has(self, response: Response) -> bool:
-        """Whether the client has this response already."""
-        tag = response.headers.get("ETag")
-        return tag is not None and ("*" in self.tags or tag in self.tags)
-
-
-def read_headers(lines: list[str]) -> list[tuple[str, str]]:
-    """The names, in lower case, and values of header lines. BadRequest: one of them is not a header."""
-    if len(lines) > MOST_HEADERS:
-        raise BadRequest(HTTPStatus.REQUEST_HEADER_FIELDS_TOO_LARGE, "too many headers")
-    headers = []
-    for line in lines:
-        found = HEADER.fullmatch(line)
-        if not found or not found[2].replace("\t", " ").isprintable():
-            raise BadRequest(HTTPStatus.BAD_REQUEST, "not a header")
-        headers.append((found[1].lower(), found[2]))
-    return headers
-
-
-def read_tags(headers: list[tuple[str, str]]) -> Iterator[str]:
-    """The tags of the responses that a client has."""
-    for name, value in headers:
-        if name == "if-none-match":
-            yield from (found[1] or found[2] for found in TAG.finditer(value))
-
-
-def check_headers(headers: list[tuple[str, str]], version: str, hosts: tuple[str | int, ...]) -> None:
-    """Checks the host, by which a web page of elsewhere is kept from reading the site through a browser here. BadRequest: it or a body is refused."""
-    named = [value for name, value in headers if name == "host"]
-    if len(named) > 1 or (not named and version == "1.1"):
-        raise BadRequest(HTTPStatus.BAD_REQUEST, "one host is needed")
-    if named and re.sub(r":\d*$", "", named[0]).lower() not in hosts:
-        raise BadRequest(HTTPStatus.MISDIRECTED_REQUEST, "not a host of this port")
-    if any(name == "transfer-encoding" or (name == "content-length" and value != "0") for name, value in headers):
-        raise BadRequest(HTTPStatus.BAD_REQUEST, "a request has no body here")
-
-
 # A path's response to a request. BadRequest: its query is refused.
 View = Callable[[Request], Response]
 
@@ -127,7 +55,8 @@ class WebPort:
 
     def __init__(self, keys: HttpKeys, views: Mapping[str, View], counts: HubCounts, listed: Iterable[str]) -> None:
         self.keys, self.views, self.counts = keys, views, counts
-        self.listed = tuple(listed)
+        self.listed, self.hosts = tuple(listed), frozenset(str(it).lower() for it in keys.hosts)
+        self.work = LongWork()
         self.tasks: set[asyncio.Task[None]] = set()
         self.server: asyncio.Server | None = None
 
@@ -175,10 +104,11 @@ class WebPort:
         is_head = False
         try:
             async with asyncio.timeout(self.keys.request_seconds):
-                request = Request.read(await reader.readuntil(b"\r\n\r\n"), self.keys.hosts)
-            is_head, response = request.is_head, self._respond(request)
+                request = Request.read(await reader.readuntil(END), self.hosts)
+            is_head = request.is_head
+            response = await self.work.do(lambda: self._respond(request))
         except BadRequest as fault:
-            response = fault.response
+            response = Response(f"{fault.reason}\n".encode(), TEXT, fault.status, fault.headers)
         except asyncio.LimitOverrunError:
             response = Response(b"the request is too large\n", TEXT, HTTPStatus.REQUEST_HEADER_FIELDS_TOO_LARGE)
         except TimeoutError:
@@ -211,7 +141,7 @@ class WebPort:
         if view is None:
             raise BadRequest(HTTPStatus.NOT_FOUND, "there is " + ", ".join(self.listed))
         response = view(request)
-        return Response(b"", response.kind, HTTPStatus.NOT_MODIFIED, response.headers) if request.has(response) else response
+        return Response(b"", response.kind, HTTPStatus.NOT_MODIFIED, response.headers) if request.has(response.headers.get("ETag")) else response
 
 
 def response_octets(response: Response, is_head: bool) -> bytes:

@@ -2,6 +2,7 @@
 import os
 import select
 import socket
+import time
 from collections.abc import Iterator
 
 from temzaar.console import CHANGES, QUESTIONS, Console, ConsoleFault, read_calls, read_radios, read_slots
@@ -12,6 +13,8 @@ from temzaar.hub.lines import AWAY, BUSY, HUB_LISTS, NO_ANSWER, OWN
 VARIABLE = "DMR_HUB_SOCKET"
 # How a reply begins that is the hub's own, since there is none of the controller.
 WITHOUT_CONTROLLER = tuple(f"error {it}: " for it in (AWAY, NO_ANSWER, BUSY))
+# Seconds from one try to connect to the next, while too many wait to be accepted.
+TRY_SECONDS = 0.005
 # The digits of the greatest radio.
 MOST_DIGITS = 8
 
@@ -30,12 +33,12 @@ class HubConsole(Console):
     lists = HUB_LISTS
 
     def __init__(self, path: str, seconds: float = 5.0) -> None:
-        """Connects to a unix socket. ConsoleFault: nobody listens there."""
+        """Connects to a unix socket, for `seconds` at most. ConsoleFault: nobody listens there, or too many connect."""
         self.name, self.seconds, self.octets = path, seconds, b""
         self.stream = socket.socket(socket.AF_UNIX)
         self.stream.settimeout(seconds)
         try:
-            self.stream.connect(path)
+            connect_patiently(self.stream, path, seconds)
         except OSError as fault:
             self.stream.close()
             raise ConsoleFault(f"cannot connect to the hub {path}: {fault.strerror or fault}") from fault
@@ -46,6 +49,19 @@ class HubConsole(Console):
         if reply[:1] and reply[0].startswith(WITHOUT_CONTROLLER):
             raise ControllerAway(reply[0].removeprefix("error "))
         return reply
+
+
+def connect_patiently(stream: socket.socket, path: str, seconds: float) -> None:
+    """Connects to a unix socket, again and again while too many others wait to be accepted there. OSError: it cannot."""
+    until = time.monotonic() + seconds
+    while True:
+        try:
+            stream.connect(path)
+            return
+        except BlockingIOError:
+            if time.monotonic() >= until:
+                raise
+        time.sleep(TRY_SECONDS)
 
 
 class HubPort(Console):

@@ -1,4 +1,4 @@
-"""Whether somebody can hold the hub's loop: each test is an attack, with an operator beside it who is answered in time."""
+"""Whether somebody can hold the hub's loop: each test is an attack, during which an operator is answered in time."""
 import asyncio
 import time
 from typing import Any

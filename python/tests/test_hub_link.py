@@ -141,7 +141,7 @@ class Linked(unittest.IsolatedAsyncioTestCase):
         await wait_until(lambda: link.state.is_up)
 
     async def test_an_answer_that_comes_with_the_limit_is_an_answer(self) -> None:
-        """The loop stands still until the limit is over, as when the process is stopped. The answer has come meanwhile."""
+        """The loop does not turn until the limit is over, as when the process is stopped. The answer has come meanwhile."""
         fake = FakeConsole()
         link = await self.start_up(fake, ControllerKeys(answer_seconds=0.2, reconnect_seconds=0.2))
         asking = asyncio.create_task(link.ask("a", b"drop 1001"))
@@ -152,7 +152,7 @@ class Linked(unittest.IsolatedAsyncioTestCase):
         self.assertTrue(link.state.is_up)
 
     async def test_a_line_that_nobody_asked_for(self) -> None:
-        """It ends the connection when it comes, after a list too, and is no answer to the next question."""
+        """It ends the connection when it comes, after a list too, and is not taken for the answer to the next question."""
         fake = FakeConsole()
         link = await self.start_up(fake, PATIENT)
         await link.ask("a", b"slots")

@@ -3,20 +3,26 @@ import asyncio
 import json
 import pathlib
 import re
+import shutil
 import sqlite3
 import tempfile
+import threading
 import time
 import unittest
 from contextlib import closing
+from unittest import mock
 
 from temzaar.console import Parties
+from temzaar.hub import notes
+from temzaar.hub.config import RecordsKeys
 from temzaar.hub.moment import Moment
 from temzaar.hub.newrecords import read_new, reason_text, signature
 from temzaar.hub.recordcounts import RecordCounts, RecordedLog
+from temzaar.hub.recordreader import RecordReader
 from temzaar.hub.seencalls import RECORD, CallFilter, CallLog, SeenCall, pack_call, unpack_call
 from temzaar.records import CAUSES, RecordedTerm
 from tests.hub_support import wait_until
-from tests.made_records import NOON, add_term, locked, make_records
+from tests.made_records import NOON, TABLES, add_term, locked, make_records
 from tests.test_hub_web import WebCase
 
 ALL = CallFilter()
@@ -126,6 +132,58 @@ def seen(log: CallLog, number: int, slot: tuple[int, int], parties: str, began: 
     log.ended.append(SeenCall(number, slot, Parties.read(parties), Moment(NOON / 1000 + began, began), False, Moment(NOON / 1000 + ended, ended), is_end_seen))
 
 
+def make_loose(path: pathlib.Path) -> None:
+    """Makes the file in tables that take any value."""
+    with mock.patch("tests.made_records.TABLES", re.sub(r" STRICT| NOT NULL", "", TABLES)):
+        make_records(path)
+
+
+class Damaged(unittest.IsolatedAsyncioTestCase):
+    """Rows that the controller does not write, one of a file at a time."""
+    ROWS = (("calls", "target", -1), ("calls", "source", 1 << 40), ("calls", "number", -5), ("calls", "carrier", -1), ("calls", "carrier", 16), ("calls", "slot", 2),
+            ("calls", "ended_ms", "noon"), ("calls", "ended_ms", 1e300), ("calls", "cause", None), ("calls", "cause", b"x"), ("terms", "ended_ms", "noon"),
+            ("terms", "most_lines", "two"), ("events", "reason", "busy"))
+
+    async def asyncSetUp(self) -> None:
+        asyncio.get_running_loop().set_debug(False)
+        quiet = mock.patch.object(notes, "print", lambda *_, **__: None, create=True)
+        quiet.start()
+        self.addCleanup(quiet.stop)
+
+    async def test_a_look_takes_all_or_nothing(self) -> None:
+        """The fault names the row. Once the row is right again, the same file is read."""
+        with tempfile.TemporaryDirectory() as folder:
+            good, path = pathlib.Path(folder, "good.db"), pathlib.Path(folder, "site.db")
+            make_loose(good)
+            for table, column, value in self.ROWS:
+                shutil.copy(good, path)
+                with closing(sqlite3.connect(path)) as conn, conn:
+                    conn.execute(f"UPDATE {table} SET {column} = ? WHERE number = (SELECT max(number) FROM {table} WHERE {column} IS NOT NULL)", (value,))
+                reader = RecordReader(RecordsKeys(file=str(path)))
+                with self.subTest(column=column, value=value):
+                    await reader.look()
+                    self.assertRegex(reader.fault or "", rf"^{re.escape(str(path))}: {table}, row \S+: ")
+                    self.assertEqual((reader.counts.faults.get(), reader.counts.terms.get(), reader.log.ended.count, reader.last), (1, 0, 0, None))
+                    shutil.copy(good, path)
+                    await reader.look()
+                    self.assertEqual((reader.fault, reader.counts.terms.get(), reader.log.ended.count), (None, 3, 5))
+                reader.worker.close()
+
+    async def test_a_file_that_does_not_answer(self) -> None:
+        """A look has a time, and while it has not ended there is no other."""
+        reader, ends = RecordReader(RecordsKeys(file="/x")), threading.Event()
+        self.addCleanup(reader.worker.close)
+        reader.worker.seconds = 0.05
+        with mock.patch.object(reader, "_read", lambda: ends.wait(20) and None):
+            for count in (1, 2, 3):
+                await reader.look()
+                self.assertEqual((reader.fault, reader.counts.faults.get()), ("/x: it has not ended after 0.05 s", count))
+            ends.set()
+            await wait_until(lambda: reader.worker.began is None)
+            await reader.look()
+            self.assertIsNone(reader.fault)
+
+
 class LastCalls(Folder):
     """The calls of the records and those that the hub saw, as one list."""
 
@@ -167,6 +225,18 @@ class LastCalls(Folder):
         seen(log, 8, (0, 1), "radio 1003 from 1001", 10, 28)
         seen(log, 9, (0, 1), "radio 1003 from 1002", 10, 28)
         self.assertEqual([it.number for it in recorded.find(log, ALL, 3, 5.0)], [9, 4, 3])
+
+    def test_the_clock_is_set_back(self) -> None:
+        """All calls that were seen and recorded before have ended later than the last term. They are listed once, and soon."""
+        recorded, log, last = RecordedLog(), CallLog(10_000), 4000
+        for number in range(last):
+            seen(log, number, (0, 1), f"group {number + 1} from 1001", 7200 + number, 7201 + number)
+            recorded.ended.append(next(log.ended.find(ALL)))
+        recorded.until = NOON / 1000
+        began = time.thread_time()
+        found = recorded.find(log, ALL, 100, 5.0)
+        self.assertLess(time.thread_time() - began, 0.2)
+        self.assertEqual([it.number for it in found], list(range(last - 1, last - 101, -1)))
 
     def test_active_calls_come_first(self) -> None:
         log = CallLog(10)
@@ -237,6 +307,15 @@ class Served(WebCase):
         make_records(path)
         await self.until_terms(3)
         self.assertIsNone(hub.records and hub.records.fault)
+
+    async def test_a_damaged_row(self) -> None:
+        """The hub does its other work."""
+        with closing(sqlite3.connect(self.path)) as conn, conn:
+            conn.execute("UPDATE calls SET target = -1 WHERE number = 2")
+        hub = await self.serve(records=str(self.path))
+        await wait_until(lambda: hub.records and hub.records.fault == f"{self.path}: calls, row 2: target is -1")
+        self.assertEqual((await self.figures())["dmr_site_terms_total"], 0)
+        await self.assert_unharmed()
 
     async def test_last_calls(self) -> None:
         await self.serve(records=str(self.path))

@@ -29,16 +29,27 @@ class Counted(unittest.TestCase):
         self.span = CountSpan(STEP, COUNT)
 
     def test_counts(self) -> None:
-        self.span.add([("noise", 20, 2), ("noise", 22, 1), ("refused", 22, 4), ("noise", 22, 5)])
+        self.span.add([("noise", 20, 2), ("noise", 22, 1), ("refused", 22, 4), ("noise", 22, 5)], 114)
         # 114 s is in the sample of number 22, the newest of those from 19 on
         self.assertEqual((self.span.of("noise", 114), self.span.of("refused", 114)), ([0, 2, 0, 6], [0, 0, 0, 4]))
         self.assertEqual(self.span.oldest(114), 19)
 
     def test_what_is_too_old_or_not_known(self) -> None:
-        self.span.add([("noise", 24, 1)])
-        self.span.add([("noise", 20, 9), ("a later cause", 24, 9)])
+        self.span.add([("noise", 24, 1)], 124)
+        self.span.add([("noise", 20, 9), ("a later cause", 24, 9)], 124)
         self.assertEqual(self.span.of("noise", 124), [0, 0, 0, 1])
         self.assertEqual(self.span.of("noise", 124 + STEP * COUNT), [0] * COUNT)
+
+    def test_the_clock_is_set_back(self) -> None:
+        """What was counted later than now is forgotten, and what comes then is counted once."""
+        self.span.add([("noise", number, 5) for number in (21, 22, 23, 24)], 124)
+        self.span.add([], 109)
+        self.assertEqual(self.span.of("noise", 109), [0, 0, 0, 5])
+        self.span.add([("noise", 22, 1)], 114)
+        self.assertEqual((self.span.of("noise", 114), self.span.of("noise", 124)), ([0, 0, 5, 1], [5, 1, 0, 0]))
+        # of the time before, as far as the span goes back
+        self.span.add([("noise", 5, 2), ("noise", 4, 9), ("noise", 9, 9)], 40)
+        self.assertEqual(self.span.of("noise", 40), [2, 0, 0, 0])
 
     def test_memory(self) -> None:
         """docs/HUB.md names this number."""
@@ -68,14 +79,13 @@ class Read(unittest.TestCase):
 
     def test_term_by_term(self) -> None:
         make_records(self.path, terms=1)
-        samples, last = RecordSamples(), None
+        samples, last, now = RecordSamples(), None, NOON / 1000 + 160
         for number in (1, 2, 3):
             if number > 1:
                 add_term(self.path, number)
             new = read_new(str(self.path), last)
-            samples.take(new.happened)
+            samples.take(new.happened, now)
             last = new.last
-        now = NOON / 1000 + 160
         self.assertEqual({kind: sum(samples.spans["hour"].of(kind, now)) for kind in KINDS},
                          {"hang_time": 1, "maximum": 1, "radio_left": 1, "dropped": 0, "ended_by_operator": 1, "carrier_lost": 1, "refused": 3, "noise": 4})
 

@@ -7,6 +7,8 @@ Modules, lowest first:
     moment     times, and their text
     counts     counters, gauges and histograms, and their text for Prometheus
     fairqueue  a queue in which those who ask take turns
+    worker     a thread for work that may hang
+    quota      a limit of what is written about each user
     turn       long work has a part of the loop's time, and users a pace
     link       the connection to the controller's console
     seencalls  the calls that the hub has seen, in memory of a fixed size
@@ -21,6 +23,7 @@ Modules, lowest first:
     roles      who a peer is, and what it may do
     audit      the audit log
     notes      what the hub writes to standard error, and to systemd
+    places     who has a place, for lines and for HTTP alike
     session    an operator's connection: lines and their replies
     lineport   the port that operators connect to
     views      the site as JSON and as metrics, and whether all is well

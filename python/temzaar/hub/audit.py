@@ -3,15 +3,20 @@ import asyncio
 import json
 import os
 from collections import deque
-from collections.abc import Mapping
+from collections.abc import Callable, Mapping
 from typing import Any
 
 from temzaar.faults import ToolFault
 from temzaar.hub.config import AuditKeys
+from temzaar.hub.worker import Late, Worker
 
-# How many commands `history` can show.
+# How many commands `history` can show, and as many that were refused.
 REMEMBERED = 100
 MODE = 0o640
+# Records that `history` does not show.
+STEPS_BETWEEN = ("asked", "refusals")
+# Seconds that the disk may take for a record. While it takes longer, further records fail at once.
+WRITE_SECONDS = 10.0
 
 
 class AuditFault(ToolFault):
@@ -24,23 +29,42 @@ class AuditLog:
     def __init__(self, keys: AuditKeys) -> None:
         self.path, self.max_octets, self.keep = keys.file, keys.max_octets, keys.keep
         self.file: int | None = None
+        self.worker = Worker("audit log", WRITE_SECONDS)
         self.turn = asyncio.Lock()
-        self.recent: deque[dict[str, Any]] = deque(maxlen=REMEMBERED)
+        self.recent, self.refused = (deque[dict[str, Any]](maxlen=REMEMBERED) for _ in range(2))
         self.fault: str | None = None
 
     async def record(self, record: Mapping[str, Any]) -> None:
         """Appends a record. AuditFault: it is not, or not surely, on the disk."""
         line = json.dumps(record, ensure_ascii=True, separators=(",", ":")).encode("ascii") + b"\n"
         async with self.turn:
-            try:
-                await asyncio.to_thread(self.append, line)
-            except OSError as fault:
-                self.fault = f"cannot write {self.path}: {fault.strerror or fault}"
-                self.close()
-                raise AuditFault(self.fault) from fault
-            self.fault = None
-            if record.get("event") != "asked":
+            await self._do(lambda: self.append(line))
+            if record.get("event") == "refused":
+                self.refused.append(dict(record))
+            elif record.get("event") not in STEPS_BETWEEN:
                 self.recent.append(dict(record))
+
+    def last(self, count: int) -> list[dict[str, Any]]:
+        """The last commands, `count` of them, and as many that were refused, in the order of their times."""
+        return sorted((*list(self.recent)[-count:], *list(self.refused)[-count:]), key=lambda it: str(it["time"]))
+
+    async def begin(self) -> None:
+        """Opens the file. AuditFault: it cannot be written."""
+        async with self.turn:
+            await self._do(self.open)
+
+    async def _do(self, work: Callable[[], object]) -> None:
+        """Does work with the file in its thread. AuditFault: it failed, or has not ended in time."""
+        try:
+            await self.worker.do(work)
+        except Late as fault:
+            self.fault = f"cannot write {self.path}: {fault}"
+            raise AuditFault(self.fault) from fault
+        except OSError as fault:
+            self.fault = f"cannot write {self.path}: {fault.strerror or fault}"
+            self._close_file()
+            raise AuditFault(self.fault) from fault
+        self.fault = None
 
     def append(self, line: bytes) -> None:
         """Appends a line, and waits until it is on the disk. OSError: it is not."""
@@ -57,7 +81,7 @@ class AuditLog:
         """The file at the path, open. A line that was torn by a crash or a full disk is ended first, so that no record is joined to it."""
         if self.file is not None and self._is_current(self.file):
             return self.file
-        self.close()
+        self._close_file()
         is_new = not os.path.exists(self.path)
         self.file = os.open(self.path, os.O_RDWR | os.O_APPEND | os.O_CREAT | os.O_CLOEXEC | os.O_NOFOLLOW, MODE)
         size = os.fstat(self.file).st_size
@@ -91,6 +115,11 @@ class AuditLog:
             os.close(folder)
 
     def close(self) -> None:
+        """Ends the log."""
+        self.worker.close()
+        self._close_file()
+
+    def _close_file(self) -> None:
         """Closes the file."""
         if self.file is not None:
             os.close(self.file)

@@ -1,5 +1,7 @@
 """What the hub shows to its page, and to other readers of parts: the state without radios, the radios, the seen calls, and the samples, as JSON."""
-from dataclasses import dataclass
+import time
+from collections.abc import Callable
+from dataclasses import dataclass, field
 from typing import Any
 
 from temzaar.hub.httpread import Request
@@ -17,14 +19,35 @@ from temzaar.picture import LAST_RADIO
 
 # How many calls a response has, if the query does not say, and at most.
 USUAL_CALLS, MOST_CALLS = 100, 1000
+# How many responses are kept, each of some 257,000 octets at most.
+MOST_KEPT = 16
 CALL_KEYS = {"radio": Whole(1, LAST_RADIO), "group": Whole(1, LAST_RADIO), "last": Whole(1, MOST_CALLS)}
 HISTORY_KEYS = {"span": Choice(*SPANS)}
 
 
 @dataclass
+class Kept:
+    """The responses to the last queries, as long as what they are made of is the same."""
+    made_of: object = None
+    responses: dict[str, Response] = field(default_factory=dict)
+
+    def find(self, made_of: object, query: str, make: Callable[[], Response]) -> Response:
+        """The response to a query: the kept one, or a new one."""
+        if made_of != self.made_of or (query not in self.responses and len(self.responses) >= MOST_KEPT):
+            self.made_of = made_of
+            self.responses.clear()
+        if query not in self.responses:
+            self.responses[query] = make()
+        return self.responses[query]
+
+
+@dataclass
 class BoardViews:
-    """The views of the page."""
+    """The views of the page. Responses that take long to make are kept."""
     views: Views
+    kept_radios: Kept = field(default_factory=Kept)
+    kept_calls: Kept = field(default_factory=Kept)
+    kept_history: Kept = field(default_factory=Kept)
 
     @property
     def model(self) -> SiteModel:
@@ -40,6 +63,9 @@ class BoardViews:
 
     def radios_json(self, _: Request) -> Response:
         """The registered radios. The response stays the same until the list changes."""
+        return self.kept_radios.find(self.model.radios_changed, "", self._make_radios)
+
+    def _make_radios(self) -> Response:
         radios, changed = self.model.radios, self.model.radios_changed
         view = {"changed": utc_text(changed.wall, decimals=True), "complete": radios.is_complete, "registered": radios.radios} if radios and changed else None
         return tagged_response(json_octets(view), JSON)
@@ -47,7 +73,13 @@ class BoardViews:
     def calls_json(self, request: Request) -> Response:
         """Calls that the hub has seen, and those of the records, by the query. The response stays the same until a call begins or ends, or is recorded.
         BadRequest: the query is refused."""
-        query, log = read_query(request.query, CALL_KEYS), self.model.calls
+        log, recorded = self.model.calls, self.views.records.log if self.views.records else None
+        made_of = log.count, log.ended.count, recorded and (recorded.until, recorded.ended.count)
+        return self.kept_calls.find(made_of, request.query, lambda: self._make_calls(request.query))
+
+    def _make_calls(self, text: str) -> Response:
+        """The calls by a query. BadRequest: it is refused."""
+        query, log = read_query(text, CALL_KEYS), self.model.calls
         found = self._find_calls(CallFilter(query.get("radio"), query.get("group")), query.get("last", USUAL_CALLS))
         until = self.views.records.log.until if self.views.records else None
         view = {"since": utc_text(self.views.begun.wall, decimals=True), "poll_seconds": self.views.config.poll.state_seconds, "seen": log.count, "kept": log.ended.size,
@@ -61,8 +93,13 @@ class BoardViews:
         return self.views.records.log.find(self.model.calls, wanted, most, MISSED_POLLS * self.views.config.poll.state_seconds)
 
     def history_json(self, request: Request) -> Response:
-        """The samples of a span. BadRequest: the query is refused."""
-        name = read_query(request.query, HISTORY_KEYS).get("span", next(iter(SPANS)))
+        """The samples of a span. The response stays the same within a second, until a new picture or term. BadRequest: the query is refused."""
+        made_of = int(time.monotonic()), self.model.seen, self.views.records and self.views.records.log.until
+        return self.kept_history.find(made_of, request.query, lambda: self._make_history(request.query))
+
+    def _make_history(self, text: str) -> Response:
+        """The samples by a query. BadRequest: it is refused."""
+        name = read_query(text, HISTORY_KEYS).get("span", next(iter(SPANS)))
         now = Moment.now()
         view = span_view(name, self.model.samples.spans[name], now)
         view["recorded"] = recorded_view(self.views.records, name, now.wall)

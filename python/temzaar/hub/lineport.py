@@ -5,16 +5,22 @@ import itertools
 import os
 import socket
 import stat
+from collections.abc import Awaitable, Callable
 
 from temzaar.faults import ToolFault
-from temzaar.hub.notes import note, warn
-from temzaar.hub.roles import Peer, Role, Rules, find_peer
+from temzaar.hub.notes import note
+from temzaar.hub.places import NoPlace, Place, Places
+from temzaar.hub.roles import Peer, People, Role, Rules
 from temzaar.hub.session import Desk, Session, error_line
 
 LOOPBACK = "127.0.0.1"
 # Everybody on the machine may connect to the socket: the roles decide who is served.
 SOCKET_MODE = 0o666
-BACKLOG = 64
+# How many connections wait to be accepted, and how many are accepted in one turn of the loop.
+BACKLOG, ACCEPTS = 1024, 16
+# What the ends of sessions are called that the hub ended, and why there is no place for a newcomer.
+CUTS = ("idle", "slow reader", "http")
+NO_PLACE = {"full": "the hub serves as many connections as it may: try again later", "user full": "the user {} has as many connections as one user may"}
 # How long the hub waits, when it stops, for answers that are pending.
 STOP_SECONDS = 3.0
 
@@ -57,11 +63,31 @@ def is_served(path: str) -> bool:
         return True
 
 
+async def start_listening(made: socket.socket, accept: Callable[[asyncio.StreamReader, asyncio.StreamWriter], Awaitable[None]], limit: int) -> asyncio.Server:
+    """Serves a socket that is bound; `limit` is how many octets of a peer wait at least before the hub reads no more."""
+    start = asyncio.start_unix_server if made.family == socket.AF_UNIX else asyncio.start_server
+    server = await start(accept, sock=made, backlog=ACCEPTS, limit=limit)
+    # asyncio accepts as many in a turn as may wait
+    made.listen(BACKLOG)
+    return server
+
+
+async def start_on_loopback(port: int, accept: Callable[[asyncio.StreamReader, asyncio.StreamWriter], Awaitable[None]], limit: int) -> asyncio.Server:
+    """Serves a port on loopback. PortFault: it is taken, or may not be used."""
+    try:
+        return await start_listening(socket.create_server((LOOPBACK, port)), accept, limit)
+    except OSError as fault:
+        raise PortFault(f"cannot listen on port {port}: {fault.strerror or fault}") from fault
+
+
 class LinePort:
     """Accepts operators, and serves each until it leaves."""
 
     def __init__(self, desk: Desk, rules: Rules) -> None:
-        self.desk, self.rules = desk, rules
+        keys = desk.keys
+        self.desk, self.people = desk, People(rules)
+        # a part is kept for those who may change the site, however many others come
+        self.places = Places(keys.connections, keys.connections_per_user, min(keys.connections_per_user, keys.connections // 2))
         self.numbers = itertools.count(1)
         self.tasks: dict[asyncio.Task[None], Session | None] = {}
         self.servers: list[asyncio.Server] = []
@@ -73,13 +99,10 @@ class LinePort:
         made = bind_socket(keys.socket)
         found = os.stat(keys.socket)
         self.identity = found.st_dev, found.st_ino
-        self.servers.append(await asyncio.start_unix_server(self._accept, sock=made, backlog=BACKLOG, limit=4096))
+        self.servers.append(await start_listening(made, self._accept, 4096))
         note(f"operators: listening on {keys.socket}")
         if keys.tcp_port:
-            try:
-                self.servers.append(await asyncio.start_server(self._accept, LOOPBACK, keys.tcp_port, backlog=BACKLOG, limit=4096))
-            except OSError as fault:
-                raise PortFault(f"cannot listen on port {keys.tcp_port}: {fault.strerror or fault}") from fault
+            self.servers.append(await start_on_loopback(keys.tcp_port, self._accept, 4096))
             note(f"operators: listening on {LOOPBACK}:{keys.tcp_port}, role read")
 
     async def _accept(self, reader: asyncio.StreamReader, writer: asyncio.StreamWriter) -> None:
@@ -97,45 +120,61 @@ class LinePort:
 
     async def _admit(self, task: asyncio.Task[None], reader: asyncio.StreamReader, writer: asyncio.StreamWriter) -> None:
         """Serves a connection if the limits and the role of its peer allow it."""
-        desk = self.desk
-        if len(self.tasks) > desk.keys.connections:
-            self._refuse(writer, "full", "the hub serves as many connections as it may: try again later")
-            return
         try:
             peer = await self._identify(writer)
         except OSError as fault:
-            self._refuse(writer, "unknown", f"the hub cannot find out who you are: {fault.strerror}")
+            await self._refuse(writer, None, "unknown", f"the hub cannot find out who you are: {fault.strerror}")
             return
         if peer.role == Role.NONE:
-            warn(f"operators: {peer.user} has no role, and was refused")
-            self._refuse(writer, "no role", f"the user {peer.user} has no role here")
+            await self._refuse(writer, peer, "no role", "the user {} has no role here")
             return
-        if sum(it.peer.user == peer.user for it in desk.sessions.values()) >= desk.keys.connections_per_user:
-            self._refuse(writer, "user full", f"the user {peer.user} has as many connections as one user may")
+        try:
+            place = self.places.take(peer.key, peer.role, lambda: self._give_way(writer))
+        except NoPlace as fault:
+            await self._refuse(writer, peer, fault.reason, NO_PLACE[fault.reason])
             return
-        session = Session(next(self.numbers), peer, desk, reader, writer)
+        try:
+            await self._serve(task, place, await self.people.find_name(peer), reader, writer)
+        finally:
+            self.places.leave(place)
+
+    async def _serve(self, task: asyncio.Task[None], place: Place, peer: Peer, reader: asyncio.StreamReader, writer: asyncio.StreamWriter) -> None:
+        """Serves a connection that has a place."""
+        desk = self.desk
+        session = Session(next(self.numbers), peer, desk, place, reader, writer)
         self.tasks[task] = desk.sessions[session.number] = session
         desk.counts.line_accepts.add()
         try:
             ended = await session.run()
         finally:
             del desk.sessions[session.number]
-        if ended in ("idle", "slow reader"):
+        if ended in CUTS:
             desk.counts.line_cuts.add(reason=ended)
         if ended == "slow reader":
             writer.transport.abort()
+
+    def _give_way(self, writer: asyncio.StreamWriter) -> None:
+        """Ends a connection that has sent no line, since another one needs its place."""
+        self.desk.counts.line_cuts.add(reason="gave way")
+        writer.transport.abort()
 
     async def _identify(self, writer: asyncio.StreamWriter) -> Peer:
         """Who has connected. A peer over TCP is anybody on the machine, and may ask only. OSError: the socket does not report it."""
         stream: socket.socket = writer.get_extra_info("socket")
         if stream.family != socket.AF_UNIX:
             return Peer("tcp", Role.READ)
-        return await asyncio.to_thread(find_peer, stream, self.rules)
+        return await self.people.find_peer(stream)
 
-    def _refuse(self, writer: asyncio.StreamWriter, reason: str, text: str) -> None:
-        """Reports why a connection is not served."""
+    async def _refuse(self, writer: asyncio.StreamWriter, peer: Peer | None, reason: str, text: str) -> None:
+        """Reports why a connection is not served; the text has a place for the name of its user."""
         self.desk.counts.line_refusals.add(reason=reason)
-        writer.write(error_line(text))
+        with self.places.refusing() as has_time:
+            if peer and has_time:
+                peer = await self.people.find_name(peer)
+            name = peer.user if peer else ""
+            if reason == "no role":
+                self.desk.notes.warn(reason, name, f"operators: {name} has no role, and was refused")
+            writer.write(error_line(text.format(name)))
 
     async def _close(self, writer: asyncio.StreamWriter) -> None:
         """Closes a connection, once its peer has read what was written, or after the time for that."""
@@ -153,6 +192,7 @@ class LinePort:
         for server in self.servers:
             server.close()
         self._unlink()
+        self.people.close()
         for task, session in list(self.tasks.items()):
             if session is None or not session.is_busy:
                 task.cancel()

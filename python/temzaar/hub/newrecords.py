@@ -1,16 +1,20 @@
 """What is new in the controller's file of records since a term: sums, counts and the newest calls. It is read in a thread of its own, into memory of a fixed size."""
 import bisect
 import os
+import struct
 import time
 from collections import Counter
 from collections.abc import Iterable
 from dataclasses import dataclass, field
 
 from temzaar import pdus
+from temzaar.console import Parties
+from temzaar.hub.moment import Moment
 from temzaar.hub.recordsamples import Happened
 from temzaar.hub.samples import SPANS
-from temzaar.hub.seencalls import MOST_ENDED
-from temzaar.records import LOG, RecordedCall, RecordedTerm, Records, opened_records
+from temzaar.hub.seencalls import MOST_ENDED, SeenCall, pack_call
+from temzaar.picture import LAST_RADIO
+from temzaar.records import LOG, RecordedCall, RecordedTerm, Records, RecordsFault, opened_records
 
 # Seconds for which a look at the file waits while the controller writes; then the hub tries again at the next look.
 LOCK_SECONDS = 0.5
@@ -18,6 +22,8 @@ LOCK_SECONDS = 0.5
 DURATION_BUCKETS = (1.0, 2.0, 5.0, 10.0, 20.0, 30.0, 60.0, 120.0, 180.0, 300.0)
 # The columns of `terms` that are summed.
 SUMMED = ("registrations", "heard", "noise", "polls", "grants", "late_entries")
+# The greatest number of a carrier, and of a slot.
+LAST_CARRIER, LAST_SLOT = 15, 1
 
 Signature = tuple[tuple[int, int, int] | None, ...]
 
@@ -37,15 +43,53 @@ class Durations:
 @dataclass
 class NewRecords:
     """What is new. `last` is the newest term, None if there is none; `terms` is how many are new. Calls are counted by kind and cause, refusals by reason.
-    `newest` are the newest calls, in their order, and `happened` has counts for the samples of each span."""
+    `newest` has the newest calls in their order, each as the record of a SeenCall, and `happened` has counts for the samples of each span."""
     last: RecordedTerm | None = None
     terms: int = 0
     sums: dict[str, int] = field(default_factory=lambda: dict.fromkeys(SUMMED, 0))
     calls: Counter[tuple[str, str]] = field(default_factory=Counter)
     durations: Durations = field(default_factory=Durations)
     refusals: Counter[str] = field(default_factory=Counter)
-    newest: list[RecordedCall] = field(default_factory=list)
+    newest: list[bytes] = field(default_factory=list)
     happened: dict[str, list[Happened]] = field(default_factory=dict)
+
+
+class BadRow(ValueError):
+    """A row has a value that the controller does not write. The text names the table, the row and the value."""
+
+
+def require(holds: bool, row: str, about: str) -> None:
+    """BadRow: something does not hold of a row."""
+    if not holds:
+        raise BadRow(f"{row}: {about}")
+
+
+def is_whole(value: object, least: int | None = None, most: int | None = None) -> bool:
+    """Whether a value is a whole number, in a range."""
+    return isinstance(value, int) and (least is None or value >= least) and (most is None or value <= most)
+
+
+def seen_call(call: RecordedCall) -> SeenCall:
+    """A recorded call, as one that was seen from its beginning to its end. BadRow: a value is not that of a call."""
+    row = f"calls, row {call.number}"
+    for name, value, least, most in (("carrier", call.carrier, 0, LAST_CARRIER), ("slot", call.slot, 0, LAST_SLOT),
+                                     ("source", call.source, 1, LAST_RADIO), ("target", call.target, 1, LAST_RADIO),
+                                     ("number", call.number, 0, None), ("began_ms", call.began_ms, None, None),
+                                     ("ended_ms", call.ended_ms, None, None)):
+        require(is_whole(value, least, most), row, f"{name} is {value!r}")
+    require(isinstance(call.cause, str), row, f"cause is {call.cause!r}")
+    began, ended = call.began_ms / 1000, max(call.began_ms, call.ended_ms) / 1000
+    parties = Parties("group" if call.is_group else "radio", call.target, call.source)
+    return SeenCall(call.number, (call.carrier, call.slot), parties, Moment(began, began), False, Moment(ended, ended), True, call.cause)
+
+
+def last_term(records: Records) -> RecordedTerm | None:
+    """The newest term; None if there is none. BadRow: a value of it is not a number."""
+    term = next(iter(records.terms(("number = (SELECT max(number) FROM terms)", []))), None)
+    if term:
+        for name, value in {"ended_ms": term.ended_ms, **term.counts}.items():
+            require(is_whole(value), f"terms, row {term.number}", f"{name} is {value!r}")
+    return term
 
 
 def signature(path: str) -> Signature:
@@ -79,9 +123,12 @@ def reason_text(reason: int | None) -> str:
     return pdus.REASONS[reason].name if reason in pdus.REASONS else f"0x{reason:02X}"
 
 
-def count_calls(rows: Iterable[tuple[int, str, int]], new: NewRecords) -> None:
-    """Counts calls: whether each was to a group, why it ended, and how many milliseconds it lasted."""
-    for is_group, cause, milliseconds in rows:
+def count_calls(rows: Iterable[tuple[int, int, str, float]], new: NewRecords) -> None:
+    """Counts calls: the number of each, whether it was to a group, why it ended, and how many milliseconds it lasted. BadRow: a
+    value is not that of a call."""
+    for number, is_group, cause, milliseconds in rows:
+        # SQLite has more than 2^63 ms as a number with decimals
+        require(isinstance(cause, str) and isinstance(milliseconds, int | float), f"calls, row {number}", "a cause or a time is missing")
         new.calls["group" if is_group else "radio", cause] += 1
         new.durations.add(max(0, milliseconds) / 1000)
 
@@ -95,20 +142,31 @@ def happened_since(records: Records, since: int, span: str) -> list[Happened]:
                       "SELECT 'refused', at_ms / ?, count(*) FROM events WHERE kind = 'refused' AND term > ? AND at_ms >= ? GROUP BY 2",
                       "SELECT 'noise', ended_ms / ?, sum(noise) FROM terms WHERE number > ? AND ended_ms >= ? GROUP BY 2"):
         found += records.conn.execute(statement, (step_ms, since, begins_ms))
+    for kind, number, times in found:
+        require(isinstance(kind, str) and is_whole(number) and is_whole(times), kind if isinstance(kind, str) else "calls", "a row has no time or no count")
     return found
 
 
 def read_new(path: str, last: RecordedTerm | None) -> NewRecords:
-    """What is new in a file since a term, or all of it. RecordsFault: it cannot be read now."""
+    """What is new in a file since a term, or all of it. RecordsFault: it cannot be read now, or a row is damaged."""
     new = NewRecords()
-    with opened_records(path, LOCK_SECONDS) as records:
-        since = last_known(records, last)
-        new.terms, *sums = records.conn.execute(f"SELECT count(*), {', '.join(f'total({it})' for it in SUMMED)} FROM terms WHERE number > ?", (since,)).fetchone()
-        new.sums = {name: int(value) for name, value in zip(SUMMED, sums, strict=True)}
-        new.last = next(iter(records.terms(("number = (SELECT max(number) FROM terms)", []))), None)
-        count_calls(records.conn.execute("SELECT is_group, cause, ended_ms - began_ms FROM calls WHERE term > ?", (since,)), new)
-        for reason, count in records.conn.execute("SELECT reason, count(*) FROM events WHERE kind = 'refused' AND term > ? GROUP BY reason", (since,)):
-            new.refusals[reason_text(reason)] += count
-        new.newest = records.calls(("term > ?", [since]), last=MOST_ENDED)
-        new.happened = {span: happened_since(records, since, span) for span in SPANS}
+    try:
+        with opened_records(path, LOCK_SECONDS) as records:
+            take_new(records, last, new)
+    except (BadRow, OverflowError, struct.error) as fault:
+        raise RecordsFault(f"{path}: {fault}") from fault
     return new
+
+
+def take_new(records: Records, last: RecordedTerm | None, new: NewRecords) -> None:
+    """Reads what is new since a term, or all of it. BadRow, OverflowError, struct.error: a row is damaged."""
+    since = last_known(records, last)
+    new.terms, *sums = records.conn.execute(f"SELECT count(*), {', '.join(f'total({it})' for it in SUMMED)} FROM terms WHERE number > ?", (since,)).fetchone()
+    new.sums = {name: int(value) for name, value in zip(SUMMED, sums, strict=True)}
+    new.last = last_term(records)
+    count_calls(records.conn.execute("SELECT number, is_group, cause, ended_ms - began_ms FROM calls WHERE term > ?", (since,)), new)
+    for reason, count, number in records.conn.execute("SELECT reason, count(*), min(number) FROM events WHERE kind = 'refused' AND term > ? GROUP BY reason", (since,)):
+        require(reason is None or is_whole(reason), f"events, row {number}", f"reason is {reason!r}")
+        new.refusals[reason_text(reason)] += count
+    new.newest = [pack_call(seen_call(it)) for it in records.calls(("term > ?", [since]), last=MOST_ENDED)]
+    new.happened = {span: happened_since(records, since, span) for span in SPANS}

@@ -4,16 +4,46 @@ import os
 import socket
 import sys
 
+from temzaar.hub.quota import Quota
+from temzaar.printable import printable
+
+# How many notes of a kind about one user are written in NOTES_SECONDS; of the others, their number.
+MOST_NOTES, NOTES_SECONDS = 20, 60.0
+# What the journal takes for the level of a warning at the beginning of a line (sd-daemon(3)).
+WARNING = "<4>"
+
+
+def is_journal() -> bool:
+    """Whether standard error is a stream of systemd's journal."""
+    try:
+        state = os.fstat(sys.stderr.fileno())
+    except (OSError, ValueError, AttributeError):
+        return False
+    return os.environ.get("JOURNAL_STREAM") == f"{state.st_dev}:{state.st_ino}"
+
 
 def note(text: str, level: str = "INFO") -> None:
     """Writes a note, if standard error takes it."""
+    mark = WARNING if level == "WARN" and is_journal() else ""
     with contextlib.suppress(OSError, ValueError):
-        print(f"[{level:<5} dmr_hub] {text}", file=sys.stderr, flush=True)
+        print(f"{mark}[{level:<5} dmr_hub] {printable(text)}", file=sys.stderr, flush=True)
 
 
 def warn(text: str) -> None:
     """Writes a note about something that an operator has to look at."""
     note(text, "WARN")
+
+
+class UserNotes:
+    """Warnings about users, a limited number of each kind and user."""
+
+    def __init__(self) -> None:
+        self.quota = Quota(MOST_NOTES, NOTES_SECONDS)
+
+    def warn(self, kind: str, user: str, text: str) -> None:
+        """Writes a warning of a kind about a user, or counts it."""
+        if self.quota.take(f"{kind} {user}", lambda more: warn(f"{text} ({more} more of this kind in {NOTES_SECONDS:g} s)")):
+            warn(text)
 
 
 def notify_systemd(state: str) -> None:
@@ -23,3 +53,11 @@ def notify_systemd(state: str) -> None:
         return
     with contextlib.suppress(OSError), socket.socket(socket.AF_UNIX, socket.SOCK_DGRAM) as stream:
         stream.sendto(state.encode("ascii", "replace"), "\0" + path[1:] if path.startswith("@") else path)
+
+
+def watchdog_seconds() -> float | None:
+    """Within how many seconds systemd expects to hear from the hub again and again; None if it does not."""
+    usec, pid = os.environ.get("WATCHDOG_USEC", ""), os.environ.get("WATCHDOG_PID", "")
+    if not usec.isdecimal() or not int(usec) or pid not in ("", str(os.getpid())):
+        return None
+    return int(usec) / 1e6

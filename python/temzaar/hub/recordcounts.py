@@ -3,12 +3,15 @@ from collections.abc import Iterator
 from dataclasses import dataclass, field
 from itertools import islice
 
-from temzaar.console import Parties
+from temzaar.console import Parties, SlotKey
 from temzaar.hub.counts import Histogram, Series
-from temzaar.hub.moment import Moment
 from temzaar.hub.newrecords import DURATION_BUCKETS, NewRecords
 from temzaar.hub.seencalls import MOST_ENDED, CallFilter, CallLog, CallRing, SeenCall
-from temzaar.records import CAUSES, RecordedCall
+from temzaar.records import CAUSES
+
+# How many of the last recorded calls the seen ones are compared with, and how many seen ones are left out as recorded. Both are far more than there
+# are, unless the clock was set back: then all that was seen before has ended later than the last recorded term.
+MOST_COMPARED, MOST_LEFT_OUT = 1000, 200
 
 
 class RecordCounts:
@@ -56,46 +59,52 @@ class RecordCounts:
         return [it for it in vars(self).values() if isinstance(it, Series | Histogram)]
 
 
-def call_of_record(call: RecordedCall) -> SeenCall:
-    """A recorded call, as one that was seen from its beginning to its end."""
-    began, ended = call.began_ms / 1000, max(call.began_ms, call.ended_ms) / 1000
-    parties = Parties("group" if call.is_group else "radio", call.target, call.source)
-    return SeenCall(call.number, (call.carrier, call.slot), parties, Moment(began, began), False, Moment(ended, ended), True, call.cause)
-
-
 @dataclass
 class RecordedLog:
     """The last calls of the records, in memory of a fixed size. `until` is when the last recorded term ended, in seconds since 1970; None before the first."""
     ended: CallRing = field(default_factory=lambda: CallRing(MOST_ENDED))
     until: float | None = None
+    # when the last recorded calls ended, by slot and parties, and of which state of this log that is
+    ends: dict[tuple[SlotKey, Parties], list[float]] = field(default_factory=dict)
+    ends_of: tuple[int, float | None, float] | None = None
 
     def take(self, new: NewRecords) -> None:
         """Adds what is new."""
-        for call in new.newest:
-            self.ended.append(call_of_record(call))
+        for record in new.newest:
+            self.ended.append_record(record)
         if new.last:
             self.until = new.last.ended_ms / 1000
 
     def has(self, call: SeenCall, slack: float) -> bool:
-        """Whether a call that was seen is one of the records. Its end was seen at most `slack` seconds late."""
-        assert self.until is not None and call.ended
-        for it in self.ended.find(CallFilter()):
-            if not it.ended or it.ended.wall < self.until - 2 * slack:
-                return False
-            if (it.slot, it.parties) == (call.slot, call.parties) and abs(it.ended.wall - call.ended.wall) <= slack:
-                return True
-        return False
+        """Whether a call that was seen is one of the last recorded ones. Its end was seen at most `slack` seconds late."""
+        assert call.ended
+        ended = call.ended.wall
+        return any(abs(it - ended) <= slack for it in self._ends(slack).get((call.slot, call.parties), ()))
+
+    def _ends(self, slack: float) -> dict[tuple[SlotKey, Parties], list[float]]:
+        """When the last recorded calls ended, by slot and parties: those that ended little before the last term did, or later."""
+        assert self.until is not None
+        if self.ends_of != (self.ended.count, self.until, slack):
+            self.ends_of, self.ends = (self.ended.count, self.until, slack), {}
+            for it in islice(self.ended.find(CallFilter()), MOST_COMPARED):
+                if not it.ended or it.ended.wall < self.until - 2 * slack:
+                    break
+                self.ends.setdefault((it.slot, it.parties), []).append(it.ended.wall)
+        return self.ends
 
     def find(self, log: CallLog, wanted: CallFilter, most: int, slack: float) -> list[SeenCall]:
         """The calls that are asked for: those that are active; those that the hub saw end since the last recorded term; and the records, the last to end first."""
         return list(islice(self._find(log, wanted, slack), most))
 
     def _find(self, log: CallLog, wanted: CallFilter, slack: float) -> Iterator[SeenCall]:
+        left_out = 0
         for call in log.search(wanted):
-            if call.ended is None:
+            if call.ended is None or self.until is None:
                 yield call
-            elif self.until is not None and call.ended.wall <= self.until:
+            elif call.ended.wall <= self.until or left_out == MOST_LEFT_OUT:
                 break
-            elif self.until is None or not self.has(call, slack):
+            elif self.has(call, slack):
+                left_out += 1
+            else:
                 yield call
         yield from self.ended.find(wanted)

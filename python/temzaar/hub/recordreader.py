@@ -1,6 +1,7 @@
 """Looks at the controller's file of records every few seconds, in a thread, so that nothing of the hub waits for the file."""
 import asyncio
 import sqlite3
+import time
 
 from temzaar.faults import ToolFault
 from temzaar.hub.config import RecordsKeys
@@ -8,14 +9,18 @@ from temzaar.hub.newrecords import NewRecords, Signature, read_new, signature
 from temzaar.hub.notes import note, warn
 from temzaar.hub.recordcounts import RecordCounts, RecordedLog
 from temzaar.hub.recordsamples import RecordSamples
+from temzaar.hub.worker import Late, Worker
 from temzaar.records import RecordedTerm
+
+# Seconds that a look may take: a file of 256 MiB on a slow disk is read within them.
+LOOK_SECONDS = 60.0
 
 
 class RecordReader:
     """The file's new rows, as counters, calls, and counts of the last hour and day."""
 
     def __init__(self, keys: RecordsKeys) -> None:
-        self.keys = keys
+        self.keys, self.worker = keys, Worker("records", LOOK_SECONDS)
         self.counts, self.log, self.samples = RecordCounts(), RecordedLog(), RecordSamples()
         self.last: RecordedTerm | None = None
         # the file at the last look that succeeded, and the fault of the last look
@@ -24,25 +29,35 @@ class RecordReader:
 
     async def run(self) -> None:
         """Looks until it is cancelled."""
-        while True:
-            await self.look()
-            await asyncio.sleep(self.keys.read_seconds)
+        try:
+            while True:
+                await self.look()
+                await asyncio.sleep(self.keys.read_seconds)
+        finally:
+            self.worker.close()
 
     async def look(self) -> None:
-        """Takes what is new. If the file cannot be read now, the next look tries again."""
+        """Takes what is new, all of it or nothing. If the file cannot be read now, the next look tries again."""
         try:
-            found = await asyncio.to_thread(self._read)
-        except (ToolFault, OSError, sqlite3.Error, ValueError, MemoryError) as fault:
-            self.counts.faults.add()
-            self._report(str(fault) or type(fault).__name__)
+            found = await self.worker.do(self._read)
+        except Late as fault:
+            self._fail(f"{self.keys.file}: {fault}")
+            return
+        except (ToolFault, OSError, sqlite3.Error, ValueError, TypeError, ArithmeticError, MemoryError) as fault:
+            self._fail(str(fault) or type(fault).__name__)
             return
         self._report(None)
+        self.samples.take(found[1].happened if found else {}, time.time())
         if found is not None:
             self.known, new = found
             self.last = new.last
             self.counts.take(new)
             self.log.take(new)
-            self.samples.take(new.happened)
+
+    def _fail(self, fault: str) -> None:
+        """Counts and notes a look that failed."""
+        self.counts.faults.add()
+        self._report(fault)
 
     def _read(self) -> tuple[Signature, NewRecords] | None:
         """What is new, and the file as it was before it was read; None if it has not changed. It runs in a thread, and changes nothing."""

@@ -1,6 +1,6 @@
 """How often calls ended, requests were refused and noise came, by the controller's records: counts over the last hour and the last day, in memory of a fixed size."""
 from array import array
-from collections.abc import Iterable
+from collections.abc import Iterable, Mapping
 
 from temzaar.hub.samples import SPANS
 from temzaar.records import CAUSES
@@ -25,15 +25,22 @@ class CountSpan:
         """The number of the oldest sample of which there is a count."""
         return int(now // self.step) - self.count + 1
 
-    def add(self, happened: Iterable[Happened]) -> None:
-        """Adds counts. What is older than the sample at its place is left out, and so is a cause that is not known."""
+    def add(self, happened: Iterable[Happened], now: float) -> None:
+        """Adds counts. What is not in the span that ends now is left out, and so is a cause that is not known. Samples later than now are
+        forgotten: the clock was set back since they were counted."""
+        newest = int(now // self.step)
+        for at, number in enumerate(self.numbers):
+            if number > newest:
+                self.numbers[at] = -1
         for kind, number, times in happened:
+            if not newest - self.count < number <= newest:
+                continue
             at = number % self.count
-            if number > self.numbers[at]:
+            if number != self.numbers[at]:
                 self.numbers[at] = number
                 for counts in self.counts.values():
                     counts[at] = 0
-            if number == self.numbers[at] and kind in self.counts:
+            if kind in self.counts:
                 self.counts[kind][at] += times
 
     def of(self, kind: str, now: float) -> list[int]:
@@ -52,7 +59,7 @@ class RecordSamples:
     def __init__(self) -> None:
         self.spans = {name: CountSpan(step, count) for name, (step, count) in SPANS.items()}
 
-    def take(self, happened: dict[str, list[Happened]]) -> None:
-        """Adds what is new in the records, for each span."""
-        for name, rows in happened.items():
-            self.spans[name].add(rows)
+    def take(self, happened: Mapping[str, list[Happened]], now: float) -> None:
+        """Adds what a look at the records found new, by the names of the spans."""
+        for name, span in self.spans.items():
+            span.add(happened.get(name, ()), now)

@@ -1,4 +1,5 @@
 """Who a peer of a unix socket is, and what it may do."""
+import dataclasses
 import enum
 import grp
 import os
@@ -7,14 +8,19 @@ import socket
 import struct
 from collections.abc import Callable, Sequence
 from dataclasses import dataclass
+from typing import TypeVar
 
 from temzaar.hub.config import RoleKeys
 from temzaar.hub.keys import ConfigFault
+from temzaar.hub.worker import Late, Worker
 
 # The option of a socket that reports the groups of its peer (Linux 4.13). Python has no name for it.
 SO_PEERGROUPS = 59
 # As many octets as Python's getsockopt takes: 256 groups.
 GROUPS_OCTETS = 1024
+# Seconds that the system may take for the name of a user.
+NAME_SECONDS = 5.0
+Found = TypeVar("Found")
 
 
 class Role(enum.IntEnum):
@@ -89,22 +95,57 @@ def user_name(uid: int) -> str:
     try:
         return pwd.getpwuid(uid).pw_name
     except KeyError:
-        return f"uid {uid}"
+        return unnamed(uid)
 
 
-def peer_groups(stream: socket.socket, uid: int, gid: int) -> list[int]:
-    """The groups of a socket's peer, as they were when it connected; those of its user if the socket cannot report them."""
+def unnamed(uid: int) -> str:
+    """What a user without a name is called."""
+    return f"uid {uid}"
+
+
+def groups_of_socket(stream: socket.socket) -> list[int] | None:
+    """The groups of a socket's peer, as they were when it connected; None if the socket cannot report them."""
     try:
         octets = stream.getsockopt(socket.SOL_SOCKET, SO_PEERGROUPS, GROUPS_OCTETS)
-        return [gid, *struct.unpack(f"={len(octets) // 4}I", octets)]
+        return list(struct.unpack(f"={len(octets) // 4}I", octets))
     except OSError:
+        return None
+
+
+def groups_of_user(uid: int, gid: int) -> list[int]:
+    """The groups of a user, as the system has them now."""
+    try:
+        return os.getgrouplist(pwd.getpwuid(uid).pw_name, gid)
+    except (KeyError, OSError):
+        return []
+
+
+class People:
+    """Finds out who is at the other end of a unix socket. Names may be those of a directory service, which may hang: then numbers do."""
+
+    def __init__(self, rules: Rules) -> None:
+        self.rules, self.worker = rules, Worker("names", NAME_SECONDS)
+
+    async def find_peer(self, stream: socket.socket) -> Peer:
+        """The peer of a unix socket, with its role, and the number of its user in place of the name. OSError: the socket does not report it."""
+        pid, uid, gid = struct.unpack("=iII", stream.getsockopt(socket.SOL_SOCKET, socket.SO_PEERCRED, 12))
+        groups = groups_of_socket(stream)
+        if groups is None:
+            groups = await self._ask(lambda: groups_of_user(uid, gid), [])
+        return Peer(unnamed(uid), self.rules.role_of(uid, [gid, *groups]), uid, pid)
+
+    async def find_name(self, peer: Peer) -> Peer:
+        """The same peer with the name of its user, if it can be found out."""
+        uid = peer.uid
+        return peer if uid is None else dataclasses.replace(peer, user=await self._ask(lambda: user_name(uid), peer.user))
+
+    async def _ask(self, work: Callable[[], Found], otherwise: Found) -> Found:
+        """What the system says of a user, or something else if it does not in time."""
         try:
-            return [gid, *os.getgrouplist(pwd.getpwuid(uid).pw_name, gid)]
-        except (KeyError, OSError):
-            return [gid]
+            return await self.worker.do(work)
+        except Late:
+            return otherwise
 
-
-def find_peer(stream: socket.socket, rules: Rules) -> Peer:
-    """The peer of a unix socket, with its role. OSError: the socket does not report it."""
-    pid, uid, gid = struct.unpack("=iII", stream.getsockopt(socket.SOL_SOCKET, socket.SO_PEERCRED, 12))
-    return Peer(user_name(uid), rules.role_of(uid, peer_groups(stream, uid, gid)), uid, pid)
+    def close(self) -> None:
+        """Ends the thread that asks for names."""
+        self.worker.close()

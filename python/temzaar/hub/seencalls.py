@@ -81,8 +81,12 @@ class CallRing:
 
     def append(self, call: SeenCall) -> None:
         """Adds a call, in place of the oldest if there is no room."""
+        self.append_record(pack_call(call))
+
+    def append_record(self, record: bytes) -> None:
+        """Adds the record of a call."""
         at = self.count % self.size * RECORD.size
-        self.octets[at:at + RECORD.size] = pack_call(call)
+        self.octets[at:at + RECORD.size] = record
         self.count += 1
 
     def __len__(self) -> int:

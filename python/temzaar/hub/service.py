@@ -14,7 +14,7 @@ from temzaar.hub.lineport import STOP_SECONDS, LinePort
 from temzaar.hub.link import ConsoleLink
 from temzaar.hub.model import SiteModel
 from temzaar.hub.moment import Moment
-from temzaar.hub.notes import note, notify_systemd, warn
+from temzaar.hub.notes import note, notify_systemd, warn, watchdog_seconds
 from temzaar.hub.pagefiles import PREFIX, load_page
 from temzaar.hub.poller import Poller
 from temzaar.hub.recordreader import RecordReader
@@ -37,13 +37,14 @@ class Hub:
         self.line_port = LinePort(self.desk, rules)
         self.records = RecordReader(config.records) if config.records.file else None
         self.views = Views(config, self.link, self.model, self.counts, self.desk.sessions, Moment.now(), self.records)
+        self.board = BoardViews(self.views)
         views = {**self._load_page(), **self._views_for_machines()}
         self.web_port = WebPort(config.http, views, self.counts, [path for path in views if not path.startswith(PREFIX)])
         self.stopping = asyncio.Event()
 
     def _views_for_machines(self) -> dict[str, View]:
         """The views for machines, by their paths."""
-        board = BoardViews(self.views)
+        board = self.board
         return {"/v1/site.json": lambda _: Response(self.views.site_json(), JSON), "/v1/state.json": board.state_json, "/v1/radios.json": board.radios_json,
                 "/v1/calls.json": board.calls_json, "/v1/history.json": board.history_json,
                 "/metrics": lambda _: Response(self.views.metrics(), METRICS), "/healthz": self._health}
@@ -89,9 +90,10 @@ class Hub:
         with contextlib.suppress(ValueError, RuntimeError):
             loop.add_signal_handler(signal.SIGHUP, note, "SIGHUP: the config file is read at the start alone")
         try:
-            await asyncio.to_thread(self.audit.open)
-        except OSError as fault:
-            raise AuditFault(f"audit log: cannot write {self.audit.path}: {fault.strerror or fault}") from fault
+            await self.audit.begin()
+        except AuditFault as fault:
+            self.audit.close()
+            raise AuditFault(f"audit log: {fault}") from fault
         tasks: list[asyncio.Task[None]] = []
         waiting = asyncio.create_task(self.stopping.wait())
         try:
@@ -99,6 +101,7 @@ class Hub:
             tasks += [asyncio.create_task(self.link.run()), asyncio.create_task(self.poller.run())]
             if self.records:
                 tasks.append(asyncio.create_task(self.records.run()))
+            tasks.append(asyncio.create_task(feed_watchdog()))
             notify_systemd("READY=1")
             await asyncio.wait({waiting, *tasks}, return_when=asyncio.FIRST_COMPLETED)
             for task in tasks:
@@ -111,6 +114,7 @@ class Hub:
             for task in (*tasks, waiting):
                 task.cancel()
             await asyncio.wait({*tasks, waiting}, timeout=STOP_SECONDS)
+            await self.desk.end()
             self.audit.close()
 
     async def _open_ports(self) -> None:
@@ -122,6 +126,15 @@ class Hub:
         """Closes the ports, and ends the connections."""
         await self.web_port.close()
         await self.line_port.close()
+
+
+async def feed_watchdog() -> None:
+    """Reports to systemd that the loop turns, until it is cancelled. If systemd expects no report, it waits."""
+    seconds = watchdog_seconds()
+    while True:
+        await asyncio.sleep(seconds / 3 if seconds else 3600)
+        if seconds:
+            notify_systemd("WATCHDOG=1")
 
 
 def constant_view(response: Response) -> View:

@@ -2,7 +2,7 @@
 import asyncio
 import contextlib
 import time
-from collections.abc import Callable, Iterator
+from collections.abc import Callable, Coroutine, Iterator
 from dataclasses import dataclass, field
 from typing import Any
 
@@ -13,7 +13,9 @@ from temzaar.hub.counts import HubCounts
 from temzaar.hub.lines import NO_ANSWER, Line, LineCutter, LineKind, printable
 from temzaar.hub.link import ConsoleLink, NoAnswer
 from temzaar.hub.moment import utc_text
-from temzaar.hub.notes import warn
+from temzaar.hub.notes import UserNotes
+from temzaar.hub.places import Place
+from temzaar.hub.quota import Quota
 from temzaar.hub.roles import Peer, Role
 from temzaar.hub.turn import LongWork, Paces
 
@@ -23,8 +25,12 @@ PIECE = 4096
 LINES_PER_SECOND, LINES_AT_ONCE = 200.0, 400
 # The reply to a command that has changed the site.
 DONE = b"ok\n"
-# How many commands without the role for them a user may send in a second. Each is a record of the audit log.
+# How many commands without the role for them a user may send in a second.
 REFUSALS_PER_SECOND = 2.0
+# How many of these the audit log has in REFUSALS_SECONDS; of the others, their number.
+MOST_REFUSALS, REFUSALS_SECONDS = 10, 3600.0
+# How the first line of a web page's request begins.
+HTTP = tuple(f"{it} ".encode() for it in ("GET", "HEAD", "POST", "PUT", "DELETE", "CONNECT", "OPTIONS", "TRACE", "PATCH"))
 HISTORY_ROWS, MOST_HISTORY_ROWS = 16, 100
 HELP = (
     ("status", "counts, and what a quiet control slot sends"),
@@ -54,7 +60,29 @@ class Desk:
     lines: Paces = field(default_factory=lambda: Paces(LINES_PER_SECOND, LINES_AT_ONCE))
     refusals: Paces = field(default_factory=lambda: Paces(REFUSALS_PER_SECOND))
     own_work: LongWork = field(default_factory=LongWork)
+    recorded_refusals: Quota = field(default_factory=lambda: Quota(MOST_REFUSALS, REFUSALS_SECONDS))
+    notes: UserNotes = field(default_factory=UserNotes)
     changes: int = 0
+    tasks: set[asyncio.Future[None]] = field(default_factory=set)
+
+    def keep_task(self, work: Coroutine[Any, Any, None]) -> None:
+        """Does work for which nobody waits. If the audit log cannot be written, that was noted."""
+        task = asyncio.ensure_future(work)
+        self.tasks.add(task)
+        task.add_done_callback(self._forget_task)
+
+    def _forget_task(self, task: asyncio.Future[None]) -> None:
+        """Work has ended for which nobody waited."""
+        self.tasks.discard(task)
+        if not task.cancelled():
+            task.exception()
+
+    async def end(self) -> None:
+        """Writes what has only been counted as yet."""
+        self.recorded_refusals.end()
+        self.notes.quota.end()
+        if self.tasks:
+            await asyncio.wait(set(self.tasks))
 
     def next_change(self) -> str:
         """A name for a command, which its records share: when the hub asks, and a number."""
@@ -68,6 +96,7 @@ class Session:
     number: int
     peer: Peer
     desk: Desk
+    place: Place
     reader: asyncio.StreamReader
     writer: asyncio.StreamWriter
     since: float = field(default_factory=time.time)
@@ -87,6 +116,8 @@ class Session:
                     octets = await self.reader.read(PIECE)
                 if not octets:
                     return "end of input"
+                if not self.lines and self.peer.uid is None and octets.startswith(HTTP):
+                    return "http"
                 if lines := cutter.feed(octets):
                     await self._answer_all(lines)
                     until = loop.time() + keys.idle_seconds
@@ -101,6 +132,7 @@ class Session:
 
     async def _answer_all(self, lines: list[bytes | None]) -> None:
         """Answers lines at their user's pace. SlowReader: the peer does not read."""
+        self.place.has_spoken = True
         for line in lines:
             await self.desk.lines.wait(self.peer.key)
             self.is_busy = True
@@ -147,14 +179,9 @@ class Session:
 
     async def _change(self, line: Line) -> bytes:
         """Does a command that changes the site, if the role allows it and the audit log has it."""
-        record = {"id": self.desk.next_change(), "user": self.peer.user, "uid": self.peer.uid, "pid": self.peer.pid, "role": self.peer.role.name.lower(),
-                  "connection": self.number, "line": line.text}
+        record = {**self._record_of_peer(), "line": line.text}
         if self.peer.role < Role.FULL:
-            reply = error_line("not allowed: this needs the role full")
-            await self.desk.refusals.wait(self.peer.key)
-            with contextlib.suppress(AuditFault):
-                await self._record(line, record, "refused", reply)
-            return reply
+            return await self._refuse(line, record)
         try:
             await self._record(line, record, "asked")
         except AuditFault:
@@ -164,6 +191,27 @@ class Session:
         with contextlib.suppress(AuditFault):
             await self._record(line, record, outcome, reply)
         return reply
+
+    def _record_of_peer(self) -> dict[str, Any]:
+        """What all records of a command have."""
+        return {"id": self.desk.next_change(), "user": self.peer.user, "uid": self.peer.uid, "pid": self.peer.pid,
+                "role": self.peer.role.name.lower(), "connection": self.number}
+
+    async def _refuse(self, line: Line, record: dict[str, Any]) -> bytes:
+        """Refuses a command that needs the role full. The audit log has the first ones of an hour, and then the number of the others."""
+        reply = error_line("not allowed: this needs the role full")
+        await self.desk.refusals.wait(self.peer.key)
+        if self.desk.recorded_refusals.take(self.peer.key, self._record_refusals):
+            with contextlib.suppress(AuditFault):
+                await self._record(line, record, "refused", reply)
+        else:
+            self.desk.counts.changes.add(command=line.name, outcome="refused")
+        return reply
+
+    def _record_refusals(self, count: int) -> None:
+        """Records how many more commands of the user were refused."""
+        record = {**self._record_of_peer(), "line": None, "count": count}
+        self.desk.keep_task(self._record(None, record, "refusals"))
 
     async def _do(self, line: Line) -> tuple[str, bytes]:
         """Passes a command on. How it ended, and the reply."""
@@ -178,18 +226,19 @@ class Session:
             self.desk.on_change()
         return "answered", reply
 
-    async def _record(self, line: Line, record: dict[str, Any], event: str, reply: bytes | None = None) -> None:
-        """Writes a record of the audit log. AuditFault: it cannot be written."""
+    async def _record(self, line: Line | None, record: dict[str, Any], event: str, reply: bytes | None = None) -> None:
+        """Writes a record of the audit log, of a line if there is one. AuditFault: it cannot be written."""
         said = printable(reply.rstrip(b"\n")) if reply is not None else None
         now = time.time()
         try:
             await self.desk.audit.record({"time": utc_text(now, decimals=True), "event": event, **record, "reply": said})
         except AuditFault as fault:
             self.desk.counts.audit_faults.add()
-            warn(f"audit log: {fault}; {record['user']}: {record['line']}: {event}{': ' + said if said else ''}")
+            text = f"audit log: {fault}; {record['user']}: {record['line']}: {event}{': ' + said if said else ''}"
+            self.desk.notes.warn("audit log", self.peer.key, text)
             raise
         self.desk.counts.audit_records.add()
-        if event != "asked":
+        if line and event != "asked":
             self.desk.counts.changes.add(command=line.name, outcome=event)
 
     def _answer_own(self, line: Line) -> bytes:
@@ -208,7 +257,7 @@ class Session:
 
     def _history_rows(self, count: int) -> Iterator[str]:
         """The last commands that were to change the site, oldest first."""
-        for it in list(self.desk.audit.recent)[-count:]:
+        for it in self.desk.audit.last(count):
             yield f"history {it['time']} {it['user']} {it['event']}: {it['line']}: {it['reply']}"
 
     def _who_rows(self) -> Iterator[str]:

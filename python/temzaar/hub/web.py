@@ -13,13 +13,16 @@ from http import HTTPStatus
 from temzaar.hub.config import HttpKeys
 from temzaar.hub.counts import HubCounts
 from temzaar.hub.httpread import END, BadRequest, Request
-from temzaar.hub.lineport import LOOPBACK, PortFault
+from temzaar.hub.lineport import LOOPBACK, start_on_loopback
 from temzaar.hub.notes import note
+from temzaar.hub.places import NoPlace, Place, Places
+from temzaar.hub.roles import Role
 from temzaar.hub.turn import LongWork
 
-BACKLOG = 64
-# After a refusal the hub reads on for a moment, so that the response is not lost with octets that were not read.
+# After a refusal the hub reads on for a moment, so that the response is not lost with octets that were not read. The moment of a
+# connection for which there was no place is short.
 LINGER_SECONDS, LINGER_OCTETS = 0.5, 65536
+SHORT_SECONDS, SHORT_OCTETS = 0.1, 8192
 TEXT, JSON, METRICS = "text/plain; charset=utf-8", "application/json", "text/plain; version=0.0.4; charset=utf-8"
 # What a browser may do with a response: load nothing but the page's own files, from here, and send nothing to anywhere else.
 CONTENT_POLICY = ("default-src 'none'; script-src 'self'; style-src 'self'; connect-src 'self'; img-src 'self'; "
@@ -56,7 +59,7 @@ class WebPort:
     def __init__(self, keys: HttpKeys, views: Mapping[str, View], counts: HubCounts, listed: Iterable[str]) -> None:
         self.keys, self.views, self.counts = keys, views, counts
         self.listed, self.hosts = tuple(listed), frozenset(str(it).lower() for it in keys.hosts)
-        self.work = LongWork()
+        self.work, self.places = LongWork(), Places(keys.connections, keys.connections)
         self.tasks: set[asyncio.Task[None]] = set()
         self.server: asyncio.Server | None = None
 
@@ -64,10 +67,7 @@ class WebPort:
         """Opens the port, if the config has one. PortFault: it cannot be opened."""
         if not self.keys.port:
             return
-        try:
-            self.server = await asyncio.start_server(self._accept, LOOPBACK, self.keys.port, backlog=BACKLOG, limit=self.keys.header_octets)
-        except OSError as fault:
-            raise PortFault(f"cannot listen on port {self.keys.port}: {fault.strerror or fault}") from fault
+        self.server = await start_on_loopback(self.keys.port, self._accept, self.keys.header_octets)
         note(f"http: listening on {LOOPBACK}:{self.keys.port}")
 
     async def close(self) -> None:
@@ -83,14 +83,9 @@ class WebPort:
         """Serves a connection, unless too many are served."""
         task = asyncio.current_task()
         assert task
-        if len(self.tasks) >= self.keys.connections:
-            self.counts.http_refusals.add()
-            writer.write(response_octets(Response(b"too many connections\n", TEXT, HTTPStatus.SERVICE_UNAVAILABLE, {"Retry-After": "1"}), False))
-            writer.close()
-            return
         self.tasks.add(task)
         try:
-            await self._serve(reader, writer)
+            await self._admit(reader, writer)
         except asyncio.CancelledError:
             pass
         except (OSError, TimeoutError):
@@ -99,12 +94,38 @@ class WebPort:
             self.tasks.discard(task)
             writer.close()
 
-    async def _serve(self, reader: asyncio.StreamReader, writer: asyncio.StreamWriter) -> None:
+    async def _admit(self, reader: asyncio.StreamReader, writer: asyncio.StreamWriter) -> None:
+        """Serves a connection if there is a place for it. OSError, TimeoutError: the peer has gone, or does not read."""
+        try:
+            place = self.places.take("", Role.READ, lambda: self._give_way(writer))
+        except NoPlace:
+            await self._refuse(reader, writer)
+            return
+        try:
+            await self._serve(place, reader, writer)
+        finally:
+            self.places.leave(place)
+
+    def _give_way(self, writer: asyncio.StreamWriter) -> None:
+        """Ends a connection whose request has not come, since another one needs its place."""
+        self.counts.http_refusals.add()
+        writer.transport.abort()
+
+    async def _refuse(self, reader: asyncio.StreamReader, writer: asyncio.StreamWriter) -> None:
+        """Answers that all places are taken. OSError: the peer has gone."""
+        self.counts.http_refusals.add()
+        with self.places.refusing() as has_time:
+            writer.write(response_octets(Response(b"too many connections\n", TEXT, HTTPStatus.SERVICE_UNAVAILABLE, {"Retry-After": "1"}), False))
+            if has_time:
+                await self._linger(reader, writer, SHORT_SECONDS, SHORT_OCTETS)
+
+    async def _serve(self, place: Place, reader: asyncio.StreamReader, writer: asyncio.StreamWriter) -> None:
         """Reads a request and writes its response. OSError, TimeoutError: the peer has gone, or does not read."""
         is_head = False
         try:
             async with asyncio.timeout(self.keys.request_seconds):
                 request = Request.read(await reader.readuntil(END), self.hosts)
+            place.has_spoken = True
             is_head = request.is_head
             response = await self.work.do(lambda: self._respond(request))
         except BadRequest as fault:
@@ -114,7 +135,7 @@ class WebPort:
         except TimeoutError:
             response = Response(b"the request did not come in time\n", TEXT, HTTPStatus.REQUEST_TIMEOUT)
         except asyncio.IncompleteReadError as fault:
-            if not fault.partial:
+            if not fault.partial or writer.transport.is_closing():
                 return
             response = Response(b"the request is not whole\n", TEXT, HTTPStatus.BAD_REQUEST)
         self.counts.http_requests.add(code=str(response.status.value))
@@ -122,16 +143,15 @@ class WebPort:
         async with asyncio.timeout(self.keys.request_seconds):
             await writer.drain()
             if response.status not in WHOLE:
-                await self._linger(reader, writer)
+                await self._linger(reader, writer, LINGER_SECONDS, LINGER_OCTETS)
             writer.close()
             await writer.wait_closed()
 
-    async def _linger(self, reader: asyncio.StreamReader, writer: asyncio.StreamWriter) -> None:
-        """Reads on after a refusal, for a moment and up to a limit."""
+    async def _linger(self, reader: asyncio.StreamReader, writer: asyncio.StreamWriter, seconds: float, left: int) -> None:
+        """Reads on after a refusal, for some seconds and octets at most."""
         writer.write_eof()
-        left = LINGER_OCTETS
         with contextlib.suppress(TimeoutError):
-            async with asyncio.timeout(LINGER_SECONDS):
+            async with asyncio.timeout(seconds):
                 while left > 0 and (piece := await reader.read(4096)):
                     left -= len(piece)
 

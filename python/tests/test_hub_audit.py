@@ -70,6 +70,16 @@ class Written(unittest.TestCase):
         os.symlink("/dev/null", self.path)
         self.assertRaises(OSError, self.log().append, b"1\n")
 
+    def test_refusals_do_not_displace_commands(self) -> None:
+        log = self.log()
+        log.append = lambda _: None  # type: ignore[method-assign, assignment]
+        for number in range(300):
+            record = {"time": f"{number:03}", "event": "refused" if number else "answered"}
+            asyncio.run(log.record(record))
+            asyncio.run(log.record({**record, "event": "asked"}))
+        self.assertEqual([it["time"] for it in log.last(2)], ["000", "298", "299"])
+        self.assertEqual(len(log.last(100)), 101)
+
     def test_a_fault_and_its_end(self) -> None:
         log = self.log()
         with mock.patch("os.fsync", side_effect=OSError(28, "No space left on device")):

@@ -266,5 +266,5 @@ class Harmless(WebCase):
 
     async def test_no_port_unless_it_is_asked_for(self) -> None:
         hub = await self.start()
-        self.assertIsNone(hub.web_port.server)
+        self.assertIsNone(hub.web_port.listener)
         self.assertIsInstance(hub.desk, Desk)

@@ -12,17 +12,22 @@ from temzaar.hub.notes import note
 from temzaar.hub.places import NoPlace, Place, Places
 from temzaar.hub.roles import Peer, People, Role, Rules
 from temzaar.hub.session import Desk, Session, error_line
+from temzaar.hub.turn import Pacer
 
 LOOPBACK = "127.0.0.1"
 # Everybody on the machine may connect to the socket: the roles decide who is served.
 SOCKET_MODE = 0o666
-# How many connections wait to be accepted, and how many are accepted in one turn of the loop.
-BACKLOG, ACCEPTS = 1024, 16
+# How many connections wait to be accepted; how many are accepted in a second, and at once after a rest; seconds after one that failed.
+BACKLOG, ACCEPTS_PER_SECOND, ACCEPTS_AT_ONCE, RETRY_SECONDS = 1024, 500.0, 100, 0.1
 # What the ends of sessions are called that the hub ended, and why there is no place for a newcomer.
 CUTS = ("idle", "slow reader", "http")
 NO_PLACE = {"full": "the hub serves as many connections as it may: try again later", "user full": "the user {} has as many connections as one user may"}
+# How many octets of lines wait at least before the hub reads no more.
+INPUT_OCTETS = 4096
 # How long the hub waits, when it stops, for answers that are pending.
 STOP_SECONDS = 3.0
+
+Accept = Callable[[asyncio.StreamReader, asyncio.StreamWriter], Awaitable[None]]
 
 
 class PortFault(ToolFault):
@@ -63,19 +68,43 @@ def is_served(path: str) -> bool:
         return True
 
 
-async def start_listening(made: socket.socket, accept: Callable[[asyncio.StreamReader, asyncio.StreamWriter], Awaitable[None]], limit: int) -> asyncio.Server:
-    """Serves a socket that is bound; `limit` is how many octets of a peer wait at least before the hub reads no more."""
-    start = asyncio.start_unix_server if made.family == socket.AF_UNIX else asyncio.start_server
-    server = await start(accept, sock=made, backlog=ACCEPTS, limit=limit)
-    # asyncio accepts as many in a turn as may wait
-    made.listen(BACKLOG)
-    return server
+class Listener:
+    """Accepts connections on a socket that is bound, at a pace: those that connect without end take a part of the loop's time alone."""
+
+    def __init__(self, made: socket.socket, accept: Accept, limit: int) -> None:
+        """Begins to listen. `limit` is how many octets of a peer wait at least before the hub reads no more."""
+        self.made, self.accept, self.limit = made, accept, limit
+        self.pacer = Pacer(ACCEPTS_PER_SECOND, ACCEPTS_AT_ONCE)
+        made.setblocking(False)
+        made.listen(BACKLOG)
+        self.task = asyncio.create_task(self._run())
+
+    async def _run(self) -> None:
+        """Accepts until it is cancelled."""
+        loop = asyncio.get_running_loop()
+        while True:
+            try:
+                stream, _ = await loop.sock_accept(self.made)
+            except OSError:
+                # the peer has gone, or there are too many descriptors
+                await asyncio.sleep(RETRY_SECONDS)
+                continue
+            reader = asyncio.StreamReader(limit=self.limit)
+            protocol = asyncio.StreamReaderProtocol(reader, self.accept)
+            with contextlib.suppress(OSError):
+                await loop.connect_accepted_socket(lambda protocol=protocol: protocol, stream)
+            await self.pacer.wait()
+
+    def close(self) -> None:
+        """Accepts no more."""
+        self.task.cancel()
+        self.made.close()
 
 
-async def start_on_loopback(port: int, accept: Callable[[asyncio.StreamReader, asyncio.StreamWriter], Awaitable[None]], limit: int) -> asyncio.Server:
-    """Serves a port on loopback. PortFault: it is taken, or may not be used."""
+def listen_on_loopback(port: int, accept: Accept, limit: int) -> Listener:
+    """Listens on a port on loopback. PortFault: it is taken, or may not be used."""
     try:
-        return await start_listening(socket.create_server((LOOPBACK, port)), accept, limit)
+        return Listener(socket.create_server((LOOPBACK, port)), accept, limit)
     except OSError as fault:
         raise PortFault(f"cannot listen on port {port}: {fault.strerror or fault}") from fault
 
@@ -90,7 +119,7 @@ class LinePort:
         self.places = Places(keys.connections, keys.connections_per_user, min(keys.connections_per_user, keys.connections // 2))
         self.numbers = itertools.count(1)
         self.tasks: dict[asyncio.Task[None], Session | None] = {}
-        self.servers: list[asyncio.Server] = []
+        self.listeners: list[Listener] = []
         self.identity: tuple[int, int] | None = None
 
     async def open(self) -> None:
@@ -99,10 +128,10 @@ class LinePort:
         made = bind_socket(keys.socket)
         found = os.stat(keys.socket)
         self.identity = found.st_dev, found.st_ino
-        self.servers.append(await start_listening(made, self._accept, 4096))
+        self.listeners.append(Listener(made, self._accept, INPUT_OCTETS))
         note(f"operators: listening on {keys.socket}")
         if keys.tcp_port:
-            self.servers.append(await start_on_loopback(keys.tcp_port, self._accept, 4096))
+            self.listeners.append(listen_on_loopback(keys.tcp_port, self._accept, INPUT_OCTETS))
             note(f"operators: listening on {LOOPBACK}:{keys.tcp_port}, role read")
 
     async def _accept(self, reader: asyncio.StreamReader, writer: asyncio.StreamWriter) -> None:
@@ -189,8 +218,8 @@ class LinePort:
 
     async def close(self) -> None:
         """Takes no more connections, and ends those that there are. Lines that are being answered have a moment for it."""
-        for server in self.servers:
-            server.close()
+        for listener in self.listeners:
+            listener.close()
         self._unlink()
         self.people.close()
         for task, session in list(self.tasks.items()):

@@ -13,7 +13,7 @@ from http import HTTPStatus
 from temzaar.hub.config import HttpKeys
 from temzaar.hub.counts import HubCounts
 from temzaar.hub.httpread import END, BadRequest, Request
-from temzaar.hub.lineport import LOOPBACK, start_on_loopback
+from temzaar.hub.lineport import LOOPBACK, Listener, listen_on_loopback
 from temzaar.hub.notes import note
 from temzaar.hub.places import NoPlace, Place, Places
 from temzaar.hub.roles import Role
@@ -61,19 +61,19 @@ class WebPort:
         self.listed, self.hosts = tuple(listed), frozenset(str(it).lower() for it in keys.hosts)
         self.work, self.places = LongWork(), Places(keys.connections, keys.connections)
         self.tasks: set[asyncio.Task[None]] = set()
-        self.server: asyncio.Server | None = None
+        self.listener: Listener | None = None
 
     async def open(self) -> None:
         """Opens the port, if the config has one. PortFault: it cannot be opened."""
         if not self.keys.port:
             return
-        self.server = await start_on_loopback(self.keys.port, self._accept, self.keys.header_octets)
+        self.listener = listen_on_loopback(self.keys.port, self._accept, self.keys.header_octets)
         note(f"http: listening on {LOOPBACK}:{self.keys.port}")
 
     async def close(self) -> None:
         """Closes the port, and ends the connections."""
-        if self.server:
-            self.server.close()
+        if self.listener:
+            self.listener.close()
         for task in self.tasks:
             task.cancel()
         if self.tasks:

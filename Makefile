@@ -1,6 +1,6 @@
 # `make` alone says what there is.
 .DEFAULT_GOAL := help
-.PHONY: help run demo build build-tests check fmt test gate check-fast check-programs tools-check wrong-bodies bench bench-instructions soak serve-check serve-hostile network-recipes unit-recipes restart refuse-memory pictures package package-check release maps trusted install
+.PHONY: help run demo build build-tests check fmt test gate check-fast check-programs tools-check wrong-bodies bench bench-instructions soak serve-check serve-hostile hub-hostile network-recipes unit-recipes restart refuse-memory pictures package package-check release maps trusted install
 
 PREFIX ?= /usr/local
 DESTDIR ?=
@@ -26,6 +26,7 @@ help: ## this list
 	@echo "tools/hub            holds the console of a controller, and serves it to many"
 	@echo "tools/console        the console, through the hub"
 	@echo "trials/serve-hostile plays carriers and strangers that behave badly"
+	@echo "trials/hub-hostile   attacks a hub, and measures an operator meanwhile"
 	@echo "trials/long-replay   how long a long replay takes"
 	@echo "trials/watch-hour    whether a site's observers delay its carriers"
 	@echo "trials/flood-cost    whether floods delay the other carriers of a site"
@@ -106,6 +107,9 @@ endif
 
 serve-hostile: build/dmr_trunk ## the proved program served to carriers and strangers that behave badly (some minutes)
 	trials/serve-hostile build/dmr_trunk
+
+hub-hostile: build/dmr_trunk ## a hub over the proved program, attacked in a dozen ways, with an operator who is measured (a minute; some attacks as root alone)
+	trials/hub-hostile build/dmr_trunk
 
 network-recipes: build/dmr_trunk ## firewall, tunnels and units of deploy/ in network namespaces, with the proved program (a minute; as root, with nftables, wireguard-tools, stunnel4, apparmor)
 	trials/network-recipes build/dmr_trunk

@@ -3,6 +3,7 @@
 The package reads and writes the formats of `docs/FORMATS.md`. It is written from the documents alone, apart from the controller's code, so a
 comparison of the two means something. One module per subject, lowest first:
 
+    printable   text that came from outside, as a terminal may show it
     faults      the fault that a tool reports in a line, and files that are read with a limit
     code        the block code of a burst, and the check of ten octets
     pdus        the PDUs: one table of layouts, read in both directions

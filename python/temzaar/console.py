@@ -5,6 +5,7 @@ from collections.abc import Container
 from dataclasses import dataclass
 
 from temzaar.faults import ToolFault
+from temzaar.printable import printable
 
 # Commands whose reply ends with a line `end`, unless it is an error.
 LISTS = ("radios", "calls", "lines", "slots")
@@ -99,9 +100,9 @@ class Console:
         return self.line()
 
     def ask(self, line: str) -> list[str]:
-        """The lines of the reply to a line; the `end` of a list is left out."""
+        """The lines of the reply to a line, as a terminal may show them; the `end` of a list is left out."""
         asked = line.encode("utf-8")
-        reply = [it.decode("ascii", "replace") for it in self.exchange(asked)]
+        reply = [printable(it.decode("ascii", "replace")) for it in self.exchange(asked)]
         return reply[:-1] if ReplyFrame(asked, self.lists).is_list and reply[-1] == "end" else reply
 
     def close(self) -> None:

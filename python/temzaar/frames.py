@@ -106,7 +106,7 @@ class Cutter:
 
     def __init__(self, kinds: frozenset[FrameType]) -> None:
         self.kinds = kinds
-        self.octets = b""
+        self.octets = bytearray()
         self.version: int | None = None
         self.fault: Fault | None = None
 
@@ -120,11 +120,11 @@ class Cutter:
             self.fault = self._fault_of_head()
             if self.fault or len(self.octets) < 2 + self._length():
                 return
-            frame = Frame(FrameType(self.octets[0]), self.octets[2:2 + self._length()])
+            frame = Frame(FrameType(self.octets[0]), bytes(self.octets[2:2 + self._length()]))
             if frame.kind in (FrameType.RX, FrameType.TX) and frame.body[-1] & 15:
                 self.fault = Fault.BAD_PAD
                 return
-            self.octets = self.octets[2 + len(frame.body):]
+            del self.octets[:2 + len(frame.body)]
             if self.version is None:
                 names_version = frame.kind in (FrameType.HELLO, FrameType.WELCOME) and frame.body[0] in VERSIONS
                 self.version = frame.body[0] if names_version else 1

@@ -47,7 +47,7 @@ def frames_of(stream: Stream, from_carrier: bool) -> tuple[list[Timed], Timed | 
     for part in stream.parts:
         time = part.time
         frames += [Timed(frame.octets(), part.time, frame) for frame in cutter.feed(part.octets)]
-    return frames, Timed(cutter.octets, time) if cutter.octets else None
+    return frames, Timed(bytes(cutter.octets), time) if cutter.octets else None
 
 
 def lines_of(parts: list[Part]) -> list[Timed]:

@@ -11,6 +11,8 @@ from temzaar.console import SlotKey, Status, read_calls, read_lines, read_radios
 
 # How many radios a reply to `radios` has at most, and the greatest number that it may be asked from.
 RADIOS_A_REPLY, LAST_RADIO = 16, 16777215
+# How many requests may wait for a slot: more are not asked for, whatever the console counts.
+MOST_WAITING = 32
 
 # Something with an age: a call on a slot, or a request in the queue.
 Standing = tuple[str, SlotKey | None, str]
@@ -53,7 +55,7 @@ def ask_picture() -> Generator[str, list[str], Picture]:
     picture = Picture(status, read_slots((yield "slots")))
     for carrier in sorted({carrier for (carrier, _), state in picture.slots.items() if state == "call"}):
         picture.calls.update(read_calls((yield f"calls {carrier}")))
-    while status.counts["lines"] > len(picture.lines):
+    while min(status.counts["lines"], MOST_WAITING) > len(picture.lines):
         more = read_lines((yield f"lines {len(picture.lines) + 1}"))
         picture.lines += more
         if not more:

@@ -7,15 +7,15 @@ no right but to read it.
 import contextlib
 import fcntl
 import os
-import shutil
 import sqlite3
+import stat
 import tempfile
 import time
 from collections.abc import Iterator, Sequence
 from dataclasses import dataclass, field
 from typing import Any
 
-from temzaar.faults import ToolFault
+from temzaar.faults import MOST_OCTETS, ToolFault
 
 # The path of the file, if the systemd unit of the controller runs.
 DEFAULT_PATH = "/var/lib/dmr_trunk/site.db"
@@ -165,18 +165,43 @@ def wait_for_shared_lock(descriptor: int, path: str, seconds: float) -> None:
 
 
 def copy_locked(source: int, path: str, copy: str) -> None:
-    """Copies the database of a descriptor, and its log if there is one. OSError: something cannot be read or written."""
+    """Copies the database of a descriptor, and its log if there is one. RecordsFault: one is not a file, or has too many octets;
+    OSError: something cannot be read or written."""
     # not by the name again: to close a second descriptor of the file would end the lock
-    with os.fdopen(source, "rb", closefd=False) as it, open(copy, "wb") as out:
-        shutil.copyfileobj(it, out, 1 << 20)
-    with contextlib.suppress(FileNotFoundError):
-        shutil.copyfile(path + LOG, copy + LOG)
+    copy_octets(source, path, copy)
+    try:
+        log = open_file(path + LOG)
+    except FileNotFoundError:
+        return
+    try:
+        copy_octets(log, path + LOG, copy + LOG)
+    finally:
+        os.close(log)
+
+
+def open_file(path: str) -> int:
+    """A descriptor of a file that is read. It does not wait for somebody who writes into a pipe. OSError: it cannot be opened."""
+    return os.open(path, os.O_RDONLY | os.O_CLOEXEC | os.O_NONBLOCK)
+
+
+def copy_octets(source: int, path: str, copy: str) -> None:
+    """Copies the file of a descriptor. RecordsFault: it is not a file, or has too many octets; OSError: something cannot be read or written."""
+    state = os.fstat(source)
+    # a folder has a fault of its own when it is read
+    if not stat.S_ISREG(state.st_mode) and not stat.S_ISDIR(state.st_mode):
+        raise RecordsFault(f"{path}: not a file")
+    if state.st_size > MOST_OCTETS:
+        raise RecordsFault(f"{path}: more than {MOST_OCTETS} octets")
+    left = state.st_size
+    with open(copy, "wb") as out:
+        while left > 0 and (piece := os.read(source, min(left, 1 << 20))):
+            left -= out.write(piece)
 
 
 def copy_records(path: str, copy: str, seconds: float) -> None:
     """Copies a file of records while no other program writes it. RecordsFault: it cannot be read, or is locked."""
     try:
-        descriptor = os.open(path, os.O_RDONLY | os.O_CLOEXEC)
+        descriptor = open_file(path)
     except (OSError, ValueError) as fault:
         raise RecordsFault(f"{path}: {fault.strerror if isinstance(fault, OSError) else fault}") from fault
     try:

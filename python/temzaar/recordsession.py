@@ -13,6 +13,7 @@ from temzaar.clock import Clock, ClockFault, Window
 from temzaar.drawing import Session
 from temzaar.grants import Call, Parties
 from temzaar.moments import local_time, read_moment, short_text
+from temzaar.printable import printable
 from temzaar.records import RecordedCall, RecordedEvent, RecordedTerm, RecordsFault, opened_records
 from temzaar.script import Event, Input
 
@@ -148,7 +149,7 @@ class RecordedCalls:
         begins, ends = ({it.call: index for index, it in enumerate(found) if it.what == what} for what in ("began", "ended"))
         for place, call in enumerate(period.calls):
             parties = Parties(call.is_group, call.target, call.source)
-            self._bars.append(((call.carrier, call.slot), Call(parties, begins[place], ends.get(place), call.cause.replace("_", " "))))
+            self._bars.append(((call.carrier, call.slot), Call(parties, begins[place], ends.get(place), printable(call.cause.replace("_", " ")))))
         self._bars.sort(key=lambda it: it[1].begins)
 
     def bars(self) -> list[tuple[SlotKey, Call]]:

@@ -7,6 +7,7 @@ from enum import Enum
 from typing import Any
 
 from temzaar.moments import iso_text, short_text
+from temzaar.printable import printable
 from temzaar.records import RecordedCall, Where
 
 COLUMNS = ("number", "term", "began", "ended", "seconds", "carrier", "slot", "kind", "source", "target", "cause")
@@ -54,14 +55,11 @@ def kind_of(call: RecordedCall) -> str:
     return "talkgroup" if call.is_group else "individual"
 
 
-def printable(text: str) -> str:
-    """A text whose control characters cannot move the cursor of a terminal."""
-    return "".join(it if it.isprintable() else f"\\x{ord(it):02x}" for it in text)
-
-
 def safe_cell(value: str | int | float | None) -> str | int | float | None:
-    """A cell of CSV that no spreadsheet takes for a formula."""
-    return f"'{value}" if isinstance(value, str) and value.startswith(FORMULA) else value
+    """A cell of CSV that no terminal takes for a command, and no spreadsheet for a formula."""
+    if not isinstance(value, str):
+        return value
+    return f"'{printable(value)}" if value.startswith(FORMULA) else printable(value)
 
 
 def table_cells(call: RecordedCall) -> dict[str, str]:

@@ -1,5 +1,6 @@
 """Scripts and printed replays (docs/FORMATS.md, "Scripts", "Link sessions"): which answer belongs to which poll, and when."""
 import re
+from collections import deque
 from collections.abc import Iterable
 from dataclasses import dataclass
 
@@ -124,7 +125,7 @@ class Replay:
     """
 
     def __init__(self, inputs: Iterable[Input], carriers: dict[int, bytes]) -> None:
-        self.frames = {number: frames_to_carrier(octets) for number, octets in carriers.items()}
+        self.frames = {number: deque(frames_to_carrier(octets)) for number, octets in carriers.items()}
         # the link of each carrier that is up, and the number of its last RX
         self.up: dict[int, Link] = {}
         self.newest: dict[int, int | None] = {}
@@ -202,7 +203,7 @@ class Replay:
     def _next_frame(self, carrier: int) -> Frame:
         if not self.frames[carrier]:
             raise SessionFault(f"nothing answers carrier {carrier} at tick {self.tick}: is this the output of this script?")
-        return self.frames[carrier].pop(0)
+        return self.frames[carrier].popleft()
 
     def _poll(self, carrier: int) -> None:
         """The answer to a poll: a TX for each PDU, then a DONE."""

@@ -15,6 +15,7 @@ from datetime import datetime
 
 from temzaar.cli.callbook import main
 from temzaar.moments import MomentFault, iso_text, join_times, read_moment, short_text
+from temzaar.printable import printable
 from temzaar.records import CAUSES, VERSION, opened_records
 from temzaar.recordsheet import safe_cell
 from tests.made_records import CALLS, EVENTS, NOON, REGISTRATIONS, TERMS, TABLES, add_term, locked, make_records, zone
@@ -87,7 +88,7 @@ class Printed(RecordsCase):
         self.assertEqual(rows[0]["cause"], "'=1+1")
         self.assertIn("  \\x1b[2J\n", call_tool(main, "--records", str(self.path)).stdout)
         for text in ("=a", "+a", "-a", "@a", "\ta", "\ra"):
-            self.assertEqual(safe_cell(text), f"'{text}")
+            self.assertEqual(safe_cell(text), f"'{printable(text)}")
         self.assertEqual((safe_cell("a-b"), safe_cell(-1), safe_cell(None)), ("a-b", -1, None))
 
     def test_a_time_without_a_calendar(self) -> None:

@@ -5,7 +5,7 @@ import socket
 import unittest
 
 from temzaar.hub.lineport import PortFault
-from temzaar.hub.lines import Line, LineCutter, LineKind, printable
+from temzaar.hub.lines import Line, LineCutter, LineKind, escape_octets
 from temzaar.hub.roles import ConfigFault, Role, Rules, find_rules
 from temzaar.hub.config import RoleKeys
 from temzaar.ports import free_ports
@@ -39,7 +39,7 @@ class Lines(unittest.TestCase):
                 self.assertEqual(Line.read(octets).kind, kind)
 
     def test_text_for_people(self) -> None:
-        self.assertEqual(printable(b"a\x1b[2J\\\xff\n"), "a\\x1b[2J\\x5c\\xff\\x0a")
+        self.assertEqual(escape_octets(b"a\x1b[2J\\\xff\n"), "a\\x1b[2J\\x5c\\xff\\x0a")
 
 
 class Roles(unittest.TestCase):

@@ -18,7 +18,7 @@ import sys
 from collections.abc import Sequence
 from datetime import UTC, datetime
 
-from temzaar.cli.command import amount_above, count_of, parse_words, run_command
+from temzaar.cli.command import amount_above, clean_up_on_signals, count_of, parse_words, run_command
 from temzaar.moments import join_times, read_moment
 from temzaar.records import CAUSES, DEFAULT_PATH, LOCK_SECONDS, opened_records
 from temzaar.recordsheet import CallQuery, SheetFormat, write_sheet
@@ -63,4 +63,5 @@ def print_calls(options: argparse.Namespace) -> int:
 def main(words: Sequence[str] | None = None) -> int:
     """Runs the command. The status."""
     options = read_words(words)
+    clean_up_on_signals()
     return run_command("callbook", lambda: print_calls(options))

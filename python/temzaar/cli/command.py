@@ -1,5 +1,6 @@
 """How every command ends: a fault as one line and a status, a closed pipe and Ctrl-C by their signals, and never a traceback."""
 import argparse
+import io
 import math
 import os
 import select
@@ -9,9 +10,12 @@ from collections.abc import Callable, Sequence
 from typing import NoReturn
 
 from temzaar.faults import ToolFault
+from temzaar.printable import printable
 
 # Statuses that all commands share. argparse itself ends with WRONG_WORDS.
 DONE, FAULT, WRONG_WORDS = 0, 1, 2
+# Options that are times. An empty one is refused when it is read.
+TIMES = ("first", "last", "last_time", "start")
 
 
 class Terminated(BaseException):
@@ -62,7 +66,7 @@ def print_note(name: str, text: str) -> None:
     if sys.stderr is None:
         return
     try:
-        print(f"{name}: {text}", file=sys.stderr, flush=True)
+        print(f"{name}: {printable(text)}", file=sys.stderr, flush=True)
     except (OSError, ValueError):
         # what could not be written would be tried again at the interpreter's end
         sys.stderr = None
@@ -79,6 +83,9 @@ def run_command(name: str, action: Callable[[], int], fault_status: int = FAULT)
     try:
         if sys.stdout is None:
             raise ToolFault("standard output is closed")
+        if isinstance(sys.stdout, io.TextIOWrapper):
+            # what its encoding does not have is escaped
+            sys.stdout.reconfigure(errors="backslashreplace")
         status = action()
         sys.stdout.flush()
         return status
@@ -100,9 +107,13 @@ def run_command(name: str, action: Callable[[], int], fault_status: int = FAULT)
 
 def parse_words(parser: argparse.ArgumentParser, words: Sequence[str] | None) -> argparse.Namespace:
     """The options that the words give. As argparse does, it ends the command after a help text, and after words that it refuses. If nobody reads
-    the help text, the command ends in the same way."""
+    the help text, the command ends in the same way. An empty word is refused: a variable of the shell that is not set does not count as no option."""
     try:
-        return parser.parse_args(words)
+        options = parser.parse_args(words)
+        for name, value in vars(options).items():
+            if value == "" and name not in TIMES:
+                parser.error(f"{name}: the word is empty")
+        return options
     except (SystemExit, BrokenPipeError) as ended:
         try:
             if sys.stdout is not None:

@@ -19,6 +19,7 @@ from temzaar.cli.command import address_of_words, amount_above, clean_up_on_sign
 from temzaar.console import Console
 from temzaar.faults import ToolFault
 from temzaar.hubconsole import Completions, HubConsole, HubPort, default_socket, has_ended
+from temzaar.printable import printable
 
 HISTORY_LINES = 1000
 PROMPT = "dmr> "
@@ -57,6 +58,8 @@ class Operator:
             self.console.close()
             self.console = connect(self.options)
         reply = self.console.exchange(line)
+        if sys.stdout.isatty():
+            reply = [printable(it.decode("ascii", "backslashreplace")).encode("ascii") for it in reply]
         sys.stdout.buffer.write(b"".join(it + b"\n" for it in reply))
         sys.stdout.buffer.flush()
         if reply[0].startswith(b"error"):

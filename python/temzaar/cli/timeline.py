@@ -37,7 +37,7 @@ from typing import Any
 
 from temzaar.calls import list_calls
 from temzaar.callsheet import ListFormat, calls_in, write_list
-from temzaar.cli.command import amount_above, parse_words, run_command
+from temzaar.cli.command import amount_above, clean_up_on_signals, parse_words, run_command
 from temzaar.clock import Clock, Window, recorded_start
 from temzaar.drawing import Drawing, Session
 from temzaar.faults import read_text, write_text
@@ -157,4 +157,5 @@ def check_words(parser: argparse.ArgumentParser, options: argparse.Namespace) ->
 def main(words: Sequence[str] | None = None) -> int:
     """Runs the command. The status."""
     options = read_words(words)
+    clean_up_on_signals()
     return run_command("timeline", lambda: draw_files(options))

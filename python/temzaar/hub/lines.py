@@ -47,10 +47,10 @@ class Line:
     @property
     def text(self) -> str:
         """The line for people and logs: octets that are not printable ASCII are escaped."""
-        return printable(self.octets)
+        return escape_octets(self.octets)
 
 
-def printable(octets: bytes) -> str:
+def escape_octets(octets: bytes) -> str:
     """Octets as text; those that are not printable ASCII are escaped."""
     return "".join(chr(it) if 32 <= it < 127 and it != 92 else f"\\x{it:02x}" for it in octets)
 

@@ -1,7 +1,9 @@
 """The hub as a whole, from start to stop."""
 import asyncio
 import contextlib
+import os
 import signal
+import stat
 from http import HTTPStatus
 
 from temzaar.faults import ToolFault
@@ -22,7 +24,7 @@ from temzaar.hub.roles import Rules
 from temzaar.hub.session import Desk
 from temzaar.hub.views import Views
 from temzaar.hub.web import JSON, METRICS, TEXT, Response, View, WebPort
-from temzaar.sitefile import ConsolePlace, read_console_place
+from temzaar.sitefile import ConsolePlace, SiteFault, read_console_place
 
 
 class Hub:
@@ -59,8 +61,13 @@ class Hub:
         return {path: constant_view(response) for path, response in files.items()}
 
     def _read_place(self) -> ConsolePlace:
-        """The console that the site file names now."""
-        return read_console_place(self.config.controller.site_file)
+        """The console that the site file names now. SiteFault: it names none."""
+        path = self.config.controller.site_file
+        # a pipe would keep the loop waiting for somebody who writes
+        with contextlib.suppress(OSError):
+            if not stat.S_ISREG(os.stat(path).st_mode):
+                raise SiteFault(f"site file {path}: not a file")
+        return read_console_place(path)
 
     def _health(self, _: Request) -> Response:
         """Whether all is well, as a response."""

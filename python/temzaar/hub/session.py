@@ -10,7 +10,7 @@ from temzaar.console import TOO_LONG, UNKNOWN
 from temzaar.hub.audit import AuditFault, AuditLog
 from temzaar.hub.config import LinePortKeys
 from temzaar.hub.counts import HubCounts
-from temzaar.hub.lines import NO_ANSWER, Line, LineCutter, LineKind, printable
+from temzaar.hub.lines import NO_ANSWER, Line, LineCutter, LineKind, escape_octets
 from temzaar.hub.link import ConsoleLink, NoAnswer
 from temzaar.hub.moment import utc_text
 from temzaar.hub.notes import UserNotes
@@ -228,7 +228,7 @@ class Session:
 
     async def _record(self, line: Line | None, record: dict[str, Any], event: str, reply: bytes | None = None) -> None:
         """Writes a record of the audit log, of a line if there is one. AuditFault: it cannot be written."""
-        said = printable(reply.rstrip(b"\n")) if reply is not None else None
+        said = escape_octets(reply.rstrip(b"\n")) if reply is not None else None
         now = time.time()
         try:
             await self.desk.audit.record({"time": utc_text(now, decimals=True), "event": event, **record, "reply": said})
@@ -276,4 +276,4 @@ class SlowReader(Exception):
 
 def error_line(reason: str) -> bytes:
     """A reply of the hub that reports an error, in the form of the controller's own."""
-    return f"error {printable(reason.encode('utf-8', 'replace'))}\n".encode("ascii")
+    return f"error {escape_octets(reason.encode('utf-8', 'replace'))}\n".encode("ascii")

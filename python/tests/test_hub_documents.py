@@ -6,6 +6,7 @@ import tomllib
 import unittest
 
 from temzaar.console import Parties
+from temzaar.hub import audit, lineport, notes, places, recordreader, roles, session, turn
 from temzaar.hub.boardviews import CALL_KEYS, call_view
 from temzaar.hub.config import Config, RoleKeys, read_config
 from temzaar.hub.counts import Histogram
@@ -73,6 +74,18 @@ class Documented(unittest.TestCase):
             self.assertIn(text, HUB)
         self.assertEqual(round(sum(len(it.body) for it in load_page().values()), -4), 60_000)
         self.assertIn("The page's files, about 60,000 octets", HUB.replace("\n", " "))
+
+    def test_the_limits(self) -> None:
+        """The numbers of the table of limits are those of the code."""
+        rows = dict(table_rows(HUB, "| what | limit |"))  # type: ignore[arg-type]
+        for what, said in (
+                ("silent connections", f"for {places.SILENT_SECONDS:g} s at least"), ("refused HTTP connections", f"at most {places.MOST_REFUSED} at a time"),
+                ("connects to a port", f"{lineport.ACCEPTS_PER_SECOND:g} a second, and {lineport.ACCEPTS_AT_ONCE} at once after a rest; {lineport.BACKLOG:,} wait"),
+                ("lines of a user", f"{session.LINES_PER_SECOND:g} a second over all connections, and {session.LINES_AT_ONCE} at once after a rest. {session.PIECE:,} octets"),
+                ("notes", f"{notes.MOST_NOTES} about a user of each kind in a minute"),
+                ("a user's name, the audit log, the records", f"{roles.NAME_SECONDS:g} s, {audit.WRITE_SECONDS:g} s and {recordreader.LOOK_SECONDS:g} s")):
+            self.assertIn(said, rows[what])
+        self.assertEqual((session.REFUSALS_PER_SECOND, session.MOST_REFUSALS, session.REFUSALS_SECONDS, notes.NOTES_SECONDS, turn.SHARE), (2, 10, 3600, 60, 0.25))
 
     def test_own_commands(self) -> None:
         self.assertEqual({row[0].split()[0].rstrip(",") for row in table_rows(HUB, "| line | reply")}, set(OWN))

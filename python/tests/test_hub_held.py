@@ -9,9 +9,9 @@ from typing import Any
 from unittest import mock
 
 from temzaar.hub.service import Hub
-from temzaar.hub.turn import MOST_PACERS, SHARE, LongWork, Paces
+from temzaar.hub.turn import AHEAD_SECONDS, MOST_PACERS, SHARE, LongWork, Pacer, Paces
 from temzaar.ports import free_ports
-from tests.hub_support import FULL, HubCase, Operator
+from tests.hub_support import FULL, HubCase, Operator, wait_until
 
 # Seconds of the processor within which an operator is answered, half of the time, while the others do their worst; and how often it asks.
 ANSWERED_WITHIN, QUESTIONS = 0.05, 15
@@ -92,6 +92,18 @@ class Lines(AttackCase):
                 await paces.wait(user)
         self.assertEqual(waits, [0.01, 0.02, 0.03])
 
+    async def test_connections_come_at_a_pace(self) -> None:
+        hub = await self.serve()
+        hub.line_port.listeners[1].pacer = Pacer(per_second=0.01, at_once=5)
+        others = [await asyncio.open_unix_connection(self.socket) for _ in range(2)]
+        others += [await asyncio.open_connection("127.0.0.1", self.tcp) for _ in range(10)]
+        # the one that was waited for before the pace was changed, five more, and those of the other port
+        await wait_until(lambda: hub.counts.line_accepts.get() == 1 + 5 + 2)
+        await asyncio.sleep(0.1)
+        self.assertEqual(hub.counts.line_accepts.get(), 1 + 5 + 2)
+        for _, writer in others:
+            writer.close()
+
     async def test_paces_of_users_who_rest_are_forgotten(self) -> None:
         paces = Paces(per_second=1e6)
         for number in range(3 * MOST_PACERS):
@@ -119,17 +131,17 @@ class Requests(AttackCase):
         self.assert_in_time(hub, times)
 
     async def test_long_work_has_a_part_of_the_time(self) -> None:
-        """Pieces that were asked for at once: after each of them the loop is free for others, three times as long as the piece took."""
+        """Pieces that were asked for at once: after each of them the loop is free for others, three times as long as the piece took, less what it had ahead."""
         work, pieces = LongWork(), list[tuple[float, float]]()
 
         def take_time() -> None:
             began = time.monotonic()
-            time.sleep(0.02)
+            time.sleep(0.03)
             pieces.append((began, time.monotonic()))
 
         await asyncio.gather(*(work.do(take_time) for _ in range(6)))
         for (began, ended), (following, _) in zip(pieces[1:], pieces[2:], strict=False):
-            self.assertGreaterEqual(following - ended, 0.9 * (ended - began) * (1 / SHARE - 1))
+            self.assertGreaterEqual(following - ended, 0.99 * (ended - began) * (1 / SHARE - 1) - AHEAD_SECONDS)
 
     async def test_long_work_that_fails_leaves_the_turn_to_others(self) -> None:
         work = LongWork()

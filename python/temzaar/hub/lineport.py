@@ -17,8 +17,9 @@ from temzaar.hub.turn import Pacer
 LOOPBACK = "127.0.0.1"
 # Everybody on the machine may connect to the socket: the roles decide who is served.
 SOCKET_MODE = 0o666
-# How many connections wait to be accepted; how many are accepted in a second, and at once after a rest; seconds after one that failed.
-BACKLOG, ACCEPTS_PER_SECOND, ACCEPTS_AT_ONCE, RETRY_SECONDS = 1024, 500.0, 100, 0.1
+# How many connections wait to be accepted, which is half a second at most; how many are accepted in a second, and at once after a rest;
+# seconds after one that failed.
+BACKLOG, ACCEPTS_PER_SECOND, ACCEPTS_AT_ONCE, RETRY_SECONDS = 256, 500.0, 100, 0.1
 # What the ends of sessions are called that the hub ended, and why there is no place for a newcomer.
 CUTS = ("idle", "slow reader", "http")
 NO_PLACE = {"full": "the hub serves as many connections as it may: try again later", "user full": "the user {} has as many connections as one user may"}
@@ -80,25 +81,26 @@ class Listener:
         self.task = asyncio.create_task(self._run())
 
     async def _run(self) -> None:
-        """Accepts until it is cancelled."""
+        """Accepts until it is cancelled, and closes the socket then."""
+        with self.made:
+            while True:
+                try:
+                    await self._accept_one()
+                except OSError:
+                    # the peer has gone, or there are too many descriptors
+                    await asyncio.sleep(RETRY_SECONDS)
+                await self.pacer.wait()
+
+    async def _accept_one(self) -> None:
+        """Waits for a connection, and accepts it. OSError: it cannot be accepted."""
         loop = asyncio.get_running_loop()
-        while True:
-            try:
-                stream, _ = await loop.sock_accept(self.made)
-            except OSError:
-                # the peer has gone, or there are too many descriptors
-                await asyncio.sleep(RETRY_SECONDS)
-                continue
-            reader = asyncio.StreamReader(limit=self.limit)
-            protocol = asyncio.StreamReaderProtocol(reader, self.accept)
-            with contextlib.suppress(OSError):
-                await loop.connect_accepted_socket(lambda protocol=protocol: protocol, stream)
-            await self.pacer.wait()
+        stream, _ = await loop.sock_accept(self.made)
+        protocol = asyncio.StreamReaderProtocol(asyncio.StreamReader(limit=self.limit), self.accept)
+        await loop.connect_accepted_socket(lambda: protocol, stream)
 
     def close(self) -> None:
         """Accepts no more."""
         self.task.cancel()
-        self.made.close()
 
 
 def listen_on_loopback(port: int, accept: Accept, limit: int) -> Listener:

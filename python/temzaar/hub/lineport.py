@@ -17,14 +17,16 @@ from temzaar.hub.turn import Pacer
 LOOPBACK = "127.0.0.1"
 # Everybody on the machine may connect to the socket: the roles decide who is served.
 SOCKET_MODE = 0o666
-# How many connections wait to be accepted, which is half a second at most; how many are accepted in a second, and at once after a rest;
-# seconds after one that failed.
+# How many connections wait to be accepted: half a second at most. How many are accepted in a second, and at once after a rest. Seconds after
+# one that failed.
 BACKLOG, ACCEPTS_PER_SECOND, ACCEPTS_AT_ONCE, RETRY_SECONDS = 256, 500.0, 100, 0.1
 # What the ends of sessions are called that the hub ended, and why there is no place for a newcomer.
 CUTS = ("idle", "slow reader", "http")
 NO_PLACE = {"full": "the hub serves as many connections as it may: try again later", "user full": "the user {} has as many connections as one user may"}
 # How many octets of lines wait at least before the hub reads no more.
 INPUT_OCTETS = 4096
+# For how long, and how many octets, the hub reads on after it has refused a connection.
+SHORT_SECONDS, SHORT_OCTETS = 0.1, 8192
 # How long the hub waits, when it stops, for answers that are pending.
 STOP_SECONDS = 3.0
 
@@ -111,6 +113,15 @@ def listen_on_loopback(port: int, accept: Accept, limit: int) -> Listener:
         raise PortFault(f"cannot listen on port {port}: {fault.strerror or fault}") from fault
 
 
+async def read_on(reader: asyncio.StreamReader, writer: asyncio.StreamWriter, seconds: float, left: int) -> None:
+    """Reads on after a refusal, for some seconds and octets at most: octets that were not read would make the system drop what was written."""
+    with contextlib.suppress(TimeoutError, OSError):
+        writer.write_eof()
+        async with asyncio.timeout(seconds):
+            while left > 0 and (piece := await reader.read(4096)):
+                left -= len(piece)
+
+
 class LinePort:
     """Accepts operators, and serves each until it leaves."""
 
@@ -154,15 +165,15 @@ class LinePort:
         try:
             peer = await self._identify(writer)
         except OSError as fault:
-            await self._refuse(writer, None, "unknown", f"the hub cannot find out who you are: {fault.strerror}")
+            await self._refuse(reader, writer, None, "unknown", f"the hub cannot find out who you are: {fault.strerror}")
             return
         if peer.role == Role.NONE:
-            await self._refuse(writer, peer, "no role", "the user {} has no role here")
+            await self._refuse(reader, writer, peer, "no role", "the user {} has no role here")
             return
         try:
             place = self.places.take(peer.key, peer.role, lambda: self._give_way(writer))
         except NoPlace as fault:
-            await self._refuse(writer, peer, fault.reason, NO_PLACE[fault.reason])
+            await self._refuse(reader, writer, peer, fault.reason, NO_PLACE[fault.reason])
             return
         try:
             await self._serve(task, place, await self.people.find_name(peer), reader, writer)
@@ -196,16 +207,18 @@ class LinePort:
             return Peer("tcp", Role.READ)
         return await self.people.find_peer(stream)
 
-    async def _refuse(self, writer: asyncio.StreamWriter, peer: Peer | None, reason: str, text: str) -> None:
+    async def _refuse(self, reader: asyncio.StreamReader, writer: asyncio.StreamWriter, peer: Peer | None, reason: str, text: str) -> None:
         """Reports why a connection is not served; the text has a place for the name of its user."""
         self.desk.counts.line_refusals.add(reason=reason)
         with self.places.refusing() as has_time:
             if peer and has_time:
                 peer = await self.people.find_name(peer)
             name = peer.user if peer else ""
-            if reason == "no role":
-                self.desk.notes.warn(reason, name, f"operators: {name} has no role, and was refused")
+            if peer and reason == "no role":
+                self.desk.notes.warn(reason, peer.key, f"operators: {name} has no role, and was refused")
             writer.write(error_line(text.format(name)))
+            if has_time:
+                await read_on(reader, writer, SHORT_SECONDS, SHORT_OCTETS)
 
     async def _close(self, writer: asyncio.StreamWriter) -> None:
         """Closes a connection, once its peer has read what was written, or after the time for that."""

@@ -3,7 +3,6 @@
 Here are connections and their times. `httpread` reads the requests.
 """
 import asyncio
-import contextlib
 import email.utils
 import hashlib
 from collections.abc import Callable, Iterable, Mapping
@@ -13,16 +12,14 @@ from http import HTTPStatus
 from temzaar.hub.config import HttpKeys
 from temzaar.hub.counts import HubCounts
 from temzaar.hub.httpread import END, BadRequest, Request
-from temzaar.hub.lineport import LOOPBACK, Listener, listen_on_loopback
+from temzaar.hub.lineport import LOOPBACK, SHORT_OCTETS, SHORT_SECONDS, Listener, listen_on_loopback, read_on
 from temzaar.hub.notes import note
 from temzaar.hub.places import NoPlace, Place, Places
 from temzaar.hub.roles import Role
 from temzaar.hub.turn import LongWork
 
-# After a refusal the hub reads on for a moment, so that the response is not lost with octets that were not read. The moment of a
-# connection for which there was no place is short.
+# For how long, and how many octets, the hub reads on after it has refused a request.
 LINGER_SECONDS, LINGER_OCTETS = 0.5, 65536
-SHORT_SECONDS, SHORT_OCTETS = 0.1, 8192
 TEXT, JSON, METRICS = "text/plain; charset=utf-8", "application/json", "text/plain; version=0.0.4; charset=utf-8"
 # What a browser may do with a response: load nothing but the page's own files, from here, and send nothing to anywhere else.
 CONTENT_POLICY = ("default-src 'none'; script-src 'self'; style-src 'self'; connect-src 'self'; img-src 'self'; "
@@ -117,7 +114,7 @@ class WebPort:
         with self.places.refusing() as has_time:
             writer.write(response_octets(Response(b"too many connections\n", TEXT, HTTPStatus.SERVICE_UNAVAILABLE, {"Retry-After": "1"}), False))
             if has_time:
-                await self._linger(reader, writer, SHORT_SECONDS, SHORT_OCTETS)
+                await read_on(reader, writer, SHORT_SECONDS, SHORT_OCTETS)
 
     async def _serve(self, place: Place, reader: asyncio.StreamReader, writer: asyncio.StreamWriter) -> None:
         """Reads a request and writes its response. OSError, TimeoutError: the peer has gone, or does not read."""
@@ -143,17 +140,9 @@ class WebPort:
         async with asyncio.timeout(self.keys.request_seconds):
             await writer.drain()
             if response.status not in WHOLE:
-                await self._linger(reader, writer, LINGER_SECONDS, LINGER_OCTETS)
+                await read_on(reader, writer, LINGER_SECONDS, LINGER_OCTETS)
             writer.close()
             await writer.wait_closed()
-
-    async def _linger(self, reader: asyncio.StreamReader, writer: asyncio.StreamWriter, seconds: float, left: int) -> None:
-        """Reads on after a refusal, for some seconds and octets at most."""
-        writer.write_eof()
-        with contextlib.suppress(TimeoutError):
-            async with asyncio.timeout(seconds):
-                while left > 0 and (piece := await reader.read(4096)):
-                    left -= len(piece)
 
     def _respond(self, request: Request) -> Response:
         """The response to a request, without a body if the client has it. BadRequest: there is none."""

@@ -116,7 +116,7 @@ class Words(unittest.TestCase):
             with self.subTest(words):
                 done = call_tool(main, *words)
                 self.assertEqual(done.returncode, 2)
-                self.assertRegex(done.stderr, r"error: \w+: the word is empty\n$")
+                self.assertRegex(done.stderr, r"error: argument --[a-z]+: the word is empty\n$")
 
 
 class Files(unittest.TestCase):

@@ -107,12 +107,14 @@ def run_command(name: str, action: Callable[[], int], fault_status: int = FAULT)
 
 def parse_words(parser: argparse.ArgumentParser, words: Sequence[str] | None) -> argparse.Namespace:
     """The options that the words give. As argparse does, it ends the command after a help text, and after words that it refuses. If nobody reads
-    the help text, the command ends in the same way. An empty word is refused: a variable of the shell that is not set does not count as no option."""
+    the help text, the command ends in the same way. An option with an empty word is refused: a variable of the shell that is not set does not count
+    as no option."""
     try:
         options = parser.parse_args(words)
-        for name, value in vars(options).items():
-            if value == "" and name not in TIMES:
-                parser.error(f"{name}: the word is empty")
+        # argparse has no public list of its options
+        for action in parser._actions:
+            if action.option_strings and action.dest not in TIMES and getattr(options, action.dest, None) == "":
+                parser.error(str(argparse.ArgumentError(action, "the word is empty")))
         return options
     except (SystemExit, BrokenPipeError) as ended:
         try:

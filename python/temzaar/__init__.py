@@ -33,6 +33,7 @@ comparison of the two means something. One module per subject, lowest first:
     drawing     the picture of a session
     moments     dates and times that people write, and times before now
     records     the controller's file of records
+    recordgaps  the times of which a file of records has nothing
     recordsheet the calls of a file of records as a table, CSV and JSON
     recordsession a period of a file of records as a session that can be drawn
     ticks       where the ticks of a recorded session fell

@@ -43,6 +43,16 @@ class Picture:
         """Whether a carrier is up. The control slot hides that, so slot 1 decides."""
         return self.slots.get((carrier, 1), "down") != "down"
 
+    @property
+    def control(self) -> int | None:
+        """The number of the carrier that has the control channel; None if no slot is the control slot."""
+        return next((carrier for (carrier, _), state in self.slots.items() if state == "control"), None)
+
+    @property
+    def is_on_air(self) -> bool:
+        """Whether radios have a control channel: its carrier is up. The state of the control slot does not say so."""
+        return self.control is None or self.is_up(self.control)
+
     def standings(self) -> list[Standing]:
         """Everything in the picture that has an age."""
         calls: list[Standing] = [("call", slot, parties) for slot, parties in self.calls.items()]

@@ -54,6 +54,14 @@ class Shown(unittest.TestCase):
         self.assertRegex(text, r"radio 1002 from 1003 +>1:15")
         self.assertRegex(text, r"group 94 from 1004 +>1:15")
 
+    def test_no_control_channel(self) -> None:
+        """The console says `control` of a slot whose carrier is down: radios have no control channel then, whatever would be sent."""
+        rows = list(picture_rows(take_picture(Written(slots=["slot 0 0 control", "slot 0 1 down", "slot 1 0 free", "slot 1 1 free"])), "here", Ages(), 0))
+        text = plain_text(rows)
+        self.assertIn("\n   0     control DOWN: the site is off the air   down\n", text)
+        self.assertIn("   calls 2   no control channel\n", text)
+        self.assertEqual([state for row in rows for part, state in row if "control" in part], ["down", "down"])
+
     def test_a_queue_that_empties_between_two_answers(self) -> None:
         picture = take_picture(Written(**{"lines 1": []}))
         self.assertEqual(picture.lines, [])

@@ -29,6 +29,7 @@ from temzaar.picture import Ages, Asked, Picture, take_picture
 from temzaar.sitefile import read_console_place
 
 BOLD, PLAIN = "\x1b[1m", "\x1b[0m"
+OFF_AIR = "control DOWN: the site is off the air"
 COLOURS = {"call": "\x1b[1;32m", "control": "\x1b[36m", "down": "\x1b[1;31m", "waiting": "\x1b[33m", "free": "\x1b[2m"}
 CELL = 40
 LEAVE = "\x04"
@@ -43,6 +44,8 @@ Row = list[Part]
 def slot_cell(picture: Picture, slot: SlotKey, age: str) -> Part:
     """The text of a slot, and its state."""
     state = picture.slots.get(slot, "-")
+    if state == "control" and not picture.is_on_air:
+        return OFF_AIR, "down"
     if state == "control":
         fill = picture.status.fill
         return f"control ({'C_MOVE to ' + fill.split()[1] if fill.startswith('move ') else 'C_ALOHA'})", state
@@ -57,7 +60,8 @@ def picture_rows(picture: Picture, name: str, ages: Ages, now: float) -> Iterato
     up = f"carriers {counts['carriers']} of {len(picture.carriers)} up"
     rest = "   ".join(f"{name} {counts[name]}" for name in Status.NAMES[1:])
     yield [(f"site {name}   {time.strftime('%H:%M:%S')}", "title")]
-    yield [(f"{up}   {rest}   fill {picture.status.fill}", "")]
+    sent = (f"fill {picture.status.fill}", "") if picture.is_on_air else ("no control channel", "down")
+    yield [(f"{up}   {rest}   ", ""), sent]
     yield []
     yield [(f"{'carrier':<9}{'slot 0':<{CELL}}slot 1", "title")]
     for carrier in picture.carriers:

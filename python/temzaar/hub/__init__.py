@@ -16,6 +16,8 @@ Modules, lowest first:
     newrecords what is new in the controller's file of records
     recordcounts   counters of the records, and the calls that are recorded
     recordsamples  counts of the records over the last hour and the last day
+    termwatch  terms that come late, and polls that are missing
+    recordgapcounts  the times that the records do not have
     recordreader   looks at the file every few seconds
     model      the state of the site, as the last answers had it
     poller     keeps the model up to date

@@ -16,6 +16,7 @@ from temzaar.hub.seencalls import CallFilter, SeenCall
 from temzaar.hub.views import MISSED_POLLS, Views, json_octets, rounded
 from temzaar.hub.web import JSON, Response, tagged_response
 from temzaar.picture import LAST_RADIO
+from temzaar.recordgaps import gaps_within
 
 # How many calls a response has, if the query does not say, and at most.
 USUAL_CALLS, MOST_CALLS = 100, 1000
@@ -128,7 +129,11 @@ def recorded_view(records: RecordReader | None, name: str, now: float) -> dict[s
     if records is None or records.log.until is None:
         return None
     span = records.samples.spans[name]
-    return {"begins": utc_text(span.oldest(now) * span.step), "until": utc_text(records.log.until, decimals=True), "counts": {kind: span.of(kind, now) for kind in KINDS}}
+    begins, began_ms = span.oldest(now) * span.step, records.gaps.begins_ms
+    gaps = gaps_within(records.gaps.newest, 1000 * begins, None)
+    return {"begins": utc_text(begins), "from": None if began_ms is None else utc_text(began_ms / 1000, decimals=True), "until": utc_text(records.log.until, decimals=True),
+            "gaps": [{"from": utc_text(it.from_ms / 1000, decimals=True), "to": utc_text(it.to_ms / 1000, decimals=True), "why": it.why} for it in gaps],
+            "counts": {kind: span.of(kind, now) for kind in KINDS}}
 
 
 def columns_view(summaries: list[Summary | None]) -> dict[str, list[float | None]]:

@@ -16,7 +16,7 @@ MOST_OCTETS = 1 << 20
 class ControllerKeys:
     """The controller whose console the hub holds."""
     site_file: str = key(FilePath(), "/etc/dmr_trunk/site.toml", "the site file, which names the console's address, port and silence")
-    name: str = key(Text(64), "", "the site's name in `dmr_site_info`; if it is empty, the name of the site file without `.toml`")
+    name: str = key(Text(64), "", "the site's name on the page, in the JSON and in metrics; if it is empty, the name of the site file without `.toml`")
     answer_seconds: float = key(Number(0.05, 60), 1.0, "how long the controller has for an answer; then the hub closes the connection and opens another")
     reconnect_seconds: float = key(Number(0.1, 300), 5.0, "about the longest pause between two attempts to connect")
 

@@ -1,16 +1,20 @@
 """The state of the site, as the last answers of the controller had it, and what earlier ones had."""
 from dataclasses import dataclass, field
 
+from temzaar.console import SlotKey
 from temzaar.hub.counts import Histogram
 from temzaar.hub.moment import Moment
 from temzaar.hub.samples import Samples
 from temzaar.hub.seencalls import CallLog
+from temzaar.hub.termwatch import TermWatch
 from temzaar.picture import Ages, Picture, RadioList
 
 # Seconds: a request may wait for as long as the longest call lasts, some minutes.
 WAIT_BUCKETS = (1.0, 2.0, 5.0, 10.0, 20.0, 30.0, 60.0, 120.0, 180.0, 300.0)
 # The states of a slot that can have no call.
 NO_TRAFFIC = ("control", "down")
+# Seconds after which a burst that waits says that a carrier does not poll: the control slot's queue of 64 PDUs takes 64 frames of 60 ms.
+UNSENT_SECONDS = 5.0
 
 
 @dataclass(frozen=True)
@@ -27,6 +31,9 @@ class SiteModel:
     seen: Moment | None = None
     ages: Ages = field(default_factory=Ages)
     carriers: dict[int, CarrierState] = field(default_factory=dict)
+    # the slots whose state is `waiting`, and since when
+    waiting: dict[SlotKey, Moment] = field(default_factory=dict)
+    watch: TermWatch = field(default_factory=TermWatch)
     radios: RadioList | None = None
     radios_seen: Moment | None = None
     radios_changed: Moment | None = None
@@ -45,6 +52,8 @@ class SiteModel:
             state = CarrierState(picture.is_up(number), now)
             known = before.get(number)
             self.carriers[number] = known if known and known.is_up == state.is_up else state
+        self.waiting = {slot: self.waiting.get(slot, now) for slot, state in picture.slots.items() if state == "waiting"}
+        self.watch.take_picture(sum(it.is_up for it in self.carriers.values()), now)
         self.calls.look(picture.calls, now)
         self.samples.add(self._figures(picture, now), now)
 
@@ -67,6 +76,14 @@ class SiteModel:
         ages = [age.seconds for parties in picture.lines if (age := self.ages.find(("line", None, parties), now.steady))]
         return max(ages, default=0.0)
 
+    def longest_unsent(self, now: Moment) -> float:
+        """How many seconds the slot that has waited longest has waited for a burst to be sent; 0 if none waits."""
+        return max((now.steady - since.steady for since in self.waiting.values()), default=0.0)
+
+    def unsent(self, now: Moment, seconds: float = UNSENT_SECONDS) -> dict[SlotKey, Moment]:
+        """The slots that have waited so long that a carrier does not poll: their own, or the control carrier."""
+        return {slot: since for slot, since in self.waiting.items() if now.steady - since.steady > seconds}
+
     def take_radios(self, radios: RadioList, now: Moment) -> None:
         """The registered radios were listed."""
         if radios != self.radios:
@@ -75,5 +92,6 @@ class SiteModel:
 
     def begin(self) -> None:
         """A new connection begins. The site may be another one since a restart, so the ages of what it shows are not known."""
-        self.ages = Ages()
+        self.ages, self.waiting = Ages(), {}
+        self.watch.begin()
         self.calls.begin()

@@ -14,6 +14,7 @@ from temzaar.hub.recordsamples import Happened
 from temzaar.hub.samples import SPANS
 from temzaar.hub.seencalls import MOST_ENDED, SeenCall, pack_call
 from temzaar.picture import LAST_RADIO
+from temzaar.recordgaps import Gap, find_gaps
 from temzaar.records import LOG, RecordedCall, RecordedTerm, Records, RecordsFault, opened_records
 
 # Seconds for which a look at the file waits while the controller writes; then the hub tries again at the next look.
@@ -43,7 +44,8 @@ class Durations:
 @dataclass
 class NewRecords:
     """What is new. `last` is the newest term, None if there is none; `terms` is how many are new. Calls are counted by kind and cause, refusals by reason.
-    `newest` has the newest calls in their order, each as the record of a SeenCall, and `happened` has counts for the samples of each span."""
+    `newest` has the newest calls in their order, each as the record of a SeenCall, and `happened` has counts for the samples of each span. `begins_ms` is when the
+    first of the new terms began; `gaps` are the times that are not recorded, up to the last of them."""
     last: RecordedTerm | None = None
     terms: int = 0
     sums: dict[str, int] = field(default_factory=lambda: dict.fromkeys(SUMMED, 0))
@@ -52,6 +54,8 @@ class NewRecords:
     refusals: Counter[str] = field(default_factory=Counter)
     newest: list[bytes] = field(default_factory=list)
     happened: dict[str, list[Happened]] = field(default_factory=dict)
+    begins_ms: int | None = None
+    gaps: list[Gap] = field(default_factory=list)
 
 
 class BadRow(ValueError):
@@ -168,5 +172,8 @@ def take_new(records: Records, last: RecordedTerm | None, new: NewRecords) -> No
     for reason, count, number in records.conn.execute("SELECT reason, count(*), min(number) FROM events WHERE kind = 'refused' AND term > ? GROUP BY reason", (since,)):
         require(reason is None or is_whole(reason), f"events, row {number}", f"reason is {reason!r}")
         new.refusals[reason_text(reason)] += count
+    new.gaps = find_gaps(records, since)
+    new.begins_ms = records.conn.execute("SELECT min(ended_ms - ticks * tick_ms) FROM terms WHERE number > ?", (since,)).fetchone()[0]
+    require(new.begins_ms is None or is_whole(new.begins_ms), "terms", f"a term began at {new.begins_ms!r}")
     new.newest = [pack_call(seen_call(it)) for it in records.calls(("term > ?", [since]), last=MOST_ENDED)]
     new.happened = {span: happened_since(records, since, span) for span in SPANS}

@@ -8,7 +8,9 @@ from temzaar.hub.config import RecordsKeys
 from temzaar.hub.newrecords import NewRecords, Signature, read_new, signature
 from temzaar.hub.notes import note, warn
 from temzaar.hub.recordcounts import RecordCounts, RecordedLog
+from temzaar.hub.recordgapcounts import RecordGaps
 from temzaar.hub.recordsamples import RecordSamples
+from temzaar.hub.termwatch import TermWatch
 from temzaar.hub.worker import Late, Worker
 from temzaar.records import RecordedTerm
 
@@ -22,6 +24,7 @@ class RecordReader:
     def __init__(self, keys: RecordsKeys) -> None:
         self.keys, self.worker = keys, Worker("records", LOOK_SECONDS)
         self.counts, self.log, self.samples = RecordCounts(), RecordedLog(), RecordSamples()
+        self.gaps, self.watch = RecordGaps(), TermWatch()
         self.last: RecordedTerm | None = None
         # the file at the last look that succeeded, and the fault of the last look
         self.known: Signature | None = None
@@ -50,9 +53,12 @@ class RecordReader:
         self.samples.take(found[1].happened if found else {}, time.time())
         if found is not None:
             self.known, new = found
+            if new.last and new.terms:
+                self.watch.take_term(new.last)
             self.last = new.last
             self.counts.take(new)
             self.log.take(new)
+            self.gaps.take(new)
 
     def _fail(self, fault: str) -> None:
         """Counts and notes a look that failed."""

@@ -10,7 +10,7 @@ from temzaar.hub.config import Config
 from temzaar.hub.counts import Histogram, HubCounts, Series
 from temzaar.hub.lines import AWAY
 from temzaar.hub.link import ConsoleLink
-from temzaar.hub.model import SiteModel
+from temzaar.hub.model import UNSENT_SECONDS, SiteModel
 from temzaar.hub.moment import Moment, utc_text
 from temzaar.hub.recordreader import RecordReader
 from temzaar.picture import Picture, Standing
@@ -32,6 +32,10 @@ class Views:
     begun: Moment
     records: RecordReader | None = None
 
+    def __post_init__(self) -> None:
+        if self.records:
+            self.model.watch = self.records.watch
+
     def site_json(self) -> bytes:
         """The state of the site as JSON (docs/HUB.md)."""
         return json_octets(self.site_view(Moment.now()))
@@ -41,10 +45,12 @@ class Views:
         state = self.link.state
         return {
             "time": utc_text(now.wall, decimals=True),
+            "site": self.config.controller.site_name,
             "controller": {"up": state.is_up, "console": self.link.place.name if self.link.place else None, "since": utc_text(state.since.wall, decimals=True),
                            "reason": state.reason or None},
             "state": self._state_view(now),
             "radios": self._radios_view(now),
+            "records": self._records_view(now),
         }
 
     def _state_view(self, now: Moment) -> dict[str, Any] | None:
@@ -58,9 +64,34 @@ class Views:
             "age_seconds": rounded(now.steady - seen.steady),
             "counts": picture.status.counts,
             "fill": {"kind": fill, "channel": int(channel) if channel.isdecimal() else None},
+            "control": self._control_view(picture),
+            "unsent": [{"carrier": carrier, "slot": slot, "since": utc_text(since.wall, decimals=True)} for (carrier, slot), since in self.model.unsent(now).items()],
             "carriers": [self._carrier_view(picture, number, now) for number in picture.carriers],
             "queue": [{"place": place, **self._parties_view(("line", None, parties), now)} for place, parties in enumerate(picture.lines, 1)],
         }
+
+    def _control_view(self, picture: Picture) -> dict[str, Any] | None:
+        """The carrier that has the control channel; None if the controller names none."""
+        if picture.control is None:
+            return None
+        known = self.model.carriers[picture.control]
+        return {"carrier": picture.control, "up": known.is_up, "since": utc_text(known.since.wall, decimals=True)}
+
+    def _records_view(self, now: Moment) -> dict[str, Any] | None:
+        """How far the records go, and what is wrong with them; None if the hub reads none."""
+        if self.records is None:
+            return None
+        last, missing = self.model.watch.last, self._missing_polls(now)
+        return {"until": utc_text(last.ended_ms / 1000, decimals=True) if last else None, "overdue": self._is_overdue(), "fault": self.records.fault or None,
+                "missing_polls": None if missing is None else round(missing, 2)}
+
+    def _is_overdue(self) -> bool:
+        """Whether the next term should have been recorded by now. While the controller is away none is due."""
+        return self.link.state.is_up and self.model.watch.is_overdue()
+
+    def _missing_polls(self, now: Moment) -> float | None:
+        """How many carriers' polls the last recorded term lacks; None if that is not known."""
+        return self.model.watch.missing_polls(self.model.samples.spans["hour"], now)
 
     def _carrier_view(self, picture: Picture, number: int, now: Moment) -> dict[str, Any]:
         """A carrier with its slots."""
@@ -93,8 +124,7 @@ class Views:
 
     def all_series(self) -> list[Series | Histogram]:
         """All metrics, in the order in which they are shown."""
-        of_records = self.records.counts.all_series() if self.records else []
-        return [*self._site_series(), self.model.waits, *of_records, *self._process_series(), *self.counts.all_series()]
+        return [*self._site_series(), self.model.waits, *self._record_series(), *self._process_series(), *self.counts.all_series()]
 
     def _site_series(self) -> Iterator[Series]:
         """Gauges of the site. While the controller is away there are only its name and the one that says so."""
@@ -111,6 +141,11 @@ class Views:
         for number, carrier in self.model.carriers.items():
             up.set(int(carrier.is_up), carrier=str(number))
         yield up
+        if picture.control is not None:
+            control = Series("dmr_site_control_up", "Whether the carrier with the control channel is up: without it radios have no service.")
+            control.set(int(picture.is_on_air), carrier=str(picture.control))
+            yield control
+        yield gauge("dmr_site_longest_unsent_seconds", "How long the hub has seen the slot that has waited longest for a burst to be sent; 0 if none waits.", self.model.longest_unsent(now))
         slots = Series("dmr_site_slots", "Slots, by their state.")
         for state in SLOT_STATES:
             slots.set(sum(it == state for it in picture.slots.values()), state=state)
@@ -122,6 +157,19 @@ class Views:
         yield gauge("dmr_site_oldest_waiting_request_seconds", "How long the hub has seen the request that has waited longest; 0 if none waits.", self.model.longest_wait(picture, now))
         channel = picture.status.fill.removeprefix("move ")
         yield gauge("dmr_site_move_channel", "The channel that radios are sent to by `move`; 0 if they are not.", int(channel) if channel.isdecimal() else 0)
+
+    def _record_series(self) -> Iterator[Series | Histogram]:
+        """Counters and gauges of the records, if the hub reads them."""
+        if self.records is None:
+            return
+        yield from self.records.counts.all_series()
+        yield from self.records.gaps.all_series()
+        yield gauge("dmr_site_records_overdue", "Whether a term should have been recorded that was not.", int(self._is_overdue()))
+        lacks = Series("dmr_site_missing_polls", "How many carriers' polls the last recorded term lacks, of those of the carriers that were up.")
+        missing = self._missing_polls(Moment.now())
+        if missing is not None:
+            lacks.set(missing)
+        yield lacks
 
     def _process_series(self) -> Iterator[Series]:
         """Gauges of the hub's process and connections."""
@@ -144,7 +192,7 @@ class Views:
         seen = self.model.seen or self.link.state.since
         if now.steady - seen.steady > max(rule.controller_seconds, MISSED_POLLS * self.config.poll.state_seconds):
             return ["the controller answers, but the hub has no picture of the site"]
-        return list(self._carrier_faults(now))
+        return [*self._carrier_faults(now), *self._unsent_faults(now)]
 
     def _carrier_faults(self, now: Moment) -> Iterator[str]:
         """The carriers of the rule that are down."""
@@ -155,7 +203,17 @@ class Views:
             if number not in carriers:
                 yield f"carrier {number} is not in the site"
             elif not carriers[number].is_up and now.steady - carriers[number].since.steady > rule.carrier_seconds:
-                yield f"carrier {number} is down since {utc_text(carriers[number].since.wall)}"
+                control = "no control channel: " if self.model.picture and number == self.model.picture.control else ""
+                yield f"{control}carrier {number} is down since {utc_text(carriers[number].since.wall)}"
+
+    def _unsent_faults(self, now: Moment) -> Iterator[str]:
+        """The carriers of the rule that have a burst to send, and do not send it."""
+        rule, picture = self.config.health, self.model.picture
+        if rule.carriers == "none" or picture is None:
+            return
+        for (carrier, slot), since in self.model.unsent(now, max(UNSENT_SECONDS, rule.carrier_seconds)).items():
+            if isinstance(rule.carriers, str) or {carrier, picture.control} & set(rule.carriers):
+                yield f"slot {slot} of carrier {carrier} waits for a poll since {utc_text(since.wall)}"
 
 
 def gauge(name: str, about: str, value: float) -> Series:

@@ -1,5 +1,6 @@
 // The board: asks the hub again and again, and shows what it answers, what is at fault, and how old all of it is.
 
+import { siteAlarms } from "./alarms.js";
 import { drawCharts, makeCharts } from "./charts.js";
 import { ageText, byId, makeElement, momentText, setText, syncRows } from "./elements.js";
 import { openHistory, refreshHistory } from "./history.js";
@@ -17,6 +18,7 @@ const NOT_MODIFIED = 304;
 // Seconds since the last answer of the hub, and seconds of a picture's age beyond a few polls, after which that is an alarm.
 const HUB_SECONDS = 3;
 const OLD_SECONDS = 3;
+const LIVE_SECONDS = 3;
 const MISSED_POLLS = 5;
 // How many calls are listed at first, and after "Show more".
 const FEW_CALLS = 15;
@@ -86,6 +88,7 @@ async function askState() {
 }
 
 function showState(view) {
+  setText(byId("site"), view.site);
   setText(byId("console"), view.controller.console ? `console ${view.controller.console}` : "no console yet");
   if (!view.state) {
     return;
@@ -106,7 +109,8 @@ async function refreshCalls() {
   showCalls(byId("calls-rows"), view.calls);
   byId("calls-empty").hidden = view.calls.length > 0;
   byId("calls-more").hidden = known.calls > FEW_CALLS || view.calls.length < FEW_CALLS;
-  setText(byId("calls-note"), `${view.seen} seen since ${momentText(view.since)}.`);
+  const earlier = view.recorded_until ? " Earlier calls are the controller's records." : "";
+  setText(byId("calls-note"), `The hub has seen ${view.seen} since ${momentText(view.since)}.${earlier}`);
   setText(byId("limits"), limitsText(view));
   await refreshHistory();
 }
@@ -142,16 +146,8 @@ function findAlarms(now) {
   if (!view.controller.up) {
     return [`Controller away since ${momentText(view.controller.since)}: ${view.controller.reason || "no reason is known"}`];
   }
-  const alarms = [];
-  if (isPictureOld(view)) {
-    alarms.push(`No new picture of the site since ${momentText(view.state.time)}`);
-  }
-  for (const carrier of view.state?.carriers || []) {
-    if (!carrier.up) {
-      alarms.push(`Carrier ${carrier.number} is down since ${momentText(carrier.since)}`);
-    }
-  }
-  return alarms;
+  const old = isPictureOld(view) ? [`No new picture of the site since ${momentText(view.state.time)}`] : [];
+  return [...old, ...siteAlarms(view)];
 }
 
 /** Whether the hub has not answered for a while. A tab that sleeps asks seldom: only a question without an answer counts. */
@@ -175,12 +171,13 @@ function showAlarms(alarms) {
       row.append(makeElement("span", { class: "mark", "aria-hidden": "true" }, "✕"), " ", makeElement("strong", {}, "ALARM"), ` ${alarm}`);
     }
   });
-  document.title = alarms.length ? `✕ ${alarms.length === 1 ? alarms[0] : `${alarms.length} alarms`} – Site board` : "Site board";
+  const name = known.state ? known.state.site : "Site board";
+  document.title = alarms.length ? `✕ ${alarms.length === 1 ? alarms[0] : `${alarms.length} alarms`} – ${name}` : name;
 }
 
 function showFreshness(now, alarms, isPresent) {
   const view = known.state;
-  const age = view?.state ? `picture of ${ageText(pictureAge(now))} ago` : "no picture yet";
+  const age = !view?.state ? "no picture yet" : pictureAge(now) < LIVE_SECONDS ? "live" : `the picture is ${ageText(pictureAge(now))} old`;
   const [level, mark, words] = !view ? ["unknown", "?", "waiting for the hub"]
     : !isPresent ? ["bad", "✕", `${view.controller.up ? "not the present state" : "controller away"}, ${age}`]
       : alarms.length ? ["bad", "✕", `${alarms.length} ${alarms.length === 1 ? "alarm" : "alarms"}, ${age}`] : ["good", "✓", `controller answers, ${age}`];

@@ -9,7 +9,8 @@ const TOP = 8;
 const BOTTOM = 22;
 // The least width of a chart, and that of a label on the axis of time.
 const LEAST_WIDTH = 220;
-const LABEL_WIDTH = 56;
+const LABEL_WIDTH = 72;
+const HALF_LABEL = 17;
 // Distances of marks on the axis of time, in minutes, and those of the greatest value of an axis: both the first that fits.
 const MINUTES = [5, 10, 15, 30, 60, 120, 180, 240, 360, 720];
 const TOPS = [2, 4, 6, 8, 10, 12, 16];
@@ -146,7 +147,7 @@ class Chart {
         continue;
       }
       const x = LEFT + (this.innerWidth * (mark.getTime() - begins)) / (ends - begins);
-      const anchor = x > this.width - RIGHT - LABEL_WIDTH / 3 ? "end" : x < LEFT + LABEL_WIDTH / 4 ? "start" : "middle";
+      const anchor = x > this.width - HALF_LABEL ? "end" : x < HALF_LABEL ? "start" : "middle";
       marks.push(makeSvg("line", { class: "grid", x1: x, x2: x, y1: HEIGHT - BOTTOM, y2: HEIGHT - BOTTOM + 4 }));
       marks.push(makeSvg("text", { class: "label", x, y: HEIGHT - 6, "text-anchor": anchor }, clockText(mark, true)));
     }
@@ -275,20 +276,31 @@ class BarChart extends Chart {
     }
   }
 
-  /** How many bars begin before the end of the last recorded term. */
-  get known() {
-    return Math.min(this.count, Math.max(0, Math.ceil((Date.parse(history.recorded.until) - this.begins) / (this.step * 1000))));
+  /** The place of a time, in bars, within the chart. */
+  placeOf(time) {
+    return Math.min(this.count, Math.max(0, (time - this.begins) / (this.step * 1000)));
+  }
+
+  /** The times without records, from a place to another: before the first term, gaps between terms, and after the last term. */
+  get unrecorded() {
+    const { from, until, gaps } = history.recorded;
+    const edges = [from, ...gaps.flatMap((gap) => [gap.from, gap.to]), until].map(Date.parse);
+    const places = [-Infinity, ...edges, Infinity].map((time) => this.placeOf(time));
+    return places.flatMap((place, index) => (index % 2 === 0 && places[index + 1] > place ? [[place, places[index + 1]]] : []));
+  }
+
+  gaps() {
+    return this.unrecorded.map(([from, to]) => makeSvg("rect", { class: "gap", x: this.x(from), y: TOP, width: this.x(to) - this.x(from), height: HEIGHT - TOP - BOTTOM }));
   }
 
   shapes() {
     this.top = niceTop(Math.max(0, ...this.totals));
-    this.runs = [[0, this.known]];
     return [...this.gaps(), ...this.grid(), ...this.times(), ...this.rectangles()];
   }
 
   rectangles() {
     const shapes = [];
-    for (let place = 0; place < this.known; place += 1) {
+    for (let place = 0; place < this.count; place += 1) {
       let below = 0;
       this.bars.forEach((bars, part) => {
         if (bars[place]) {
@@ -314,7 +326,11 @@ class BarChart extends Chart {
   }
 
   sampleText(place) {
-    return place < this.known ? this.countText(this.bars.map((bars) => bars[place])) : "not recorded yet";
+    const unknown = this.unrecorded.map(([from, to]) => Math.min(to, place + 1) - Math.max(from, place)).filter((part) => part > 0).reduce((sum, part) => sum + part, 0);
+    if (unknown > 0.99) {
+      return "not recorded";
+    }
+    return `${this.countText(this.bars.map((bars) => bars[place]))}${unknown > 0.01 ? "; a part is not recorded" : ""}`;
   }
 
   moveTo(place) {

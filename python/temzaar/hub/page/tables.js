@@ -6,6 +6,7 @@ import { ageText, byId, makeElement, refillElement, setText, syncRows, timeEleme
 const MOST_RADIOS = 200;
 // The states of slots: a mark that says the same as the colour, and the words for it.
 const STATES = {
+  off: ["✕", "control DOWN"],
   control: ["◆", "control"],
   call: ["▶", "call"],
   free: ["○", "free"],
@@ -56,19 +57,28 @@ function setFigure(name, value, more = "", level = "") {
   refillElement(figure.querySelector("dd"), `${value}|${more}`, () => [makeElement("strong", {}, String(value)), " ", ...(more ? [makeElement("span", { class: "more" }, more)] : [])]);
 }
 
+/** The value of the control channel's figure, what is below it, and its level. */
+function controlFigure(state) {
+  if (state.control && !state.control.up) {
+    return ["DOWN", `carrier ${state.control.carrier}`, "bad"];
+  }
+  return state.fill.kind === "move" ? ["moved", `to channel ${state.fill.channel}`, "warn"] : ["on air", state.control ? `carrier ${state.control.carrier}` : "", "good"];
+}
+
 /** Shows the figures of a state. */
 export function showFigures(state, radios) {
   const slots = state.carriers.flatMap((carrier) => carrier.slots);
-  const usable = slots.filter((slot) => slot.state !== "control" && slot.state !== "down").length;
   const used = slots.filter((slot) => slot.state === "call").length;
+  // without a control channel no radio gets a slot: those that radios can reach are those that have a call
+  const usable = state.control && !state.control.up ? used : slots.filter((slot) => slot.state !== "control" && slot.state !== "down").length;
   const down = state.carriers.filter((carrier) => !carrier.up).length;
   const longest = Math.max(0, ...state.queue.map((request) => request.age_seconds ?? 0));
   setFigure("carriers", `${state.carriers.length - down}`, `of ${state.carriers.length}`, down ? "bad" : "good");
+  setFigure("control", ...controlFigure(state));
   setFigure("slots", used, `of ${usable}`, usable && used === usable ? "warn" : "");
   setFigure("queue", state.counts.lines, state.counts.lines ? `longest ${ageText(longest)}` : "", state.counts.lines ? "warn" : "");
   setFigure("radios", state.counts.radios, radios && !radios.complete ? "list not whole" : "");
   setFigure("asks", state.counts.asks);
-  setFigure("fill", state.fill.kind === "move" ? "C_MOVE" : "C_ALOHA", state.fill.kind === "move" ? `to ${state.fill.channel}` : "", state.fill.kind === "move" ? "warn" : "");
 }
 
 function callElements(call) {
@@ -79,8 +89,13 @@ function callElements(call) {
   ];
 }
 
-function slotElements(slot) {
-  const [mark, words] = STATES[slot.state] || ["?", slot.state];
+/** The state of a slot as it is shown: of the control slot the console says `control`, whether its carrier is up or not. */
+function shownState(slot, carrier) {
+  return slot.state === "control" && !carrier.up ? "off" : slot.state;
+}
+
+function slotElements(slot, state) {
+  const [mark, words] = STATES[state] || ["?", state];
   const shown = [makeElement("span", { class: "mark", "aria-hidden": "true" }, mark), " "];
   return slot.call ? [...shown, makeElement("span", { class: "unseen" }, "call "), ...callElements(slot.call)] : [...shown, makeElement("span", { class: "words" }, words)];
 }
@@ -98,8 +113,9 @@ function fillCarrier(row, carrier) {
   carrier.slots.forEach((slot, place) => {
     const cell = row.children[place + 1];
     const call = slot.call;
-    cell.className = `slot ${slot.state}`;
-    refillElement(cell, `${slot.state}|${call ? [call.kind, call.target, call.source, call.older] : ""}`, () => slotElements(slot));
+    const state = shownState(slot, carrier);
+    cell.className = `slot ${state}`;
+    refillElement(cell, `${state}|${call ? [call.kind, call.target, call.source, call.older] : ""}`, () => slotElements(slot, state));
     setAge(cell, call?.age_seconds);
   });
 }

@@ -1,0 +1,36 @@
+// What is wrong with the site and with its records, as texts that stay the same while it is so.
+
+import { momentText } from "./elements.js";
+
+// A term that lacks the polls of half a carrier or more: one of its carriers did not poll.
+const MISSING_POLLS = 0.5;
+
+/** The alarms of a state of the site, the most urgent first. */
+export function siteAlarms(view) {
+  return [...(view.state ? stateAlarms(view.state) : []), ...(view.records ? recordAlarms(view.records) : [])];
+}
+
+function stateAlarms(state) {
+  const { control } = state;
+  const isOff = control && !control.up;
+  const off = isOff ? [`No control channel since ${momentText(control.since)}: carrier ${control.carrier} is down, and the site is off the air`] : [];
+  const down = state.carriers.filter((carrier) => !carrier.up && !(isOff && carrier.number === control.carrier));
+  const unsent = state.unsent.map((it) => {
+    const others = control && control.carrier !== it.carrier ? `, or the control carrier ${control.carrier},` : "";
+    return `A burst for slot ${it.slot} of carrier ${it.carrier} waits since ${momentText(it.since)}: carrier ${it.carrier}${others} does not poll`;
+  });
+  return [...off, ...down.map((carrier) => `Carrier ${carrier.number} is down since ${momentText(carrier.since)}`), ...unsent];
+}
+
+function recordAlarms(records) {
+  const alarms = [];
+  if (records.fault) {
+    alarms.push(`The hub cannot read the records: ${records.fault}`);
+  } else if (records.overdue) {
+    alarms.push(`No records since ${momentText(records.until)}: the controller cannot write them, or carriers do not poll`);
+  }
+  if (records.missing_polls >= MISSING_POLLS) {
+    alarms.push(`The last term, up to ${momentText(records.until)}, lacks the polls of ${Math.round(records.missing_polls)} of the carriers that are up`);
+  }
+  return alarms;
+}

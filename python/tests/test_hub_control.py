@@ -1,0 +1,140 @@
+"""The control channel and the polls as the hub shows them: a site that is off the air, a carrier that does not poll, and terms that do not come."""
+import json
+import pathlib
+import time
+import unittest
+
+from temzaar.hub.config import HealthKeys
+from temzaar.hub.model import UNSENT_SECONDS, SiteModel
+from temzaar.hub.moment import Moment
+from temzaar.hub.termwatch import LEAST_SECONDS, TermWatch
+from temzaar.picture import Picture
+from temzaar.console import Status
+from temzaar.records import COUNTS, RecordedTerm
+from tests.hub_support import wait_until
+from tests.made_records import NOON, add_term, make_records
+from tests.test_hub_records import samples_of
+from tests.test_hub_web import WebCase
+
+OFF_AIR = ["slot 0 0 control", "slot 0 1 down", "slot 1 0 free", "slot 1 1 free", "end"]
+WAITING = ["slot 0 0 control", "slot 0 1 free", "slot 1 0 waiting", "slot 1 1 free", "end"]
+
+
+class Served(WebCase):
+    """What the hub serves."""
+
+    async def test_no_control_channel(self) -> None:
+        hub = await self.serve(HealthKeys(carrier_seconds=0))
+        self.assertEqual(samples_of((await self.get("/metrics")).body.decode())['dmr_site_control_up{carrier="0"}'], 1)
+        self.fake.replies["slots"] = OFF_AIR
+        await wait_until(lambda: not hub.model.carriers[0].is_up)
+        view = json.loads((await self.get("/v1/site.json")).body)
+        control = view["state"]["control"]
+        self.assertEqual((control["carrier"], control["up"], control["since"]), (0, False, view["state"]["carriers"][0]["since"]))
+        self.assertEqual(samples_of((await self.get("/metrics")).body.decode())['dmr_site_control_up{carrier="0"}'], 0)
+        answer = await self.get("/healthz")
+        self.assertEqual(answer.status, 503)
+        self.assertRegex(answer.body.decode(), r"^no control channel: carrier 0 is down since \S+Z\n$")
+
+    async def test_a_burst_that_waits(self) -> None:
+        hub = await self.serve(HealthKeys(carrier_seconds=0))
+        self.fake.replies["slots"] = WAITING
+        await wait_until(lambda: hub.model.waiting)
+        self.assertEqual(json.loads((await self.get("/v1/site.json")).body)["state"]["unsent"], [])
+        # as if it had been seen to wait for a minute
+        hub.model.waiting = {slot: Moment(since.wall - 60, since.steady - 60) for slot, since in hub.model.waiting.items()}
+        unsent = json.loads((await self.get("/v1/site.json")).body)["state"]["unsent"]
+        self.assertEqual([(it["carrier"], it["slot"]) for it in unsent], [(1, 0)])
+        self.assertGreaterEqual(samples_of((await self.get("/metrics")).body.decode())["dmr_site_longest_unsent_seconds"], 60)
+        answer = await self.get("/healthz")
+        self.assertEqual(answer.status, 503)
+        self.assertRegex(answer.body.decode(), r"^slot 0 of carrier 1 waits for a poll since \S+Z\n$")
+
+    async def test_names(self) -> None:
+        hub = await self.serve()
+        for path in ("/v1/site.json", "/v1/state.json"):
+            self.assertEqual(json.loads((await self.get(path)).body)["site"], hub.config.controller.site_name)
+
+    async def test_records_that_stop(self) -> None:
+        """The last term is of another year: after a minute without another one the next is overdue."""
+        path = make_records(pathlib.Path(self.folder, "site.db"), terms=2)
+        hub = await self.serve(records=str(path))
+        await wait_until(lambda: hub.model.watch.last)
+        found = json.loads((await self.get("/v1/state.json")).body)["records"]
+        self.assertEqual(found, {"until": "2026-11-27T12:00:30.000Z", "overdue": False, "fault": None, "missing_polls": None})
+        watch = hub.model.watch
+        assert watch.since
+        watch.since, watch.due = Moment(watch.since.wall - 61, watch.since.steady - 61), 3001.0
+        self.assertTrue(json.loads((await self.get("/v1/state.json")).body)["records"]["overdue"])
+        self.assertEqual(samples_of((await self.get("/metrics")).body.decode())["dmr_site_records_overdue"], 1)
+        add_term(path, 3)
+        await wait_until(lambda: watch.last and watch.last.number == 3)
+        self.assertFalse(json.loads((await self.get("/v1/state.json")).body)["records"]["overdue"])
+
+
+def term(ended: float, polls: int, ticks: int = 1000, entries: int = 3000) -> RecordedTerm:
+    """A term of ticks of 60 ms that ended at a time in seconds since 1970."""
+    return RecordedTerm(1, int(ended * 1000), 60, ticks, {**dict.fromkeys(COUNTS, 0), "ticks": ticks, "polls": polls, "entries": entries})
+
+
+class Watched(unittest.TestCase):
+    """Terms that come late, and polls that are missing."""
+
+    def test_overdue(self) -> None:
+        """Two carriers poll each 60 ms, and ticks are of 60 ms: 50 entries a second. 3,000 take a minute at most, and half as much is allowed."""
+        watch = TermWatch()
+        watch.take_picture(2, Moment(0, 0))
+        self.assertFalse(watch.is_overdue())
+        watch.take_term(term(0, 2000))
+        for second in range(1, 91):
+            watch.take_picture(2, Moment(second, second))
+            self.assertFalse(watch.is_overdue(), second)
+        watch.take_picture(2, Moment(91, 91))
+        self.assertTrue(watch.is_overdue())
+        # without carriers the same term may take longer
+        watch.take_term(term(91, 2000))
+        watch.take_picture(0, Moment(250, 250))
+        self.assertFalse(watch.is_overdue())
+        watch.begin()
+        self.assertFalse(watch.is_overdue())
+
+    def test_short_terms(self) -> None:
+        """A term of a second is not overdue within the first minute."""
+        watch = TermWatch()
+        watch.take_picture(2, Moment(0, 0))
+        watch.take_term(term(0, 30, entries=50))
+        watch.take_picture(2, Moment(LEAST_SECONDS, LEAST_SECONDS))
+        self.assertFalse(watch.is_overdue())
+        watch.take_picture(2, Moment(LEAST_SECONDS + 1, LEAST_SECONDS + 1))
+        self.assertTrue(watch.is_overdue())
+
+    def missing(self, polls: int, *up: int) -> float | None:
+        """What a term of a minute lacks that ended 10 s ago, while this many carriers were up in each of its thirds."""
+        model, began = SiteModel(), 1000.0
+        for third, count in enumerate(up):
+            slots = {(0, 0): "control", **{(carrier, 1): "free" if carrier < count else "down" for carrier in range(3)}}
+            for second in range(25):
+                model.take_picture(Picture(Status(["status carriers 3 radios 0 asks 0 lines 0 calls 0 fill aloha"]), slots), Moment(NOON / 1000 + 25 * third + second, began + 25 * third + second))
+        model.watch.take_term(term(NOON / 1000 + 65, polls))
+        return model.watch.missing_polls(model.samples.spans["hour"], Moment(NOON / 1000 + 75, began + 75))
+
+    def test_missing_polls(self) -> None:
+        """A minute has 1,000 polls of each carrier."""
+        for polls, up, missing in ((3000, (3, 3, 3), 0.0), (2000, (3, 3, 3), 1.0), (2000, (2, 3, 3), 0.0), (3500, (3, 3, 3), 0.0), (0, (3, 3, 3), 3.0)):
+            found = self.missing(polls, *up)
+            assert found is not None
+            self.assertAlmostEqual(found, missing, 2, (polls, up))
+        self.assertIsNone(self.missing(0, 3))
+
+    def test_slots_that_wait(self) -> None:
+        model = SiteModel()
+        status = Status(["status carriers 2 radios 0 asks 0 lines 0 calls 0 fill aloha"])
+        for second, state in ((0, "waiting"), (3, "free"), (4, "waiting"), (9, "waiting")):
+            model.take_picture(Picture(status, {(0, 0): "control", (0, 1): state}), Moment(second, second))
+        self.assertEqual((model.longest_unsent(Moment(9, 9)), [*model.unsent(Moment(9, 9))], [*model.unsent(Moment(9.1, 4 + UNSENT_SECONDS + 0.1))]), (5, [], [(0, 1)]))
+        model.begin()
+        self.assertEqual(model.longest_unsent(Moment(20, 20)), 0)
+
+
+if __name__ == "__main__":
+    unittest.main()

@@ -1,5 +1,5 @@
 """The picture of a session, as an SVG: slots as rows, time in ticks, calls as bars with their parties, and a legend."""
-from collections.abc import Iterator
+from collections.abc import Iterator, Sequence
 from html import escape
 from typing import Any, NamedTuple, Protocol
 
@@ -8,6 +8,7 @@ from temzaar.calls import Calls, SlotKey
 from temzaar.clock import Clock, Window
 from temzaar.grants import Call, granted_parties, is_grant, is_late
 from temzaar.script import Event, Input
+from temzaar.timeaxis import TimeAxis
 
 WIDTH, LEFT, ROW, TOP = 1100, 120, 26, 40
 # The distance from one number of a tick to the next, without and with clock times; that of two polls that both have a mark.
@@ -20,6 +21,10 @@ COLOURS = ("#7fb3d5", "#f5b27a", "#8fd19e", "#c9a3e0", "#f2d16b", "#e59aa8", "#8
 STYLE = """text{font:11px sans-serif;fill:#222}.small{font-size:9px;fill:#666}.row{fill:#f6f6f6}.control{fill:#eef3fa}.down{fill:#d9d9d9}
 .grid{stroke:#ddd}.lost{stroke:#c0392b;stroke-width:2}.up{stroke:#27ae60;stroke-width:2}.poll{stroke:#bbb}.grant{fill:#1e6b35}.late{fill:#a6d3b3}.ended{fill:none;stroke:#1e6b35}.clear{fill:#a93226}
 .ack{fill:#4a6fa5}.fill{fill:#c9d6e8}.heard{fill:#888}.said{fill:#6c3483}.call{stroke:#555;stroke-width:.5}"""
+
+# What a picture with times that are not recorded has too.
+HATCHED = """<style>.gap{fill:url(#gap)}</style><defs><pattern id="gap" width="7" height="7" patternUnits="userSpaceOnUse" patternTransform="rotate(45)">
+<rect width="7" height="7" fill="#fff"/><rect width="2" height="7" fill="#c4a484"/></pattern></defs>"""
 
 
 class LegendEntry(NamedTuple):
@@ -39,13 +44,14 @@ LEGEND = (
      LegendEntry("said", "M5 2a3 3 0 1 0 .1 0z", "operator's line", 105), LegendEntry("down", "M0 0h10v10h-10z", "carrier not up", 105),
      LegendEntry("up", LINE, "carrier came up", 110), LegendEntry("lost", LINE, "carrier lost", 90)),
 )
+UNRECORDED = LegendEntry("gap", "M0 0h10v10h-10z", "not recorded", 90)
 
 
 class Axis:
-    """How far to the right each input of a window is: ticks to one scale, and a step for each input within a tick."""
+    """How far to the right each input of a replay's window is: ticks to one scale, and a step for each input within a tick."""
 
-    def __init__(self, inputs: list[Input], window: Window) -> None:
-        self.window = window
+    def __init__(self, inputs: list[Input], window: Window, clock: Clock) -> None:
+        self.window, self.clock = window, clock
         steps = ticks = tick = 0
         for it in inputs:
             ticks += self._ticks_inside(tick, it.count)
@@ -86,6 +92,10 @@ class Axis:
                 yield tick, across
                 last = across
 
+    def time_text(self, tick: int) -> str:
+        """The clock time of a mark."""
+        return self.clock.time_of_day(tick)
+
 
 def event_in_words(event: Event) -> str:
     """An event in words."""
@@ -108,6 +118,13 @@ def event_in_words(event: Event) -> str:
     return event.octets.hex().upper() if pdu.name == pdus.OTHER else pdu.name
 
 
+class Gap(NamedTuple):
+    """Ticks of which the session has nothing, from one to another, and why."""
+    first: int
+    end: int
+    why: str
+
+
 class DrawnCalls(Protocol):
     """The calls of a session: those that a replay shows, or those of records."""
     # the grants of calls that had ended, by the index of their events
@@ -120,13 +137,14 @@ class DrawnCalls(Protocol):
 
 class Session:
     """What is drawn: inputs and events over a site, its calls, its clock, and how many ticks it has. Without `calls` they are those that the events, of a
-    replay, show. `has_ticks` is false if the ticks are not the site's."""
+    replay, show. `has_ticks` is false if the ticks are not the site's, but milliseconds of records; then `gaps` are the times without records."""
 
-    def __init__(self, plan: dict[str, Any], inputs: list[Input], events: list[Event], clock: Clock, calls: DrawnCalls | None = None, has_ticks: bool = True) -> None:
+    def __init__(self, plan: dict[str, Any], inputs: list[Input], events: list[Event], clock: Clock, calls: DrawnCalls | None = None, has_ticks: bool = True,
+                 gaps: Sequence[Gap] = ()) -> None:
         self.plan, self.inputs, self.events, self.clock = plan, inputs, events, clock
         self.calls: DrawnCalls = calls or Calls(plan, events)
         self.ticks = sum(it.count for it in inputs)
-        self.has_ticks = has_ticks
+        self.has_ticks, self.gaps = has_ticks, gaps
 
 
 class Drawing:
@@ -134,7 +152,13 @@ class Drawing:
 
     def __init__(self, session: Session, window: Window) -> None:
         self.plan, self.events, self.calls, self.clock = session.plan, session.events, session.calls, session.clock
-        self.window, self.axis, self.has_ticks = window, Axis(session.inputs, window), session.has_ticks
+        self.window, self.has_ticks = window, session.has_ticks
+        self.axis: Axis | TimeAxis = Axis(session.inputs, window, session.clock)
+        self.gaps: list[tuple[Gap, float, float]] = []
+        if not session.has_ticks:
+            axis = self.axis = TimeAxis(session.inputs, window, session.clock, LEFT, WIDTH - 20)
+            places = ((gap, axis.place(gap.first), axis.place(gap.end)) for gap in session.gaps)
+            self.gaps = [(gap, begins, ends) for gap, begins, ends in places if ends > begins]
         self.rows: list[SlotKey] = [(row["number"], slot) for row in sorted(self.plan["carrier"], key=lambda it: it["number"]) for slot in (0, 1)]
         used = {it.what for it in self.events}
         self.lanes = [what for what in LANES if what in used]
@@ -170,13 +194,15 @@ class Drawing:
         """The whole picture."""
         self.draw_rows()
         self.draw_outages()
+        self.draw_gaps()
         self.draw_calls()
         for index, event in enumerate(self.events):
             if self.window.has(event.tick):
                 self.draw_event(index, event)
         self.draw_legend()
         head = f'<svg xmlns="http://www.w3.org/2000/svg" width="{WIDTH}" height="{self.height}" viewBox="0 0 {WIDTH} {self.height}">'
-        return "\n".join([head, f"<style>{STYLE}</style>", '<rect width="100%" height="100%" fill="#fff"/>', *self.parts, "</svg>"]) + "\n"
+        hatched = [HATCHED] if self.gaps else []
+        return "\n".join([head, f"<style>{STYLE}</style>", *hatched, '<rect width="100%" height="100%" fill="#fff"/>', *self.parts, "</svg>"]) + "\n"
 
     def draw_rows(self) -> None:
         """The rows, their names, the ticks, and the clock times above them."""
@@ -196,31 +222,41 @@ class Drawing:
         names = [("tick", TOP - 12)] * self.has_ticks + [("time", TOP - 24)] * timed
         for name, y in names:
             self.put("text", text=name, x=LEFT - 30, y=y, class_="small")
+        day = ""
         for tick, across in self.axis.labels(TIME_ROOM if timed else NUMBER_ROOM):
             self.put("line", x1=across, y1=TOP - 8, x2=across, y2=self.bottom, class_="grid")
             for name, y in names:
-                self.put("text", text=str(tick) if name == "tick" else self.clock.time_of_day(tick), x=across, y=y, class_="small")
+                self.put("text", text=str(tick) if name == "tick" else self.axis.time_text(tick), x=across, y=y, class_="small")
+            if isinstance(self.axis, TimeAxis) and self.axis.date_text(tick) != day:
+                day = self.axis.date_text(tick)
+                self.put("text", text=day, x=across, y=TOP - 12, class_="small")
 
     def draw_outages(self) -> None:
         """Grey on both slots of a carrier while it is not up, and a line when it comes up or is lost."""
         for carrier in sorted({carrier for carrier, _ in self.rows}):
             since: float = LEFT
-            changes = [it for it in self.events if it.carrier == carrier and it.what in ("up", "lost")]
+            changes = [it for it in self.events if it.carrier == carrier and it.what in ("up", "lost", "stopped")]
             for event in changes:
                 across = self.axis.at[event.index]
                 if event.what == "up":
                     self.draw_outage(carrier, since, across)
-                if self.window.has(event.tick):
+                if event.what != "stopped" and self.window.has(event.tick):
                     self.put("line", title=f"carrier {carrier} {event.what} {event.text} at {self.at_tick(event.tick)}", x1=across, y1=self.above((carrier, 0)), x2=across,
                              y2=self.above((carrier, 1)) + ROW, class_=event.what)
                 since = across
-            if not changes or changes[-1].what == "lost":
+            if not changes or changes[-1].what != "up":
                 self.draw_outage(carrier, since, self.axis.end)
 
     def draw_outage(self, carrier: int, begins: float, ends: float) -> None:
         """Grey on both slots of a carrier."""
         if ends > begins:
             self.put("rect", title=f"carrier {carrier} is not up", x=begins, y=self.above((carrier, 0)) + 1, width=ends - begins, height=2 * ROW - 2, class_="down")
+
+    def draw_gaps(self) -> None:
+        """Hatching over all rows for the times that are not recorded: nobody knows what was so."""
+        for gap, begins, ends in self.gaps:
+            title = f"not recorded from {self.at_tick(gap.first)} to {self.at_tick(gap.end)}: {gap.why}"
+            self.put("rect", title=title, x=begins, y=TOP, width=ends - begins, height=self.bottom - TOP, class_="gap")
 
     def draw_calls(self) -> None:
         """A bar for each call that is active in the window, in a colour for its parties."""
@@ -269,7 +305,8 @@ class Drawing:
 
     def draw_legend(self) -> None:
         """What the marks mean, below the rows. Each has the class of the mark, and the class `key`."""
-        for line, entries in enumerate(LEGEND):
+        last = (*LEGEND[-1], *([UNRECORDED] if self.gaps else []))
+        for line, entries in enumerate((*LEGEND[:-1], last)):
             across, above = LEFT, self.bottom + BELOW - 8 + LEGEND_ROW * line
             for entry in entries:
                 fill = {"fill": COLOURS[0]} if entry.kind == "call" else {}

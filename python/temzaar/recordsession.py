@@ -10,10 +10,11 @@ from typing import Any
 from temzaar import pdus
 from temzaar.calls import SlotKey
 from temzaar.clock import Clock, ClockFault, Window
-from temzaar.drawing import Session
+from temzaar.drawing import Gap as DrawnGap, Session
 from temzaar.grants import Call, Parties
 from temzaar.moments import local_time, read_moment, short_text
 from temzaar.printable import printable
+from temzaar.recordgaps import RESTARTED, Gap, find_gaps, gaps_within
 from temzaar.records import RecordedCall, RecordedEvent, RecordedTerm, RecordsFault, opened_records
 from temzaar.script import Event, Input
 
@@ -22,8 +23,7 @@ CARRIER_EVENTS = {"came_up": "up", "was_lost": "lost"}
 # The words of an operator's line, by the kind of its event.
 COMMANDS = {"drop_command": ("drop", "radio"), "end_command": ("end", "carrier", "slot"), "move_command": ("move", "channel"), "stay_command": ("stay",)}
 # What comes first of what has the same time: the end of a carrier's calls is its loss.
-ORDER = ("ended", "lost", "up", "radio", "said", "began")
-RESTARTED = "when the controller was started again"
+ORDER = ("ended", "lost", "stopped", "up", "radio", "said", "began")
 
 
 @dataclass(frozen=True)
@@ -39,12 +39,14 @@ class Happening:
 
 @dataclass
 class Period:
-    """The records of a period, whose times are in milliseconds since 1970. Events and terms are those before its end, also those before its beginning."""
+    """The records of a period, whose times are in milliseconds since 1970. Events and terms are those before its end, also those before its beginning; `gaps`
+    are all of the file."""
     from_ms: int
     to_ms: int
     terms: list[RecordedTerm]
     calls: list[RecordedCall]
     events: list[RecordedEvent]
+    gaps: list[Gap]
 
     @property
     def origin_ms(self) -> int:
@@ -79,10 +81,11 @@ def read_period(path: str, first: str | None, last: str | None) -> Period:
         from_ms, to_ms = period_bounds(terms, first, last)
         calls = records.calls(("ended_ms >= ? AND began_ms <= ?", [from_ms, to_ms]))
         events = records.events(("at_ms <= ?", [to_ms]))
+        gaps = find_gaps(records)
     for call in calls:
         if call.slot not in (0, 1):
             raise RecordsFault(f"{path}: call {call.number} is on slot {call.slot}, and a carrier has slots 0 and 1")
-    return Period(from_ms, to_ms, terms, calls, events)
+    return Period(from_ms, to_ms, terms, calls, events, gaps)
 
 
 def restarts(terms: list[RecordedTerm]) -> Iterator[int]:
@@ -93,13 +96,17 @@ def restarts(terms: list[RecordedTerm]) -> Iterator[int]:
 
 
 def carrier_happenings(period: Period) -> Iterator[Happening]:
-    """Carriers that come up and are lost. A restart of the controller loses all of them, which no event says."""
-    again = [(at_ms, None) for at_ms in restarts(period.terms) if at_ms <= period.to_ms]
+    """Carriers that come up and are lost. A restart of the controller loses all of them, which no event says: after a gap they are not up, and when they were
+    lost is not known."""
+    after_gaps = {it.to_ms for it in period.gaps}
+    started = {*restarts(period.terms), *(it.to_ms for it in period.gaps if it.why == RESTARTED)}
+    again = [(at_ms, None) for at_ms in started if at_ms <= period.to_ms]
     changes = [(it.at_ms, it) for it in period.events if it.kind in CARRIER_EVENTS and it.carrier is not None]
     up: set[int] = set()
     for at_ms, event in sorted([*again, *changes], key=lambda it: (it[0], it[1] is not None)):
         if event is None:
-            yield from (Happening(at_ms, "lost", carrier, text=RESTARTED) for carrier in sorted(up))
+            what = "stopped" if at_ms in after_gaps else "lost"
+            yield from (Happening(at_ms, what, carrier, text=f"when {RESTARTED}") for carrier in sorted(up))
             up.clear()
         elif event.kind == "came_up":
             assert event.carrier is not None
@@ -185,7 +192,8 @@ def session_of(period: Period, plan: dict[str, Any] | None) -> Session:
     events = [Event(places[n], ticks[n], it.what, it.carrier, it.slot, text=it.text) for n, it in enumerate(found)]
     begins = local_time(period.origin_ms)
     clock = Clock(1, begins.replace(tzinfo=None).isoformat() if begins else None)
-    return Session(plan_of_records(period, plan), inputs, events, clock, RecordedCalls(period, found), has_ticks=False)
+    gaps = [DrawnGap(period.tick_of(it.from_ms), period.tick_of(it.to_ms), it.why) for it in gaps_within(period.gaps, period.from_ms, period.to_ms)]
+    return Session(plan_of_records(period, plan), inputs, events, clock, RecordedCalls(period, found), has_ticks=False, gaps=gaps)
 
 
 def window_of(session: Session) -> Window:

@@ -8,12 +8,15 @@ from typing import Any
 
 from temzaar.moments import iso_text, short_text
 from temzaar.printable import printable
+from temzaar.recordgaps import Gap
 from temzaar.records import RecordedCall, Where
 
 COLUMNS = ("number", "term", "began", "ended", "seconds", "carrier", "slot", "kind", "source", "target", "cause")
 TABLE = ("number", "began", "seconds", "slot", "kind", "source", "target", "cause")
 # The columns of the table that are numbers, which end at the same place.
 RIGHT = ("number", "seconds")
+# The gaps that are listed: the newest.
+MOST_GAPS = 20
 # What a cell of CSV begins with if a spreadsheet takes it for a formula.
 FORMULA = ("=", "+", "-", "@", "\t", "\r", "\n")
 
@@ -74,6 +77,14 @@ def text_table(calls: list[RecordedCall]) -> str:
     widths = {name: max(len(row[name]) for row in rows) for name in TABLE}
     lines = ["  ".join(f"{row[name]:{'>' if name in RIGHT else '<'}{widths[name]}}" for name in TABLE).rstrip() for row in rows]
     return "".join(f"{line}\n" for line in lines)
+
+
+def lines_below(gaps: list[Gap], until_ms: int | None) -> list[str]:
+    """The lines below the calls: the times without records, and up to when the records go; None: there is no term."""
+    if until_ms is None:
+        return ["no term has ended yet: nothing is recorded"]
+    more = [f"{len(gaps) - MOST_GAPS} earlier times without records are not listed"] if len(gaps) > MOST_GAPS else []
+    return [*more, *(it.in_words() for it in gaps[-MOST_GAPS:]), f"recorded up to {short_text(until_ms)}; the term that is running is not in it"]
 
 
 def csv_text(calls: list[RecordedCall]) -> str:

@@ -14,6 +14,8 @@ from temzaar.tomltext import Place
 
 # A line of the file is shown as far as this from the place.
 SHOWN_BEFORE, SHOWN_AFTER = 60, 40
+# In the place of what does not fit.
+CUT = " .. "
 
 
 class Status(enum.IntEnum):
@@ -152,9 +154,10 @@ class TextReport:
             return
         text = self.report.document.scan.line(place.line)
         at = place.column - 1
-        begins = max(0, at - SHOWN_BEFORE)
-        yield f"    {printable(text[begins:at + SHOWN_AFTER])}".rstrip()
-        yield f"    {' ' * (at - begins)}^"
+        begins, ends = max(0, at - SHOWN_BEFORE), at + SHOWN_AFTER
+        before, after = CUT if begins else "", CUT if ends < len(text) else ""
+        yield f"    {before}{printable(text[begins:ends])}{after}".rstrip()
+        yield f"    {' ' * (len(before) + at - begins)}^"
 
     def table_lines(self) -> Iterator[str]:
         """The values as a table."""

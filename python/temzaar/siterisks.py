@@ -20,6 +20,12 @@ FEW_POLLS = 10
 LONGEST_SILENCE_MS = 60_000
 LARGE_TERMS_MIB = 256
 SHORTEST_TERM_MS = 5_000
+# Nobody means calls of so few seconds: the number was meant as seconds, and is in ticks.
+SHORTEST_MAXIMUM_MS = 20_000
+# How many radios a site can have registered at once (docs/SITE_FILE.md).
+MOST_REGISTERED = 4096
+# A base station that has lost its power is lost after this many waits, if the hub asks the console each second.
+USUAL_SILENCE = 15
 FAST_TICK_MS = 30
 # The pause at the end of a term of 10,000 and of 100,000 entries (docs/OPERATING.md, "Terms").
 PAUSE_MS, LONGEST_PAUSE_MS = 2, 8
@@ -70,7 +76,7 @@ class Finder:
     def risks(self) -> Iterator[Risk]:
         """All risks, subject by subject."""
         for find in (self.text_risks, self.unknown_keys, self.call_risks, self.access_risks, self.clock_risks, self.silence_risks, self.term_risks,
-                     self.link_risks, self.address_risks, self.port_risks, self.group_risks, self.service_risks):
+                     self.link_risks, self.radio_risks, self.address_risks, self.port_risks, self.group_risks, self.service_risks):
             yield from find()
 
     def risk(self, name: str, path: Steps, reason: str, remedy: str, row: Row | None = None) -> Risk:
@@ -121,6 +127,9 @@ class Finder:
         if hang is not None and longest is not None and longest <= hang:
             yield self.risk("maximum-below-hang", ("maximum",), f"a call lasts {longest} ticks at most, and `hang` is {hang}: no call ends because nobody talks",
                             f"set `maximum` well above {hang}, for example {min(65535, 30 * hang)}")
+        elif (time := self.figures.milliseconds("maximum")) is not None and time < SHORTEST_MAXIMUM_MS:
+            yield self.risk("short-maximum", ("maximum",), f"a call lasts {seconds_in_words(time)} at most, also while somebody talks: the number is in ticks, not in seconds",
+                            f"set `maximum` to a minute's worth of ticks or more, for example {180_000 // (self.figures.number('tick_ms') or POLL_MS)}")
         time = self.figures.milliseconds("hang")
         if time is not None and time < FEW_POLLS * POLL_MS:
             yield self.risk("short-hang", ("hang",), f"a call ends after {seconds_in_words(time)} without voice, less than {FEW_POLLS} frames of {POLL_MS} ms: a gap on the air ends it",
@@ -155,6 +164,16 @@ class Finder:
         if time is not None and time > LONGEST_SILENCE_MS:
             yield self.risk("long-silence", ("silence",), f"a base station that loses its power keeps its calls for {seconds_in_words(time)}, unless it comes back before",
                             f"set `silence` to at most {LONGEST_SILENCE_MS // WAIT_MS}, {seconds_in_words(LONGEST_SILENCE_MS)}")
+        elif time is not None:
+            yield from self.late_loss_risks(time)
+
+    def late_loss_risks(self, silence: int) -> Iterator[Risk]:
+        """A base station that is lost only after its calls have ended."""
+        hang = self.figures.milliseconds("hang")
+        if hang is not None and FEW_POLLS * POLL_MS <= hang < silence:
+            yield self.risk("silence-above-hang", ("silence",), f"a base station that loses its power is lost after {seconds_in_words(silence)}, and its calls end after `hang`, {seconds_in_words(hang)}: "
+                            "they are recorded as ended by `hang_time`, and until then new calls are granted on it",
+                            f"set `silence` to at most {hang // WAIT_MS}; with the hub, which asks each second, {USUAL_SILENCE} will do")
 
     def term_risks(self) -> Iterator[Risk]:
         """Terms that take much memory, or end often."""
@@ -172,6 +191,16 @@ class Finder:
         if served is not None and spoken is not None and spoken > served:
             yield self.risk("old-link", ("link_version",), f"the site serves version {served} of the link alone: base stations of version {spoken}, which number their bursts, are refused (REFUSED 1)",
                             f"write `link_version = {spoken}`, or set the base stations to version {served}")
+
+    # radios
+
+    def radio_risks(self) -> Iterator[Risk]:
+        """More radios than a site can have, and radios that never leave."""
+        count, values = self.figures.count_radios(), self.document.values
+        if count > MOST_REGISTERED:
+            yield self.risk("many-radios", ("radios",), f"{count} radios may register, and a site has {MOST_REGISTERED} at once: others are refused", "list the radios of this site alone")
+        if values.get("radios") and "leave_bit" not in values:
+            yield self.risk("no-leave-bit", ("radios",), "without `leave_bit` no radio can deregister: one that is switched off stays registered", "write `leave_bit`, by the manual of your radios")
 
     # addresses
 

@@ -4,6 +4,7 @@ import csv
 import json
 import os
 import pathlib
+import re
 import shutil
 import sqlite3
 import subprocess
@@ -16,8 +17,9 @@ from datetime import datetime
 from temzaar.cli.callbook import main
 from temzaar.moments import MomentFault, iso_text, join_times, read_moment, short_text
 from temzaar.printable import printable
+from temzaar.recordgaps import LOST, RESTARTED, Gap, find_gaps
 from temzaar.records import CAUSES, VERSION, opened_records
-from temzaar.recordsheet import safe_cell
+from temzaar.recordsheet import lines_below, safe_cell
 from tests.made_records import CALLS, EVENTS, NOON, REGISTRATIONS, TERMS, TABLES, add_term, locked, make_records, zone
 from tests.support import call_tool, read_document, table_rows
 
@@ -30,6 +32,8 @@ number  began                seconds  slot  kind        source  target  cause
      4  2026-11-27 14:00:09     15.0  0/1   individual  1001    1003    radio_left
      5  2026-11-27 14:01:52     37.5  0/1   talkgroup   1002    91      maximum
 """
+GAP = "no records from 2026-11-27 14:00:30 to 2026-11-27 14:01:40, 70.0 s: the controller was started again\n"
+UNTIL = "recorded up to 2026-11-27 14:02:40; the term that is running is not in it\n"
 
 
 class RecordsCase(unittest.TestCase):
@@ -47,7 +51,7 @@ class RecordsCase(unittest.TestCase):
     def numbers(self, *words: str) -> list[int]:
         """The numbers of the calls that the tool prints."""
         done = call_tool(main, "--records", str(self.path), "--format", "json", *words)
-        self.assertEqual((done.returncode, done.stderr), (0, ""))
+        self.assertEqual((done.returncode, done.stderr.removesuffix(f"callbook: {UNTIL}") in ("", f"callbook: {GAP}")), (0, True))
         return [it["number"] for it in json.loads(done.stdout)]
 
     def expect_fault(self, said: str, *words: str) -> None:
@@ -61,7 +65,23 @@ class Printed(RecordsCase):
 
     def test_table(self) -> None:
         done = call_tool(main, "--records", str(self.path))
-        self.assertEqual((done.returncode, done.stdout, done.stderr), (0, TABLE, ""))
+        self.assertEqual((done.returncode, done.stdout, done.stderr), (0, TABLE + GAP + UNTIL, ""))
+
+    def test_below_the_calls(self) -> None:
+        """The gaps of the time that is asked for, and up to when the records go; as CSV and JSON on standard error."""
+        for words, below in ((["--from", "2026-11-27 14:00:29"], GAP + UNTIL), (["--from", "2026-11-27 14:01:40"], UNTIL), (["--to", "2026-11-27 14:00:30"], UNTIL),
+                             (["--to", "2026-11-27 14:01"], GAP + UNTIL), (["--last", "1"], UNTIL), (["--last", "2"], GAP + UNTIL)):
+            text = call_tool(main, "--records", str(self.path), *words).stdout
+            self.assertEqual("".join(re.findall(r"(?m)^(?:no records|recorded).*\n", text)), below, words)
+        done = call_tool(main, "--records", str(self.path), "--format", "csv")
+        self.assertEqual(done.stderr, f"callbook: {GAP}callbook: {UNTIL}")
+        empty = make_records(self.folder / "empty.db", terms=0)
+        self.assertEqual(call_tool(main, "--records", str(empty)).stdout.split("\n")[1:], ["no term has ended yet: nothing is recorded", ""])
+
+    def test_many_gaps(self) -> None:
+        gaps = [Gap(1000 * it, 1000 * it + 600, LOST) for it in range(30)]
+        lines = lines_below(gaps, NOON)
+        self.assertEqual((lines[0], len(lines), lines[1]), ("10 earlier times without records are not listed", 22, gaps[10].in_words()))
 
     def test_csv(self) -> None:
         rows = list(csv.DictReader(call_tool(main, "--records", str(self.path), "--format", "csv").stdout.splitlines()))
@@ -77,7 +97,7 @@ class Printed(RecordsCase):
 
     def test_no_call(self) -> None:
         for form, printed in (("table", TABLE.split("\n")[0].split()), ("csv", ["number,term,began,ended,seconds,carrier,slot,kind,source,target,cause"]), ("json", ["[]"])):
-            self.assertEqual(call_tool(main, "--records", str(self.path), "--radio", "7", "--format", form).stdout.split(), printed)
+            self.assertEqual(call_tool(main, "--records", str(self.path), "--radio", "7", "--format", form).stdout.split()[:len(printed)], printed)
 
     def test_cells_are_safe(self) -> None:
         """A text that somebody wrote into the file is not a formula for a spreadsheet, and does not move a terminal's cursor."""
@@ -96,6 +116,40 @@ class Printed(RecordsCase):
             conn.execute("UPDATE calls SET began_ms = 9000000000000000000, ended_ms = 9000000000000000000 WHERE number = 1")
         self.assertIsNone(json.loads(call_tool(main, "--records", str(self.path), "--format", "json").stdout)[0]["began"])
         self.assertIn("     1  -                        0.0  0/1", call_tool(main, "--records", str(self.path)).stdout)
+
+
+class Gaps(RecordsCase):
+    """The times without records."""
+
+    def gaps(self, *changes: str) -> list[Gap]:
+        """The gaps of the file after some changes."""
+        with contextlib.closing(sqlite3.connect(self.path)) as conn, conn:
+            for change in changes:
+                conn.execute(change)
+        with opened_records(str(self.path)) as records:
+            return find_gaps(records)
+
+    def test_each(self) -> None:
+        """The second run began 70 s after the end of the first one. A term of the same run that is missing is a gap; late ticks, or a clock that was set, are none."""
+        restarted = Gap(NOON + 30_000, NOON + 100_000, RESTARTED)
+        self.assertEqual(self.gaps(), [restarted])
+        self.assertEqual(self.gaps("UPDATE terms SET ended_ms = ended_ms + 9000 WHERE number = 1"), [restarted])
+        # the first 200 ticks of the second run, 12 s, are not recorded; nor are 100 of the first run
+        self.assertEqual(self.gaps("UPDATE terms SET last_tick = 1200 WHERE number = 3"), [restarted])
+        self.assertEqual(self.gaps("UPDATE terms SET ended_ms = ended_ms - 9000 WHERE number = 1", "UPDATE terms SET last_tick = 1600, ended_ms = ended_ms + 6000 WHERE number = 2"),
+                         [Gap(NOON, NOON + 6_000, LOST), Gap(NOON + 36_000, NOON + 100_000, RESTARTED)])
+        with opened_records(str(self.path)) as records:
+            self.assertEqual(len(find_gaps(records, 2)), 1)
+
+    def test_the_documents_query(self) -> None:
+        """The query of RECORDS.md finds the same, and the one after it the calls of a base station that lost its power."""
+        gaps, calls = re.findall(r"^```sql\n(.*?)^```$", read_document("RECORDS.md"), re.M | re.S)[10:12]
+        with contextlib.closing(sqlite3.connect(self.path)) as conn, conn:
+            self.assertEqual(conn.execute(gaps).fetchall(), [("2026-11-27 12:00:30", "2026-11-27 12:01:40", 70.0)])
+            self.assertEqual(conn.execute(calls).fetchall(), [])
+            # call 3 was on carrier 1, which was lost at 12:00:06
+            conn.execute("UPDATE calls SET cause = 'hang_time', ended_ms = ended_ms - 4000 WHERE number IN (2, 3)")
+            self.assertEqual(conn.execute(calls).fetchall(), [(3, "2026-11-27 12:00:02", 1, 1, 1003, 92)])
 
 
 class Filtered(RecordsCase):

@@ -97,9 +97,9 @@ class Reports(Command):
         self.assertNotIn("values", json.loads(self.check("--json", TWO_CARRIERS).stdout))
 
     def test_explain(self) -> None:
-        done = self.check("--explain", self.site(SITE.replace("hang = 100", "hang = 50")))
+        done = self.check("--explain", self.site(SITE.replace("hang = 100", "hang = 90")))
         self.assertEqual(done.returncode, 0)
-        self.assertRegex(done.stdout, r"(?m)^hang +50 +3\.0 s +how long a call lasts without voice$")
+        self.assertRegex(done.stdout, r"(?m)^hang +90 +5\.4 s +how long a call lasts without voice$")
         self.assertRegex(done.stdout, r"(?m)^link_version +1 \(default\) +the greatest version")
         self.assertIn("right, 0 warnings\n", done.stdout)
         # a text without values has no table

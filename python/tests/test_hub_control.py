@@ -1,15 +1,18 @@
 """The control channel and the polls as the hub shows them: a site that is off the air, a carrier that does not poll, and terms that do not come."""
+import contextlib
 import json
 import pathlib
+import sqlite3
 import time
 import unittest
+from datetime import datetime
 
+from temzaar.console import Status
 from temzaar.hub.config import HealthKeys
 from temzaar.hub.model import UNSENT_SECONDS, SiteModel
 from temzaar.hub.moment import Moment
 from temzaar.hub.termwatch import LEAST_SECONDS, TermWatch
 from temzaar.picture import Picture
-from temzaar.console import Status
 from temzaar.records import COUNTS, RecordedTerm
 from tests.hub_support import wait_until
 from tests.made_records import NOON, add_term, make_records
@@ -70,6 +73,25 @@ class Served(WebCase):
         add_term(path, 3)
         await wait_until(lambda: watch.last and watch.last.number == 3)
         self.assertFalse(json.loads((await self.get("/v1/state.json")).body)["records"]["overdue"])
+
+
+    async def test_gaps(self) -> None:
+        """The times without records are counted, and the charts have those of their span. Here the third term ended 30 s ago, and the gap is from 160 to 90 s ago."""
+        path = make_records(pathlib.Path(self.folder, "site.db"))
+        later = int(1000 * (time.time() - 30)) - NOON - 160_000
+        with contextlib.closing(sqlite3.connect(path)) as conn, conn:
+            conn.execute("UPDATE terms SET ended_ms = ended_ms + ?", (later,))
+        hub = await self.serve(records=str(path))
+        await wait_until(lambda: hub.model.watch.last)
+        found = samples_of((await self.get("/metrics")).body.decode())
+        self.assertEqual((found["dmr_site_record_gaps_total"], found["dmr_site_unrecorded_seconds_total"]), (1, 70))
+        for span in ("hour", "day"):
+            view = json.loads((await self.get(f"/v1/history.json?span={span}")).body)["recorded"]
+            times = [view["from"], *(it[edge] for it in view["gaps"] for edge in ("from", "to")), view["until"]]
+            seconds = [datetime.fromisoformat(it).timestamp() - (NOON + later) / 1000 for it in times]
+            for at, wanted in zip(seconds, (-60, 30, 100, 160), strict=True):
+                self.assertAlmostEqual(at, wanted, 2)
+            self.assertEqual([it["why"] for it in view["gaps"]], ["the controller was started again"])
 
 
 def term(ended: float, polls: int, ticks: int = 1000, entries: int = 3000) -> RecordedTerm:

@@ -84,6 +84,9 @@ ANSWERS: tuple[list[tuple[object, ...]], ...] = (
      (AT_2, "move_command", None, None, None, 7, "done"), (AT_2, "stay_command", None, None, None, None, "done"),
      (AT_3, "drop_command", None, None, 1003, None, "done"), (AT_3, "drop_command", None, None, 999, None, "not_registered")],
     [(1, 1004, 1), (2, 1001, 2)],
+    # one run, whose terms follow one another; its only call that ended by the hang time did so after its carrier was lost
+    [],
+    [],
 )
 
 

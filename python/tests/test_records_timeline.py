@@ -16,7 +16,8 @@ from tests.support import SITES, TWO_CARRIERS, call_tool
 # What a picture of all of the file says of its marks, by their classes.
 TITLES = {
     "up": ["carrier 0 up  at 11:59:00.300", "carrier 0 up  at 12:01:40.600", "carrier 1 up  at 11:59:00.600"],
-    "lost": ["carrier 0 lost when the controller was started again at 12:01:40.000", "carrier 1 lost  at 12:00:06.000"],
+    "lost": ["carrier 1 lost  at 12:00:06.000"],
+    "gap": ["not recorded from 12:00:30.000 to 12:01:40.000: the controller was started again"],
     "down": ["carrier 0 is not up", "carrier 0 is not up", "carrier 1 is not up", "carrier 1 is not up"],
     "call": ["group 91 from 1001: hang time", "group 91 from 1002: maximum", "group 92 from 1003: carrier lost", "radio 1001 from 1002: ended by operator",
              "radio 1003 from 1001: radio left"],
@@ -29,7 +30,7 @@ TITLES = {
 # 11:59:56 to 12:01:45
 PART = ("--from", "2026-11-27 11:59:56", "--to", "2026-11-27 12:01:45")
 OF_PART = {
-    "up": ["carrier 0 up  at 12:01:40.600"], "lost": TITLES["lost"], "down": ["carrier 0 is not up", "carrier 1 is not up"],
+    "up": ["carrier 0 up  at 12:01:40.600"], "lost": TITLES["lost"], "gap": TITLES["gap"], "down": ["carrier 0 is not up", "carrier 1 is not up"],
     "call": ["group 92 from 1003: carrier lost", "radio 1003 from 1001: radio left"], "ack": TITLES["ack"][4:6], "said": TITLES["said"][1:2],
 }
 
@@ -79,6 +80,26 @@ class RecordsTimeline(unittest.TestCase):
         self.assertEqual(bars["group 92 from 1003"][0], 120.0)
         self.assertLess(bars["group 92 from 1003"][1], bars["radio 1003 from 1001"][0])
 
+    def test_to_scale(self) -> None:
+        """A second is as wide everywhere, whatever happens in it: the 220 seconds of the file take the 960 px of a row."""
+        places = {title: float(x) for x, title in re.findall(r'<line x1="([\d.]+)"[^>]*><title>([^<]*)', self.draw())}
+        bars = bars_of(self.draw())
+        for at, seconds in ((places["carrier 1 lost  at 12:00:06.000"], 66.0), (places["carrier 0 up  at 12:01:40.600"], 160.6), (bars["group 91 from 1001"][0], 6.0),
+                            (bars["group 91 from 1001"][1], 12.0), (bars["group 91 from 1002"][1], 209.5)):
+            self.assertAlmostEqual(at, 120 + 960 * seconds / 220, delta=0.2)
+
+    def test_what_is_not_recorded(self) -> None:
+        """Hatched from 90 to 160 s over all rows, and no carrier is up after it that was up before. Without a gap there is no mark for one."""
+        svg = self.draw()
+        found = re.search(r'<rect x="([\d.]+)" y="40" width="([\d.]+)" height="156" class="gap">', svg)
+        assert found
+        self.assertAlmostEqual(float(found[1]), 120 + 960 * 90 / 220, delta=0.2)
+        self.assertAlmostEqual(float(found[2]), 960 * 70 / 220, delta=0.2)
+        self.assertIn(">not recorded</text>", svg)
+        whole = self.draw("--to", "2026-11-27 12:00:20")
+        self.assertNotIn("not recorded", whole)
+        self.assertNotIn("pattern", whole)
+
     def test_a_call_that_is_longer_than_the_period(self) -> None:
         # from the twelfth second of minute 0 of the call to its fifteenth: nothing else comes
         svg = self.draw("--from", "2026-11-27 12:00:14", "--to", "2026-11-27 12:00:17")
@@ -105,7 +126,8 @@ class RecordsTimeline(unittest.TestCase):
     def test_times_without_ticks(self) -> None:
         svg = self.draw()
         self.assertIn(">time</text>", svg)
-        self.assertIn(">11:59:00.000</text>", svg)
+        self.assertEqual(re.findall(r">(\d\d:\d\d(?::\d\d)?|\d{4}-\d\d-\d\d)</text>", svg),
+                         ["11:59:00", "2026-11-27", "11:59:30", "12:00:00", "12:00:30", "12:01:00", "12:01:30", "12:02:00", "12:02:30"])
         self.assertNotIn(">tick</text>", svg)
 
     def test_pages(self) -> None:
@@ -113,7 +135,7 @@ class RecordsTimeline(unittest.TestCase):
         self.assertEqual((done.returncode, done.stdout, done.stderr),
                          (0, f"{self.folder}/a-001.svg: 11:59:00.000 to 12:00:59.999\n{self.folder}/a-002.svg: 12:01:00.000 to 12:02:40.000\n", ""))
         last = titles_of((self.folder / "a-002.svg").read_text(encoding="utf-8"))
-        self.assertEqual((last["lost"], last["call"]), (TITLES["lost"][:1], ["group 91 from 1002: maximum"]))
+        self.assertEqual((last["gap"], last["call"]), (TITLES["gap"], ["group 91 from 1002: maximum"]))
 
     def test_faults(self) -> None:
         for words, said in ((["--from", "2026-11-28"], "--from is 2026-11-28 00:00:00, and the records end at 2026-11-27 12:02:40"),

@@ -8,8 +8,11 @@
 --from and --to take times of the machine's zone: 2026-11-27 (as --to: to the end of that day), 2026-11-27 08:00, and 08:00, which is today. -2h is two hours
 ago; s, m and d are seconds, minutes and days. A call is printed if it was active at some time between them.
 
+Below the calls are the times without records, and up to when the records go: calls of the term that runs are not in the file yet. As CSV and JSON the calls go
+to standard output alone, and these lines to standard error.
+
 The tool copies the file while it has SQLite's lock of readers, and writes nothing next to it. It needs the right to read the file, as root or the
-controller's user has it. The controller writes the file at the end of each term, so calls of the term that runs are not in it yet.
+controller's user has it.
 
 Status: 0 printed; 1 the file, named on standard error with the reason; 2 the words.
 """
@@ -18,10 +21,11 @@ import sys
 from collections.abc import Sequence
 from datetime import UTC, datetime
 
-from temzaar.cli.command import amount_above, clean_up_on_signals, count_of, parse_words, run_command
+from temzaar.cli.command import amount_above, clean_up_on_signals, count_of, parse_words, print_note, run_command
 from temzaar.moments import join_times, read_moment
+from temzaar.recordgaps import find_gaps, gaps_within
 from temzaar.records import CAUSES, DEFAULT_PATH, LOCK_SECONDS, opened_records
-from temzaar.recordsheet import CallQuery, SheetFormat, write_sheet
+from temzaar.recordsheet import CallQuery, SheetFormat, lines_below, write_sheet
 
 MOST_ADDRESS = (1 << 24) - 1
 MOST_CALLS = 1_000_000
@@ -55,8 +59,17 @@ def print_calls(options: argparse.Namespace) -> int:
     """Prints what the words ask for. The status. ToolFault: the file or a time is at fault."""
     query = query_of(options)
     with opened_records(options.records, options.seconds) as records:
-        calls = records.calls(query.where(), options.last)
+        calls, gaps = records.calls(query.where(), options.last), find_gaps(records)
+        last = records.terms(("number = (SELECT max(number) FROM terms)", []))
+    # of the newest calls alone, the gaps since the first of them
+    first = query.from_ms if options.last is None or not calls else calls[0].began_ms
+    below = lines_below(gaps_within(gaps, first, query.to_ms), last[0].ended_ms if last else None)
     sys.stdout.write(write_sheet(calls, SheetFormat(options.format)))
+    for line in below:
+        if options.format == SheetFormat.TABLE.value:
+            print(line)
+        else:
+            print_note("callbook", line)
     return 0
 
 

@@ -23,7 +23,8 @@ The list of calls has for each when it began and ended, its carrier and slot, it
 slot, and why it ended: that follows from the site file and the script.
 
 With --records there is no script. The picture has what the records have: calls, carriers that come up and are lost, registrations and refusals in a row
-`radios`, and operators' commands. Grants, P_CLEARs, bursts and polls are not recorded. The site file is optional: it has the carriers that no record names, and
+`radios`, and operators' commands. Grants, P_CLEARs, bursts and polls are not recorded. Time is drawn to one scale, with marks at round times, and a time without
+records is hatched. The site file is optional: it has the carriers that no record names, and
 which slot is the control slot. --from and --to are times then: 2026-11-27, 2026-11-27 08:00, 08:00 (today), or -2h (also s, m and d). Without them it is
 all of the file. `callbook` lists the calls of records.
 

@@ -150,6 +150,7 @@ install: build/dmr_trunk build/dmr_decode ## the programs, tools, manual pages, 
 	install -d $(DESTDIR)$(PREFIX)/lib/systemd/system $(DESTDIR)$(DOC)/examples/scripts $(DESTDIR)$(DOC)/examples/expected $(DESTDIR)$(DOC)/pictures
 	install -d $(DESTDIR)$(PYTHON_LIB)/temzaar/cli $(DESTDIR)$(PYTHON_LIB)/temzaar/hub/page
 	install -m 644 python/temzaar/*.py $(DESTDIR)$(PYTHON_LIB)/temzaar
+	ci/version >$(DESTDIR)$(PYTHON_LIB)/temzaar/VERSION && chmod 644 $(DESTDIR)$(PYTHON_LIB)/temzaar/VERSION
 	install -m 644 python/temzaar/cli/*.py $(DESTDIR)$(PYTHON_LIB)/temzaar/cli
 	install -m 644 python/temzaar/hub/*.py $(DESTDIR)$(PYTHON_LIB)/temzaar/hub
 	install -m 644 python/temzaar/hub/page/* $(DESTDIR)$(PYTHON_LIB)/temzaar/hub/page

@@ -5,14 +5,14 @@ _dmr_options() {
     case $1 in
         dmr_trunk) echo --site --script --serve --terms --version --help ;;
         dmr_decode) echo --site --help ;;
-        dmr_siteview) echo --site --hub --console --once --every --help ;;
-        dmr_timeline) echo --site --script --printed --program --out --records --start --from --to --page --calls --help ;;
-        dmr_callbook) echo --records --format --radio --group --carrier --cause --from --to --last --seconds --help ;;
-        dmr_capture) echo --site --program --out --running --shift --seconds --pcap --unfinished --help ;;
-        dmr_carriers) echo --site --program --pid --port --carriers --link-version --radios --seconds --polls --fast --seed --faults --troubles --help ;;
-        dmr_check) echo --explain --strict --json --link-version --controller --no-controller --help ;;
-        dmr_hub) echo --config --records --check --help ;;
-        dmr_console) echo --socket --tcp --seconds --help ;;
+        dmr_siteview) echo --site --hub --console --once --every --version --help ;;
+        dmr_timeline) echo --site --script --printed --program --out --records --start --from --to --page --calls --version --help ;;
+        dmr_callbook) echo --records --format --radio --group --carrier --cause --from --to --last --seconds --version --help ;;
+        dmr_capture) echo --site --program --out --running --shift --seconds --pcap --unfinished --version --help ;;
+        dmr_carriers) echo --site --program --pid --port --carriers --link-version --radios --seconds --polls --fast --seed --faults --troubles --version --help ;;
+        dmr_check) echo --explain --strict --json --link-version --controller --no-controller --version --help ;;
+        dmr_hub) echo --config --records --check --version --help ;;
+        dmr_console) echo --socket --tcp --seconds --version --help ;;
     esac
 }
 

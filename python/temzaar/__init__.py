@@ -4,6 +4,7 @@ The package reads and writes the formats of `docs/FORMATS.md`. It is written fro
 comparison of the two means something. One module per subject, lowest first:
 
     printable   text that came from outside, as a terminal may show it
+    version     the version of this program
     faults      the fault that a tool reports in a line, and files that are read with a limit
     code        the block code of a burst, and the check of ten octets
     pdus        the PDUs: one table of layouts, read in both directions

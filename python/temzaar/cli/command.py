@@ -11,6 +11,7 @@ from typing import NoReturn
 
 from temzaar.faults import ToolFault
 from temzaar.printable import printable
+from temzaar.version import read_version
 
 # Statuses that all commands share. argparse itself ends with WRONG_WORDS.
 DONE, FAULT, WRONG_WORDS = 0, 1, 2
@@ -108,7 +109,8 @@ def run_command(name: str, action: Callable[[], int], fault_status: int = FAULT)
 def parse_words(parser: argparse.ArgumentParser, words: Sequence[str] | None) -> argparse.Namespace:
     """The options that the words give. As argparse does, it ends the command after a help text, and after words that it refuses. If nobody reads
     the help text, the command ends in the same way. An option with an empty word is refused: a variable of the shell that is not set does not count
-    as no option."""
+    as no option. Each command has the option `--version`."""
+    parser.add_argument("--version", action="version", version=f"dmr_{parser.prog.removeprefix('dmr_')} {read_version()}")
     try:
         options = parser.parse_args(words)
         # argparse has no public list of its options

@@ -23,6 +23,7 @@ from temzaar.hub.keys import ConfigFault
 from temzaar.hub.notes import note
 from temzaar.hub.roles import find_rules
 from temzaar.hub.service import Hub
+from temzaar.version import read_version
 
 
 def read_words(words: Sequence[str] | None) -> argparse.Namespace:
@@ -51,7 +52,7 @@ def hold_console(options: argparse.Namespace) -> int:
         raise ToolFault(f"config file: {fault}") from fault
     if options.check:
         return 0
-    note(f"config file {options.config}, site file {config.controller.site_file}")
+    note(f"dmr_hub {read_version()}: config file {options.config}, site file {config.controller.site_file}")
     # SIGTERM and SIGINT end the loop, and not the process
     asyncio.run(Hub(config, rules).run())
     note("stopped")

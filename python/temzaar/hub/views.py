@@ -2,7 +2,7 @@
 import json
 import os
 from collections.abc import Iterator, Sized
-from dataclasses import dataclass
+from dataclasses import dataclass, field
 from typing import Any
 
 from temzaar.console import Parties
@@ -15,6 +15,7 @@ from temzaar.hub.moment import Moment, utc_text
 from temzaar.hub.recordreader import RecordReader
 from temzaar.picture import Picture, Standing
 from temzaar.process import Process
+from temzaar.version import read_version
 
 SLOT_STATES = ("control", "down", "call", "free", "waiting")
 # A picture that is older than this many polls, and than the rule for the controller, counts as none.
@@ -31,6 +32,7 @@ class Views:
     sessions: Sized
     begun: Moment
     records: RecordReader | None = None
+    version: str = field(default_factory=read_version)
 
     def __post_init__(self) -> None:
         if self.records:
@@ -174,6 +176,9 @@ class Views:
     def _process_series(self) -> Iterator[Series]:
         """Gauges of the hub's process and connections."""
         process = Process(os.getpid())
+        info = Series("dmr_hub_info", "The hub's version, as a label; the value is always 1.")
+        info.set(1, version=self.version)
+        yield info
         yield gauge("dmr_hub_queued_questions", "Questions that wait for their turn.", len(self.link.queue))
         yield gauge("dmr_hub_line_connections", "Operators' connections that are served.", len(self.sessions))
         yield gauge("process_start_time_seconds", "When the hub started, in seconds since 1970.", self.begun.wall)

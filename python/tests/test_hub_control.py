@@ -130,23 +130,25 @@ class Watched(unittest.TestCase):
         watch.take_picture(2, Moment(LEAST_SECONDS + 1, LEAST_SECONDS + 1))
         self.assertTrue(watch.is_overdue())
 
-    def missing(self, polls: int, *up: int) -> float | None:
-        """What a term of a minute lacks that ended 10 s ago, while this many carriers were up in each of its thirds."""
-        model, began = SiteModel(), 1000.0
-        for third, count in enumerate(up):
-            slots = {(0, 0): "control", **{(carrier, 1): "free" if carrier < count else "down" for carrier in range(3)}}
-            for second in range(25):
-                model.take_picture(Picture(Status(["status carriers 3 radios 0 asks 0 lines 0 calls 0 fill aloha"]), slots), Moment(NOON / 1000 + 25 * third + second, began + 25 * third + second))
-        model.watch.take_term(term(NOON / 1000 + 65, polls))
-        return model.watch.missing_polls(model.samples.spans["hour"], Moment(NOON / 1000 + 75, began + 75))
+    def missing(self, *terms: tuple[int, int]) -> float | None:
+        """What the last terms lack, of a minute each: their polls, and how many of three carriers were up in them."""
+        model, status = SiteModel(), Status(["status carriers 3 radios 0 asks 0 lines 0 calls 0 fill aloha"])
+        for place, (polls, up) in enumerate(terms):
+            for second in range(60 * place, 60 * place + 60):
+                slots = {(0, 0): "control", **{(carrier, 1): "free" if carrier < up else "down" for carrier in range(3)}}
+                model.take_picture(Picture(status, slots), Moment(NOON / 1000 + second, 1000.0 + second))
+            model.watch.take_term(term(NOON / 1000 + 60 * place + 59, polls, ticks=980))
+        model.take_picture(Picture(status, slots), Moment(NOON / 1000 + 60 * len(terms), 1000.0 + 60 * len(terms)))
+        return model.watch.missing_polls()
 
     def test_missing_polls(self) -> None:
-        """A minute has 1,000 polls of each carrier."""
-        for polls, up, missing in ((3000, (3, 3, 3), 0.0), (2000, (3, 3, 3), 1.0), (2000, (2, 3, 3), 0.0), (3500, (3, 3, 3), 0.0), (0, (3, 3, 3), 3.0)):
-            found = self.missing(polls, *up)
+        """58.8 s have 980 polls of each carrier. A carrier that stops is missing in both of the last terms; one that is down is not; one that polls slowly, neither."""
+        for terms, missing in ((((2940, 3), (2940, 3)), 0.0), (((2940, 3), (1960, 3), (1960, 3)), 1.0), (((2940, 3), (1960, 3)), 0.0), (((2940, 3), (1960, 2), (1960, 2)), 0.0),
+                               (((2000, 3), (2100, 3), (1950, 3)), 0.0), (((2940, 3), (0, 3), (0, 3)), 3.0)):
+            found = self.missing(*terms)
             assert found is not None
-            self.assertAlmostEqual(found, missing, 2, (polls, up))
-        self.assertIsNone(self.missing(0, 3))
+            self.assertAlmostEqual(found, missing, 1, str(terms))
+        self.assertIsNone(self.missing((2940, 3)))
 
     def test_slots_that_wait(self) -> None:
         model = SiteModel()

@@ -68,7 +68,7 @@ class InBrowser(unittest.TestCase):
         self.browser.open(self.scene.base)
         self.check_a_carrier_that_is_down()
         player.join_carrier(1)
-        self.wait_for_text("#freshness", r"^✓ controller answers, picture of 0:0\d ago$")
+        self.wait_for_text("#freshness", "^✓ controller answers, live$")
         self.assertEqual((self.browser.text("#alarms"), self.browser.text("#figure-carriers")), ("", "Carriers up 2 of 2"))
         for radio in (1001, 1002):
             player.register(radio)
@@ -87,8 +87,8 @@ class InBrowser(unittest.TestCase):
         """Carrier 1 has not connected: an alarm, in red and in words."""
         self.wait_for_text("#alarms", r"^✕ ALARM Carrier 1 is down since \d\d:\d\d:\d\d$")
         self.assertRegex(self.browser.text("#carriers-rows tr.down"), r"^1 ✕ DOWN since \d\d:\d\d:\d\d ✕ down ✕ down$")
-        self.assertRegex(self.browser.text("#freshness"), r"^✕ 1 alarm, picture of 0:0\d ago$")
-        self.assertRegex(self.browser.evaluate("document.title"), r"^✕ Carrier 1 is down since \S+ – Site board$")
+        self.assertEqual(self.browser.text("#freshness"), "✕ 1 alarm, live")
+        self.assertRegex(self.browser.evaluate("document.title"), r"^✕ Carrier 1 is down since \S+ – site$")
 
     def check_a_call(self) -> None:
         """A call begins, is shown with its parties and its age, and ends."""
@@ -149,7 +149,7 @@ class InBrowser(unittest.TestCase):
     def check_roles(self) -> None:
         """Landmarks, headings, tables with headers, a live region and the charts have roles and names."""
         roles = self.roles()
-        for wanted in (("banner", ""), ("main", ""), ("contentinfo", ""), ("alert", "Alarms"), ("heading", "Site board"), ("region", "Carriers and slots"), ("region", "Queue"),
+        for wanted in (("banner", ""), ("main", ""), ("contentinfo", ""), ("alert", "Alarms"), ("heading", "site"), ("region", "Carriers and slots"), ("region", "Queue"),
                        ("region", "Last calls"), ("region", "Registered radios"), ("region", "Charts"), ("columnheader", "Slot 0"), ("columnheader", "Lasted"), ("rowheader", "0 up"),
                        ("slider", "Slots in use: time of a sample"), ("group", "Colours"), ("button", "group 91"), ("button", "radio 1001")):
             self.assertIn(wanted, roles)
@@ -159,7 +159,7 @@ class InBrowser(unittest.TestCase):
         self.scene.player.stop()
         self.scene.controller.process.terminate()
         self.wait_for_text("#alarms", r"^✕ ALARM Controller away since \d\d:\d\d:\d\d: \w.*$")
-        self.wait_for_text("#freshness", r"^✕ controller away, picture of 0:\d\d ago$")
+        self.wait_for_text("#freshness", r"^✕ controller away, the picture is 0:\d\d old$")
         self.assertIn("The last picture, not the present one.", self.browser.text("#carriers"))
         self.assertEqual(self.browser.evaluate(FAINT_TEXTS), [])
 

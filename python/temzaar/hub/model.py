@@ -56,6 +56,7 @@ class SiteModel:
         self.watch.take_picture(sum(it.is_up for it in self.carriers.values()), now)
         self.calls.look(picture.calls, now)
         self.samples.add(self._figures(picture, now), now)
+        self.watch.judge(self.samples.spans["hour"], now)
 
     def _count_waits(self, picture: Picture, now: Moment) -> None:
         """Counts how long the requests waited that were in the picture before and are not in this one. The age of those that the hub did not see come is not known."""

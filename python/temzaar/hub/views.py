@@ -52,7 +52,7 @@ class Views:
                            "reason": state.reason or None},
             "state": self._state_view(now),
             "radios": self._radios_view(now),
-            "records": self._records_view(now),
+            "records": self._records_view(),
         }
 
     def _state_view(self, now: Moment) -> dict[str, Any] | None:
@@ -79,21 +79,17 @@ class Views:
         known = self.model.carriers[picture.control]
         return {"carrier": picture.control, "up": known.is_up, "since": utc_text(known.since.wall, decimals=True)}
 
-    def _records_view(self, now: Moment) -> dict[str, Any] | None:
+    def _records_view(self) -> dict[str, Any] | None:
         """How far the records go, and what is wrong with them; None if the hub reads none."""
         if self.records is None:
             return None
-        last, missing = self.model.watch.last, self._missing_polls(now)
+        last, missing = self.model.watch.last, self.model.watch.missing_polls()
         return {"until": utc_text(last.ended_ms / 1000, decimals=True) if last else None, "overdue": self._is_overdue(), "fault": self.records.fault or None,
                 "missing_polls": None if missing is None else round(missing, 2)}
 
     def _is_overdue(self) -> bool:
         """Whether the next term should have been recorded by now. While the controller is away none is due."""
         return self.link.state.is_up and self.model.watch.is_overdue()
-
-    def _missing_polls(self, now: Moment) -> float | None:
-        """How many carriers' polls the last recorded term lacks; None if that is not known."""
-        return self.model.watch.missing_polls(self.model.samples.spans["hour"], now)
 
     def _carrier_view(self, picture: Picture, number: int, now: Moment) -> dict[str, Any]:
         """A carrier with its slots."""
@@ -167,8 +163,8 @@ class Views:
         yield from self.records.counts.all_series()
         yield from self.records.gaps.all_series()
         yield gauge("dmr_site_records_overdue", "Whether a term should have been recorded that was not.", int(self._is_overdue()))
-        lacks = Series("dmr_site_missing_polls", "How many carriers' polls the last recorded term lacks, of those of the carriers that were up.")
-        missing = self._missing_polls(Moment.now())
+        lacks = Series("dmr_site_missing_polls", "How many carriers' polls each of the last two recorded terms lacks, of those of the carriers that were up.")
+        missing = self.model.watch.missing_polls()
         if missing is not None:
             lacks.set(missing)
         yield lacks

@@ -30,7 +30,7 @@ function recordAlarms(records) {
     alarms.push(`No records since ${momentText(records.until)}: the controller cannot write them, or carriers do not poll`);
   }
   if (records.missing_polls >= MISSING_POLLS) {
-    alarms.push(`The last term, up to ${momentText(records.until)}, lacks the polls of ${Math.round(records.missing_polls)} of the carriers that are up`);
+    alarms.push(`The last terms, up to ${momentText(records.until)}, lack the polls of a carrier: one that is up does not poll`);
   }
   return alarms;
 }

@@ -177,7 +177,7 @@ function showAlarms(alarms) {
 
 function showFreshness(now, alarms, isPresent) {
   const view = known.state;
-  const age = !view?.state ? "no picture yet" : pictureAge(now) < LIVE_SECONDS ? "live" : `the picture is ${ageText(pictureAge(now))} old`;
+  const age = !view?.state ? "no picture yet" : isPresent && pictureAge(now) < LIVE_SECONDS ? "live" : `the picture is ${ageText(pictureAge(now))} old`;
   const [level, mark, words] = !view ? ["unknown", "?", "waiting for the hub"]
     : !isPresent ? ["bad", "✕", `${view.controller.up ? "not the present state" : "controller away"}, ${age}`]
       : alarms.length ? ["bad", "✕", `${alarms.length} ${alarms.length === 1 ? "alarm" : "alarms"}, ${age}`] : ["good", "✓", `controller answers, ${age}`];

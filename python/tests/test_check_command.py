@@ -105,6 +105,15 @@ class Reports(Command):
         # a text without values has no table
         self.assertNotIn("what it is", self.check("--explain", self.site("a =")).stdout)
 
+    def test_a_long_line(self) -> None:
+        """A line that does not fit is cut, and has a mark at each cut."""
+        groups = ", ".join(map(str, range(2001, 2041)))
+        long = self.check(self.site(SITE.replace("groups = [91, 92, 93, 94]", f"groups = [{groups}, 1000, 3001, 3002, 3003, 3004, 3005, 3006, 3007]"))).stdout.split("\n")
+        self.assertRegex(long[1], r"^     \.\. [\d, ]+1000, [\d, ]+ \.\.$")
+        self.assertEqual(long[1].index("1000"), long[2].index("^"))
+        short = self.check(self.site(SITE.replace("groups = [91, 92, 93, 94]", "groups = [2001, 3001, 1000]"))).stdout.split("\n")
+        self.assertEqual(short[1], "    groups = [2001, 3001, 1000]")
+
     def test_strict(self) -> None:
         path = self.site(SITE.replace("hang = 100", "hang = 1"))
         for words, status in (([path], 0), (["--strict", path], 3), (["--strict", TWO_CARRIERS], 0), (["--strict", self.site(FAULTY, "other.toml")], 1)):

@@ -11,8 +11,8 @@ from temzaar.sitefigures import POLL_MS
 
 # A term is overdue when by polls and ticks alone it should have had this many times its entries, and not before it has lasted this many seconds.
 LATE_FACTOR, LEAST_SECONDS = 1.5, 60.0
-# A carrier polls as often as in the best of the last terms, and at least half as often as the air has frames. So many terms in a row have to lack the polls of
-# a carrier, and the smallest part of all polls that counts.
+# A carrier polls as often as in the best of the last terms, and at least half as often as the air has frames. Two terms in a row have to lack the polls of a carrier.
+# Less than this part of all polls does not count.
 RATES, LEAST_RATE, TERMS, LEAST_PART = 20, 0.5, 2, 0.05
 
 

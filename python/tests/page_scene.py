@@ -94,7 +94,7 @@ class Scene:
         with open(plan, "w", encoding="utf-8") as it:
             it.write(site.text())
         with open(config, "w", encoding="utf-8") as it:
-            it.write(f'[controller]\nsite_file = "{plan}"\nreconnect_seconds = 0.5\n[poll]\nstate_seconds = {state_seconds}\nradios_seconds = 1\n[http]\nport = {self.port}\n'
+            it.write(f'[controller]\nsite_file = "{plan}"\nname = "Depot North"\nreconnect_seconds = 0.5\n[poll]\nstate_seconds = {state_seconds}\nradios_seconds = 1\n[http]\nport = {self.port}\n'
                      f'[line_port]\nsocket = "{self.folder}/console.sock"\n[audit]\nfile = "{self.folder}/audit.jsonl"\n'
                      f'[records]\nfile = "{self.folder}/site.db"\nread_seconds = 1\n')
         hub = subprocess.Popen(tool_words("hub", "--config", config), stderr=subprocess.DEVNULL, preexec_fn=ends_with_parent())

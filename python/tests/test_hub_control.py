@@ -61,8 +61,9 @@ class Served(WebCase):
     async def test_records_that_stop(self) -> None:
         """The last term is of another year: after a minute without another one the next is overdue."""
         path = make_records(pathlib.Path(self.folder, "site.db"), terms=2)
-        hub = await self.serve(records=str(path))
+        hub = await self.serve(HealthKeys(records="yes"), records=str(path))
         await wait_until(lambda: hub.model.watch.last)
+        self.assertEqual((await self.get("/healthz")).body, b"ok\n")
         found = json.loads((await self.get("/v1/state.json")).body)["records"]
         self.assertEqual(found, {"until": "2026-11-27T12:00:30.000Z", "overdue": False, "fault": None, "missing_polls": None})
         watch = hub.model.watch
@@ -70,6 +71,8 @@ class Served(WebCase):
         watch.since, watch.due = Moment(watch.since.wall - 61, watch.since.steady - 61), 3001.0
         self.assertTrue(json.loads((await self.get("/v1/state.json")).body)["records"]["overdue"])
         self.assertEqual(samples_of((await self.get("/metrics")).body.decode())["dmr_site_records_overdue"], 1)
+        answer = await self.get("/healthz")
+        self.assertEqual((answer.status, answer.body), (503, b"no records since 2026-11-27T12:00:30Z\n"))
         add_term(path, 3)
         await wait_until(lambda: watch.last and watch.last.number == 3)
         self.assertFalse(json.loads((await self.get("/v1/state.json")).body)["records"]["overdue"])

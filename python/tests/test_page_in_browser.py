@@ -88,7 +88,7 @@ class InBrowser(unittest.TestCase):
         self.wait_for_text("#alarms", r"^✕ ALARM Carrier 1 is down since \d\d:\d\d:\d\d$")
         self.assertRegex(self.browser.text("#carriers-rows tr.down"), r"^1 ✕ DOWN since \d\d:\d\d:\d\d ✕ down ✕ down$")
         self.assertEqual(self.browser.text("#freshness"), "✕ 1 alarm, live")
-        self.assertRegex(self.browser.evaluate("document.title"), r"^✕ Carrier 1 is down since \S+ – site$")
+        self.assertRegex(self.browser.evaluate("document.title"), r"^✕ Carrier 1 is down since \S+ – Depot North$")
 
     def check_a_call(self) -> None:
         """A call begins, is shown with its parties and its age, and ends."""
@@ -149,7 +149,7 @@ class InBrowser(unittest.TestCase):
     def check_roles(self) -> None:
         """Landmarks, headings, tables with headers, a live region and the charts have roles and names."""
         roles = self.roles()
-        for wanted in (("banner", ""), ("main", ""), ("contentinfo", ""), ("alert", "Alarms"), ("heading", "site"), ("region", "Carriers and slots"), ("region", "Queue"),
+        for wanted in (("banner", ""), ("main", ""), ("contentinfo", ""), ("alert", "Alarms"), ("heading", "Depot North"), ("region", "Carriers and slots"), ("region", "Queue"),
                        ("region", "Last calls"), ("region", "Registered radios"), ("region", "Charts"), ("columnheader", "Slot 0"), ("columnheader", "Lasted"), ("rowheader", "0 up"),
                        ("slider", "Slots in use: time of a sample"), ("group", "Colours"), ("button", "group 91"), ("button", "radio 1001")):
             self.assertIn(wanted, roles)

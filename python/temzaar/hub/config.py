@@ -87,6 +87,7 @@ class HealthKeys:
     controller_seconds: float = key(Number(0, 86400), 5.0, "the controller has been away for longer")
     carriers: str | tuple[int, ...] = key(CarrierChoice(), "all", "the carriers that have to be up")
     carrier_seconds: float = key(Number(0, 86400), 10.0, "one of these carriers has been down for longer")
+    records: str = key(Choice("no", "yes"), "no", "whether it is a fault that no records come, or that the hub cannot read them")
 
 
 @dataclasses.dataclass(frozen=True)

@@ -193,7 +193,7 @@ class Views:
         seen = self.model.seen or self.link.state.since
         if now.steady - seen.steady > max(rule.controller_seconds, MISSED_POLLS * self.config.poll.state_seconds):
             return ["the controller answers, but the hub has no picture of the site"]
-        return [*self._carrier_faults(now), *self._unsent_faults(now)]
+        return [*self._carrier_faults(now), *self._unsent_faults(now), *self._record_faults()]
 
     def _carrier_faults(self, now: Moment) -> Iterator[str]:
         """The carriers of the rule that are down."""
@@ -215,6 +215,15 @@ class Views:
         for (carrier, slot), since in self.model.unsent(now, max(UNSENT_SECONDS, rule.carrier_seconds)).items():
             if isinstance(rule.carriers, str) or {carrier, picture.control} & set(rule.carriers):
                 yield f"slot {slot} of carrier {carrier} waits for a poll since {utc_text(since.wall)}"
+
+    def _record_faults(self) -> Iterator[str]:
+        """What is wrong with the records, if the rule asks for them."""
+        if self.config.health.records == "no" or self.records is None:
+            return
+        if self.records.fault:
+            yield f"the hub cannot read the records: {self.records.fault}"
+        elif self._is_overdue() and self.model.watch.last:
+            yield f"no records since {utc_text(self.model.watch.last.ended_ms / 1000)}"
 
 
 def gauge(name: str, about: str, value: float) -> Series:

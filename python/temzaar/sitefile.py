@@ -8,7 +8,7 @@ from typing import Any, NamedTuple
 
 from temzaar.faults import ToolFault, read_text
 from temzaar.ports import free_ports
-from temzaar.sitekeys import WAIT_MS
+from temzaar.sitekeys import SITE_KEYS, WAIT_MS
 
 Row = dict[str, Any]
 # The most octets of a site file.
@@ -104,10 +104,13 @@ def address_of(plan: Mapping[str, Any]) -> str:
 
 @dataclass(frozen=True)
 class ConsolePlace:
-    """A site's console, and the seconds without an octet after which the controller closes a connection to it."""
+    """A site's console, and the seconds without an octet after which the controller closes a connection to it. Then how many entries a term has, and how long
+    a tick lasts; 0 if that is not known."""
     address: str
     port: int
     silence_seconds: float
+    term_entries: int = 0
+    tick_ms: int = 0
 
     @property
     def name(self) -> str:
@@ -118,7 +121,8 @@ class ConsolePlace:
 def read_console_place(path: str) -> ConsolePlace:
     """The console of a site file. SiteFault: the file cannot be read, or has no console."""
     plan = read_plan(path, ("address", "console_port", "silence"))
-    return ConsolePlace(address_of(plan), plan["console_port"], plan["silence"] * WAIT_MS / 1000)
+    entries, tick = (plan.get(key, SITE_KEYS[key].default) for key in ("term_entries", "tick_ms"))
+    return ConsolePlace(address_of(plan), plan["console_port"], plan["silence"] * WAIT_MS / 1000, entries if isinstance(entries, int) else 0, tick if isinstance(tick, int) else 0)
 
 
 class Site:

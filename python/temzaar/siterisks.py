@@ -7,7 +7,7 @@ from collections.abc import Callable, Iterator, Mapping
 from dataclasses import dataclass
 from typing import Any
 
-from temzaar.sitefaults import Row, Steps, close_names, header_in_words, is_number, row_of, tables_of
+from temzaar.sitefaults import Row, Steps, close_names, header_in_words, is_number, row_of
 from temzaar.sitefigures import POLL_MS, Figures, seconds_in_words
 from temzaar.sitekeys import CARRIER_KEYS, SITE_KEYS, WAIT_MS
 from temzaar.tomldocument import Document

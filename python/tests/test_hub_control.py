@@ -14,6 +14,7 @@ from temzaar.hub.moment import Moment
 from temzaar.hub.termwatch import LEAST_SECONDS, TermWatch
 from temzaar.picture import Picture
 from temzaar.records import COUNTS, RecordedTerm
+from temzaar.sitefile import ConsolePlace
 from tests.hub_support import wait_until
 from tests.made_records import NOON, add_term, make_records
 from tests.test_hub_records import samples_of
@@ -68,7 +69,7 @@ class Served(WebCase):
         self.assertEqual(found, {"until": "2026-11-27T12:00:30.000Z", "overdue": False, "fault": None, "missing_polls": None})
         watch = hub.model.watch
         assert watch.since
-        watch.since, watch.due = Moment(watch.since.wall - 61, watch.since.steady - 61), 3001.0
+        watch.since, watch.due = Moment(watch.since.wall - 61, watch.since.steady - 61), 15_001.0
         self.assertTrue(json.loads((await self.get("/v1/state.json")).body)["records"]["overdue"])
         self.assertEqual(samples_of((await self.get("/metrics")).body.decode())["dmr_site_records_overdue"], 1)
         answer = await self.get("/healthz")
@@ -116,12 +117,24 @@ class Watched(unittest.TestCase):
             self.assertFalse(watch.is_overdue(), second)
         watch.take_picture(2, Moment(91, 91))
         self.assertTrue(watch.is_overdue())
+        # by the site file terms are twice as long now
+        watch.find_place = lambda: ConsolePlace("127.0.0.1", 7100, 5.0, 6000)
+        self.assertFalse(watch.is_overdue())
+        watch.take_picture(2, Moment(181, 181))
+        self.assertTrue(watch.is_overdue())
         # without carriers the same term may take longer
-        watch.take_term(term(91, 2000))
-        watch.take_picture(0, Moment(250, 250))
+        watch.take_term(term(181, 2000))
+        watch.take_picture(0, Moment(340, 340))
         self.assertFalse(watch.is_overdue())
         watch.begin()
         self.assertFalse(watch.is_overdue())
+
+    def test_no_term_at_all(self) -> None:
+        """By the site file a term of 3,000 entries is due: none was ever recorded."""
+        watch = TermWatch(lambda: ConsolePlace("127.0.0.1", 7100, 5.0, 3000))
+        for second, overdue in ((0, False), (90, False), (91, True)):
+            watch.take_picture(2, Moment(second, second))
+            self.assertEqual(watch.is_overdue(), overdue, second)
 
     def test_short_terms(self) -> None:
         """A term of a second is not overdue within the first minute."""

@@ -46,7 +46,7 @@ class SiteFile(unittest.TestCase):
                     if isinstance(wanted, str):
                         self.assertRaisesRegex(SiteFault, f"^site file {re.escape(file.name)}: {wanted}$", read_console_place, file.name)
                     else:
-                        self.assertEqual(read_console_place(file.name), ConsolePlace("127.0.0.1", 7100, wanted))
+                        self.assertEqual(read_console_place(file.name), ConsolePlace("127.0.0.1", 7100, wanted, 10000, 60))
 
     def test_radios_are_admitted(self) -> None:
         site = Site(TWO_CARRIERS)

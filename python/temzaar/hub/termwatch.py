@@ -3,11 +3,13 @@
 The controller reports no polls at its console, and records them for the whole site at the end of a term. So a carrier that is up and does not poll shows only here.
 """
 from collections import deque
+from collections.abc import Callable
 
 from temzaar.hub.moment import Moment
 from temzaar.hub.samples import Span
 from temzaar.records import RecordedTerm
 from temzaar.sitefigures import POLL_MS
+from temzaar.sitefile import ConsolePlace
 
 # A term is overdue when by polls and ticks alone it should have had this many times its entries, and not before it has lasted this many seconds.
 LATE_FACTOR, LEAST_SECONDS = 1.5, 60.0
@@ -17,9 +19,11 @@ RATES, LEAST_RATE, TERMS, LEAST_PART = 20, 0.5, 2, 0.05
 
 
 class TermWatch:
-    """The last recorded term, and how many entries are due since it ended. Traffic makes entries too, so a term that is not late never seems so."""
+    """The last recorded term, and how many entries are due since it ended. Traffic makes entries too, so a term that is not late never seems so. `find_place`
+    returns the site's console, with what the site file says of terms; None while that is not known."""
 
-    def __init__(self) -> None:
+    def __init__(self, find_place: Callable[[], ConsolePlace | None] = lambda: None) -> None:
+        self.find_place = find_place
         self.last: RecordedTerm | None = None
         # since when entries are counted, up to when, and how many are due
         self.since: Moment | None = None
@@ -41,16 +45,24 @@ class TermWatch:
 
     def take_picture(self, carriers_up: int, now: Moment) -> None:
         """A picture was taken, on which this many carriers are up."""
-        if self.last is not None and self.seen is not None:
+        place = self.find_place()
+        tick_ms = self.last.tick_ms if self.last else place.tick_ms if place else 0
+        if self.seen is not None:
             milliseconds = 1000 * (now.steady - self.seen.steady)
-            self.due += milliseconds * (carriers_up / POLL_MS + 1 / max(1, self.last.tick_ms))
+            self.due += milliseconds * (carriers_up * self._rate() / POLL_MS + 1 / (tick_ms or POLL_MS))
         self.since, self.seen = self.since or now, now
+
+    def _rate(self) -> float:
+        """How many polls of a carrier come for each frame of the air, at the most in the last terms."""
+        return max(LEAST_RATE, *self.rates) if self.rates else 1.0
 
     def is_overdue(self) -> bool:
         """Whether the next term should have been recorded by now."""
-        if self.last is None or self.since is None or self.seen is None:
+        place = self.find_place()
+        entries = max(self.last.counts["entries"] if self.last else 0, place.term_entries if place else 0)
+        if not entries or self.since is None or self.seen is None:
             return False
-        return self.due > LATE_FACTOR * self.last.counts["entries"] and self.seen.steady - self.since.steady > LEAST_SECONDS
+        return self.due > LATE_FACTOR * entries and self.seen.steady - self.since.steady > LEAST_SECONDS
 
     def judge(self, span: Span, now: Moment) -> None:
         """Compares the polls of a new term with the carriers that were up, by the samples of the hub."""

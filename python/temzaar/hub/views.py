@@ -37,6 +37,7 @@ class Views:
     def __post_init__(self) -> None:
         if self.records:
             self.model.watch = self.records.watch
+            self.model.watch.find_place = lambda: self.link.place
 
     def site_json(self) -> bytes:
         """The state of the site as JSON (docs/HUB.md)."""
@@ -222,8 +223,9 @@ class Views:
             return
         if self.records.fault:
             yield f"the hub cannot read the records: {self.records.fault}"
-        elif self._is_overdue() and self.model.watch.last:
-            yield f"no records since {utc_text(self.model.watch.last.ended_ms / 1000)}"
+        elif self._is_overdue():
+            last = self.model.watch.last
+            yield f"no records since {utc_text(last.ended_ms / 1000)}" if last else "no records"
 
 
 def gauge(name: str, about: str, value: float) -> Series:

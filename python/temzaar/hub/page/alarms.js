@@ -27,7 +27,8 @@ function recordAlarms(records) {
   if (records.fault) {
     alarms.push(`The hub cannot read the records: ${records.fault}`);
   } else if (records.overdue) {
-    alarms.push(`No records since ${momentText(records.until)}: the controller cannot write them, or carriers do not poll`);
+    const since = records.until ? ` since ${momentText(records.until)}` : "";
+    alarms.push(`No records${since}: the controller cannot write them, or carriers do not poll`);
   }
   if (records.missing_polls >= MISSING_POLLS) {
     alarms.push(`The last terms, up to ${momentText(records.until)}, lack the polls of a carrier: one that is up does not poll`);

@@ -44,6 +44,8 @@ lpcn = 2
 port = 7102
 """
 ROWS = SITE[SITE.index("[[carrier]]"):]
+# The same site as crates have it in their tests.
+CRATES_SITE = SITE.replace("silence = 50", "silence = 100")
 # A change of the site file, the first fault, its place, and a word of the detail or of the hint. Lines and columns are counted by hand.
 CHANGES: list[tuple[str, str, str, Place | None, str]] = [
     ("hang = 100\n", "", "missing hang", None, "required"),
@@ -154,11 +156,11 @@ def stories() -> Iterator[tuple[str, str]]:
 
 def with_changes(changes: str) -> str:
     """The common site file with changes, as crates/dmr_stories/src/site_file.rt reads them."""
-    text = SITE
+    text = CRATES_SITE
     for change in changes.split(" & "):
         old, _, new = f"{change} ".partition(" / ")
         old, new = old.strip(" ").replace("|", "\n"), new.removesuffix(" ").replace("|", "\n")
-        old = {"SITE": SITE, "CARRIERS": ROWS}.get(old, old)
+        old = {"SITE": CRATES_SITE, "CARRIERS": ROWS}.get(old, old)
         if old not in text:
             raise AssertionError(changes)
         text = text.replace(old, new, 1)

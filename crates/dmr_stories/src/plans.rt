@@ -49,7 +49,7 @@ clear_copies = 1 / clear_copies = 0 => out of range clear_copies
 backoff_low = 1 / backoff_low = 9 => out of range backoff_high
 backoff_high = 8 / backoff_high = 16 => out of range backoff_high
 tick_ms = 60 / tick_ms = 9 => out of range tick_ms
-silence = 50 / silence = 0 => out of range silence
+silence = 100 / silence = 0 => out of range silence
 control = 0 / control = 0|term_entries = 0 => out of range term_entries
 control = 0 / control = 0|term_entries = 100001 => out of range term_entries
 control = 0 / control = 0|link_version = \"2\" => wrong type link_version
@@ -176,7 +176,7 @@ static VALUES: [(&str, Numbers, Option<u8>, [u8; 4]); 2] = [
     (
         SMALL,
         [
-            0x1234, 0xFFFEC6, 0xFFFECA, 0, 0, 0, 0, 0, 100, 3000, 8, 3, 1, 1, 1, 8, 60, 50, 10000,
+            0x1234, 0xFFFEC6, 0xFFFECA, 0, 0, 0, 0, 0, 100, 3000, 8, 3, 1, 1, 1, 8, 60, 100, 10000,
             1, 7100,
         ],
         Some(0),
@@ -185,7 +185,7 @@ static VALUES: [(&str, Numbers, Option<u8>, [u8; 4]); 2] = [
     (
         MORE_KEYS,
         [
-            0x1234, 0xFFFEC6, 0xFFFECA, 1, 7, 1, 1, 15, 100, 3000, 8, 3, 1, 1, 1, 8, 60, 50, 1, 2,
+            0x1234, 0xFFFEC6, 0xFFFECA, 1, 7, 1, 1, 15, 100, 3000, 8, 3, 1, 1, 1, 8, 60, 100, 1, 2,
             7100,
         ],
         None,

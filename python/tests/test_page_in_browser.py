@@ -87,7 +87,7 @@ class InBrowser(unittest.TestCase):
         """Carrier 1 has not connected: an alarm, in red and in words."""
         self.wait_for_text("#alarms", r"^✕ ALARM Carrier 1 is down since \d\d:\d\d:\d\d$")
         self.assertRegex(self.browser.text("#carriers-rows tr.down"), r"^1 ✕ DOWN since \d\d:\d\d:\d\d ✕ down ✕ down$")
-        self.assertEqual(self.browser.text("#freshness"), "✕ 1 alarm, live")
+        self.wait_for_text("#freshness", "^✕ 1 alarm, live$")
         self.assertRegex(self.browser.evaluate("document.title"), r"^✕ Carrier 1 is down since \S+ – Depot North$")
 
     def check_a_call(self) -> None:

@@ -2,7 +2,7 @@
 import os
 import select
 import socket
-import time
+import struct
 from collections.abc import Iterator
 
 from temzaar.console import CHANGES, QUESTIONS, Console, ConsoleFault, read_calls, read_radios, read_slots
@@ -13,8 +13,6 @@ from temzaar.hub.lines import AWAY, BUSY, HUB_LISTS, NO_ANSWER, OWN
 VARIABLE = "DMR_HUB_SOCKET"
 # How a reply begins that is the hub's own, since there is none of the controller.
 WITHOUT_CONTROLLER = tuple(f"error {it}: " for it in (AWAY, NO_ANSWER, BUSY))
-# Seconds from one try to connect to the next, while too many wait to be accepted.
-TRY_SECONDS = 0.005
 # The digits of the greatest radio.
 MOST_DIGITS = 8
 
@@ -36,7 +34,6 @@ class HubConsole(Console):
         """Connects to a unix socket, for `seconds` at most. ConsoleFault: nobody listens there, or too many connect."""
         self.name, self.seconds, self.octets = path, seconds, b""
         self.stream = socket.socket(socket.AF_UNIX)
-        self.stream.settimeout(seconds)
         try:
             connect_patiently(self.stream, path, seconds)
         except OSError as fault:
@@ -52,16 +49,13 @@ class HubConsole(Console):
 
 
 def connect_patiently(stream: socket.socket, path: str, seconds: float) -> None:
-    """Connects to a unix socket, again and again while too many others wait to be accepted there. OSError: it cannot."""
-    until = time.monotonic() + seconds
-    while True:
-        try:
-            stream.connect(path)
-            return
-        except BlockingIOError:
-            if time.monotonic() >= until:
-                raise
-        time.sleep(TRY_SECONDS)
+    """Connects to a unix socket. While too many others wait to be accepted there, it waits for `seconds` in the system's queue, which is fair.
+    OSError: it cannot connect."""
+    # a socket with a time limit of Python's does not wait
+    stream.settimeout(None)
+    stream.setsockopt(socket.SOL_SOCKET, socket.SO_SNDTIMEO, struct.pack("ll", int(seconds), max(1, int(seconds % 1 * 1e6))))
+    stream.connect(path)
+    stream.settimeout(seconds)
 
 
 class HubPort(Console):

@@ -4,10 +4,14 @@ Hub, attackers and operator share a thread here. So the time of an answer is the
 not change.
 """
 import asyncio
+import contextlib
 import time
 from typing import Any
 from unittest import mock
 
+from temzaar.console import Parties
+from temzaar.hub.moment import Moment
+from temzaar.hub.seencalls import SeenCall
 from temzaar.hub.service import Hub
 from temzaar.hub.turn import AHEAD_SECONDS, MOST_PACERS, SHARE, LongWork, Pacer, Paces
 from temzaar.ports import free_ports
@@ -92,6 +96,16 @@ class Lines(AttackCase):
                 await paces.wait(user)
         self.assertEqual(waits, [0.01, 0.02, 0.03])
 
+    async def test_lines_of_a_user_come_at_a_pace(self) -> None:
+        """Over all connections of the user."""
+        hub = await self.serve()
+        hub.desk.lines = Paces(per_second=0.01, at_once=5)
+        for _ in range(2):
+            (await self.connect()).writer.write(b"status\n" * 5)
+        await wait_until(lambda: hub.counts.lines.get(kind="question") == 5)
+        await asyncio.sleep(0.1)
+        self.assertEqual(hub.counts.lines.get(kind="question"), 5)
+
     async def test_connections_come_at_a_pace(self) -> None:
         hub = await self.serve()
         hub.line_port.listeners[1].pacer = Pacer(per_second=0.01, at_once=5)
@@ -125,6 +139,27 @@ class Requests(AttackCase):
                 await asyncio.sleep(0.01)
 
         attacks = [asyncio.create_task(attack()) for _ in range(4)]
+        times = await self.times_of(operator)
+        for it in attacks:
+            it.cancel()
+        self.assert_in_time(hub, times)
+
+    async def test_long_responses(self) -> None:
+        """Requests for calls, each with a query of its own: a response takes the processor some ten milliseconds."""
+        hub = await self.serve()
+        operator = await self.connect()
+        for number in range(1000):
+            hub.model.calls.ended.append(SeenCall(number, (0, 1), Parties("group", 91, 1001), Moment(1.5, 1.5), False, Moment(2.5, 2.5), True))
+
+        async def attack(last: int) -> None:
+            while True:
+                reader, writer = await asyncio.open_connection("127.0.0.1", self.http)
+                writer.write(f"GET /v1/calls.json?last={last} HTTP/1.0\r\n\r\n".encode())
+                with contextlib.suppress(OSError):
+                    await reader.read()
+                writer.close()
+
+        attacks = [asyncio.create_task(attack(1000 - number)) for number in range(24)]
         times = await self.times_of(operator)
         for it in attacks:
             it.cancel()

@@ -134,6 +134,7 @@ class Session:
         """Answers lines at their user's pace. SlowReader: the peer does not read."""
         self.place.has_spoken = True
         for line in lines:
+            self.is_busy = False
             await self.desk.lines.wait(self.peer.key)
             self.is_busy = True
             await self._write(await self._answer(line))

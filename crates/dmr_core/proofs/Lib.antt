@@ -1,5 +1,5 @@
 mod FactsFollowEntries
-mod OneLegalJournal
+pub mod OneLegalJournal
 mod NumberLemmas
 mod PlanLemmas
 mod ListLemmas
@@ -37,6 +37,7 @@ mod FreeLemmas
 mod EqualityLemmas
 pub mod ConsoleLemmas
 pub mod PollSizes
+pub mod CoreLaws
 mod Cases
 mod GroupCases
 mod LateCases

@@ -246,6 +246,8 @@ impl Machine {
     }
 
     /// Begins a call, which holds its slot.
+    // Out of line: an event without such an act then does not prepare for it.
+    #[inline(never)]
     fn begin_call(&mut self, call: &Call)
         requires { MayBegin self.old.plan self.old.facts call.now }
         ensures { self.new ≡ record {
@@ -260,6 +262,8 @@ impl Machine {
     }
 
     /// Ends the call on a slot and releases the slot.
+    // Out of line: an event without such an act then does not prepare for it.
+    #[inline(never)]
     fn end_call_on(&mut self, slot: &Slot)
         ensures { self.new ≡ record {
           plan = self.old.plan;

@@ -22,6 +22,7 @@ use dmr_link::TermOver;
 use dmr_pdu::OutOfMemory;
 use std::alloc::Global;
 use std::marker::Model;
+use std::sync::atomic::{AtomicBool, Ordering};
 use std::sync::ledger::{Blank, Ledger, Share};
 use std::sync::{Mutex, Wait, ledger};
 use std::thread::Threads;
@@ -204,6 +205,8 @@ fn seats_for<L: Ledger>(
 #[derive(Drop)]
 pub struct SharedDesk<L: DeskLedger> {
     locked: Mutex<Locked<L>>,
+    // Whether the term is over. It is set while the lock is held, by the deposit that fills the journal.
+    is_over: AtomicBool,
 }
 
 impl<L: DeskLedger> Model for SharedDesk<L> {
@@ -283,7 +286,8 @@ impl<L: DeskLedger> SharedDesk<L> {
                     actors,
                     abandoned: false,
                 });
-                Ok((SharedDesk { locked }, seats))
+                let is_over = AtomicBool::new(false);
+                Ok((SharedDesk { locked, is_over }, seats))
             }
             Err(_) => {
                 let (site, journal) = book.into_parts();
@@ -328,14 +332,19 @@ impl<L: DeskLedger> SharedDesk<L> {
             × (length seat.old.deposits ≤ over.entries)) }
         ensures acts { IfErr result (λ _. acts.new ≡ acts.old) }
     {
-        self.locked.lock(rt).deposit_to(seat, event, acts)
+        let mut locked = self.locked.lock(rt);
+        let answer = locked.deposit_to(seat, event, acts);
+        if locked.is_over() {
+            self.is_over.store(true, Ordering::SeqCst);
+        }
+        answer
     }
 
-    /// Whether the journal is at its limit, or a thread of the desk's term could not be started. It waits for the lock,
-    /// as [`deposit`](SharedDesk::deposit) does. No clause describes the result: contracts cannot name the content of
-    /// the lock.
-    pub fn over<R: Wait>(&self, rt: &R) -> bool {
-        self.locked.lock(rt).is_over()
+    /// Whether the journal is at its limit, or a thread of the desk's term could not be started. It looks at a flag and
+    /// does not wait for the lock. The deposit that fills the journal sets the flag before it releases the lock. No
+    /// clause describes the result: contracts cannot name the content of the lock or of the flag.
+    pub fn over<R: Wait>(&self, _rt: &R) -> bool {
+        self.is_over.load(Ordering::SeqCst)
     }
 
     /// Abandons the desk, because a thread of its term could not be started. From now on the desk takes no event, and
@@ -343,6 +352,7 @@ impl<L: DeskLedger> SharedDesk<L> {
     /// contracts cannot name the content of the lock.
     pub(crate) fn abandon<R: Wait>(&self, rt: &R) {
         self.locked.lock(rt).abandon();
+        self.is_over.store(true, Ordering::SeqCst);
     }
 
     /// Closes the desk, with its seats in any order. The report has the site, the journal, and the view of each actor,
@@ -356,7 +366,7 @@ impl<L: DeskLedger> SharedDesk<L> {
         ensures ok { IfOk result (λ report. IsAudited self seats.items report) }
         ensures fault { IfErr result (λ fault. IsFault self seats.items fault) }
     {
-        let SharedDesk { locked } = self;
+        let SharedDesk { locked, .. } = self;
         locked.into_inner().audit_seats(seats)
     }
 
@@ -370,7 +380,7 @@ impl<L: DeskLedger> SharedDesk<L> {
         ensures ok { IfOk result (λ report. IsAudited self seats.items report) }
         ensures fault { IfErr result (λ fault. IsFault self seats.items fault) }
     {
-        let SharedDesk { locked } = self;
+        let SharedDesk { locked, .. } = self;
         locked.into_inner().audit_seats_in_threads(rt, seats)
     }
 }

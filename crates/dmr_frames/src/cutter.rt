@@ -123,6 +123,8 @@ impl Cutter {
     /// Takes octets, at least one, up to the end of the next frame, up to a fault, or all of them. Returns how many it
     /// took, and the step of the last of these. The result is that of [`Cutter::feed_byte`] for each octet, but a whole
     /// frame is taken at once.
+    // Inlined with what it calls: its result would be copied field by field at each return.
+    #[inline(always)]
     pub fn feed(&mut self, octets: &[u8]) -> (usize, Step)
         requires { 0 < length octets.now }
         ensures count { result.0 ≤ length octets.now }
@@ -140,8 +142,6 @@ impl Cutter {
     }
 
     /// Does the same as [`Cutter::feed`], one octet after another.
-    // Out of line: a whole frame then does not clear this function's locals.
-    #[inline(never)]
     fn feed_one_by_one(&mut self, octets: &[u8]) -> (usize, Step)
         requires { 0 < length octets.now }
         ensures count { result.0 ≤ length octets.now }
@@ -188,6 +188,7 @@ impl Cutter {
 }
 
 /// Returns the whole frame of this version that octets begin with, and how many octets it has.
+#[inline(always)]
 fn read_frame(version: Version, octets: &[u8]) -> Option<(usize, FrameIn)>
     ensures { IfSome result (λ r. (r.0 ≤ length octets.now)
         × IsFrame version r.1 × (take r.0 octets.now ≡ spelling r.1)) }
@@ -270,6 +271,7 @@ fn read_body(version: Version, kind: FrameKind, body: &[u8], octet: u8) -> Step
 
 /// Returns the frame of a whole body. `Need`: an octet of the body is a fault.
 #[tactic(auto, unfolding(crate::specs::Frames::whole_step))]
+#[inline(always)]
 fn read_whole(version: Version, kind: FrameKind, body: &[u8]) -> Step
     requires { length body.now ≡ body_length (has_numbers version) kind }
     ensures { IsReadIf (IsClean (has_numbers version) kind body.now)
@@ -302,6 +304,7 @@ fn read_hello(body: &[u8]) -> Step
 
 /// Returns the RX that has this body, which begins with a number if `numbered`. `Need`: an octet is a fault.
 #[tactic(auto, unfolding(crate::specs::Frames::rx_step))]
+#[inline(always)]
 fn read_rx(numbered: bool, body: &[u8]) -> Step
     requires { length body.now ≡ body_length numbered kind.Rx }
     ensures { IsReadIf (IsRxBody numbered body.now) (rx_step numbered body.now) result }
@@ -317,6 +320,7 @@ fn read_rx(numbered: bool, body: &[u8]) -> Step
 
 /// Returns the RX of a slot and a word, after the number, if there is one. `Need`: an octet is a fault.
 #[tactic(auto, unfolding(crate::specs::Frames::burst_step))]
+#[inline(always)]
 fn read_burst(number: Option<u8>, burst: &[u8]) -> Step
     requires { length burst.now ≡ 26 }
     ensures { IsReadIf (IsBurst burst.now) (burst_step number burst.now) result }

@@ -19,7 +19,6 @@ use Rattle.dmr_link.specs.Sessions.{How, Going, InputOver, ReadFaulty, WriteFaul
 use Rattle.dmr_link.specs.LinkSteps.{closed_as, kept_then, peer_notice_of, closing_then, state_after}
 use Rattle.dmr_link.proofs.ClosingsByOctets.{closes_how, closing_more}
 use Rattle.dmr_link.proofs.TextsGrow.{events_of, text_quiet, next_quiet, text_aside, next_aside, text_nothing, next_nothing, meaning_more, left_more, meaning_end, next_of}
-use Rattle.dmr_link.proofs.PastsOfEngines.{LineLaws}
 use Rattle.dmr_link.proofs.LinksAfterSteps.{session}
 
 -- while a link is quiet, its connection has not ended
@@ -38,22 +37,22 @@ abbrev pub with_unread : LinkState → List ℕ → LinkState
 with_unread l octets = record { who = l.who; connection = l.connection; pending = l.pending; is_cut = l.is_cut; unread = octets; closing = l.closing }
 
 -- the notice, if it is for the peer alone, as a list
-abbrev aside : Option Notice → List Notice
-aside n = list_of_notice (peer_notice_of n)
+abbrev peer_only : Option Notice → List Notice
+peer_only n = list_of_notice (peer_notice_of n)
 
-aside_kept : (n : Option Notice) → list_of_notice n ≡ aside n ++ kept_of (kept_then None n)
-aside_kept None = refl
-aside_kept (Some (Happened e)) = refl
-aside_kept (Some (Accepted c version)) = refl
-aside_kept (Some (Refused c r)) = refl
-aside_kept (Some (Rejected fault)) = refl
+peer_only_kept : (n : Option Notice) → list_of_notice n ≡ peer_only n ++ kept_of (kept_then None n)
+peer_only_kept None = refl
+peer_only_kept (Some (Happened e)) = refl
+peer_only_kept (Some (Accepted c version)) = refl
+peer_only_kept (Some (Refused c r)) = refl
+peer_only_kept (Some (Rejected fault)) = refl
 
-aside_none : (n : Option Notice) → events_in (aside n) ≡ []
-aside_none None = refl
-aside_none (Some (Happened e)) = refl
-aside_none (Some (Accepted c version)) = refl
-aside_none (Some (Refused c r)) = refl
-aside_none (Some (Rejected fault)) = refl
+peer_only_none : (n : Option Notice) → events_in (peer_only n) ≡ []
+peer_only_none None = refl
+peer_only_none (Some (Happened e)) = refl
+peer_only_none (Some (Accepted c version)) = refl
+peer_only_none (Some (Refused c r)) = refl
+peer_only_none (Some (Rejected fault)) = refl
 
 -- a notice for the peer alone is not kept
 aside_alone : (n : Option Notice) (it : Notice) → peer_notice_of n ≡ Some it → n ≡ Some it
@@ -71,26 +70,26 @@ kept_none (Some (Refused c r)) it is = refl
 kept_none (Some (Rejected fault)) it is = refl
 
 -- no TX is sent for it
-next_nowhere : (who : Peer) (next : Option ℕ) (n : Option Notice) → next_onward who next (aside n) [] ≡ next
+next_nowhere : (who : Peer) (next : Option ℕ) (n : Option Notice) → next_onward who next (peer_only n) [] ≡ next
 next_nowhere who next None = next_nothing who next
 next_nowhere who next (Some (Happened e)) = next_nothing who next
 next_nowhere who next (Some (Accepted c version)) = next_nothing who next
 next_nowhere who next (Some (Refused c r)) = next_aside who next (Refused c r)
 next_nowhere who next (Some (Rejected fault)) = next_aside who next (Rejected fault)
 
-module _ (laws : LineLaws) (l : LinkState) (xs : List ℕ) (it : Option Notice) (rest : List ℕ) (head : l.unread ≡ xs ++ rest) (brings : all_produce l.connection xs ≡ list_of_notice it) (quiet : IsQuiet l) where
+module _ (l : LinkState) (xs : List ℕ) (it : Option Notice) (rest : List ℕ) (head : l.unread ≡ xs ++ rest) (brings : all_produce l.connection xs ≡ list_of_notice it) (quiet : IsQuiet l) where
   -- the notices that are done, and the one that is kept, after the piece
   means_taken : (read : List ℕ) (done : List Notice) → (next : Option ℕ) → l.connection ≡ left_from l.who read next → l.pending.lost ≡ None → meaning_from l.who read false ≡ done ++ notices_waiting l →
-      meaning_from l.who (read ++ xs) false ≡ (done ++ aside it) ++ kept_of (kept_then l.pending.kept it)
+      meaning_from l.who (read ++ xs) false ≡ (done ++ peer_only it) ++ kept_of (kept_then l.pending.kept it)
   means_taken read done next at lost means =
-      meaning_more laws l.who read next xs
+      meaning_more l.who read next xs
       ∙ (λ i. means i ++ all_produce (sym at i) xs)
       ∙ ap (λ (ns : List Notice). (done ++ notices_waiting l) ++ ns) brings
-      ∙ (λ i. (done ++ (kept_of (quiet.kept i) ++ lost_of (lost i))) ++ aside_kept it i)
-      ∙ (λ i. append-nil done i ++ (aside it ++ kept_of (kept_then (sym quiet.kept i) it)))
-      ∙ sym (append_assoc done (aside it) (kept_of (kept_then l.pending.kept it)))
+      ∙ (λ i. (done ++ (kept_of (quiet.kept i) ++ lost_of (lost i))) ++ peer_only_kept it i)
+      ∙ (λ i. append-nil done i ++ (peer_only it ++ kept_of (kept_then (sym quiet.kept i) it)))
+      ∙ sym (append_assoc done (peer_only it) (kept_of (kept_then l.pending.kept it)))
 
-  goes_on : (came taken text : List ℕ) (cut : Bool) (calls : List Deposit) (h : IsLeftBy l (session came taken Going cut calls)) → text ≡ text_to_peer l.who (h.done ++ aside it) calls →
+  goes_on : (came taken text : List ℕ) (cut : Bool) (calls : List Deposit) (h : IsLeftBy l (session came taken Going cut calls)) → text ≡ text_to_peer l.who (h.done ++ peer_only it) calls →
       IsLeftBy (state_after l xs it rest) (session came text Going cut calls)
   goes_on came taken text cut calls h spoken =
       let k : Stream = l.connection in
@@ -98,20 +97,20 @@ module _ (laws : LineLaws) (l : LinkState) (xs : List ℕ) (it : Option Notice) 
       record {
         read = h.read ++ xs;
         behind = rest;
-        done = h.done ++ aside it;
+        done = h.done ++ peer_only it;
         came = h.came ∙ ap (λ (b : List ℕ). h.read ++ b) (h.place.0 ∙ head) ∙ sym (append_assoc h.read xs rest);
         means =
             means_taken h.read h.done _ h.place.1 h.place.2 h.means
-            ∙ sym (append-nil ((h.done ++ aside it) ++ kept_of (kept_then l.pending.kept it)))
-            ∙ append_assoc (h.done ++ aside it) (kept_of (kept_then l.pending.kept it)) []
-            ∙ ap (λ (p : Option ℕ). (h.done ++ aside it) ++ (kept_of (kept_then l.pending.kept it) ++ lost_of p)) (sym h.place.2);
-        events = filter_map-append event_in h.done (aside it) ∙ (λ i. h.events i ++ aside_none it i) ∙ append-nil (events_of calls);
+            ∙ sym (append-nil ((h.done ++ peer_only it) ++ kept_of (kept_then l.pending.kept it)))
+            ∙ append_assoc (h.done ++ peer_only it) (kept_of (kept_then l.pending.kept it)) []
+            ∙ ap (λ (p : Option ℕ). (h.done ++ peer_only it) ++ (kept_of (kept_then l.pending.kept it) ++ lost_of p)) (sym h.place.2);
+        events = filter_map-append event_in h.done (peer_only it) ∙ (λ i. h.events i ++ peer_only_none it i) ∙ append-nil (events_of calls);
         taken = spoken;
         place = (
           refl,
           ap (λ (q : Stream). left_after q xs) h.place.1
-              ∙ sym (left_more laws l.who h.read (next_onward l.who None h.done calls) xs)
-              ∙ ap (left_from l.who (h.read ++ xs)) (sym (next_quiet l.who h.done (aside it) calls h.events ∙ next_nowhere l.who (next_onward l.who None h.done calls) it)),
+              ∙ sym (left_more l.who h.read (next_onward l.who None h.done calls) xs)
+              ∙ ap (left_from l.who (h.read ++ xs)) (sym (next_quiet l.who h.done (peer_only it) calls h.events ∙ next_nowhere l.who (next_onward l.who None h.done calls) it)),
           h.place.2,
           h.place.3,
         );
@@ -133,7 +132,7 @@ module _ (laws : LineLaws) (l : LinkState) (xs : List ℕ) (it : Option Notice) 
       (h.taken ∙ sym (append-nil (text_to_peer l.who h.done calls))
       ∙ ap (λ (t : List ℕ). text_to_peer l.who h.done calls ++ t)
       (sym (ap (λ (n : Option Notice). text_onward l.who (next_onward l.who None h.done calls) (list_of_notice n) []) silent ∙ text_nothing l.who (next_onward l.who None h.done calls)))
-      ∙ sym (text_quiet l.who h.done (aside it) calls h.events))
+      ∙ sym (text_quiet l.who h.done (peer_only it) calls h.events))
 
   pub left_received : (s : Session) → peer_notice_of it ≡ None → IsLeftBy l s → IsLeftBy (state_after l xs it rest) s
   left_received s silent h = by_going l quiet s (λ how. IsLeftBy (state_after l xs it rest) (session s.came s.taken how s.is_cut s.calls)) (quietly s.came s.taken s.is_cut s.calls silent) s.how h
@@ -171,10 +170,10 @@ module _ (laws : LineLaws) (l : LinkState) (xs : List ℕ) (it : Option Notice) 
       reported_part came taken cut calls h =
           let k : Stream = l.connection in
           let means : meaning_from l.who (h.read ++ xs) false ≡ h.done ++ n ∷ [] = until h.read h.done _ h.place.1 h.place.2 h.means in
-          let at : left_from l.who (h.read ++ xs) (next_onward l.who None h.done calls) ≡ left_after k xs = left_more laws l.who h.read (next_onward l.who None h.done calls) xs ∙ ap (λ (q : Stream). left_after q xs) (sym h.place.1) in
+          let at : left_from l.who (h.read ++ xs) (next_onward l.who None h.done calls) ≡ left_after k xs = left_more l.who h.read (next_onward l.who None h.done calls) xs ∙ ap (λ (q : Stream). left_after q xs) (sym h.place.1) in
           let none : kept_then l.pending.kept it ≡ None = ap (λ (p : Option SiteNotice). kept_then p it) quiet.kept ∙ kept_none it n notice in
           let events : events_in (h.done ++ n ∷ []) ≡ events_of calls =
-          filter_map-append event_in h.done (n ∷ []) ∙ (λ i. h.events i ++ events_in (list_of_notice (sym notice i))) ∙ ap (λ (es : List Event). events_of calls ++ es) (aside_none it) ∙ append-nil (events_of calls) in
+          filter_map-append event_in h.done (n ∷ []) ∙ (λ i. h.events i ++ events_in (list_of_notice (sym notice i))) ∙ ap (λ (es : List Event). events_of calls ++ es) (peer_only_none it) ∙ append-nil (events_of calls) in
           record {
             read = h.read ++ xs;
             behind = rest;

@@ -13,7 +13,7 @@ use Rattle.dmr_plan.specs.Carriers.{row_with}
 use Rattle.dmr_plan.specs.IsPlan.{IsPlan}
 use Rattle.dmr_plan.specs.Kept.{IsCarrierRow}
 use Rattle.dmr_console.specs.Steps.{line_steps_from, open_line_after}
-use Rattle.dmr_console.specs.Lines.{first_octets_of_line, lines_in, open_in}
+use Rattle.dmr_console.proofs.ConsoleLaws.{line_steps-append, open_line-append, lines_whole, rest_whole}
 use Rattle.dmr_link.specs.Console.{line_means, meaning_of_text, said_from}
 use Rattle.dmr_link.specs.declared.connection.CarrierIdentity.{CarrierIdentity}
 use Rattle.dmr_console.specs.declared.line_cutter.LineStep.{LineStep}
@@ -135,41 +135,36 @@ has_past_here s rs c (Some who) piece e fit h = λ d v f.
     ∙ ap (λ (b : Bool). left_by_records v (cond b (records_after (rs d) piece) (rs d))) (sym (ne_eqb d who.carrier other)))
     (cases_eq d who.carrier)
 
--- the laws of `dmr_console` about an operator's octets, in whatever pieces they arrive
-pub record LineLaws : Type 0 where
-  pub whole : (octets : List ℕ) → (line_steps_from [] octets ≡ lines_in octets) × (open_line_after [] octets ≡ first_octets_of_line (open_in octets))
-  pub cut : (begun a b : List ℕ) → (line_steps_from begun (a ++ b) ≡ line_steps_from begun a ++ line_steps_from (open_line_after begun a) b) × (open_line_after begun (a ++ b) ≡ open_line_after (open_line_after begun a) b)
-
 -- an operator's octets add to their meaning exactly the notices that they produce
-pub said_from-append : LineLaws → (begun a b : List ℕ) → said_from begun (a ++ b) ≡ said_from begun a ++ said_from (open_line_after begun a) b
-said_from-append laws begun a b =
-    ap (λ (lines : List LineStep). flat_map line_means lines) (laws.cut begun a b).0
+pub said_from-append : (begun a b : List ℕ) → said_from begun (a ++ b) ≡ said_from begun a ++ said_from (open_line_after begun a) b
+said_from-append begun a b =
+    ap (λ (lines : List LineStep). flat_map line_means lines) (line_steps-append begun a b)
     ∙ flat_map-append line_means (line_steps_from begun a) (line_steps_from (open_line_after begun a) b)
 
-said_more : LineLaws → (past : Past) (begun octets : List ℕ) → begun ≡ open_line_after [] past.console → meaning_of_text (past.console ++ octets) ≡ meaning_of_text past.console ++ said_from begun octets
-said_more laws past begun octets is =
-    let whole : (xs : List ℕ) → said_from [] xs ≡ meaning_of_text xs = λ xs. ap (λ (lines : List LineStep). flat_map line_means lines) (laws.whole xs).0 in
-    sym (whole (past.console ++ octets)) ∙ said_from-append laws [] past.console octets
+said_more : (past : Past) (begun octets : List ℕ) → begun ≡ open_line_after [] past.console → meaning_of_text (past.console ++ octets) ≡ meaning_of_text past.console ++ said_from begun octets
+said_more past begun octets is =
+    let whole : (xs : List ℕ) → said_from [] xs ≡ meaning_of_text xs = λ xs. ap (λ (lines : List LineStep). flat_map line_means lines) (lines_whole xs) in
+    sym (whole (past.console ++ octets)) ∙ said_from-append [] past.console octets
     ∙ (λ i. whole past.console i ++ said_from (sym is i) octets)
 
-said_adds : LineLaws → (past : Past) (begun octets : List ℕ) → begun ≡ open_line_after [] past.console → said_from begun octets ≡ drop (length (meaning_of_text past.console)) (meaning_of_text (past.console ++ octets))
-said_adds laws past begun octets is =
+said_adds : (past : Past) (begun octets : List ℕ) → begun ≡ open_line_after [] past.console → said_from begun octets ≡ drop (length (meaning_of_text past.console)) (meaning_of_text (past.console ++ octets))
+said_adds past begun octets is =
     let before : List Notice = meaning_of_text past.console in
-    sym (ap (drop (length before)) (said_more laws past begun octets is) ∙ drop_at before (said_from begun octets) (length before) refl)
+    sym (ap (drop (length before)) (said_more past begun octets is) ∙ drop_at before (said_from begun octets) (length before) refl)
 
-input_adds : LineLaws → (s : State) (past : Past) (i : Input) → Fits s → HasPast s past → input_produces s i ≡ input_means s.plan past i
-input_adds laws s past (At c piece) fit h = adds_here s past.carriers c (who_of s.plan c) piece refl fit h.connections
-input_adds laws s past (Saying octets) fit h = said_adds laws past s.console octets (h.console ∙ sym (laws.whole past.console).1)
-input_adds laws s past Ticking fit h = refl
+input_adds : (s : State) (past : Past) (i : Input) → Fits s → HasPast s past → input_produces s i ≡ input_means s.plan past i
+input_adds s past (At c piece) fit h = adds_here s past.carriers c (who_of s.plan c) piece refl fit h.connections
+input_adds s past (Saying octets) fit h = said_adds past s.console octets (h.console ∙ sym (rest_whole past.console))
+input_adds s past Ticking fit h = refl
 
-input_has_past : LineLaws → (s : State) (past : Past) (i : Input) → Fits s → HasPast s past → HasPast (input_leaves s i) (input_past s.plan past i)
-input_has_past laws s past (At c piece) fit h = record { connections = has_past_here s past.carriers c (who_of s.plan c) piece refl fit h.connections; console = h.console }
-input_has_past laws s past (Saying octets) fit h = record {
+input_has_past : (s : State) (past : Past) (i : Input) → Fits s → HasPast s past → HasPast (input_leaves s i) (input_past s.plan past i)
+input_has_past s past (At c piece) fit h = record { connections = has_past_here s past.carriers c (who_of s.plan c) piece refl fit h.connections; console = h.console }
+input_has_past s past (Saying octets) fit h = record {
   connections = h.connections;
-  console = ap (λ (begun : List ℕ). open_line_after begun octets) (h.console ∙ sym (laws.whole past.console).1)
-      ∙ sym (laws.cut [] past.console octets).1 ∙ (laws.whole (past.console ++ octets)).1;
+  console = ap (λ (begun : List ℕ). open_line_after begun octets) (h.console ∙ sym (rest_whole past.console))
+      ∙ sym (open_line-append [] past.console octets) ∙ rest_whole (past.console ++ octets);
 }
-input_has_past laws s past Ticking fit h = record { connections = h.connections; console = h.console }
+input_has_past s past Ticking fit h = record { connections = h.connections; console = h.console }
 
 pub plan_stays : (s : State) (i : Input) → (input_leaves s i).plan ≡ s.plan
 plan_stays s (At c piece) = refl
@@ -182,19 +177,19 @@ pub plan_stays_all : (s : State) (is : List Input) → (all_leave s is).plan ≡
 plan_stays_all s [] = refl
 plan_stays_all s (i ∷ is) = plan_stays_all (input_leaves s i) is ∙ plan_stays s i
 
-pub all_produced-means : LineLaws → (s : State) (past : Past) (is : List Input) → Fits s → HasPast s past → all_produced s is ≡ all_mean s.plan past is
-all_produced-means laws s past [] fit h = refl
-all_produced-means laws s past (i ∷ is) fit h =
-    ap (λ (ns : List Notice). ns ++ all_produced (input_leaves s i) is) (input_adds laws s past i fit h)
+pub all_produced-means : (s : State) (past : Past) (is : List Input) → Fits s → HasPast s past → all_produced s is ≡ all_mean s.plan past is
+all_produced-means s past [] fit h = refl
+all_produced-means s past (i ∷ is) fit h =
+    ap (λ (ns : List Notice). ns ++ all_produced (input_leaves s i) is) (input_adds s past i fit h)
     ∙ ap (λ (ns : List Notice). input_means s.plan past i ++ ns)
-    (all_produced-means laws (input_leaves s i) (input_past s.plan past i) is (fits_after s i fit) (input_has_past laws s past i fit h)
+    (all_produced-means (input_leaves s i) (input_past s.plan past i) is (fits_after s i fit) (input_has_past s past i fit h)
     ∙ ap (λ (plan : Settings). all_mean plan (input_past s.plan past i) is) (plan_stays s i))
 
-pub all_have_past : LineLaws → (s : State) (past : Past) (is : List Input) → Fits s → HasPast s past → HasPast (all_leave s is) (all_past s.plan past is)
-all_have_past laws s past [] fit h = h
-all_have_past laws s past (i ∷ is) fit h =
+pub all_have_past : (s : State) (past : Past) (is : List Input) → Fits s → HasPast s past → HasPast (all_leave s is) (all_past s.plan past is)
+all_have_past s past [] fit h = h
+all_have_past s past (i ∷ is) fit h =
     let P : Settings → Type 0 = λ plan. HasPast (all_leave (input_leaves s i) is) (all_past plan (input_past s.plan past i) is) in
-    subst P (plan_stays s i) (all_have_past laws (input_leaves s i) (input_past s.plan past i) is (fits_after s i fit) (input_has_past laws s past i fit h))
+    subst P (plan_stays s i) (all_have_past (input_leaves s i) (input_past s.plan past i) is (fits_after s i fit) (input_has_past s past i fit h))
 
 -- ---- the past without inputs
 

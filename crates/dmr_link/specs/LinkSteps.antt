@@ -2,6 +2,7 @@
 -- nothing above depends on the others.
 use Rattle.std.specs.Prelude.{◌≡◌, ℕ, ◌<◌, ◌≤◌, Bool, true, false, ◌||◌, List, [], ◌++◌, length}
 use Rattle.std.specs.Prelude.{Option, Some, None, Result, Ok, Err}
+use Rattle.dmr_core.specs.declared.event.Event.{Event}
 use Rattle.dmr_core.specs.declared.event.Event.TheVariants.{Lost}
 use Rattle.dmr_wire.specs.Answers.{Answer}
 use Rattle.dmr_link.specs.Notices.{Notice}
@@ -10,6 +11,7 @@ use Rattle.dmr_link.specs.declared.notices.SiteNotice.{SiteNotice}
 use Rattle.dmr_link.specs.declared.notices.SiteNotice.TheVariants as site
 use Rattle.dmr_wire.specs.declared.closing.Closing.{Closing}
 use Rattle.dmr_wire.specs.declared.closing.Closing.TheVariants.{Over, WriteFailed}
+use Rattle.dmr_link.specs.declared.desk.TermOver.{TermOver}
 use Rattle.dmr_link.specs.declared.ended.Ended.{Ended}
 use Rattle.dmr_link.specs.declared.ended.Ended.TheVariants as ended
 use Rattle.dmr_link.specs.declared.stream.Stream.{Stream}
@@ -142,15 +144,15 @@ state_after l octets notice rest = record {
 }
 
 -- a link took a piece: the first of its unread octets, at least one. They produce one notice, or none. A notice for the
--- peer alone is `aside`
-pub record TakesPiece (old new : LinkState) (aside : Option Notice) : Type 0 where
+-- peer alone is `returned`
+pub record TakesPiece (old new : LinkState) (returned : Option Notice) : Type 0 where
   pub octets : List ℕ
   pub rest : List ℕ
   pub notice : Option Notice
   pub few : length rest < length old.unread
   pub in_two : old.unread ≡ octets ++ rest
   pub means : all_produce old.connection octets ≡ list_of_notice notice
-  pub alone : aside ≡ peer_notice_of notice
+  pub alone : returned ≡ peer_notice_of notice
   pub leaves : new ≡ state_after old octets notice rest
 
 -- a connection is open, or an event of it is pending
@@ -195,6 +197,14 @@ IsStop ended.GateShut l = is_pending l ≡ true
 IsStop ended.Idle l = ⊥
 IsStop ended.Paused l = ⊥
 IsStop other l = IsOver l × (ended_of l.closing ≡ other)
+
+-- what desk and gate say of the reason for which a step stopped. If the term is over, a desk refused an event, and was
+-- this desk after that. If the gate is shut, a link tried to enter a gate that was shut, and was this gate after that
+abbrev pub HasReason : {D G : Type 0} → (D → Event → TermOver → D → Type 0) → D → (G → G → Type 0) → G → Ended → Type 0
+HasReason refuses desk shuts gate stop =
+    (stop ≡ ended.TermOver
+    → (before : _) × (event : Event) × (over : TermOver) × refuses before event over desk)
+    × (stop ≡ ended.GateShut → (before : _) × shuts before gate)
 
 -- all events were handed in and the connection is open, or the step stopped
 abbrev pub IsSettled : {X : Type 0} → Result X Ended → LinkState → Type 0

@@ -236,6 +236,7 @@ fn outcome_of_first(who: &CarrierIdentity, cutter: &Cutter, step: &Step) -> (Out
 
 /// Returns the outcome of a cutter's step while the carrier is up. An RX becomes the newest: `newest` is its number
 /// from then on, if it has one.
+#[inline(always)]
 fn outcome_of_step(carrier: CarrierNo, newest: &mut Option<u8>, step: &Step) -> Outcome
     ensures notice { option_map notice_meant result.notice
         ≡ running_produces carrier newest.old step.now }
@@ -316,6 +317,8 @@ impl Connection {
     /// Takes octets up to the end of the next frame, up to a fault, or all of them. Returns how many it took, the notice
     /// that these produce, if any, and how they close the connection, if they do. A frame is processed at its last
     /// octet. A fault closes the connection, and so does a frame that ends it. After that, octets have no effect.
+    // Inlined: its result would be copied field by field.
+    #[inline(always)]
     pub fn receive(&mut self, who: &CarrierIdentity, octets: &[u8]) -> (usize, Outcome)
         requires { 0 < length octets.now }
         ensures some { 0 < result.0 }

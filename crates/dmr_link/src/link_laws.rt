@@ -12,8 +12,6 @@ ghost use Rattle.dmr_link.specs.LinkSteps.{is_live};
 ghost use Rattle.dmr_link.specs.Pending.{Accounts, pending_notices};
 ghost use Rattle.dmr_link.specs.Recorded.{of_progress, reading_at, reading_after_all};
 
-use dmr_console::lines_in_any_cutting;
-
 /// States what a link accounts for. Its newest connection means the notices that are done, followed by those that the
 /// link still has to handle. After a failed write or a cut, this is the meaning of the first octets that came, and of
 /// the end.
@@ -21,9 +19,7 @@ use dmr_console::lines_in_any_cutting;
 /// it.
 pub fn links_account()
     ensures { (l : ALinkState) (s : Session) → IsLeftBy l s → Accounts l s }
-{
-    lines_in_any_cutting();
-}
+{}
 
 /// States that a link that is not live has no connection and nothing pending, and that only such a link is not live.
 pub fn links_rest()

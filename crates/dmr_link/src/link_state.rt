@@ -1,11 +1,10 @@
 //! The state that a link keeps of its connection, and the steps of its work.
 
 ghost use Rattle.std.specs.Prelude.{◌≡◌, ◌+◌, ◌<◌, ◌≤◌, ℕ, Bool, List, [], ◌∷◌, Option, Some, None};
-ghost use Rattle.std.specs.Prelude.{option_map, Err, length, true, false, IfOk, IfErr};
+ghost use Rattle.std.specs.Prelude.{option_map, length, true, false, IfOk, IfErr};
 ghost use Rattle.dmr_core.specs.declared.event.Event.{Event as AnEvent};
 ghost use Rattle.dmr_wire.specs.Answers.{Answer as PortAnswer};
 ghost use Rattle.dmr_link.specs.declared.desk.Deposit.{Deposit as ADeposit};
-ghost use Rattle.dmr_link.specs.declared.desk.TermOver.{TermOver as ATermOver};
 ghost use Rattle.dmr_link.specs.Happenings.{Outside, Disordered, stage_after};
 ghost use Rattle.dmr_link.specs.Limits.{most_interruptions};
 ghost use Rattle.dmr_link.specs.Moves.{Moves};
@@ -18,6 +17,7 @@ ghost use Rattle.dmr_link.specs.LinkSteps.{with_outcome, TakesPiece, peer_notice
 ghost use Rattle.dmr_link.specs.LinkSteps.{first_pending, nothing_pending, is_live, pending_weight};
 ghost use Rattle.dmr_link.specs.LinkSteps.{Replies, IsHeld, IsSettled, row_then, row_after};
 ghost use Rattle.dmr_link.specs.LinkSteps.{with_next, stage_then_read, HasTurned, Listens};
+ghost use Rattle.dmr_link.specs.LinkSteps.{HasReason};
 ghost use Rattle.dmr_link.specs.LinkSteps.{cut_state, with_new_connection};
 
 use crate::answers::Answer;
@@ -30,7 +30,6 @@ use crate::pending::Pending;
 use crate::stream::{Peer, Stream};
 use crate::unread::Unread;
 use crate::writing::{write_answer, write_peer_answer};
-use dmr_console::lines_in_any_cutting;
 use dmr_wire::{Closing, Got, Wire};
 
 /// The state that a link keeps of its connection.
@@ -81,7 +80,7 @@ impl LinkState {
     fn keep_outcome(&mut self, outcome: &Outcome) -> Option<PeerNotice>
         ensures kept { self.new ≡ with_outcome self.old (option_map notice_meant outcome.now.notice)
             outcome.now.closing }
-        ensures aside { option_map peer_notice result
+        ensures alone { option_map peer_notice result
             ≡ peer_notice_of (option_map notice_meant outcome.now.notice) }
     {
         if let Some(closing) = outcome.closing {
@@ -92,7 +91,7 @@ impl LinkState {
                 self.pending.kept = Some(notice);
                 None
             }
-            Some(Notice::Peer(aside)) => Some(aside),
+            Some(Notice::Peer(notice)) => Some(notice),
             None => None,
         }
     }
@@ -137,11 +136,11 @@ impl LinkState {
 
     /// Writes the answer to a notice for the peer alone. If a write fails, the connection is closed for that, even if
     /// its octets closed it before.
-    fn answer_peer_notice<W: Wire>(&mut self, aside: &PeerNotice, port: &mut W)
+    fn answer_peer_notice<W: Wire>(&mut self, notice: &PeerNotice, port: &mut W)
         ensures { Replies false self.old (W.reported port.old)
-            (peer_notice_text (peer_notice aside.now)) self.old self.new (W.reported port.new) }
+            (peer_notice_text (peer_notice notice.now)) self.old self.new (W.reported port.new) }
     {
-        if !write_peer_answer(port, aside) {
+        if !write_peer_answer(port, notice) {
             self.close(Closing::WriteFailed);
         }
     }
@@ -165,15 +164,12 @@ impl LinkState {
         ensures stops { IsHeld result self.new
             (pending_weight self.new.pending < pending_weight self.old.pending) }
         ensures unread { self.new.unread ≡ self.old.unread }
-        ensures over { result ≡ Err Ended.TermOver
-            → (before : _) × (event : AnEvent) × (over : ATermOver)
-            × D.refuses before event over desk.new }
-        ensures shut { result ≡ Err Ended.GateShut → (before : _) × G.shuts before gate.new }
+        ensures why { IfErr result (HasReason D.refuses desk.new G.shuts gate.new) }
     {
         if !gate.enter() {
             return Err(Ended::GateShut);
         }
-        match desk.deposit_to(&notice.event(), &mut answer.acts) {
+        match notice.hand_in(desk, &mut answer.acts) {
             Err(over) => {
                 gate.leave();
                 Err(Ended::from(over))
@@ -189,6 +185,42 @@ impl LinkState {
 
     /// Hands in all pending notices, in order. `Err` says why it stopped, or how the connection was closed if it is not
     /// open afterwards.
+    // Out of line: a link on which nothing is pending then only looks.
+    #[inline(never)]
+    fn deposit_all<W: Wire, D: Desk, G: Gate>(
+        &mut self,
+        answer: &mut Answer,
+        port: &mut W,
+        desk: &mut D,
+        gate: &mut G,
+    ) -> Result<(), Ended>
+        ensures actor { D.actor desk.new ≡ D.actor desk.old }
+        ensures moves { Moves self.old self.new
+            (sides (W.reported port.old) (D.calls desk.old) (G.passed gate.old))
+            (sides (W.reported port.new) (D.calls desk.new) (G.passed gate.new)) 0 0 0 Outside
+            (stage_after result) }
+        ensures stops { IsSettled result self.new }
+        ensures unread { self.new.unread ≡ self.old.unread }
+        ensures why { IfErr result (HasReason D.refuses desk.new G.shuts gate.new) }
+    {
+        while let Some(notice) = self.pending.first() {
+            self.deposit_first(&notice, answer, port, desk, gate)?;
+        }
+        if self.connection.is_open() {
+            return Ok(());
+        }
+        Err(Ended::from(self.closing))
+    }
+
+    /// Returns whether a connection is open, and nothing is pending.
+    fn is_quiet(&self) -> bool
+        ensures { result ≡ true → IsQuiet self.now }
+    {
+        self.connection.is_open() && self.pending.is_empty()
+    }
+
+    /// Does the same as [`deposit_all`](LinkState::deposit_all), and does not call it if the connection is open and nothing
+    /// is pending.
     fn deposit_pending<W: Wire, D: Desk, G: Gate>(
         &mut self,
         answer: &mut Answer,
@@ -203,18 +235,12 @@ impl LinkState {
             (stage_after result) }
         ensures stops { IsSettled result self.new }
         ensures unread { self.new.unread ≡ self.old.unread }
-        ensures over { result ≡ Err Ended.TermOver
-            → (before : _) × (event : AnEvent) × (over : ATermOver)
-            × D.refuses before event over desk.new }
-        ensures shut { result ≡ Err Ended.GateShut → (before : _) × G.shuts before gate.new }
+        ensures why { IfErr result (HasReason D.refuses desk.new G.shuts gate.new) }
     {
-        while let Some(notice) = self.pending.first() {
-            self.deposit_first(&notice, answer, port, desk, gate)?;
-        }
-        if self.connection.is_open() {
+        if self.is_quiet() {
             return Ok(());
         }
-        Err(Ended::from(self.closing))
+        self.deposit_all(answer, port, desk, gate)
     }
 
     /// Processes unread octets up to the end of the next frame or line, up to a fault, or all of them. An event that
@@ -227,9 +253,8 @@ impl LinkState {
             (sides (W.reported port.new) calls passed) 0 0 0 Outside Outside }
         ensures fewer { length self.new.unread < length self.old.unread }
     {
-        lines_in_any_cutting();
-        if let Some(aside) = self.receive() {
-            self.answer_peer_notice(&aside, port);
+        if let Some(notice) = self.receive() {
+            self.answer_peer_notice(&notice, port);
         }
     }
 
@@ -248,10 +273,7 @@ impl LinkState {
             (stage_after result) }
         ensures stops { IsSettled result self.new }
         ensures all { IfOk result (λ _. self.new.unread ≡ []) }
-        ensures over { result ≡ Err Ended.TermOver
-            → (before : _) × (event : AnEvent) × (over : ATermOver)
-            × D.refuses before event over desk.new }
-        ensures shut { result ≡ Err Ended.GateShut → (before : _) × G.shuts before gate.new }
+        ensures why { IfErr result (HasReason D.refuses desk.new G.shuts gate.new) }
     {
         self.deposit_pending(answer, port, desk, gate)?;
         while !self.unread.is_empty() {
@@ -314,10 +336,7 @@ impl LinkState {
             (sides (W.reported port.new) (D.calls desk.new) (G.passed gate.new)) row
             (row_after result) 1 Outside (stage_after result) }
         ensures stops { HasTurned result self.new }
-        ensures over { result ≡ Err Ended.TermOver
-            → (before : _) × (event : AnEvent) × (over : ATermOver)
-            × D.refuses before event over desk.new }
-        ensures shut { result ≡ Err Ended.GateShut → (before : _) × G.shuts before gate.new }
+        ensures why { IfErr result (HasReason D.refuses desk.new G.shuts gate.new) }
     {
         let Some(row) = self.read_once(row, port) else {
             return Err(Ended::Idle);
@@ -341,10 +360,7 @@ impl LinkState {
         ensures works { Listens self.old self.new
             (sides (W.reported port.old) (D.calls desk.old) (G.passed gate.old))
             (sides (W.reported port.new) (D.calls desk.new) (G.passed gate.new)) result }
-        ensures over { result ≡ Ended.TermOver
-            → (before : _) × (event : AnEvent) × (over : ATermOver)
-            × D.refuses before event over desk.new }
-        ensures shut { result ≡ Ended.GateShut → (before : _) × G.shuts before gate.new }
+        ensures why { HasReason D.refuses desk.new G.shuts gate.new result }
     {
         if let Err(stop) = self.process_unread(answer, port, desk, gate) {
             return stop;
@@ -401,7 +417,7 @@ impl LinkState {
         ensures closing { self.new.closing ≡ self.old.closing }
     {
         while let Some(notice) = self.pending.first() {
-            desk.deposit_to(&notice.event(), &mut answer.acts)?;
+            notice.hand_in(desk, &mut answer.acts)?;
             self.pending.remove_first();
         }
         Ok(())

@@ -1,9 +1,10 @@
 //! Notices: the results of octets, a carrier's or an operator's.
 
-ghost use Rattle.std.specs.Prelude.{◌≡◌};
+ghost use Rattle.std.specs.Prelude.{◌≡◌, ◌++◌, ◌∷◌, [], IfOk, IfErr};
 ghost use Rattle.dmr_link.specs.Notices.{event_of_notice};
 
-use dmr_core::Event;
+use crate::desk::{Desk, TermOver};
+use dmr_core::{Acts, Event};
 use dmr_frames::{Refusal, Version};
 use dmr_pdu::CarrierNo;
 
@@ -24,6 +25,21 @@ impl SiteNotice {
         match self {
             SiteNotice::Happened(event) => *event,
             SiteNotice::Accepted(carrier, _) => Event::Up(*carrier),
+        }
+    }
+
+    /// Hands in the event of the notice at a desk, as [`Desk::deposit_to`] does.
+    pub fn hand_in<D: Desk>(&self, desk: &mut D, acts: &mut Acts) -> Result<(), TermOver>
+        ensures actor { D.actor desk.new ≡ D.actor desk.old }
+        ensures ok { IfOk result (λ _. D.calls desk.new
+            ≡ D.calls desk.old ++ record { event = event_of_notice self.now; acts = acts.new } ∷ []) }
+        ensures err { IfErr result (λ over. (D.calls desk.new ≡ D.calls desk.old)
+            × D.refuses desk.old (event_of_notice self.now) over desk.new) }
+        ensures acts { IfErr result (λ _. acts.new ≡ acts.old) }
+    {
+        match self {
+            SiteNotice::Happened(event) => desk.deposit_to(event, acts),
+            SiteNotice::Accepted(carrier, _) => desk.deposit_to(&Event::Up(*carrier), acts),
         }
     }
 }

@@ -1,6 +1,6 @@
 //! Events of a connection that no desk has taken yet.
 
-ghost use Rattle.std.specs.Prelude.{◌≡◌};
+ghost use Rattle.std.specs.Prelude.{◌≡◌, true};
 ghost use Rattle.dmr_link.specs.LinkSteps.{first_pending, nothing_pending, without_first};
 
 use crate::notices::SiteNotice;
@@ -25,6 +25,13 @@ impl Pending {
             kept: None,
             lost: None,
         }
+    }
+
+    /// Returns whether the queue is empty.
+    pub fn is_empty(&self) -> bool
+        ensures { result ≡ true → self.now ≡ nothing_pending }
+    {
+        self.kept.is_none() && self.lost.is_none()
     }
 
     /// Returns the first notice of the queue, if there is one.

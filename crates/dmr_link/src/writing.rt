@@ -89,11 +89,11 @@ pub fn write_answer<W: Wire>(
 
 /// Writes the answer to a notice for the peer alone, and returns whether the port took all of it.
 /// A carrier receives REFUSED; an operator receives what is wrong with a line.
-pub fn write_peer_answer<W: Wire>(port: &mut W, aside: &PeerNotice) -> bool
-    ensures { WritesText (W.reported port.old) (peer_notice_text (peer_notice aside.now)) result
+pub fn write_peer_answer<W: Wire>(port: &mut W, notice: &PeerNotice) -> bool
+    ensures { WritesText (W.reported port.old) (peer_notice_text (peer_notice notice.now)) result
         (W.reported port.new) }
 {
-    match aside {
+    match notice {
         PeerNotice::Refused(_, refusal) => {
             let octets = write_frame(&FrameOut::Refused(*refusal));
             write_octets(port, octets.as_slice())

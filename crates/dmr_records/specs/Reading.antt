@@ -11,9 +11,9 @@ use Rattle.dmr_records.specs.Faults.{fault_of}
 use Rattle.dmr_records.specs.Ran.{begun, IsUndone}
 use Rattle.dmr_records.specs.Statements.{number}
 
--- the query
+-- the query. A site has 4,096 radios at most; one more row shows that the table has too many
 abbrev pub select_radios : List ℕ
-select_radios = codes "SELECT radio FROM registrations ORDER BY place"
+select_radios = codes "SELECT radio FROM registrations ORDER BY place LIMIT 4097"
 
 -- each row's first column is the radio of its place
 abbrev pub ShowRadios : List Row → List ℕ → Type 0

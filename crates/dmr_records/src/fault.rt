@@ -16,7 +16,7 @@ pub enum FileFault {
     #[error("out of memory")]
     OutOfMemory,
     /// The file cannot be opened or made. There is no such folder, or the folder or the file may not be written. Or the
-    /// name is that of a symbolic link, or the file has a second name.
+    /// name is that of a symbolic link to nothing, or the file has a second name.
     #[error("cannot open the file")]
     CannotOpen,
     /// Another program has the file open. The same call may be made again.

@@ -83,7 +83,7 @@ pub fn keep_term<S: Alter, D: Reach<Connection<S>>>(
 }
 
 /// Opens the database, makes its tables if it has none, reads the registered radios, and closes it. The radios are in
-/// the order in which they joined.
+/// the order in which they joined. If there are more than the 4,096 that a site may have, it reads 4,097.
 ///
 /// # Errors
 ///

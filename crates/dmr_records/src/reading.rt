@@ -13,7 +13,8 @@ use dmr_pdu::Address;
 use sqlite::{Alter, Connection, Error, ErrorCode, Row};
 use std::alloc::Global;
 
-const SELECT_RADIOS: &str = "SELECT radio FROM registrations ORDER BY place";
+// As many radios as a site may have, and one more, which shows that there are too many.
+const SELECT_RADIOS: &str = "SELECT radio FROM registrations ORDER BY place LIMIT 4097";
 
 /// The radio of a row. A number that is not an address is a damage.
 fn radio_of(row: &Row) -> Result<Address, FileFault>
@@ -61,7 +62,8 @@ fn select_radios<S: Alter>(conn: &mut Connection<S>) -> Result<Vec<Row>, Error>
     tx.query_all(SELECT_RADIOS, &[])
 }
 
-/// Reads the registered radios, in the order in which they joined, over a connection whose tables are prepared.
+/// Reads the registered radios, in the order in which they joined, over a connection whose tables are prepared. If there
+/// are more than the 4,096 that a site may have, it reads 4,097.
 ///
 /// # Errors
 ///

@@ -48,8 +48,8 @@ impl<S, D> RecordsIn<S, D> {
 }
 
 impl<S: Alter, D: Reach<Connection<S>>> RecordsIn<S, D> {
-    /// Reads the registered radios, in the order in which they joined. If the database has no tables, it makes them
-    /// first.
+    /// Reads the registered radios, in the order in which they joined; 4,097 if there are more than the 4,096 that a
+    /// site may have. If the database has no tables, it makes them first.
     ///
     /// # Errors
     ///

@@ -111,6 +111,8 @@ impl Registry {
     }
 
     /// Registers a radio that is not registered, after those that are. There must be a place for it.
+    // Out of line: an event without such an act then does not prepare for it.
+    #[inline(never)]
     pub fn add(&mut self, radio: Address)
         requires fresh { is_registered_in self.old radio ≡ false }
         requires room { length self.old < MOST_RADIOS }
@@ -130,6 +132,8 @@ impl Registry {
     }
 
     /// Removes a radio, if it is registered. The others keep their order.
+    // Out of line: an event without such an act then does not prepare for it.
+    #[inline(never)]
     pub fn remove(&mut self, radio: Address)
         ensures { self.new ≡ without self.old radio }
     {

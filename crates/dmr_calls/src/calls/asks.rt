@@ -33,6 +33,8 @@ impl Calls {
     /// one.
     ///
     /// There must be a place for it: fewer than `MOST_ASKS` asks of other sources are active.
+    // Out of line: an event without such an act then does not prepare for it.
+    #[inline(never)]
     pub fn add_ask(&mut self, ask: &Ask)
         requires { length (others_than ask.now.source self.old.asks) < MOST_ASKS }
         ensures { self.new ≡ record self.old {
@@ -47,6 +49,8 @@ impl Calls {
     }
 
     /// Removes the ask of a radio, if there is one.
+    // Out of line: an event without such an act then does not prepare for it.
+    #[inline(never)]
     pub fn ask_over(&mut self, source: Address)
         ensures { self.new ≡ record self.old { asks = others_than source self.old.asks } }
     {

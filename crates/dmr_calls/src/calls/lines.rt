@@ -37,6 +37,8 @@ impl Calls {
     }
 
     /// Adds a line after the others. There must be a place for it.
+    // Out of line: an event without such an act then does not prepare for it.
+    #[inline(never)]
     pub fn add_line(&mut self, line: &Line)
         requires { length self.old.lines < MOST_LINES }
         ensures { self.new ≡ record self.old { lines = self.old.lines ++ line.now ∷ [] } }
@@ -45,6 +47,8 @@ impl Calls {
     }
 
     /// Removes the lines of a radio.
+    // Out of line: an event without such an act then does not prepare for it.
+    #[inline(never)]
     pub fn unline(&mut self, source: Address)
         ensures { self.new ≡ record self.old { lines = without_line source self.old.lines } }
     {

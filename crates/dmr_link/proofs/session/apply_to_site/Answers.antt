@@ -13,7 +13,7 @@ returns-clause-acts c = c.apply_to.ensures.acts
 pub returns-clause-few : goal.returns-clause-few
 returns-clause-few c =
     let P : List Act → Type 0 = IsFewAt c.args.event.now in
-    subst P (sym c.apply_to.ensures.acts) (few_at c.facts_stay_sound.ensures.polled c.args.site.now.plan c.args.site.now.facts c.args.event.now)
+    subst P (sym c.apply_to.ensures.acts) (few_at c.args.site.now.plan c.args.site.now.facts c.args.event.now)
 
 pub returns-clause-site : goal.returns-clause-site
 unfolding acts_for_event facts_after_answer

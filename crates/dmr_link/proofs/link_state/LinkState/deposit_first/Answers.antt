@@ -1,9 +1,7 @@
-use Rattle.std.proofs.Common.{refl, subst, ap, ◌∙◌, ◌++◌, ◌∷◌, []}
-use Rattle.dmr_core.specs.declared.event.Event.{Event}
+use Rattle.std.proofs.Common.{refl, subst}
 use Rattle.dmr_link.specs.declared.pending.Pending.{Pending}
 use Rattle.dmr_link.specs.LinkSteps.{Replies, with_next, with_pending}
 use Rattle.dmr_link.specs.Peers.{answer_text, next_after_answer, numbering_of}
-use Rattle.dmr_link.proofs.LinksAfterSteps.{deposit}
 use Rattle.dmr_link.specs.Happenings.{Outside, Within, Answering, ShutOut}
 use Rattle.dmr_link.specs.Passages.{Entered, Shut, Left}
 use Rattle.dmr_link.proofs.StepsFollow.{moves_on, moves_passed}
@@ -20,16 +18,16 @@ pub returns-in-Ok-clause-moves : goal.returns-in-Ok-clause-moves
 returns-in-Ok-clause-moves g c =
     let reported = g.W.Wire.reported c.args.port.now in
     let calls = g.D.Desk.calls c.args.desk.now in
-    let P : Pending → Type 0 = λ p. Replies c.args.self.now.is_cut (with_pending c.args.self.now p) reported (answer_text (numbering_of c.args.self.now.connection) c.args.notice.now c.deposit_to.new.acts) (with_next (with_pending c.args.self.now p) (next_after_answer (numbering_of c.args.self.now.connection) c.args.notice.now c.deposit_to.new.acts)) c.answer_peer.new.self (g.W.Wire.reported c.answer_peer.new.port) in
+    let P : Pending → Type 0 = λ p. Replies c.args.self.now.is_cut (with_pending c.args.self.now p) reported (answer_text (numbering_of c.args.self.now.connection) c.args.notice.now c.hand_in.new.acts) (with_next (with_pending c.args.self.now p) (next_after_answer (numbering_of c.args.self.now.connection) c.args.notice.now c.hand_in.new.acts)) c.answer_peer.new.self (g.W.Wire.reported c.answer_peer.new.port) in
     moves_on _ _ _ _ _ _ _ _ _ _ _ _ _
     (moves_passed c.args.self.now reported calls _ _ Entered Outside Within c.if-not-enter.ensures.passed refl)
     (moves_on _ _ _ _ _ _ _ _ _ _ _ _ _
-    (deposits_pending c.args.self.now c.args.notice.now c.deposit_to.new.acts reported _ calls _ _ Within Answering deposits_within
-    (c.in-Ok.ensures.ok ∙ ap (λ (e : Event). calls ++ deposit e c.deposit_to.new.acts ∷ []) c.event.ensures) c.requires _ (subst P c.remove_first.ensures c.answer_peer.ensures))
+    (deposits_pending c.args.self.now c.args.notice.now c.hand_in.new.acts reported _ calls _ _ Within Answering deposits_within
+    c.in-Ok.ensures.ok c.requires _ (subst P c.remove_first.ensures c.answer_peer.ensures))
     (moves_passed c.answer_peer.new.self _ _ _ _ Left Answering Outside c.leave-in-Ok.ensures refl))
 
 pub returns-in-Ok-clause-stops : goal.returns-in-Ok-clause-stops
 returns-in-Ok-clause-stops g c =
     let reported = g.W.Wire.reported c.args.port.now in
-    let P : Pending → Type 0 = λ p. Replies c.args.self.now.is_cut (with_pending c.args.self.now p) reported (answer_text (numbering_of c.args.self.now.connection) c.args.notice.now c.deposit_to.new.acts) (with_next (with_pending c.args.self.now p) (next_after_answer (numbering_of c.args.self.now.connection) c.args.notice.now c.deposit_to.new.acts)) c.answer_peer.new.self (g.W.Wire.reported c.answer_peer.new.port) in
-    fewer_by c.args.self.now c.args.notice.now c.deposit_to.new.acts reported _ c.args.self.now.is_cut _ c.requires (subst P c.remove_first.ensures c.answer_peer.ensures)
+    let P : Pending → Type 0 = λ p. Replies c.args.self.now.is_cut (with_pending c.args.self.now p) reported (answer_text (numbering_of c.args.self.now.connection) c.args.notice.now c.hand_in.new.acts) (with_next (with_pending c.args.self.now p) (next_after_answer (numbering_of c.args.self.now.connection) c.args.notice.now c.hand_in.new.acts)) c.answer_peer.new.self (g.W.Wire.reported c.answer_peer.new.port) in
+    fewer_by c.args.self.now c.args.notice.now c.hand_in.new.acts reported _ c.args.self.now.is_cut _ c.requires (subst P c.remove_first.ensures c.answer_peer.ensures)

@@ -22,7 +22,7 @@ returns c =
       few = omega (arith, c.requires, c.receive-count.ensures.some, length-drop {A = ℕ} n l.unread);
       in_two = sym (take-append-drop n l.unread);
       means = brings;
-      alone = c.keep_outcome.ensures.aside;
+      alone = c.keep_outcome.ensures.alone;
       leaves =
           c.keep_outcome.ensures.kept
           ∙ (λ i. record {

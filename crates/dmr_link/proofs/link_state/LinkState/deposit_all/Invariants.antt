@@ -3,7 +3,7 @@ use Rattle.dmr_link.specs.Happenings.{Outside}
 use Rattle.dmr_link.specs.LinkSteps.{pending_weight}
 use Rattle.dmr_link.specs.Moves.{Moves}
 use Rattle.dmr_link.specs.Sessions.{sides}
-use Rattle.dmr_link.proofs.link_state.LinkState.deposit_pending.Given as goal
+use Rattle.dmr_link.proofs.link_state.LinkState.deposit_all.Given as goal
 
 abbrev pub invariant-loop-notice : goal.invariant-loop-notice
 invariant-loop-notice g l = record {

@@ -5,7 +5,7 @@ _dmr_options() {
     case $1 in
         dmr_trunk) echo --site --script --serve --terms --version --help ;;
         dmr_decode) echo --site --help ;;
-        dmr_siteview) echo --site --hub --console --once --every --version --help ;;
+        dmr_siteview) echo --site --hub --console --name --once --every --version --help ;;
         dmr_timeline) echo --site --script --printed --program --out --records --start --from --to --page --calls --version --help ;;
         dmr_callbook) echo --records --format --radio --group --carrier --cause --from --to --last --seconds --version --help ;;
         dmr_capture) echo --site --program --out --running --shift --seconds --pcap --unfinished --version --help ;;

@@ -7,7 +7,8 @@ from collections.abc import Iterator
 
 from temzaar.console import CHANGES, QUESTIONS, Console, ConsoleFault, read_calls, read_radios, read_slots
 from temzaar.hub.config import LinePortKeys
-from temzaar.hub.lines import AWAY, BUSY, HUB_LISTS, NO_ANSWER, OWN
+from temzaar.hub.lines import AWAY, BUSY, HUB_LISTS, NO_ANSWER, OWN, WHO_SITE, unescape_octets
+from temzaar.printable import printable
 
 # A variable of the environment that names another socket than the usual one.
 VARIABLE = "DMR_HUB_SOCKET"
@@ -46,6 +47,11 @@ class HubConsole(Console):
         if reply[:1] and reply[0].startswith(WITHOUT_CONTROLLER):
             raise ControllerAway(reply[0].removeprefix("error "))
         return reply
+
+    def site_name(self) -> str:
+        """The site's name in the hub's config; empty if it has none."""
+        names = [it.removeprefix(WHO_SITE) for it in self.ask("who") if it.startswith(WHO_SITE)]
+        return printable(unescape_octets(names[0]).decode("utf-8", "replace")) if names else ""
 
 
 def connect_patiently(stream: socket.socket, path: str, seconds: float) -> None:

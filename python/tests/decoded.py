@@ -7,8 +7,11 @@ from typing import NamedTuple
 from temzaar import code, pdus
 from temzaar.frames import FROM_CARRIER, REFUSALS, TO_CARRIER, Cutter, Frame, FrameType, Link, active
 from temzaar.script import split_connection
+from tests.support import read_document, table_rows
 
 MOST_FLIPS = 3
+# Words that were received from the air and carry no PDU, with their information bits.
+HEARD = {bytes.fromhex(row[0]): row[1] for row in table_rows(read_document("FORMATS.md"), "| word that was received")}
 # A session of the control carrier, each line with what docs/LINK.md and docs/SITE_MACHINE.md say of it.
 FRAME_LINE = re.compile(r" *\d+  (HELLO|RX|POLL|ACTIVE|BYE)(.*)$")
 JUDGED_SESSION = pathlib.Path(__file__).with_name("judged_session.txt")
@@ -44,6 +47,8 @@ def word_lines(word: bytes, known: dict[bytes, Flipped]) -> list[str]:
     if word in known:
         made = known[word]
         return ["      " + pdus.read(made.octets).in_words(made.octets), *corrected_lines(made.places)]
+    if word in HEARD:
+        return [f"      means nothing: the check of {HEARD[word]} is wrong"]
     return ["      means nothing: no codeword within 3 flipped bits"]
 
 
@@ -112,7 +117,8 @@ def listed_reasons() -> list[int]:
 
 
 def make_traffic(draws: random.Random, each: int) -> Traffic:
-    """A script of two carriers: `each` bursts of each PDU with up to three bits flipped, each reason, each kind, and noise."""
+    """A script of two carriers: `each` bursts of each PDU with up to three bits flipped, each reason, each kind, noise,
+    and the words of HEARD."""
     known: dict[bytes, Flipped] = {}
     lines = ["open 0", "bytes 0 010401000001"]
     drawn = [random_pdu(name, draws) for name in pdus.LAYOUTS for _ in range(each)]
@@ -124,7 +130,8 @@ def make_traffic(draws: random.Random, each: int) -> Traffic:
         known[burst] = Flipped(octets, places)
         lines += [f"bytes 0 021A0{draws.randrange(2)}{burst.hex().upper()}", "bytes 0 0300"]
     noise = code.burst_of(random_pdu("C_RAND", draws), range(1, code.PLACES, 40))
-    lines += [f"bytes 0 021A00{noise.hex().upper()}0300", f"bytes 0 {active(1).hex()}", "bytes 0 0500"]
+    lines += [f"bytes 0 021A00{word.hex().upper()}0300" for word in (noise, *HEARD)]
+    lines += [f"bytes 0 {active(1).hex()}", "bytes 0 0500"]
     # some of them on a connection of version 2, each with a retransmission
     lines += ["open 1", "bytes 1 010402010002"]
     link = Link(2)

@@ -96,6 +96,19 @@ class Closings(unittest.TestCase):
             with self.subTest(wanted, octets=octets.hex(), leaves=leaves):
                 self.check(self.cause_of(f"carrier {CARRIER}", port, octets, leaves), wanted)
 
+    def test_the_control_carrier(self) -> None:
+        """That it has no connection is a warning. Of another carrier there is no such note."""
+        self.serve(LONG)
+        row = self.site.row(self.site.control)
+        for lost in (1, 2):
+            whose = f"carrier {self.site.control}"
+            self.check(self.cause_of(whose, row["port"], hello(self.site.control, row["lpcn"]), "end"), "end of input")
+            self.check(self.cause_of(f"carrier {CARRIER}", self.site.row(CARRIER)["port"], UP, "end"), "end of input")
+            found = [it for it in self.controller.notes if "the control carrier" in it]
+            warning = f"[WARN  dmr_trunk] {whose}: the control carrier has no connection, so no radio is served"
+            again = f"[INFO  dmr_trunk] {whose}: the control carrier has a connection again"
+            self.assertEqual(found, [warning, again, warning][:2 * lost - 1], self.controller.notes)
+
     def test_operators(self) -> None:
         self.serve(LONG)
         self.check(self.cause_of("console", self.site.console_port, b"status\n", "end"), "end of input")

@@ -1,5 +1,6 @@
 """The command dmr_console: in a pipe, with words, on a terminal; and what it completes; and siteview through the hub. A hub in this process answers."""
 import asyncio
+import dataclasses
 import os
 import pty
 import select
@@ -107,6 +108,15 @@ class Siteview(ToolCase):
             self.assertIn("carriers 2 of 2 up   radios 40   asks 0   lines 1   calls 2   fill aloha\n", done.stdout)
             self.assertIn("group 91 from 1001\n", done.stdout)
         self.assertEqual(self.fake.connections, 1)
+
+    async def test_the_name_of_the_site(self) -> None:
+        """It is that of the hub's config, or that of the words."""
+        config = self.config()
+        name = "Süd \\ 1"
+        await self.start(config=dataclasses.replace(config, controller=dataclasses.replace(config.controller, name=name)))
+        for words, shown in (((), f"site {name}   127.0.0.1:{self.fake.port}   "), (("--name", "North"), f"site North   127.0.0.1:{self.fake.port}   ")):
+            done = await self.run_tool("siteview", "--site", self.site, *words, "--once")
+            self.assertEqual((done.returncode, done.stderr, done.stdout[:len(shown)]), (0, "", shown))
 
     async def test_a_hub_of_another_console(self) -> None:
         await self.start()

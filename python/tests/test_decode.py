@@ -189,9 +189,22 @@ class Judged(unittest.TestCase):
                 words = [self.program, "script", "--site", TWO_CARRIERS]
                 done = subprocess.run(words, input=b"# a comment\n\n%s\nopen 77\n" % line, capture_output=True, check=False)
                 self.assertEqual((done.returncode, done.stderr), (1, b"dmr_decode: script line 3\n"))
-                self.assertEqual(done.stdout, b"# a comment\n\n%s -> fault: not a line of a script\n" % line)
+                self.assertEqual(done.stdout, b"# a comment\n\n%s -> fault: not a line of a script\n" % line.replace(b"\r", rb"\x0d"))
         done = self.ask("journal", "--site", TWO_CARRIERS, text="tick\ntick x\ntick\n")
         self.assertEqual((done.returncode, done.stdout, done.stderr), (1, "entry 1: a tick\n", "dmr_decode: script line 2\n"))
+
+    def test_control_characters(self) -> None:
+        """Lines and words of the input are shown without what commands a terminal."""
+        hostile, shown = "\x1b]0;owned\x07\x9b2J\x7f\t\u00e9", r"\x1b]0;owned\x07\x9b2J\x7f\x09" + "\u00e9"
+        for text, words, wanted in (
+            (f"{hostile}\n", ["script"], f"{shown}\n"), (f"{hostile}\n", ["replay"], f"{shown}\n"), ("carrier \x1b[2J -\n", ["replay"], "carrier \\x1b[2J\n"),
+            (f"# {hostile}\n", ["script", "--site", TWO_CARRIERS], f"# {shown}\n"), (f"say {hostile}\n", ["script", "--site", TWO_CARRIERS], f"say {shown} -> read\n"),
+            (f"{hostile}\n", ["script", "--site", TWO_CARRIERS], f"{shown} -> fault: not a line of a script\n"),
+        ):
+            with self.subTest(text, words=words):
+                self.assertEqual(self.ask(*words, text=text).stdout.split("      ")[0], wanted)
+        for words in (["write", hostile.replace("\t", "")], ["write", "C_RAND", hostile.replace("\t", "")]):
+            self.assertEqual(self.ask(*words).stderr.rpartition(": ")[2].rpartition("called ")[2], shown.replace(r"\x09", "") + "\n")
 
     def test_site_files(self) -> None:
         """Faults of the site file are the controller's."""

@@ -1,11 +1,16 @@
 """The examples of deploy/ for administrators: the units for several sites are those for one, and firewall, tunnels and drop-ins fit the example site."""
 import ipaddress
+import os
 import pathlib
 import re
+import shutil
+import signal
+import subprocess
+import tempfile
 import unittest
 
-from temzaar.sitefile import Site
-from tests.support import TOP, TWO_CARRIERS, read_document
+from temzaar.sitefile import FREE_PORTS, Site
+from tests.support import TOP, TWO_CARRIERS, program, read_document
 
 DEPLOY = TOP / "deploy"
 FOLDERS = ("nftables", "wireguard", "stunnel", "systemd", "apparmor")
@@ -126,6 +131,28 @@ class ExampleSite(unittest.TestCase):
         for text in (server, client):
             self.assertIn("\nverifyPeer = yes\n", text)
         self.assertIn("\nrequireCert = yes\n", server)
+
+    def test_the_stop_signal_of_the_container_ends_its_first_process(self) -> None:
+        built = program("dmr_trunk")
+        # numbers of processes of its own, also for users who are not root
+        words = ["unshare", "--user", "--map-root-user", "--pid", "--fork", "--kill-child"]
+        if not shutil.which("unshare") or subprocess.run([*words, "true"], capture_output=True, check=False).returncode:
+            raise unittest.SkipTest("unshare makes no namespaces")
+        number = signal.Signals[re.findall(r"^STOPSIGNAL (\w+)$", read("Containerfile"), re.M)[0]]
+        site = Site(TWO_CARRIERS, first_port=FREE_PORTS)
+        with tempfile.TemporaryDirectory() as folder:
+            path = pathlib.Path(folder, "site.toml")
+            path.write_text(site.text(), encoding="utf-8")
+            with subprocess.Popen([*words, built, "--site", str(path), "--serve"], stderr=subprocess.PIPE, text=True, errors="replace") as outer:
+                try:
+                    assert outer.stderr
+                    # the console is the last port to listen
+                    self.assertTrue(any("console: listening" in line for line in outer.stderr))
+                    first = pathlib.Path(f"/proc/{outer.pid}/task/{outer.pid}/children").read_text(encoding="utf-8").split()[0]
+                    os.kill(int(first), number)
+                    outer.wait(5)
+                finally:
+                    outer.kill()
 
     def test_log_rate(self) -> None:
         text = read("systemd/log_rate.conf")

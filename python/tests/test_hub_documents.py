@@ -107,6 +107,7 @@ class Metrics(HubCase):
 
     async def test_metrics(self) -> None:
         records = make_records(pathlib.Path(self.folder, "site.db"))
+        records.with_name("site.lock").write_text("dmr_trunk 0.1.0\n", encoding="utf-8")
         hub = await self.start(config=self.config(records=str(records)))
         await wait_until(lambda: hub.model.picture is not None and hub.records and hub.records.last)
         series = hub.views.all_series()

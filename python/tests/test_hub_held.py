@@ -13,6 +13,7 @@ from temzaar.console import Parties
 from temzaar.hub.moment import Moment
 from temzaar.hub.seencalls import SeenCall
 from temzaar.hub.service import Hub
+from temzaar.hub.session import Session
 from temzaar.hub.turn import AHEAD_SECONDS, MOST_PACERS, SHARE, LongWork, Pacer, Paces
 from temzaar.ports import free_ports
 from tests.hub_support import FULL, HubCase, Operator, wait_until
@@ -67,6 +68,28 @@ class Lines(AttackCase):
         for _ in range(16):
             await self.write(self.tcp, b"\n" * 200_000)
         self.assert_in_time(hub, await self.times_of(operator))
+
+    async def test_the_loop_turns_after_each_line(self) -> None:
+        """Also after the first lines of a user, which do not come at a pace."""
+        await self.serve()
+        operator = await self.connect()
+        loop, write, turns, written = asyncio.get_running_loop(), Session._write, 0, []
+
+        def turn() -> None:
+            nonlocal turns
+            turns += 1
+            if len(written) < 20:
+                loop.call_soon(turn)
+
+        async def noted(session: Session, reply: bytes) -> None:
+            written.append(turns)
+            await write(session, reply)
+
+        with mock.patch.object(Session, "_write", noted):
+            loop.call_soon(turn)
+            operator.writer.write(b"\n" * 20)
+            await wait_until(lambda: len(written) == 20)
+        self.assertEqual(len(set(written)), 20)
 
     async def test_lists_of_the_hub_on_many_connections(self) -> None:
         hub = await self.serve()

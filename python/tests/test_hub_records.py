@@ -1,6 +1,7 @@
 """The hub's counters and last calls of the controller's records. The rows are those of `made_records`, and the figures were counted in them by hand."""
 import asyncio
 import json
+import os
 import pathlib
 import re
 import shutil
@@ -15,6 +16,7 @@ from unittest import mock
 from temzaar.console import Parties
 from temzaar.hub import notes
 from temzaar.hub.config import RecordsKeys
+from temzaar.hub.controllerversion import read_controller_version
 from temzaar.hub.moment import Moment
 from temzaar.hub.newrecords import read_new, reason_text, signature
 from temzaar.hub.recordcounts import RecordCounts, RecordedLog
@@ -169,6 +171,16 @@ class Damaged(unittest.IsolatedAsyncioTestCase):
                     self.assertEqual((reader.fault, reader.counts.terms.get(), reader.log.ended.count), (None, 3, 5))
                 reader.worker.close()
 
+    async def test_what_a_reading_raises_is_a_fault(self) -> None:
+        """Whatever it is: the next look tries again."""
+        for fault in (OSError("gone"), sqlite3.DatabaseError("torn"), ValueError("bad"), TypeError("odd"), OverflowError("far"), MemoryError()):
+            reader = RecordReader(RecordsKeys(file="/x"))
+            self.addCleanup(reader.worker.close)
+            with mock.patch.object(reader, "_read", side_effect=fault):
+                await reader.look()
+                await reader.look()
+            self.assertEqual((reader.fault, reader.counts.faults.get()), (str(fault) or "MemoryError", 2))
+
     async def test_a_file_that_does_not_answer(self) -> None:
         """A look has a time, and while it has not ended there is no other."""
         reader, ends = RecordReader(RecordsKeys(file="/x")), threading.Event()
@@ -284,6 +296,21 @@ class Served(WebCase):
         self.assertEqual({name: found.get(name) for name in TOTALS}, TOTALS)
         # a file that does not change is not read again
         self.assertEqual((await self.figures())["dmr_hub_records_reads_total"], found["dmr_hub_records_reads_total"])
+
+    async def test_the_controllers_version(self) -> None:
+        """It is in the file that the controller locks. Without that file, or with another text in it, the metric is absent."""
+        lock = pathlib.Path(self.folder, "site.lock")
+        hub = await self.serve(records=str(self.path))
+        await self.until_terms(2)
+        self.assertFalse(any(name.startswith("dmr_site_controller_info") for name in await self.figures()))
+        for text, wanted in (("dmr_trunk 0.1.0\n", "0.1.0"), ('dmr_trunk "\n', None), ("dmr_trunk 0.2.0~rc1\n", "0.2.0~rc1"), ("", None)):
+            lock.write_text(text, encoding="utf-8")
+            await wait_until(lambda wanted=wanted: hub.records and hub.records.version == wanted)  # type: ignore[misc]
+            found = [name for name in await self.figures() if name.startswith("dmr_site_controller_info")]
+            self.assertEqual(found, [f'dmr_site_controller_info{{version="{wanted}"}}'] if wanted else [])
+        lock.unlink()
+        os.mkfifo(lock)
+        self.assertIsNone(read_controller_version(str(self.path)))
 
     async def test_a_locked_file(self) -> None:
         """The hub answers at once, and has the new rows when the file is free."""

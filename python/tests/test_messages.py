@@ -12,7 +12,7 @@ WORD = r"[A-Z]+(?::[A-Z]+)?"
 PROGRAM = "dmr_trunk: "
 # What the program writes for its own names and for nouns.
 NAMED = {
-    "{TARGET}": "dmr_trunk", "{MOST_WAITING}": "1000", "{done} {noun}": "{done} terms", "{lost} {noun}": "{lost} terms", "{radios} {noun}": "{radios} radios",
+    "{TARGET}": "dmr_trunk", "{MOST_WAITING}": "1000", "{MOST_RADIOS}": "4096", "{done} {noun}": "{done} terms", "{lost} {noun}": "{lost} terms", "{radios} {noun}": "{radios} radios",
     "{carriers} {noun}": "{carriers} carriers",
 }
 # How notes begin that are documented with their subject.
@@ -90,7 +90,8 @@ def messages() -> list[str]:
     variables = [*literals(source("dmr_trunk/src/store.rt"), "const STATE_DIRECTORY: &str = "), *literals(source("dmr_trunk/src/script.rt"), "const RECORD: &str = ")]
     formats = [it for it in literals(source("dmr_trunk/src/serving.rt"), r"writeln!\(\s*err,\s*") if "{variable}" in it]
     environment = [it.replace("{variable}", name) for it in formats for name in variables]
-    return [*dict.fromkeys(PROGRAM + it for it in texts), *words, *environment]
+    more = [it for name in ("main", "serving") for it in literals(source(f"dmr_trunk/src/{name}.rt"), r"writeln!\(\s*err,\s*") if it not in formats and "{fault}" not in it]
+    return [*dict.fromkeys(PROGRAM + it for it in texts), *words, *environment, *(it.replace("{STATE_DIRECTORY}", variables[0]) for it in more)]
 
 
 def column_of(heading: str, column: int) -> list[str]:
@@ -111,7 +112,7 @@ class Messages(unittest.TestCase):
                 self.assertTrue(any(re.fullmatch(as_pattern(it), text) for text in documented), f"not documented: {it}")
 
     def test_notes(self) -> None:
-        self.assertEqual(len(notes()), 27)
+        self.assertEqual(len(notes()), 31)
         self.compare(column_of("## Notes", 1), [it for it in notes() if not it.startswith((RECORDS, RECORDING))])
 
     def test_notes_of_records(self) -> None:

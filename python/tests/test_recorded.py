@@ -3,6 +3,7 @@ import os
 import pathlib
 import subprocess
 import tempfile
+import time
 import unittest
 from collections.abc import Mapping, Sequence
 
@@ -85,6 +86,18 @@ class Recorded(unittest.TestCase):
         with self.serve(["--terms", "1"]) as controller:
             self.assertEqual(controller.process.wait(60), 0, controller.notes)
             self.assertTrue(controller.wait_for("recording: ended: cannot make the file"), controller.notes)
+
+    def test_a_file_that_is_removed(self) -> None:
+        """It is noted with the next term, once. The site is served all the same."""
+        with self.serve(["--terms", "6"]) as controller:
+            until = time.monotonic() + 60
+            while not self.path.exists() and time.monotonic() < until:
+                time.sleep(0.02)
+            self.path.unlink()
+            self.assertTrue(controller.wait_for("recording: ended: the file was removed", 60), controller.notes)
+            self.assertEqual(controller.process.wait(60), 0, controller.notes)
+            self.assertEqual(sum("recording: " in it for it in controller.notes), 1, controller.notes)
+        self.assertFalse(self.path.exists())
 
     def test_a_name_that_is_not_text(self) -> None:
         """The program ends before it listens."""

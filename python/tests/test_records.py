@@ -196,6 +196,14 @@ class Written(unittest.TestCase):
             self.assertEqual(rows_of(conn, "number, term", "calls"), [(1, 2), (2, 2), (3, 2), (4, 2), (5, 3), (6, 3), (7, 5), (8, 5), (9, 5), (10, 5), (11, 6), (12, 6)])
             self.assertEqual(rows_of(conn, "*", "registrations"), list(REGISTRATIONS))
 
+    def test_more_radios_than_a_site_has(self) -> None:
+        """The program reads one more than 4,096, the first by their places."""
+        with opened(self.path) as conn:
+            conn.executescript(statements_of_tables())
+            conn.executemany("INSERT INTO registrations VALUES (?, ?)", ((place, 9000 - place) for place in range(1, 5001)))
+            conn.commit()
+        self.assertEqual(self.write("radios"), f"registered: {' '.join(str(9000 - place) for place in range(1, 4098))}\n")
+
     def test_few_rows_stay(self) -> None:
         self.write("2")
         with opened(self.path) as conn:

@@ -5,6 +5,7 @@ use crate::desk::SiteDesk;
 use crate::judged_carrier::{JudgedCarrier, memory_error, show_newest};
 use crate::kept::{both, push};
 use crate::octet_wire::OctetWire;
+use crate::printable::Printable;
 use dmr_core::Event;
 use dmr_link::{ConsoleLink, Desk};
 use dmr_pdu::{CarrierNo, OutOfMemory};
@@ -66,7 +67,7 @@ impl Judge {
         input: &ScriptInput,
         out: &mut W,
     ) -> io::Result<()> {
-        write!(out, "{line} -> ")?;
+        write!(out, "{} -> ", Printable(line))?;
         match input {
             ScriptInput::Open(carrier) => self.open(*carrier, out),
             ScriptInput::Bytes(carrier, octets) => {

@@ -3,6 +3,7 @@
 
 use crate::journal::EntryPrinter;
 use crate::judge::Judge;
+use crate::printable::Printable;
 use crate::tasks::{TaskFault, octets_of};
 use dmr_frames::{Cutter, FrameIn, Step};
 use dmr_link::greatest_version;
@@ -157,6 +158,7 @@ fn judge_line<'a, W: Write>(
         }
         Err(ScriptFault::Line(_)) => {
             if matches!(shown, Shown::Verdicts) {
+                let line = Printable(line);
                 writeln!(out, "{line} -> fault: not a line of a script")?;
             }
             Ok(false)
@@ -176,7 +178,7 @@ fn judge_given<W: Write>(
 ) -> io::Result<()> {
     match (shown, given) {
         (Shown::Verdicts, [input]) => judge.show_input(alloc, line, input, out),
-        (Shown::Verdicts, _) => writeln!(out, "{line}"),
+        (Shown::Verdicts, _) => writeln!(out, "{}", Printable(line)),
         (Shown::Entries(entries), [input]) => judge.show_entries(input, entries, out),
         (Shown::Entries(_), _) => Ok(()),
     }

@@ -29,6 +29,7 @@ mod judging;
 mod kept;
 mod octet_wire;
 mod pdu_in_words;
+mod printable;
 mod site;
 mod tasks;
 mod verdict;
@@ -42,10 +43,11 @@ use crate::tasks::{TaskFault, run};
 use dmr_plan::Plan;
 use dmr_replay::{MEMORY, ReplayFault, plan_of};
 use std::alloc::Global;
-use std::io::{BufWriter, Eprint, Write};
+use std::fs::File;
+use std::io::{BufWriter, Eprint, Read, Write};
 use std::process::ExitCode;
 use std::rt::{Env, Files};
-use std::{env, fs, io};
+use std::{env, io};
 
 /// The text of `--help`.
 const HELP: &str = "\
@@ -73,6 +75,9 @@ and journal prints each event that the site takes, and what the site does for it
 
 Status: 0 it was said; 1 the input is not what was named, or a file; 2 the words; 4 memory, with a site file.
 ";
+
+/// The most octets of a site file: 1 MiB.
+const SITE_OCTETS: u64 = 1 << 20;
 
 /// The exit status if the input, a file or the output is at fault, or if memory runs out without a site file.
 const FAULT: u8 = 1;
@@ -131,9 +136,18 @@ fn input_of<R: AllocGlobal + Input>(rt: &R, rest: &[String]) -> io::Result<Strin
     Ok(text)
 }
 
+/// Reads the octets of a site file: all, or one more than it may have.
+fn site_octets<R: AllocGlobal + Files>(rt: &R, path: &str) -> io::Result<Vec<u8>> {
+    let mut octets = Vec::new(rt.alloc());
+    let mut file = File::open(rt, path)?.take(SITE_OCTETS + 1);
+    file.read_to_end(&mut octets)?;
+    Ok(octets)
+}
+
 /// Returns the plan of the site file at this path. The faults are the controller's.
 fn plan_at<'a, R: AllocGlobal + Files>(rt: &R, path: &'a str) -> Result<Plan, TaskFault<'a>> {
-    match fs::read(rt, path) {
+    match site_octets(rt, path) {
+        Ok(octets) if octets.len() as u64 > SITE_OCTETS => Err(TaskFault::LongSite(path)),
         Ok(octets) => Ok(plan_of(rt.alloc(), octets.as_slice())?),
         Err(error) if error.kind() == io::ErrorKind::OutOfMemory => {
             Err(TaskFault::Replay(ReplayFault::OutOfMemory))

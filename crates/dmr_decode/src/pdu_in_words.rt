@@ -3,6 +3,7 @@
 
 ghost use Rattle.std.specs.Prelude.{◌<◌};
 
+use crate::printable::Printable;
 use dmr_pdu::{Address, Kind, Lpcn, Number, Pdu, Reason, SlotNo, SystemCode, layouts};
 use thiserror::Error;
 
@@ -14,10 +15,10 @@ pub enum WordFault<'a> {
     NoName,
     /// No PDU has this name.
     #[error("no PDU is called {0}")]
-    NoSuchPdu(&'a str),
+    NoSuchPdu(Printable<'a>),
     /// The PDU has no field of the name before the `=`, or there is no `=`.
     #[error("the PDU has no such field: {0}")]
-    NoSuchField(&'a str),
+    NoSuchField(Printable<'a>),
     /// The value of this field is not a number or the name of a value, is out of its range, or is `lpcn` and missing.
     /// Of `OTHER`: its word is not ten octets.
     #[error("no value, or out of range: {0}")]
@@ -50,7 +51,7 @@ impl<'w, 'a> Fields<'w, 'a> {
             if !names.iter().any(|known| name == Some(*known)) {
                 return Fields {
                     words,
-                    fault: Some(WordFault::NoSuchField(*word)),
+                    fault: Some(WordFault::NoSuchField(Printable(*word))),
                 };
             }
         }
@@ -159,7 +160,7 @@ macro_rules! pdu_in {
                 fields.checked(pdu)
             })*
             "OTHER" => other($words),
-            _ => Err(WordFault::NoSuchPdu($name)),
+            _ => Err(WordFault::NoSuchPdu(Printable($name))),
         }
     };
 }

@@ -3,6 +3,7 @@
 use crate::carrier::CarrierReader;
 use crate::kept::{both, push};
 use crate::pdu_in_words::{WordFault, pdu_of};
+use crate::printable::Printable;
 use crate::site::show_site;
 use crate::words_of_bursts::{show_burst, show_word};
 use dmr_bits::Word196;
@@ -38,6 +39,9 @@ pub enum TaskFault<'a> {
     /// fault.
     #[error(transparent)]
     Replay(#[from] ReplayFault<'a>),
+    /// The site file with this path is too long.
+    #[error("{0} has more than 1 MiB")]
+    LongSite(&'a str),
     /// The output could not be written in full, or memory ran out while it was made.
     #[error("cannot write")]
     Io(#[from] io::Error),
@@ -163,7 +167,7 @@ fn replay_words<'a, W: Write>(
 ) -> Result<(), TaskFault<'a>> {
     match words {
         ["carrier", number, digits] => replay_carrier(alloc, *number, *digits, out),
-        _ => Ok(writeln!(out, "{line}")?),
+        _ => Ok(writeln!(out, "{}", Printable(line))?),
     }
 }
 
@@ -174,7 +178,7 @@ fn replay_carrier<'a, W: Write>(
     digits: &str,
     out: &mut W,
 ) -> Result<(), TaskFault<'a>> {
-    writeln!(out, "carrier {number}")?;
+    writeln!(out, "carrier {}", Printable(number))?;
     if digits == "-" {
         return Ok(());
     }
@@ -207,7 +211,7 @@ fn script_lines<'a, W: Write>(
     out: &mut W,
 ) -> Result<(), TaskFault<'a>> {
     for line in text.lines() {
-        writeln!(out, "{line}")?;
+        writeln!(out, "{}", Printable(line))?;
         script_line(alloc, line, readers, out)?;
     }
     Ok(())

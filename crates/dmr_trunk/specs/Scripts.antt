@@ -10,7 +10,7 @@ use Rattle.dmr_recording.specs.Restored.{session_of}
 use Rattle.dmr_trunk.specs.declared.script.RecordingFile.{RecordingFile}
 use Rattle.dmr_trunk.specs.declared.script.ScriptFault.{ScriptFault}
 use Rattle.dmr_trunk.specs.declared.script.ScriptFault.TheVariants.{Exists, CannotMake, Long}
-use Rattle.dmr_trunk.specs.declared.script.ScriptFault.TheVariants.{Full, NotWritten}
+use Rattle.dmr_trunk.specs.declared.script.ScriptFault.TheVariants.{Full, NotWritten, Removed}
 use Rattle.dmr_trunk.specs.declared.scripted.Ending.{Ending}
 use Rattle.dmr_trunk.specs.declared.scripted.Ending.TheVariants.{NotRecorded, Refused}
 
@@ -26,10 +26,11 @@ is_of_making Exists = true
 is_of_making CannotMake = true
 is_of_making other = false
 
--- a fault of the disk
+-- a fault of the disk, or of a file that was removed
 abbrev pub is_of_disk : ScriptFault → Bool
 is_of_disk Full = true
 is_of_disk NotWritten = true
+is_of_disk Removed = true
 is_of_disk other = false
 
 -- the file of a recording may refuse lines with this fault. The faults of making it come only while it is not open, and

@@ -1,10 +1,23 @@
 //! The source of the program's files.
 
-ghost use Rattle.std.specs.Prelude.{◌≡◌, List, Option, IfOk, option_map, ℕ, ⊤};
+ghost use Rattle.std.specs.Prelude.{◌≡◌, ◌≤◌, List, Option, IfOk, IfSome, option_map, ℕ, ⊤, vec_len};
 
-use dmr_pdu::OutOfMemory;
+use std::fs::{File, OpenFile};
+use std::io;
+use std::io::Read;
 use std::rt::Files;
-use std::{fs, io};
+
+/// The most octets of a site file: 1 MiB.
+pub const SITE_OCTETS: u64 = 1 << 20;
+
+/// Why the octets of a file are not read.
+#[derive(Clone, Copy, Debug, PartialEq, Eq)]
+pub enum ReadFault {
+    /// The file has more octets than it may have.
+    Long,
+    /// Memory ran out. This says nothing about the file.
+    OutOfMemory,
+}
 
 /// A source of files by their paths. `gave` is a member of its own. So a function over any source is proved to have
 /// used the octets that this source gave for this path, and nothing else.
@@ -12,11 +25,12 @@ pub trait FileSource {
     /// The source may have this for this path: the octets of the file, or none if the file cannot be read.
     ghost gave: { Self → List ℕ → Option (List ℕ) → Type 0 };
 
-    /// Reads the octets of the file of a path; `None` if the file cannot be read. If memory is out, the result says
-    /// nothing about the file.
-    fn octets_of(&self, path: &str) -> Result<Option<Vec<u8>>, OutOfMemory>
-        ensures { IfOk result
-            (λ octets. gave self.now path.now (option_map (λ o. o.items) octets)) };
+    /// Reads the octets of the file of a path, at most this many; `None` if the file cannot be read. If the file has
+    /// more, no more than that and one are read.
+    fn octets_of(&self, path: &str, most: u64) -> Result<Option<Vec<u8>>, ReadFault>
+        ensures gave { IfOk result
+            (λ octets. gave self.now path.now (option_map (λ o. o.items) octets)) }
+        ensures bound { IfOk result (λ octets. IfSome octets (λ o. vec_len o ≤ most)) };
 }
 
 /// The octets of a file that could be read.
@@ -42,15 +56,32 @@ impl<'a, R> SystemFiles<'a, R> {
     }
 }
 
+/// Reads a file of at most this many octets; `None` if it has more. It may have more than the system says, or no end.
+fn read_file<R: AllocGlobal + Files>(rt: &R, path: &str, most: u64) -> io::Result<Option<Vec<u8>>>
+    ensures bound { IfOk result (λ octets. IfSome octets (λ o. vec_len o ≤ most)) }
+{
+    let file = File::open(rt, path)?;
+    if file.metadata()?.len() > most {
+        return Ok(None);
+    }
+    let mut octets = Vec::new(rt.alloc());
+    file.take(most.saturating_add(1)).read_to_end(&mut octets)?;
+    if octets.len() as u64 > most {
+        return Ok(None);
+    }
+    Ok(Some(octets))
+}
+
 impl<R: AllocGlobal + Files> FileSource for SystemFiles<'_, R> {
     ghost gave = { λ _ _ _. ⊤ };
 
-    fn octets_of(&self, path: &str) -> Result<Option<Vec<u8>>, OutOfMemory> {
-        match fs::read(self.rt, path) {
-            Ok(octets) => Ok(Some(octets)),
+    fn octets_of(&self, path: &str, most: u64) -> Result<Option<Vec<u8>>, ReadFault> {
+        match read_file(self.rt, path, most) {
+            Ok(Some(octets)) => Ok(Some(octets)),
+            Ok(None) => Err(ReadFault::Long),
             Err(error) => {
                 if error.kind() == io::ErrorKind::OutOfMemory {
-                    Err(OutOfMemory)
+                    Err(ReadFault::OutOfMemory)
                 } else {
                     Ok(None)
                 }

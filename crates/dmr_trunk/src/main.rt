@@ -4,17 +4,21 @@
 //! for each carrier. `dmr_trunk --site FILE --serve` serves the site over TCP.
 //!
 //! `dmr_command` reads the words, and `files` reads the files. `dmr_replay` runs a script's inputs through the engine
-//! of `dmr_link`. `serve` opens a port of `dmr_port` for each carrier and for operators, over `mio_sockets`. It has a
-//! `pacer` for the ticks: `beat` decides when one is due, and `clock` reads the time. `row` runs terms of `dmr_desk`
-//! over them, and `wakers` end their waits when a term is over. `notes` writes the log: `port_watch` has the notes of a
-//! port, and `term_log` those of terms. `tally` counts what a journal shows, and `ends` what happens at the ports.
+//! of `dmr_link`. `opening` opens a port of `dmr_port` for each carrier and for operators, over `mio_sockets`. It also
+//! opens the `pacer` for the ticks: `beat` decides when one is due, and `clock` reads the time. `serve` opens the rest.
+//! `row` runs terms of `dmr_desk`, and `wakers` end their waits when a term is over. `notes` writes the log: `port_watch`
+//! has the notes of a port, and `term_log` those of terms. `tally` counts what a journal shows, and `ends` what happens
+//! at the ports.
 //!
 //! If the environment names a folder for the program's state, records are kept there in a file of `dmr_records`.
 //! `recorded` makes those of each term. `keeping` hands them to the store while terms go on. `restart` reads which
-//! radios were registered. `store` and this module alone name the database.
+//! radios were registered. `store` and this module alone name the database. `lock` keeps other controllers out of the
+//! folder.
 //!
 //! If the environment names a file for a recording, each term's journal is appended to it, as lines of `dmr_recording`.
 //! `scripted` is the observer that does so, and `script` is the file.
+//!
+//! Notes go to standard error, and `journald` marks warnings if that is systemd's journal.
 #![tactic(auto)]
 
 mod beat;
@@ -22,9 +26,12 @@ mod clock;
 mod ends;
 mod files;
 mod holding;
+mod journald;
 mod keeping;
+mod lock;
 mod mio_sockets;
 mod notes;
+mod opening;
 mod pacer;
 mod port_watch;
 mod recorded;
@@ -43,15 +50,17 @@ ghost use Rattle.std.specs.Prelude.{◌≡◌, IfOk, map, string_bytes};
 ghost use Rattle.dmr_trunk.specs.Replay.{AreReplayed, HasPlan, IsJobDone, IsReplayed};
 ghost use Rattle.dmr_trunk.specs.Replay.{IsReplayedBySome, IsStatus};
 
-use crate::files::{FileSource, SystemFiles, slice_of};
-use crate::script::{RecordingFile, Script, recording_path};
+use crate::files::{FileSource, ReadFault, SITE_OCTETS, SystemFiles, slice_of};
+use crate::journald::NoteLines;
+use crate::lock::FolderLock;
+use crate::script::{MOST_OCTETS, RecordingFile, Script, recording_path};
 use crate::serving::serve_file;
-use crate::store::{Kept, Store, Stored, records_path};
+use crate::store::{Kept, LOCK, RECORDS, Store, Stored, path_in_folder};
 use dmr_command::{Job, choose, report_out_of_memory, report_refused_words};
 use dmr_pdu::OutOfMemory;
 use dmr_records::{Reach, RecordsIn, RecordsPath};
-use dmr_replay::replay;
-use log::Log;
+use dmr_replay::{FAULT, replay};
+use log::{Level, Log, Logged};
 use sqlite::{Alter, Connection, File, FileStore};
 use std::alloc::Global;
 use std::io::Write;
@@ -75,6 +84,15 @@ fn texts_of(alloc: Global, words: &[String]) -> Result<Vec<&str>, OutOfMemory>
     Ok(texts)
 }
 
+/// Writes that a file has more octets than it may have, and returns the status.
+fn report_long<E: Write>(err: &mut E, path: &str, most: u64) -> u8
+    ensures { result ≡ FAULT }
+{
+    let size = most >> 20;
+    let _ = writeln!(err, "dmr_trunk: {path} has more than {size} MiB");
+    FAULT
+}
+
 /// Replays the script at one path over the site file at another, and returns the exit status.
 fn replay_files<S: FileSource, W: Write, E: Write>(
     alloc: Global,
@@ -90,8 +108,16 @@ fn replay_files<S: FileSource, W: Write, E: Write>(
         → AreReplayed (S.gave files.now) site.now script.now (W.contents out.old)
         (W.contents out.new)) }
 {
-    let site_octets = files.octets_of(site)?;
-    let script_octets = files.octets_of(script)?;
+    let site_octets = match files.octets_of(site, SITE_OCTETS) {
+        Ok(octets) => octets,
+        Err(ReadFault::Long) => return Ok(report_long(err, site, SITE_OCTETS)),
+        Err(ReadFault::OutOfMemory) => return Err(OutOfMemory),
+    };
+    let script_octets = match files.octets_of(script, MOST_OCTETS) {
+        Ok(octets) => octets,
+        Err(ReadFault::Long) => return Ok(report_long(err, script, MOST_OCTETS)),
+        Err(ReadFault::OutOfMemory) => return Err(OutOfMemory),
+    };
     Ok(replay(
         alloc,
         site,
@@ -110,7 +136,7 @@ fn serve_path<R, S, K, F, E>(
     files: &S,
     site: &str,
     terms: u32,
-    kept: Kept<K, F>,
+    kept: Kept<'_, K, F>,
     err: &mut E,
 ) -> Result<u8, OutOfMemory>
 where
@@ -123,7 +149,11 @@ where
     // At status 0 the file that the source gave for the path has a plan.
     ensures ok { IfOk result (λ status. status ≡ 0 → HasPlan (S.gave files.now) site.now) }
 {
-    let site_octets = files.octets_of(site)?;
+    let site_octets = match files.octets_of(site, SITE_OCTETS) {
+        Ok(octets) => octets,
+        Err(ReadFault::Long) => return Ok(report_long(err, site, SITE_OCTETS)),
+        Err(ReadFault::OutOfMemory) => return Err(OutOfMemory),
+    };
     let site_octets = slice_of(&site_octets);
     Ok(serve_file(rt, alloc, site, site_octets, terms, kept, err))
 }
@@ -134,7 +164,7 @@ fn do_job<R, S, K, F, W, E>(
     alloc: Global,
     files: &S,
     job: Job<'_>,
-    kept: Kept<K, F>,
+    kept: Kept<'_, K, F>,
     out: &mut W,
     err: &mut E,
 ) -> Result<u8, OutOfMemory>
@@ -161,7 +191,7 @@ fn run_words<R, S, K, F, W, E>(
     alloc: Global,
     files: &S,
     words: &[String],
-    kept: Kept<K, F>,
+    kept: Kept<'_, K, F>,
     out: &mut W,
     err: &mut E,
 ) -> Result<u8, OutOfMemory>
@@ -190,7 +220,7 @@ where
 fn run_program<R, S, K, F, W, E>(
     rt: &R,
     files: &S,
-    kept: Kept<K, F>,
+    kept: Kept<'_, K, F>,
     out: &mut W,
     err: &mut E,
 ) -> u8
@@ -242,6 +272,7 @@ fn run_over<R, A, S, D, F, W, E>(
     files: &A,
     records: Stored<D>,
     recording: Stored<F>,
+    lock: FolderLock<'_>,
     out: &mut W,
     err: &mut E,
 ) -> u8
@@ -262,7 +293,12 @@ where
         Stored::In(way) => Stored::In(RecordsIn::<S, D>::new(way)),
         Stored::NotText => Stored::NotText,
     };
-    run_program(rt, files, Kept { records, recording }, out, err)
+    let kept = Kept {
+        records,
+        recording,
+        lock,
+    };
+    run_program(rt, files, kept, out, err)
 }
 
 /// The recording at a path, whose file is not made yet.
@@ -274,19 +310,60 @@ fn recording_at<'a>(rt: &'a HostRuntime, path: &'a Stored<String>) -> Stored<Rec
     }
 }
 
+/// The lock whose file has this path, which is not taken yet.
+fn lock_at<'a>(rt: &'a HostRuntime, path: &'a Stored<String>) -> FolderLock<'a> {
+    match path {
+        Stored::In(path) => FolderLock::new(rt, Some(path.as_str())),
+        Stored::Nowhere | Stored::NotText => FolderLock::new(rt, None),
+    }
+}
+
+/// Does what [`run_over`] does, with records in a file of the host. It is generic in all else: to prove at once that all
+/// types of the program fit takes more steps than the prover has.
+fn run_in_file<R, A, F, W, E>(
+    rt: &R,
+    files: &A,
+    records: Stored<RecordsPath<'_>>,
+    recording: Stored<F>,
+    lock: FolderLock<'_>,
+    out: &mut W,
+    err: &mut E,
+) -> u8
+where
+    R: AllocGlobal + Env + Net + Log + Clock + Wait + Threads + Sync,
+    A: FileSource,
+    F: Script + Drop,
+    W: Write,
+    E: Write,
+{
+    run_over::<R, A, FileStore<File>, _, F, W, E>(rt, files, records, recording, lock, out, err)
+}
+
+/// Does what [`run_program`] does, with the files of the host, and returns the exit status. It is generic in the runtime
+/// that has the log, for the same reason.
+fn run_on<R>(rt: &R, host: &HostRuntime) -> u8
+where
+    R: AllocGlobal + Env + Net + Log + Clock + Wait + Threads + Sync,
+{
+    let mut out = host.stdout();
+    let mut err = host.stderr();
+    let files = SystemFiles::new(host);
+    let Ok(path) = path_in_folder(host, RECORDS) else {
+        return report_out_of_memory(&mut err);
+    };
+    let Ok(lock) = path_in_folder(host, LOCK) else {
+        return report_out_of_memory(&mut err);
+    };
+    let Ok(recording) = recording_path(host) else {
+        return report_out_of_memory(&mut err);
+    };
+    let records = way_to(host, &path);
+    let recording = recording_at(host, &recording);
+    let lock = lock_at(host, &lock);
+    run_in_file(rt, &files, records, recording, lock, &mut out, &mut err)
+}
+
 fn main(rt: HostRuntime) -> ExitCode {
-    let mut out = rt.stdout();
-    let mut err = rt.stderr();
-    let files = SystemFiles::new(&rt);
-    let Ok(path) = records_path(&rt) else {
-        return ExitCode::from(report_out_of_memory(&mut err));
-    };
-    let Ok(recording) = recording_path(&rt) else {
-        return ExitCode::from(report_out_of_memory(&mut err));
-    };
-    let records = way_to(&rt, &path);
-    let recording = recording_at(&rt, &recording);
-    ExitCode::from(run_over::<_, _, FileStore<File>, _, _, _, _>(
-        &rt, &files, records, recording, &mut out, &mut err,
-    ))
+    let logged = Logged::new(rt, Level::Info, NoteLines::new(rt));
+    ExitCode::from(run_on(&logged, &rt))
 }

@@ -7,6 +7,7 @@ use dmr_keeper::{KeepFault, MOST_WAITING};
 use dmr_pdu::OutOfMemory;
 use dmr_port::{Note, Whose};
 use dmr_recording::RecordingFault;
+use dmr_registry::MOST_RADIOS;
 use log::{Log, info, warn};
 use mio::unix::SourceFd;
 use mio::{Events, Interest, Poll, Token};
@@ -127,6 +128,20 @@ impl<'a, R: Log> Notes<'a, R> {
         }
     }
 
+    /// Notes that the port of the control carrier has no connection any more.
+    pub fn control_lost(&mut self, whose: Whose) {
+        if self.is_ready() {
+            warn!(*self.rt; target: TARGET, "{whose}: the control carrier has no connection, so no radio is served");
+        }
+    }
+
+    /// Notes that the port of the control carrier has a connection again.
+    pub fn control_back(&mut self, whose: Whose) {
+        if self.is_ready() {
+            info!(*self.rt; target: TARGET, "{whose}: the control carrier has a connection again");
+        }
+    }
+
     /// Notes that a connection is served that had to wait.
     pub fn connected_after(&mut self, whose: Whose, from: SocketAddr, milliseconds: u64) {
         if self.is_ready() {
@@ -177,10 +192,24 @@ impl<'a, R: Log> Notes<'a, R> {
         }
     }
 
+    /// Notes that the file has more radios than a site may have.
+    pub fn too_many_radios(&mut self) {
+        if self.is_ready() {
+            warn!(*self.rt; target: TARGET, "records: {MOST_RADIOS} radios registered again, the file has more");
+        }
+    }
+
     /// Notes why the radios that were registered are not known.
     pub fn cannot_restore(&mut self, fault: KeepFault) {
         if self.is_ready() {
             warn!(*self.rt; target: TARGET, "records: no radio is registered again: {fault}");
+        }
+    }
+
+    /// Notes why the folder of the records is not locked.
+    pub fn not_locked(&mut self, error: &io::Error) {
+        if self.is_ready() {
+            warn!(*self.rt; target: TARGET, "records: the folder is not locked: {error}");
         }
     }
 

@@ -36,14 +36,49 @@ pub struct PortWatch<'a, R> {
     waited: Option<u64>,
     // The newcomers that wait, oldest first. One that has ended stays until there is no room for another.
     waiting: Vec<Waiting>,
+    control: Control,
+}
+
+/// What the port has to do with the control carrier.
+#[derive(Clone, Copy, Debug, PartialEq, Eq)]
+enum Control {
+    /// It is the port of another carrier, or of operators.
+    Other,
+    /// It is the control carrier's, and has lost no connection, or has one again.
+    Whole,
+    /// It is the control carrier's, and its connection has ended.
+    Lost,
+    /// It is the control carrier's, and a connection has just followed one that ended.
+    Back,
+}
+
+impl Control {
+    /// Returns what follows when a connection is served.
+    fn connected(self) -> Control {
+        match self {
+            Control::Other => Control::Other,
+            Control::Lost => Control::Back,
+            Control::Whole | Control::Back => Control::Whole,
+        }
+    }
+
+    /// Returns what follows when the connection has ended.
+    fn ended(self) -> Control {
+        match self {
+            Control::Other => Control::Other,
+            Control::Whole | Control::Lost | Control::Back => Control::Lost,
+        }
+    }
 }
 
 impl<'a, R: Log + Clock> PortWatch<'a, R> {
-    /// Makes the watch of a port with these settings that listens at an address.
+    /// Makes the watch of a port with these settings that listens at an address. `is_control`: it is the port of the
+    /// control carrier.
     pub fn new(
         rt: &'a R,
         alloc: Global,
         settings: &PortSettings,
+        is_control: bool,
         address: Option<SocketAddr>,
         notes: Notes<'a, R>,
     ) -> PortWatch<'a, R> {
@@ -56,6 +91,11 @@ impl<'a, R: Log + Clock> PortWatch<'a, R> {
             served: None,
             waited: None,
             waiting: Vec::new(alloc),
+            control: if is_control {
+                Control::Whole
+            } else {
+                Control::Other
+            },
         }
     }
 
@@ -89,12 +129,16 @@ impl<R: Log + Clock> PortNotes for PortWatch<'_, R> {
             Note::Connected { from } => {
                 self.waited = self.end_wait(*from);
                 self.served = Some(*from);
+                self.control = self.control.connected();
             }
             Note::Waits { from, .. } => self.begin_wait(*from),
             Note::Refused { from } => {
                 self.end_wait(*from);
             }
-            Note::Ended { .. } => self.served = None,
+            Note::Ended { .. } => {
+                self.served = None;
+                self.control = self.control.ended();
+            }
             _ => {}
         }
     }
@@ -108,6 +152,11 @@ impl<R: Log + Clock> PortNotes for PortWatch<'_, R> {
                 self.notes.waits_for(self.whose, *from, served, *count);
             }
             _ => self.notes.of_port(self.whose, note),
+        }
+        match (note, self.control) {
+            (Note::Ended { .. }, Control::Lost) => self.notes.control_lost(self.whose),
+            (Note::Connected { .. }, Control::Back) => self.notes.control_back(self.whose),
+            _ => {}
         }
     }
 }

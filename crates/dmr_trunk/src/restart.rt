@@ -7,6 +7,7 @@ use crate::notes::Notes;
 use crate::store::Store;
 use dmr_keeper::KeepFault;
 use dmr_pdu::Address;
+use dmr_registry::MOST_RADIOS;
 use log::Log;
 use std::alloc::Global;
 use std::thread;
@@ -39,6 +40,15 @@ fn registered_in<K: Store, R: Clock>(
     store.registered(alloc)
 }
 
+/// Notes how many radios are registered again. The store reads one more than a site may have if it has too many.
+fn note_restored<R: Log>(notes: &mut Notes<'_, R>, radios: usize) {
+    if radios > MOST_RADIOS {
+        notes.too_many_radios();
+    } else {
+        notes.restored(radios);
+    }
+}
+
 /// Returns the radios that were registered at the end of the last term that the store has. Notes how many there are, or
 /// why they are not known; then there are none.
 pub fn read_registered<K: Store, R: Log + Clock>(
@@ -51,7 +61,7 @@ pub fn read_registered<K: Store, R: Log + Clock>(
 {
     match registered_in(rt, alloc, store) {
         Ok(radios) => {
-            notes.restored(radios.len());
+            note_restored(notes, radios.len());
             radios
         }
         Err(fault) => {

@@ -9,6 +9,7 @@ use dmr_pdu::OutOfMemory;
 use std::env::VarError;
 use std::fs::File;
 use std::io::Write;
+use std::os::unix::fs::MetadataExt;
 use std::rt::Env;
 use std::{env, io};
 use thiserror::Error;
@@ -37,6 +38,9 @@ pub enum ScriptFault {
     /// The disk failed or refused a write.
     #[error("the disk failed or refused a write")]
     NotWritten,
+    /// The file was removed. What is written to it would be lost when the program ends.
+    #[error("the file was removed")]
+    Removed,
 }
 
 /// A script to which lines are appended.
@@ -90,11 +94,22 @@ fn make_file(rt: &HostRuntime, path: &str) -> Result<File, ScriptFault>
     }
 }
 
-/// Writes lines at the end of a file that has this many octets. If not all can be written, the file is cut back to that
-/// length. If that fails too, a first part of the lines stays in it.
+/// Whether no folder has a name of the file any more.
+fn is_removed(file: &File) -> bool {
+    match file.metadata() {
+        Ok(state) => state.nlink() == 0,
+        Err(_) => false,
+    }
+}
+
+/// Writes lines at the end of a file that has this many octets, unless the file was removed. If not all can be written,
+/// the file is cut back to that length. If that fails too, a first part of the lines stays in it.
 fn write_lines(file: &mut File, octets: u64, lines: &str) -> Result<(), ScriptFault>
     ensures { IfErr result (λ fault. is_of_disk fault ≡ true) }
 {
+    if is_removed(file) {
+        return Err(ScriptFault::Removed);
+    }
     match file.write_all(lines.as_bytes()) {
         Ok(()) => Ok(()),
         Err(error) => {

@@ -3,17 +3,20 @@
 ghost use Rattle.std.specs.Prelude.{◌≡◌, IfOk, option_map};
 ghost use Rattle.dmr_trunk.specs.Replay.{IsPlanned, IsStatus};
 
+use crate::lock::InUse;
 use crate::notes::Notes;
+use crate::opening::open_notes;
 use crate::restart::read_registered;
 use crate::script::Script;
-use crate::serve::{open_notes, serve, serve_kept};
-use crate::store::{Kept, Store};
+use crate::serve::{serve, serve_kept};
+use crate::store::{Asked, Kept, STATE_DIRECTORY, Store};
 use dmr_command::ServeFault;
 use dmr_keeper::Forget;
 use dmr_plan::Plan;
 use dmr_replay::{FAULT, OK, ReplayFault, plan_of};
 use log::Log;
 use std::alloc::Global;
+use std::io;
 use std::io::Write;
 use std::net::Net;
 use std::sync::Wait;
@@ -44,8 +47,9 @@ fn note_start<'a, R: Net + Log>(
     Ok(notes)
 }
 
-/// Notes the start, and serves the site of a plan. If there is a store, it keeps the records, and the radios that were
-/// registered are so again. If there is a script, the site is recorded to it.
+/// Notes the start, and why the folder of the records is not locked, if it is not. Then serves the site of a plan. If
+/// there is a store, it keeps the records, and the radios that were registered are so again. If there is a script, the
+/// site is recorded to it.
 fn serve_noted<K, F, R>(
     rt: &R,
     alloc: Global,
@@ -54,6 +58,7 @@ fn serve_noted<K, F, R>(
     terms: u32,
     store: Option<K>,
     script: Option<F>,
+    unlocked: Option<io::Error>,
 ) -> Result<(), ServeFault>
 where
     K: Store + Send + Drop,
@@ -61,6 +66,9 @@ where
     R: Net + Log + Clock + Wait + Threads + Sync,
 {
     let mut notes = note_start(rt, alloc, site_name, &plan)?;
+    if let Some(error) = &unlocked {
+        notes.not_locked(error);
+    }
     match store {
         Some(mut store) => {
             let radios = read_registered(rt, alloc, &mut store, &mut notes);
@@ -73,15 +81,15 @@ where
     }
 }
 
-/// Serves the site of a plan, and returns the exit status. A fault is written to `err`.
+/// Locks the folder of the records, and serves the site of a plan. Returns the exit status. A fault is written to `err`:
+/// also that another controller has locked the folder.
 fn serve_plan<K, F, R, E>(
     rt: &R,
     alloc: Global,
     site_name: &str,
     plan: Plan,
     terms: u32,
-    store: Option<K>,
-    script: Option<F>,
+    asked: Asked<'_, K, F>,
     err: &mut E,
 ) -> u8
 where
@@ -91,7 +99,24 @@ where
     E: Write,
     ensures status { IsStatus result }
 {
-    match serve_noted(rt, alloc, site_name, plan, terms, store, script) {
+    let Asked {
+        store,
+        script,
+        mut lock,
+    } = asked;
+    let unlocked = match lock.take() {
+        Ok(unlocked) => unlocked,
+        Err(InUse) => {
+            let _ = writeln!(
+                err,
+                "dmr_trunk: another controller uses the folder of {STATE_DIRECTORY}"
+            );
+            return FAULT;
+        }
+    };
+    let served = serve_noted(rt, alloc, site_name, plan, terms, store, script, unlocked);
+    drop(lock);
+    match served {
         Ok(()) => OK,
         Err(fault) => {
             let _ = writeln!(err, "dmr_trunk: {fault}");
@@ -109,7 +134,7 @@ pub fn serve_file<K, F, R, E>(
     site_name: &str,
     site: Option<&[u8]>,
     terms: u32,
-    kept: Kept<K, F>,
+    kept: Kept<'_, K, F>,
     err: &mut E,
 ) -> u8
 where
@@ -129,7 +154,7 @@ where
         }
     };
     match kept.asked_for() {
-        Ok((store, script)) => serve_plan(rt, alloc, site_name, plan, terms, store, script, err),
+        Ok(asked) => serve_plan(rt, alloc, site_name, plan, terms, asked, err),
         Err(variable) => {
             let _ = writeln!(err, "dmr_trunk: {variable} is not UTF-8");
             FAULT

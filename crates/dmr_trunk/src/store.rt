@@ -1,9 +1,11 @@
-//! The store of records: a file in the folder for the program's state, if the environment names one.
+//! The store of records: a file in the folder for the program's state, if the environment names one. Another file there
+//! is the folder's lock.
 
 ghost use Rattle.std.specs.Prelude.{ℕ, List, IfErr, IfOk};
 ghost use Rattle.dmr_keeper.specs.declared.keeper.KeepFault.{KeepFault as AFault};
 ghost use Rattle.dmr_records.specs.Reached.{AreReadBack, CannotRead};
 
+use crate::lock::FolderLock;
 use crate::script::RECORD;
 use dmr_keeper::{KeepFault, Keeper};
 use dmr_pdu::{Address, OutOfMemory};
@@ -15,10 +17,13 @@ use std::env::VarError;
 use std::rt::Env;
 
 /// The variable that names the folder for the program's state. systemd sets it for `StateDirectory=`.
-const STATE_DIRECTORY: &str = "STATE_DIRECTORY";
+pub const STATE_DIRECTORY: &str = "STATE_DIRECTORY";
 
 /// The name of the file of records in that folder.
-const FILE: &str = "/site.db";
+pub const RECORDS: &str = "/site.db";
+
+/// The name of the file in that folder that a controller locks while it runs.
+pub const LOCK: &str = "/site.lock";
 
 /// A store that can say which radios were registered.
 pub trait Store: Keeper {
@@ -79,21 +84,42 @@ impl<K> Stored<K> {
 
 /// What is kept of a served site, as the environment asks for it.
 #[derive(Drop)]
-pub struct Kept<K, W> {
+pub struct Kept<'a, K, W> {
     /// Its records, in a store.
     pub records: Stored<K>,
     /// Its recording, in a script.
     pub recording: Stored<W>,
+    /// The lock on the folder of the records.
+    pub lock: FolderLock<'a>,
 }
 
-impl<K: Drop, W: Drop> Kept<K, W> {
+/// The store and the script that are named, and the lock.
+#[derive(Drop)]
+pub struct Asked<'a, K, W> {
+    /// The store of its records, if one is named.
+    pub store: Option<K>,
+    /// The script to which it is recorded, if one is named.
+    pub script: Option<W>,
+    /// The lock on the folder of the records.
+    pub lock: FolderLock<'a>,
+}
+
+impl<'a, K: Drop, W: Drop> Kept<'a, K, W> {
     /// Returns the store and the script that are named. If the name of one is not UTF-8, the error is the variable that
     /// names it; the script's comes first.
-    pub fn asked_for(self) -> Result<(Option<K>, Option<W>), &'static str> {
-        let Kept { records, recording } = self;
+    pub fn asked_for(self) -> Result<Asked<'a, K, W>, &'static str> {
+        let Kept {
+            records,
+            recording,
+            lock,
+        } = self;
         let script = recording.named_by(RECORD)?;
         match records.named_by(STATE_DIRECTORY) {
-            Ok(store) => Ok((store, script)),
+            Ok(store) => Ok(Asked {
+                store,
+                script,
+                lock,
+            }),
             Err(variable) => {
                 drop(script);
                 Err(variable)
@@ -102,13 +128,16 @@ impl<K: Drop, W: Drop> Kept<K, W> {
     }
 }
 
-/// Reads the path of the file of records: `site.db` in the folder that `STATE_DIRECTORY` names. No folder is named if
-/// the variable is not set or empty. `NotText`: its value is not UTF-8.
-pub fn records_path<R: AllocGlobal + Env>(rt: &R) -> Result<Stored<String>, OutOfMemory> {
+/// Reads the path of a file in the folder that `STATE_DIRECTORY` names, by the file's name after a slash. No folder is
+/// named if the variable is not set or empty. `NotText`: its value is not UTF-8.
+pub fn path_in_folder<R: AllocGlobal + Env>(
+    rt: &R,
+    file: &str,
+) -> Result<Stored<String>, OutOfMemory> {
     match env::var(rt, STATE_DIRECTORY) {
         Ok(folder) if folder.is_empty() => Ok(Stored::Nowhere),
         Ok(mut path) => {
-            path.push_str(FILE)?;
+            path.push_str(file)?;
             Ok(Stored::In(path))
         }
         Err(VarError::NotPresent) => Ok(Stored::Nowhere),

@@ -26,6 +26,7 @@ from temzaar.cli.command import address_of_words, amount_above, clean_up_on_sign
 from temzaar.console import LONGEST_LINE, Console, ConsoleFault, SlotKey, Status
 from temzaar.hubconsole import ControllerAway, HubConsole, find_hub
 from temzaar.picture import Ages, Asked, Picture, take_picture
+from temzaar.printable import printable
 from temzaar.sitefile import read_console_place
 
 BOLD, PLAIN = "\x1b[1m", "\x1b[0m"
@@ -191,7 +192,7 @@ def watch(console: Console, name: str, seconds: float) -> None:
 
 
 def open_console(options: argparse.Namespace) -> tuple[Console, str]:
-    """The console that the words name, and its name: through a hub if the words name one, or if one holds the console of the site file."""
+    """The console that the words name, and its place: through a hub if the words name one, or if one holds the console of the site file."""
     if options.hub is not None:
         return HubConsole(options.hub), options.hub
     if options.console:
@@ -201,6 +202,14 @@ def open_console(options: argparse.Namespace) -> tuple[Console, str]:
     return find_hub(place.name) or Console(place.address, place.port), place.name
 
 
+def title_of(options: argparse.Namespace, console: Console, place: str) -> str:
+    """The site's name, if the words or the hub have one, and the place of its console."""
+    name = options.name
+    if name is None and isinstance(console, HubConsole):
+        name = console.site_name()
+    return f"{printable(name)}   {place}" if name else place
+
+
 def read_words(words: Sequence[str] | None) -> argparse.Namespace:
     """The words of the command line."""
     parser = argparse.ArgumentParser(description=__doc__, formatter_class=argparse.RawDescriptionHelpFormatter)
@@ -208,6 +217,7 @@ def read_words(words: Sequence[str] | None) -> argparse.Namespace:
     which.add_argument("--site", help="the site file, which names the console's address and port; a hub that holds this console is asked instead")
     which.add_argument("--hub", help="the hub, by the path of its socket")
     which.add_argument("--console", type=address_of_words, help="the console, as ADDRESS:PORT, without a hub")
+    parser.add_argument("--name", help="the site's name, for the first line (the one of the hub's config file)")
     parser.add_argument("--once", action="store_true", help="print one picture as plain text, and end")
     parser.add_argument("--every", type=amount_above(0, 3600), default=0.25, help="seconds from one picture to the next (0.25)")
     return parse_words(parser, words)
@@ -217,8 +227,9 @@ def show_site(options: argparse.Namespace) -> int:
     """Shows the site. The status."""
     if not options.once and not (sys.stdin and sys.stdin.isatty() and sys.stdout.isatty()):
         raise ConsoleFault("no terminal: give --once")
-    opened, name = open_console(options)
+    opened, place = open_console(options)
     with opened as console:
+        name = title_of(options, console, place)
         if options.once:
             sys.stdout.write(plain_text(picture_rows(take_picture(console), name, Ages(), 0)))
             return 0

@@ -1,5 +1,6 @@
 """The lines of operators: cut from octets, and told apart by what they do."""
 import enum
+import re
 from dataclasses import dataclass
 
 from temzaar.console import CHANGES, LISTS, LONGEST_LINE, QUESTIONS
@@ -8,6 +9,8 @@ from temzaar.console import CHANGES, LISTS, LONGEST_LINE, QUESTIONS
 OWN = ("help", "history", "who")
 # What the hub answers while the controller does not, and to a line that has no answer or was not sent; the reason follows.
 AWAY, NO_ANSWER, BUSY = "the controller is away", "no answer", "the hub is busy"
+# How the row of `who` begins that has the site's name.
+WHO_SITE = "who site "
 # The commands of a line port whose replies are lists.
 HUB_LISTS = (*LISTS, *OWN)
 
@@ -53,6 +56,11 @@ class Line:
 def escape_octets(octets: bytes) -> str:
     """Octets as text; those that are not printable ASCII are escaped."""
     return "".join(chr(it) if 32 <= it < 127 and it != 92 else f"\\x{it:02x}" for it in octets)
+
+
+def unescape_octets(text: str) -> bytes:
+    """The octets of a text of `escape_octets`."""
+    return re.sub(rb"\\x([0-9a-f]{2})", lambda found: bytes.fromhex(found[1].decode()), text.encode("ascii", "replace"))
 
 
 class LineCutter:

@@ -5,6 +5,7 @@ import time
 
 from temzaar.faults import ToolFault
 from temzaar.hub.config import RecordsKeys
+from temzaar.hub.controllerversion import read_controller_version
 from temzaar.hub.newrecords import NewRecords, Signature, read_new, signature
 from temzaar.hub.notes import note, warn
 from temzaar.hub.recordcounts import RecordCounts, RecordedLog
@@ -26,6 +27,8 @@ class RecordReader:
         self.counts, self.log, self.samples = RecordCounts(), RecordedLog(), RecordSamples()
         self.gaps, self.watch = RecordGaps(), TermWatch()
         self.last: RecordedTerm | None = None
+        # the controller's version, if it is known
+        self.version: str | None = None
         # the file at the last look that succeeded, and the fault of the last look
         self.known: Signature | None = None
         self.fault: str | None = ""
@@ -42,6 +45,7 @@ class RecordReader:
     async def look(self) -> None:
         """Takes what is new, all of it or nothing. If the file cannot be read now, the next look tries again."""
         try:
+            self.version = await self.worker.do(lambda: read_controller_version(self.keys.file))
             found = await self.worker.do(self._read)
         except Late as fault:
             self._fail(f"{self.keys.file}: {fault}")

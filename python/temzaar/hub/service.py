@@ -35,7 +35,7 @@ class Hub:
         self.link = ConsoleLink(self._read_place, config.controller, self.counts, self._report_link)
         self.poller = Poller(self.link, self.model, config.poll)
         self.audit = AuditLog(config.audit)
-        self.desk = Desk(self.link, self.audit, config.line_port, self.counts, self.poller.hurry)
+        self.desk = Desk(self.link, self.audit, config.line_port, self.counts, self.poller.hurry, config.controller.name)
         self.line_port = LinePort(self.desk, rules)
         self.records = RecordReader(config.records) if config.records.file else None
         self.views = Views(config, self.link, self.model, self.counts, self.desk.sessions, Moment.now(), self.records)

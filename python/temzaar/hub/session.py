@@ -10,7 +10,7 @@ from temzaar.console import TOO_LONG, UNKNOWN
 from temzaar.hub.audit import AuditFault, AuditLog
 from temzaar.hub.config import LinePortKeys
 from temzaar.hub.counts import HubCounts
-from temzaar.hub.lines import NO_ANSWER, Line, LineCutter, LineKind, escape_octets
+from temzaar.hub.lines import NO_ANSWER, WHO_SITE, Line, LineCutter, LineKind, escape_octets
 from temzaar.hub.link import ConsoleLink, NoAnswer
 from temzaar.hub.moment import utc_text
 from temzaar.hub.notes import UserNotes
@@ -44,18 +44,19 @@ HELP = (
     ("stay", "sends radios away no longer (role full)"),
     ("help", "this list"),
     ("history N", "the last N commands that change the site, 16 without N"),
-    ("who", "the controller, and who is connected to the hub"),
+    ("who", "the controller, the site's name, and who is connected to the hub"),
 )
 
 
 @dataclass
 class Desk:
-    """What all sessions share. `on_change` is called after a command has changed the site."""
+    """What all sessions share. `on_change` is called after a command has changed the site; `name` is that of the site, if the config has one."""
     link: ConsoleLink
     audit: AuditLog
     keys: LinePortKeys
     counts: HubCounts
     on_change: Callable[[], None]
+    name: str = ""
     sessions: dict[int, "Session"] = field(default_factory=dict)
     lines: Paces = field(default_factory=lambda: Paces(LINES_PER_SECOND, LINES_AT_ONCE))
     refusals: Paces = field(default_factory=lambda: Paces(REFUSALS_PER_SECOND))
@@ -262,10 +263,12 @@ class Session:
             yield f"history {it['time']} {it['user']} {it['event']}: {it['line']}: {it['reply']}"
 
     def _who_rows(self) -> Iterator[str]:
-        """The console, and each connection."""
+        """The console, the site's name, and each connection."""
         link = self.desk.link
         place = link.place.name if link.place else "unknown"
         yield f"who console {place} {'up' if link.state.is_up else 'away'} since {utc_text(link.state.since.wall)}"
+        if self.desk.name:
+            yield f"{WHO_SITE}{escape_octets(self.desk.name.encode())}"
         for session in self.desk.sessions.values():
             own = " (you)" if session is self else ""
             yield f"who {session.number} {session.peer.user} {session.peer.role.name.lower()} since {utc_text(session.since)} lines {session.lines}{own}"

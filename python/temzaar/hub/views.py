@@ -164,6 +164,10 @@ class Views:
         yield from self.records.counts.all_series()
         yield from self.records.gaps.all_series()
         yield gauge("dmr_site_records_overdue", "Whether a term should have been recorded that was not.", int(self._is_overdue()))
+        if self.records.version is not None:
+            info = Series("dmr_site_controller_info", "The controller's version, as a label; the value is always 1.")
+            info.set(1, version=self.records.version)
+            yield info
         lacks = Series("dmr_site_missing_polls", "How many carriers' polls each of the last two recorded terms lacks, of those of the carriers that were up.")
         missing = self.model.watch.missing_polls()
         if missing is not None:

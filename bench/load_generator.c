@@ -19,6 +19,7 @@
  * It is a bench: any fault of a connection ends it with status 1.
  */
 #define _GNU_SOURCE
+#include "../station/dmr_link.h"
 #include <arpa/inet.h>
 #include <dirent.h>
 #include <errno.h>
@@ -36,12 +37,11 @@
 #include <time.h>
 #include <unistd.h>
 
-enum { HELLO = 1, RX, POLL, ACTIVE, BYE, WELCOME = 0x81, TX, DONE, REFUSED };
 enum { STEPS = 64, BUCKETS = STEPS * 40, MOST_CARRIERS = 64, MOST_THREADS = 16, MOST_ACTIVES = 60, DIALS = 200 };
 
 static const uint64_t SECOND = 1000000000ull;
 /* The burst of the registration of radio 1001. */
-static const uint8_t REGISTRATION[25] = {0x0E, 0xB4, 0x9C, 0xDF, 0x34, 0xF2, 0x74, 0x9C, 0xEC, 0xBA, 0x5C, 0xB3, 0xB7,
+static const uint8_t REGISTRATION[DMR_LINK_WORD] = {0x0E, 0xB4, 0x9C, 0xDF, 0x34, 0xF2, 0x74, 0x9C, 0xEC, 0xBA, 0x5C, 0xB3, 0xB7,
                                          0xC4, 0x0E, 0x88, 0x13, 0x8C, 0x9A, 0x38, 0xF9, 0x62, 0x48, 0xE1, 0x80};
 
 static struct {
@@ -155,8 +155,8 @@ static Usage read_usage(int pid) {
 /* ---- carriers */
 
 typedef struct {
-    int stream, carrier, part, left, type; /* part: as in serve_floor.c */
-    bool waits;
+    int stream, carrier;
+    struct dmr_link link;
     unsigned polls;
     uint64_t sent, due, next, octets;
 } Carrier;
@@ -183,69 +183,44 @@ static int dial(int port) {
     die("connect");
 }
 
+/* Takes octets that came. Whether a DONE was among them. */
+static bool take(Carrier *c, const uint8_t *octets, int count) {
+    bool done = false;
+    c->octets += count;
+    for (int i = 0; i < count; i++) switch (dmr_link_octet(&c->link, octets[i])) {
+        case DMR_LINK_DONE: done = true; break;
+        case DMR_LINK_REFUSED:
+        case DMR_LINK_FAULT:
+            fprintf(stderr, "load_generator: carrier %d: %s\n", c->carrier, c->link.cause ? "refused" : "no frame of a controller");
+            exit(1);
+        default: break;
+        }
+    return done;
+}
+
 static void come_up(Carrier *c) {
-    int lpcn = options.first_lpcn + options.lpcn_step * c->carrier;
-    uint8_t hello[6] = {HELLO, 4, options.version, c->carrier, lpcn >> 8, lpcn}, welcome[3];
+    uint8_t octets[6];
+    size_t count = dmr_link_hello(&c->link, options.version, c->carrier, options.first_lpcn + options.lpcn_step * c->carrier, octets);
     c->stream = dial(options.base_port + c->carrier);
-    if (write(c->stream, hello, sizeof hello) != sizeof hello) die("HELLO");
-    for (int got = 0, count; got < 3; got += count)
-        if ((count = read(c->stream, welcome + got, 3 - got)) <= 0) die("WELCOME");
-    if (welcome[0] != WELCOME) {
-        fprintf(stderr, "load_generator: carrier %d is refused: %02x\n", c->carrier, welcome[2]);
-        exit(1);
-    }
+    if (!count || write(c->stream, octets, count) != (ssize_t)count) die("HELLO");
+    for (ssize_t got; !c->link.up; take(c, octets, got))
+        if ((got = read(c->stream, octets, sizeof octets)) <= 0) die("WELCOME");
+    c->octets = 0;
     fcntl(c->stream, F_SETFL, O_NONBLOCK);
 }
 
 static void send_poll(Carrier *c, uint64_t due) {
     uint8_t octets[64 + 3 * MOST_ACTIVES];
-    int count = 0;
-    if (options.rx_every && c->carrier == options.control && c->polls % options.rx_every == 0) {
-        octets[count++] = RX;
-        octets[count++] = 25 + options.version;
-        if (options.version == 2) octets[count++] = c->polls / options.rx_every;
-        octets[count++] = 0;
-        memcpy(octets + count, REGISTRATION, sizeof REGISTRATION);
-        count += sizeof REGISTRATION;
-    }
-    for (int i = 0; i < options.actives; i++) {
-        octets[count++] = ACTIVE;
-        octets[count++] = 1;
-        octets[count++] = (i ^ (c->carrier == options.control)) & 1;
-    }
-    octets[count++] = POLL;
-    octets[count++] = 0;
+    size_t count = 0;
+    if (options.rx_every && c->carrier == options.control && c->polls % options.rx_every == 0)
+        count += dmr_link_rx(&c->link, 0, REGISTRATION, octets + count);
+    for (int i = 0; i < options.actives; i++)
+        count += dmr_link_active((i ^ (c->carrier == options.control)) & 1, octets + count);
+    count += dmr_link_poll(&c->link, octets + count);
     c->polls++;
-    c->waits = true;
     c->due = due;
     c->sent = nanoseconds_now();
-    if (write(c->stream, octets, count) != count) die("POLL");
-}
-
-/* Whether a DONE came. */
-static bool take(Carrier *c, const uint8_t *octets, int count) {
-    bool done = false;
-    c->octets += count;
-    for (int i = 0; i < count;) {
-        if (c->part == 0) {
-            c->type = octets[i++];
-            c->part = 1;
-        } else if (c->part == 1) {
-            c->left = octets[i++];
-            c->part = c->left ? 2 : 0;
-            done |= c->type == DONE;
-        } else {
-            int some = count - i < c->left ? count - i : c->left;
-            i += some;
-            c->left -= some;
-            if (!c->left) c->part = 0;
-        }
-        if (c->type < WELCOME || c->type >= REFUSED) {
-            fprintf(stderr, "load_generator: carrier %d receives a frame %02x\n", c->carrier, c->type);
-            exit(1);
-        }
-    }
-    return done;
+    if (write(c->stream, octets, count) != (ssize_t)count) die("POLL");
 }
 
 static void read_answer(Player *player, Carrier *c) {
@@ -254,9 +229,8 @@ static void read_answer(Player *player, Carrier *c) {
     uint64_t now;
     if (count < 0 && errno == EAGAIN) return;
     if (count <= 0) die("a connection ended");
-    if (!take(c, octets, count) || !c->waits) return;
+    if (!take(c, octets, count)) return;
     now = nanoseconds_now();
-    c->waits = false;
     add_time(&player->times, now - c->sent);
     add_time(&player->from_due, now - c->due);
     if (options.fast) send_poll(c, now);
@@ -267,11 +241,11 @@ static uint64_t send_due_polls(Player *player, uint64_t end) {
     uint64_t soonest = end, now = nanoseconds_now();
     for (int i = 0; i < player->count; i++) {
         Carrier *c = &player->carrier[i];
-        if (now >= c->next && !c->waits) {
+        if (now >= c->next && !c->link.waits) {
             send_poll(c, c->next);
             c->next += options.period * 1000;
         }
-        if (!c->waits && c->next < soonest) soonest = c->next;
+        if (!c->link.waits && c->next < soonest) soonest = c->next;
     }
     return soonest;
 }

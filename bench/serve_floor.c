@@ -33,7 +33,8 @@ typedef struct {
     int stream, listener, carrier, version;
     int part, type, left; /* the frame being cut: 0 its type is next, 1 its length, 2 its body; octets left of the body */
     uint8_t hello[4];
-    int received; /* octets of the HELLO */
+    int received;  /* octets of the HELLO */
+    uint8_t sent;  /* how many TX, which is the number of the next one in version 2 */
 } Connection;
 
 static int base_port = 7101, carriers = 16, answer_octets, control;
@@ -51,10 +52,11 @@ static int body_length(int type, int version) {
 }
 
 /* Writes the answer of a POLL. How many octets it has. */
-static int answer_poll(const Connection *c, uint8_t *out) {
+static int answer_poll(Connection *c, uint8_t *out) {
     int count = answer_octets ? answer_octets : c->carrier == control ? 29 + c->version : 2;
     memset(out, 0, count);
     if (count > 2) memcpy(out, answer_of[c->version == 2], count < 31 ? count : 31);
+    if (count > 2 && c->version == 2) out[2] = c->sent++;
     out[count - 2] = DONE;
     out[count - 1] = 0;
     return count;
@@ -108,6 +110,7 @@ static void begin(Connection *c, int stream) {
     c->stream = stream;
     c->part = 0;
     c->version = 1;
+    c->sent = 0;
 }
 
 static void watch(int epoll, int operation, int stream, Connection *c) {

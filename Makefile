@@ -1,6 +1,6 @@
 # `make` alone says what there is.
 .DEFAULT_GOAL := help
-.PHONY: help run demo build build-tests check fmt test gate check-fast check-programs tools-check wrong-bodies bench bench-instructions soak serve-check serve-hostile hub-hostile network-recipes unit-recipes restart refuse-memory pictures package package-check release maps trusted install
+.PHONY: help run demo build build-tests check fmt test gate check-fast check-programs tools-check wrong-bodies bench bench-instructions station soak serve-check serve-hostile hub-hostile network-recipes unit-recipes restart refuse-memory pictures package package-check release maps trusted install
 
 PREFIX ?= /usr/local
 DESTDIR ?=
@@ -33,7 +33,10 @@ help: ## this list
 	@echo "trials/records-cost  what records cost the carriers of a site"
 	@echo "trials/restart       kills a controller that keeps records, and starts it again"
 	@echo "trials/recording     records a served site, replays it, and compares what carriers received"
+	@echo "trials/air           has dsdccx receive what the kit for base stations transmits"
+	@echo "trials/air-recording reads a recording of a base station by that kit"
 	@echo "trials/refuse-memory refuses each allocation of the programs in turn"
+	@echo "trials/incidents     plays incidents of a site, and prints what an operator learns of each"
 	@echo "trials/network-recipes tries firewall and tunnels, in network namespaces"
 	@echo "trials/unit-recipes  tries units and drop-ins, with systemd in a container"
 	@echo "trials/page-pictures takes the pictures of the hub's page"
@@ -92,6 +95,13 @@ soak: ## a million random inputs through the engine, in both versions of the lin
 	@ci/build dmr_soak
 	@build/dmr_soak --inputs 250000 --counts
 
+station: ## the kit in C for base stations: builds build/example and build/hearing, tests the headers, and prints how many weak bursts they read (a minute or two)
+	@mkdir -p build
+	cc -std=c99 -O2 -Wall -Wextra -Werror -pedantic -o build/example station/example.c
+	cc -std=c99 -O3 -Wall -Wextra -Werror -pedantic -o build/hearing station/hearing.c -lm
+	PYTHONPATH=python python3 -m unittest discover -s python -p 'test_station*.py'
+	build/hearing $(if $(wildcard build/dmr_decode),-d build/dmr_decode)
+
 build/dmr_trunk build/dmr_decode:
 	@echo "no $@: run 'make build' first"; exit 2
 
@@ -144,7 +154,7 @@ package-check: package ## installs the package in a clean root and serves a site
 release: ## a release of what is committed, at release/: proved and checked in a fresh clone, with the record (docs/RELEASING.md; many hours)
 	@ci/release
 
-install: build/dmr_trunk build/dmr_decode ## the programs, tools, manual pages, units, dissector, examples and documents [PREFIX=/usr/local] [DESTDIR=]
+install: build/dmr_trunk build/dmr_decode ## the programs, tools, headers for base stations, manual pages, units, dissector, examples and documents [PREFIX=/usr/local] [DESTDIR=]
 	install -D -m 755 build/dmr_trunk $(DESTDIR)$(PREFIX)/bin/dmr_trunk
 	install -D -m 755 build/dmr_decode $(DESTDIR)$(PREFIX)/bin/dmr_decode
 	install -d $(DESTDIR)$(PREFIX)/lib/systemd/system $(DESTDIR)$(DOC)/examples/scripts $(DESTDIR)$(DOC)/examples/expected $(DESTDIR)$(DOC)/pictures
@@ -156,6 +166,9 @@ install: build/dmr_trunk build/dmr_decode ## the programs, tools, manual pages, 
 	install -m 644 python/temzaar/hub/page/* $(DESTDIR)$(PYTHON_LIB)/temzaar/hub/page
 	for tool in siteview timeline callbook capture carriers check hub console; do sed -e "s|@TOOL@|$$tool|" -e 's|@PYTHON_LIB@|$(PYTHON_LIB)|' python/launcher.in >$(DESTDIR)$(PREFIX)/bin/dmr_$$tool && chmod 755 $(DESTDIR)$(PREFIX)/bin/dmr_$$tool || exit; done
 	for section in 1 5 8; do install -d $(DESTDIR)$(MAN)/man$$section && for page in deploy/man/*.$$section; do sed -e 's|@VERSION@|$(VERSION)|' -e 's|@PREFIX@|$(PREFIX)|' $$page >$(DESTDIR)$(MAN)/man$$section/$${page##*/} || exit; done || exit; done
+	install -d $(DESTDIR)$(PREFIX)/include/dmr_trunk $(DESTDIR)$(DOC)/examples/station
+	install -m 644 station/*.h $(DESTDIR)$(PREFIX)/include/dmr_trunk
+	install -m 644 station/README.md station/*.c $(DESTDIR)$(DOC)/examples/station
 	install -D -m 644 deploy/wireshark/dmr_link.lua $(DESTDIR)$(WIRESHARK_PLUGINS)/dmr_link.lua
 	ln -sf ../man8/dmr_trunk.8 $(DESTDIR)$(MAN)/man1/dmr_trunk.1
 	install -D -m 644 deploy/completion/dmr.bash $(DESTDIR)$(COMPLETIONS)/dmr_trunk

@@ -6,7 +6,7 @@ from collections.abc import Iterator
 
 from documents.blocks import TOP, blocks_of, commands_of
 
-FOLDERS = "tools|ci|trials|bench|python|docs|examples|sites|cases|deploy|crates"
+FOLDERS = "tools|ci|trials|bench|station|python|docs|examples|sites|cases|deploy|crates"
 # Names in documents that rt makes, or that are patterns or pages of the kit.
 ELSEWHERE = re.compile(r"crates/[\w*]+/out\b|crates/NAME|crates/\*|sites/NAME|sites/\*|docs/NOT_COVERED\.md")
 # Documents of the past, whose paths need not exist any more.

@@ -124,15 +124,16 @@ def by_key(calls: Iterable[PlayedCall] | Iterable[RecordedCall]) -> dict[Key, li
     return found
 
 
-def call_faults(recorded: Sequence[RecordedCall], played: Sequence[PlayedCall], until_ms: int) -> list[str]:
-    """Whether the records of a run have each call that ended before the last recorded term did, once, and no other. Calls of the same parties follow one another."""
+def call_faults(recorded: Sequence[RecordedCall], played: Sequence[PlayedCall], until_ms: int, late_ms: int = 0) -> list[str]:
+    """Whether the records of a run have each call that ended before the last recorded term did, once, and no other. Calls of the same parties follow one another.
+    The player may have seen a call's beginning or end so much late."""
     faults, seen = [], by_key(played)
     rows = by_key(recorded)
     for key in sorted({*seen, *rows}):
         least = sum(it.cleared_ms is not None and it.cleared_ms < until_ms - MARGIN_MS for it in seen[key])
         if not least <= len(rows[key]) <= len(seen[key]):
             faults.append(f"{words_of(key)}: {len(rows[key])} records, and the player saw {len(seen[key])}, of which {least} ended before the last term")
-        faults += [fault for row, call in zip(rows[key], seen[key]) if (fault := pair_fault(row, call))]
+        faults += [fault for row, call in zip(rows[key], seen[key]) if (fault := pair_fault(row, call, late_ms))]
     return faults
 
 
@@ -141,12 +142,12 @@ def words_of(key: Key) -> str:
     return f"call of {key[1]} to {'group' if key[0] else 'radio'} {key[2]}"
 
 
-def pair_fault(row: RecordedCall, call: PlayedCall) -> str | None:
-    """Why a record is not that of a call that the player saw; None if it is."""
+def pair_fault(row: RecordedCall, call: PlayedCall, late_ms: int) -> str | None:
+    """Why a record is not that of a call that the player saw, perhaps so much late; None if it is."""
     if (row.carrier, row.slot) != (call.carrier, call.slot):
         return f"{words_of(call.key)}: it is recorded on {row.carrier}/{row.slot}, and was on {call.carrier}/{call.slot}"
     times = [("began", row.began_ms, call.granted_ms)] + ([("ended", row.ended_ms, call.cleared_ms)] if call.cleared_ms is not None else [])
     for what, recorded, was in times:
-        if abs(recorded - was) > TOLERANCE_MS:
+        if abs(recorded - was) > TOLERANCE_MS + late_ms:
             return f"{words_of(call.key)}: by the record it {what} {recorded - was} ms after the player saw that"
     return None

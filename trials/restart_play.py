@@ -1,7 +1,7 @@
 """The player of `trials/restart`: carriers that poll fast, and radios that join, leave and call talkgroups. It notes what it asks and what it sees, with times."""
 import random
 import time
-from typing import Any
+from collections.abc import Callable
 
 from restart_checks import Change, PlayedCall
 from temzaar import code, pdus
@@ -11,7 +11,7 @@ from temzaar.pdus import Pdu
 from temzaar.process import connect
 from temzaar.sitefile import Row, Site
 
-# Seconds from one poll of a carrier to the next, and those for which a carrier waits for an answer, whatever the controller does.
+# Seconds from one poll of a carrier to the next, and those for which a carrier waits for an answer at least, whatever the controller does.
 PERIOD, LATEST = 0.015, 5.0
 # Reasons of acknowledgements that `pdus` does not name.
 MESSAGE_ACCEPTED, QUEUED, NOT_REGISTERED = 0x60, 0xA0, 0x2D
@@ -31,10 +31,10 @@ class Gone(Exception):
 class PlayedCarrier:
     """A carrier's connection: it polls, and waits for the answer."""
 
-    def __init__(self, site: Site, row: Row) -> None:
+    def __init__(self, site: Site, row: Row, patience: float) -> None:
         self.number = row["number"]
         self.stream = connect(site.address, row["port"])
-        self.stream.settimeout(LATEST)
+        self.stream.settimeout(patience)
         self.link, self.cutter = Link(site.link_version), Cutter(TO_CARRIER)
         self.longest = 0.0
         self.stream.sendall(hello(row["number"], row["lpcn"], site.link_version))
@@ -64,10 +64,10 @@ class PlayedCarrier:
 
 
 class Player:
-    """A run of the site: `registered` are the radios that it begins with, in the order of joining."""
+    """A run of the site: `registered` are the radios that it begins with, in the order of joining, and `patience` the seconds that it waits for anything."""
 
-    def __init__(self, site: Site, radios: list[int], registered: list[int], seed: int) -> None:
-        self.site, self.radios, self.random = site, radios, random.Random(seed)
+    def __init__(self, site: Site, radios: list[int], registered: list[int], seed: int, patience: float = LATEST) -> None:
+        self.site, self.radios, self.random, self.patience = site, radios, random.Random(seed), patience
         self.registered = set(registered)
         self.changes: list[Change] = []
         self.calls: list[PlayedCall] = []
@@ -77,8 +77,10 @@ class Player:
         self.busy: dict[int, int] = {}
         self.refused: list[tuple[int, int]] = []
         self.by_lpcn = site.by_lpcn()
-        self.carriers = [PlayedCarrier(site, row) for row in site.rows]
+        self.carriers = [PlayedCarrier(site, row, patience) for row in site.rows]
         self.to_send: list[bytes] = []
+        # the end of the last step, and the longest time from one to the next: so late the player may have seen what the controller did
+        self.stepped_ms, self.late_ms = now_ms(), 0
 
     def step(self, asks: bool = True) -> None:
         """A poll of each carrier. Without `asks` no radio asks anything of its own accord. Gone: the controller has ended."""
@@ -90,6 +92,8 @@ class Player:
                 octets = code.octets_of(word)
                 if octets is not None:
                     self.receive(pdus.read(octets), carrier.number, slot)
+        stepped_ms = now_ms()
+        self.stepped_ms, self.late_ms = stepped_ms, max(self.late_ms, stepped_ms - self.stepped_ms)
 
     def play(self, seconds: float, asks: bool = True) -> None:
         """Plays for some seconds. Gone: the controller has ended."""
@@ -152,23 +156,23 @@ class Player:
         elif reason not in (QUEUED, pdus.REG_ACCEPTED, MESSAGE_ACCEPTED):
             self.refused.append((radio, reason))
 
-    def is_granted(self, radio: int, group: int, seconds: float = 3.0) -> bool:
+    def is_granted(self, radio: int, group: int) -> bool:
         """Whether a call request of a radio is granted, while no other radio asks. Gone: the controller has ended."""
         self.to_send.append(self.call(radio, group))
-        return self.wait_for(lambda: any(it.source == radio and it.target == group for it in self.calls), seconds)
+        return self.wait_for(lambda: any(it.source == radio and it.target == group for it in self.calls))
 
-    def is_refused(self, radio: int, group: int, reason: int, seconds: float = 3.0) -> bool:
+    def is_refused(self, radio: int, group: int, reason: int) -> bool:
         """Whether a call request of a radio is refused for a reason, while no other radio asks. Gone: the controller has ended."""
         self.to_send.append(self.call(radio, group))
-        return self.wait_for(lambda: (radio, reason) in self.refused, seconds)
+        return self.wait_for(lambda: (radio, reason) in self.refused)
 
-    def wait_for(self, condition: Any, seconds: float) -> bool:
-        """Plays without asking until a condition holds. Whether it did in time. Gone: the controller has ended."""
-        until = time.monotonic() + seconds
+    def wait_for(self, condition: Callable[[], bool], asks: bool = False) -> bool:
+        """Plays until a condition holds. Whether it did in time. Gone: the controller has ended."""
+        until = time.monotonic() + self.patience
         while not condition() and time.monotonic() < until:
-            self.step(asks=False)
+            self.step(asks)
             time.sleep(PERIOD)
-        return bool(condition())
+        return condition()
 
     def longest(self) -> float:
         """The longest time of an answer to a poll, in seconds."""

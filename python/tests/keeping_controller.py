@@ -47,6 +47,8 @@ class Keeper:
         try:
             conn.execute("PRAGMA locking_mode = EXCLUSIVE")
             conn.execute("PRAGMA journal_mode = WAL")
+            # only this process is killed, never the machine: nothing waits for the disk
+            conn.execute("PRAGMA synchronous = OFF")
             conn.execute("BEGIN EXCLUSIVE")
             if not conn.execute("SELECT count(*) FROM sqlite_schema").fetchone()[0]:
                 for statement in filter(str.strip, TABLES.split(";")):

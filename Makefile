@@ -157,7 +157,7 @@ release: ## a release of what is committed, at release/: proved and checked in a
 install: build/dmr_trunk build/dmr_decode ## the programs, tools, headers for base stations, manual pages, units, dissector, examples and documents [PREFIX=/usr/local] [DESTDIR=]
 	install -D -m 755 build/dmr_trunk $(DESTDIR)$(PREFIX)/bin/dmr_trunk
 	install -D -m 755 build/dmr_decode $(DESTDIR)$(PREFIX)/bin/dmr_decode
-	install -d $(DESTDIR)$(PREFIX)/lib/systemd/system $(DESTDIR)$(DOC)/examples/scripts $(DESTDIR)$(DOC)/examples/expected $(DESTDIR)$(DOC)/pictures
+	install -d $(DESTDIR)$(PREFIX)/lib/systemd/system $(DESTDIR)$(DOC)/examples/scripts $(DESTDIR)$(DOC)/examples/expected
 	install -d $(DESTDIR)$(PYTHON_LIB)/temzaar/cli $(DESTDIR)$(PYTHON_LIB)/temzaar/hub/page
 	install -m 644 python/temzaar/*.py $(DESTDIR)$(PYTHON_LIB)/temzaar
 	ci/version >$(DESTDIR)$(PYTHON_LIB)/temzaar/VERSION && chmod 644 $(DESTDIR)$(PYTHON_LIB)/temzaar/VERSION
@@ -174,8 +174,7 @@ install: build/dmr_trunk build/dmr_decode ## the programs, tools, headers for ba
 	install -D -m 644 deploy/completion/dmr.bash $(DESTDIR)$(COMPLETIONS)/dmr_trunk
 	for command in decode siteview timeline callbook capture carriers check hub console; do ln -sf dmr_trunk $(DESTDIR)$(COMPLETIONS)/dmr_$$command || exit; done
 	for unit in dmr_trunk dmr_hub dmr_trunk@ dmr_hub@; do sed 's|@PREFIX@|$(PREFIX)|' deploy/$$unit.service >$(DESTDIR)$(PREFIX)/lib/systemd/system/$$unit.service || exit; done
-	install -m 644 docs/OPERATING.md docs/SECURITY.md docs/ALARMS.md docs/CAPACITY.md docs/HUB.md docs/RECORDS.md docs/SITE_FILE.md docs/FORMATS.md docs/LINK.md docs/GLOSSARY.md docs/GUARANTEES.md docs/ASSURANCE.md CHANGELOG.md LICENSE-APACHE LICENSE-MIT $(DESTDIR)$(DOC)
-	install -m 644 docs/pictures/*.svg docs/pictures/*.png $(DESTDIR)$(DOC)/pictures
+	ci/install-pages $(DESTDIR)$(DOC)
 	install -m 644 sites/*.toml deploy/hub.toml $(DESTDIR)$(DOC)/examples
 	for kind in nftables wireguard stunnel systemd apparmor prometheus grafana; do install -d $(DESTDIR)$(DOC)/examples/$$kind && install -m 644 deploy/$$kind/* $(DESTDIR)$(DOC)/examples/$$kind || exit; done
 	install -m 644 examples/scripts/*.txt $(DESTDIR)$(DOC)/examples/scripts

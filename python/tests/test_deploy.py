@@ -105,6 +105,26 @@ class Examples(unittest.TestCase):
             self.assertRegex((TOP / "Makefile").read_text(encoding="utf-8"), rf"\tfor kind in [\w ]*\b{folder}\b[\w ]*; do install ")
 
 
+class Pages(unittest.TestCase):
+    """The documents as they are installed."""
+
+    def test_no_link_leads_nowhere(self) -> None:
+        with tempfile.TemporaryDirectory() as name:
+            subprocess.run([TOP / "ci" / "install-pages", name], check=True)
+            folder = pathlib.Path(name)
+            pages = {page.name: page.read_text(encoding="utf-8") for page in folder.glob("*.md")}
+            self.assertEqual(set(pages), {"CHANGELOG.md", *(it.name for it in (TOP / "docs").glob("*.md"))})
+            for page, text in pages.items():
+                for target in re.findall(r"\]\(([^)#]+)(?:#[^)]*)?\)", text):
+                    self.assertTrue(target.startswith("https://") or (folder / target).is_file(), f"{page}: {target}")
+        self.assertIn("(../crates/", read_document("GUARANTEES.md"))
+        self.assertNotIn("../", pages["GUARANTEES.md"])
+
+    def test_words_that_it_does_not_know(self) -> None:
+        done = subprocess.run([TOP / "ci" / "install-pages"], capture_output=True, text=True, check=False)
+        self.assertEqual((done.returncode, done.stdout.partition(":")[0], done.stderr), (2, "Installs the documents", ""))
+
+
 class ExampleSite(unittest.TestCase):
     """The ports are those of the example site."""
 

@@ -1,6 +1,6 @@
 # `make` alone says what there is.
 .DEFAULT_GOAL := help
-.PHONY: help run demo build build-tests check fmt test gate check-fast check-programs tools-check wrong-bodies bench bench-instructions station soak serve-check serve-hostile hub-hostile network-recipes unit-recipes restart refuse-memory pictures package package-check release maps trusted install
+.PHONY: help run demo build build-tests check fmt test gate check-fast check-programs tools-check wrong-bodies bench bench-instructions station soak serve-check serve-hostile hub-hostile network-recipes unit-recipes restart refuse-memory pictures package package-check release release-long maps trusted install
 
 PREFIX ?= /usr/local
 DESTDIR ?=
@@ -151,8 +151,11 @@ package: build/dmr_trunk build/dmr_decode ## a Debian package of the proved prog
 package-check: package ## installs the package in a clean root and serves a site there (as root; wants debootstrap and a network)
 	ci/check-package build/dmr-trunk_$(VERSION)_*.deb
 
-release: ## a release of what is committed, at release/: proved and checked in a fresh clone, with the record (docs/RELEASING.md; many hours)
+release: ## a release of what is committed, at release/: proved and checked in a fresh clone, with the record (docs/RELEASING.md; within two hours on four processors)
 	@ci/release
+
+release-long: ## the long steps for the release at release/, for which it does not wait: wrong bodies outside the gate, hours of serving
+	@ci/release --long
 
 install: build/dmr_trunk build/dmr_decode ## the programs, tools, headers for base stations, manual pages, units, dissector, examples and documents [PREFIX=/usr/local] [DESTDIR=]
 	install -D -m 755 build/dmr_trunk $(DESTDIR)$(PREFIX)/bin/dmr_trunk

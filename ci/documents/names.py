@@ -7,8 +7,8 @@ from collections.abc import Iterator
 from documents.blocks import TOP, blocks_of, commands_of
 
 FOLDERS = "tools|ci|trials|bench|station|python|docs|examples|sites|cases|deploy|crates"
-# Names in documents that rt makes, or that are patterns or pages of the kit.
-ELSEWHERE = re.compile(r"crates/[\w*]+/out\b|crates/NAME|crates/\*|sites/NAME|sites/\*|docs/NOT_COVERED\.md")
+# Names in documents that rt makes, that a release makes, or that are patterns or pages of the kit.
+ELSEWHERE = re.compile(r"crates/[\w*]+/out\b|crates/NAME|crates/\*|sites/NAME|sites/\*|docs/NOT_COVERED\.md|docs/releases\b")
 # Documents of the past, whose paths need not exist any more.
 HISTORY = ("CHANGELOG.md",)
 PROOFS = TOP / "docs/PROOFS.md"

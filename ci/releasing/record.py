@@ -5,11 +5,11 @@ import pathlib
 import platform
 import re
 import subprocess
-from collections.abc import Sequence
+from collections.abc import Mapping, Sequence
 from typing import NamedTuple
 
-from releasing.progress import Run
 from releasing.promises import Promise
+from releasing.reached import Run
 from releasing.steps import Outcome, Step, log_name
 
 
@@ -25,31 +25,36 @@ class Source(NamedTuple):
 
 
 class Made(NamedTuple):
-    """What was made of the sources. `toolchain` has the lines of its identity, and `same_twice` says whether the programs were the same from two folders."""
+    """What was made of the sources. `toolchain` has the lines of its identity, and `digests` the SHA-256 of each program and package. `outcomes` has what was done, by
+    the names of the steps: of those that make a release, and of those that are longer, for which no release waits."""
     source: Source
     short: bool
     toolchain: Sequence[str]
     runs: Sequence[Run]
+    digests: Mapping[str, str]
     steps: Sequence[Step]
-    outcomes: Sequence[Outcome]
-    same_twice: bool | None
+    longer: Sequence[Step]
+    outcomes: Mapping[str, Outcome]
+
+    def done(self) -> list[Outcome]:
+        """What the steps did that make a release, in their order."""
+        return [self.outcomes[it.name] for it in self.steps if it.name in self.outcomes]
 
     def failed(self) -> list[Outcome]:
         """The steps that failed."""
-        return [it for it in self.outcomes if it.status]
+        return [it for it in self.done() if it.status]
 
     def left_out(self) -> list[Outcome]:
         """The steps that were left out."""
-        return [it for it in self.outcomes if it.status is None]
+        return [it for it in self.done() if it.status is None]
 
     def to_do(self) -> list[Step]:
         """The steps that no run has done yet."""
-        done = {it.step.name for it in self.outcomes}
-        return [it for it in self.steps if it.name not in done]
+        return [it for it in self.steps if it.name not in self.outcomes]
 
     def is_release(self) -> bool:
-        """Whether it is a release: no step failed, none is left, and the programs were the same twice. A short run is none, but may have gone well too."""
-        return bool(self.same_twice) and not self.failed() and not self.to_do()
+        """Whether it is a release: no step failed, and none is left. A short run is none, but may have gone well too."""
+        return not self.failed() and not self.to_do()
 
 
 def digest_of(path: pathlib.Path) -> str:
@@ -93,14 +98,23 @@ def minutes(seconds: float) -> str:
     return f"{seconds:.0f} s" if seconds < 120 else f"{seconds / 60:.0f} min"
 
 
-def table_of(made: Made) -> list[str]:
-    """The table of the steps."""
+def table_of(steps: Sequence[Step], outcomes: Mapping[str, Outcome]) -> list[str]:
+    """The table of these steps."""
     rows = ["| step | outcome | time | run | its last line | log |", "|---|---|---|---|---|---|"]
-    numbers = {it.name: number for number, it in enumerate(made.steps, 1)}
-    for it in made.outcomes:
-        log = "" if it.status is None else f"`logs/{log_name(numbers[it.step.name], it.step)}`"
-        rows.append(f"| {it.step.name} | {it.word()} | {minutes(it.seconds)} | {it.run} | {it.last[:160].replace('|', '/')} | {log} |")
-    return rows + [f"| {it.name} | to do | | | | |" for it in made.to_do()]
+    for step in steps:
+        if it := outcomes.get(step.name):
+            log = "" if it.status is None else f"`logs/{log_name(step)}`"
+            rows.append(f"| {step.name} | {it.word()} | {minutes(it.seconds)} | {it.run} | {it.last[:160].replace('|', '/')} | {log} |")
+        else:
+            rows.append(f"| {step.name} | to do | | | | |")
+    return rows
+
+
+def longer_of(made: Made) -> list[str]:
+    """The table of the longer steps, if one of them was done."""
+    if not any(it.name in made.outcomes for it in made.longer):
+        return []
+    return ["", "## What was run longer", "", "No release waits for these steps (`make release-long`).", "", *table_of(made.longer, made.outcomes)]
 
 
 def runs_of(made: Made) -> list[str]:
@@ -121,7 +135,7 @@ def why_not(made: Made) -> list[str]:
     lines = []
     if made.short:
         lines += ["**This was a short run, and is not a release.** Steps that take hours took a minute, and the proof may have been kept from an earlier run.", ""]
-    if made.failed() or made.same_twice is False:
+    if made.failed():
         lines += [f"**This is not a release: {len(made.failed())} steps failed.**", ""]
     if made.to_do():
         lines += [f"**This is not a release yet: {len(made.to_do())} steps are to do.** `ci/release --go-on` does them.", ""]
@@ -130,8 +144,7 @@ def why_not(made: Made) -> list[str]:
 
 def record_of(made: Made, promises: Sequence[Promise]) -> str:
     """The text of RECORD.md."""
-    source, passed = made.source, sum(it.passed() for it in made.outcomes)
-    twice = {True: "yes", False: "NO", None: "not tried: a step before it failed or is to do"}[made.same_twice]
+    source, passed = made.source, sum(it.passed() for it in made.done())
     lines = [
         f"# dmr_trunk {source.version}: the record of its making", "",
         *why_not(made),
@@ -140,12 +153,12 @@ def record_of(made: Made, promises: Sequence[Promise]) -> str:
         f"| sources | {source.count} files; the SHA-256 of `SOURCES.sha256`, which has that of each, is `{source.digest}` |",
         *(f"| toolchain | {it} |" for it in made.toolchain),
         *runs_of(made),
-        f"| the same programs from two folders | {twice} |",
+        *(f"| `{name}` | SHA-256 `{digest}` |" for name, digest in made.digests.items()),
         f"| steps | {passed} passed, {len(made.failed())} failed, {len(made.left_out())} left out, {len(made.to_do())} to do |",
         "",
         "`SHA256SUMS` has the digests of the programs, the package and these files. `docs/RELEASING.md` in the sources says how a third party checks a release.",
         "", "## The steps", "",
-        *table_of(made),
+        *table_of(made.steps, made.outcomes), *longer_of(made),
         "", "## What was proved", "",
         "The gate proved each crate: each function meets its contract, for every input. These are the contracts of the functions that carry the promises. `docs/TRUSTED.md`"
         " lists the definitions that they depend on, and `docs/GUARANTEES.md` says in words what they mean.", "",

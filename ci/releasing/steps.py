@@ -3,30 +3,30 @@ import os
 import pathlib
 import subprocess
 import time
-from collections.abc import Iterator, Mapping, Sequence
+from collections.abc import Iterator, Sequence
 from concurrent.futures import ThreadPoolExecutor
 from typing import NamedTuple
 
+from progress import Progress
+
 # a soak plays as many inputs for each of two sites, in both versions of the link
-SOAK_INPUTS = 10_000_000
+SOAK_INPUTS, LONG_SOAK_INPUTS = 1_000_000, 10_000_000
 SOAKS = 4
 SITE = "sites/sixteen_carriers.toml"
-HOUR = 3600
+# for how many seconds a site is served in trouble, and in a long run
+SERVED, LONG_SERVED = 600, 3600
 # the number of steps that try the wrong bodies outside the gate, of some twenty minutes each
 WRONG_BODY_PARTS = 8
 
 
 class Step(NamedTuple):
-    """A step: its name, and its command in the clone."""
+    """A step: its name, its command in the clone, and the seconds that it took on four processors when it was last measured."""
     name: str
     words: Sequence[str]
+    seconds: float
     needs_root: bool = False
-    # whether later steps need what it builds in the clone
-    builds: bool = False
     # whether it runs side by side with the step before it
     side_by_side: bool = False
-    # the seconds that it takes at least, if that is known
-    least_seconds: float = 0
 
 
 class Outcome(NamedTuple):
@@ -53,40 +53,58 @@ def carriers(*words: str) -> list[str]:
     return ["tools/carriers", "--site", SITE, "--program", "build/dmr_trunk", *words]
 
 
-def wrong_bodies(part: int, short: bool) -> Step:
-    """The step that tries a part of the wrong bodies outside the gate. A short run tries one in a hundred of each part."""
-    asked = f"{part * 100}/{WRONG_BODY_PARTS * 100}" if short else f"{part}/{WRONG_BODY_PARTS}"
-    return Step(f"wrong bodies outside the gate, part {part} of {WRONG_BODY_PARTS}", ["ci/wrong-bodies", "--outside", "--part", asked])
+def soak(inputs: int) -> Step:
+    """The step that plays random inputs."""
+    return Step(f"a soak of {inputs:,} inputs", ["build/dmr_soak", "--inputs", str(inputs // SOAKS), "--counts"], inputs / 600_000)
+
+
+def served_in_trouble(seconds: int, side_by_side: bool = False) -> Step:
+    """The step that serves a site in trouble."""
+    return Step(f"served in trouble for {seconds} s", carriers("--faults", "--seconds", str(seconds)), seconds + 2, side_by_side=side_by_side)
 
 
 def all_steps(short: bool) -> list[Step]:
-    """The steps, in order. A short run has the same steps; those that take hours take a minute."""
-    serving = 60 if short else HOUR
-    seconds = str(serving)
-    inputs = (SOAK_INPUTS // 100 if short else SOAK_INPUTS) // SOAKS
+    """The steps that make a release, in order. A short run has the same steps; the long ones take a minute, and what the gate did before is not done again."""
     return [
-        Step("checks without a proof", ["ci/check", "fast"]),
-        Step("the prover's gate, from nothing", ["ci/gate", *([] if short else ["--anew"])]),
-        Step("the programs", ["make", "build", "build-tests"], builds=True),
-        Step("checks over the programs", ["ci/check", "programs"]),
-        *(wrong_bodies(part, short) for part in range(1, WRONG_BODY_PARTS + 1)),
-        Step(f"a soak of {inputs * SOAKS:,} inputs", ["build/dmr_soak", "--inputs", str(inputs), "--counts"]),
-        Step(f"served for {seconds} s", carriers("--seconds", seconds), least_seconds=serving),
-        Step(f"served in trouble for {seconds} s", carriers("--faults", "--seconds", seconds), side_by_side=True, least_seconds=serving),
-        Step("each allocation refused", ["trials/refuse-memory"]),
-        Step("served to peers that behave badly", ["trials/serve-hostile", "build/dmr_trunk"]),
-        Step("killed while it serves, and a file of records in trouble", ["trials/restart", "build/dmr_trunk"]),
-        Step("times beside C", ["make", "bench"]),
-        Step("instructions beside C", ["make", "bench-instructions"]),
-        Step("the package", ["make", "package"]),
-        Step("the package in a clean root", ["make", "package-check"], needs_root=True),
-        Step("its units and drop-ins, with systemd in a container", ["make", "unit-recipes"], needs_root=True),
+        Step("checks without a proof", ["ci/check", "fast"], 110),
+        Step("the prover's gate, from nothing", ["ci/gate", *([] if short else ["--anew"])], 2750),
+        Step("the programs that the gate built", ["make", "build", "build-tests"], 5),
+        Step("the same programs from another folder", ["ci/same-elsewhere"], 300),
+        Step("checks over the programs", ["ci/check", "programs"], 255),
+        soak(SOAK_INPUTS // 100 if short else SOAK_INPUTS),
+        served_in_trouble(60 if short else SERVED),
+        Step("each allocation refused", ["trials/refuse-memory"], 102),
+        Step("served to peers that behave badly", ["trials/serve-hostile", "build/dmr_trunk"], 161),
+        Step("killed while it serves, and a file of records in trouble", ["trials/restart", "build/dmr_trunk"], 300),
+        Step("a hub under attack", ["trials/hub-hostile", "build/dmr_trunk"], 90),
+        Step("times beside C", ["make", "bench"], 300),
+        Step("instructions beside C", ["make", "bench-instructions"], 120),
+        Step("the package", ["make", "package"], 20),
+        Step("the package in a clean root", ["make", "package-check"], 90, needs_root=True),
+        Step("its units and drop-ins, with systemd in a container", ["make", "unit-recipes"], 300, needs_root=True),
     ]
 
 
-def log_name(number: int, step: Step) -> str:
+def wrong_bodies(part: int, short: bool) -> Step:
+    """The step that tries a part of the wrong bodies outside the gate. A short run tries one in a hundred of each part."""
+    asked = f"{part * 100}/{WRONG_BODY_PARTS * 100}" if short else f"{part}/{WRONG_BODY_PARTS}"
+    return Step(f"wrong bodies outside the gate, part {part} of {WRONG_BODY_PARTS}", ["ci/wrong-bodies", "--outside", "--part", asked], 1200)
+
+
+def long_steps(short: bool) -> list[Step]:
+    """The steps for which no release waits, in order: they take hours."""
+    seconds = 90 if short else LONG_SERVED
+    return [
+        Step(f"served for {seconds} s", carriers("--seconds", str(seconds)), seconds + 2),
+        served_in_trouble(seconds, side_by_side=True),
+        soak(LONG_SOAK_INPUTS // 100 if short else LONG_SOAK_INPUTS),
+        *(wrong_bodies(part, short) for part in range(1, WRONG_BODY_PARTS + 1)),
+    ]
+
+
+def log_name(step: Step) -> str:
     """The name of the file with what a step printed."""
-    return f"{number:02}-" + "".join(it if it.isalnum() else "-" for it in step.name.lower()).strip("-") + ".txt"
+    return "".join(it if it.isalnum() else "-" for it in step.name.lower()).strip("-") + ".txt"
 
 
 def run_step(step: Step, clone: pathlib.Path, log: pathlib.Path, run: int = 1) -> Outcome:
@@ -115,21 +133,23 @@ def groups_of(steps: Sequence[Step]) -> list[list[Step]]:
     return groups
 
 
-def run_all(steps: Sequence[Step], clone: pathlib.Path, logs: pathlib.Path, done: Mapping[str, Outcome], run: int, most_seconds: float) -> Iterator[Outcome]:
+def run_all(steps: Sequence[Step], clone: pathlib.Path, logs: pathlib.Path, progress: Progress, run: int, most_seconds: float) -> Iterator[Outcome]:
     """Runs the steps, those of a group side by side and one group after another, and yields the outcome of each. A step that fails does not end the run.
 
-    `done` has the steps that passed in earlier runs, by their names. Their outcomes are yielded as they are. What a step builds is not in this clone then, so
-    it is built again, as long as anything is to do. No step begins after `most_seconds`, or if it is known to end after them; those that are left yield nothing.
+    No step begins if it would end after `most_seconds` by the time that it took last; those that are left yield nothing. `progress` shows which step runs, how
+    many are left, and how long they took last.
     """
     began = time.monotonic()
-    complete = all(it.name in done for it in steps)
-    numbers = {it.name: number for number, it in enumerate(steps, 1)}
+
+    def work(step: Step) -> Outcome:
+        """Runs one step, and prints its line."""
+        progress.begin(step.name)
+        outcome = run_step(step, clone, logs / log_name(step), run)
+        progress.end(step.name, not outcome.passed(), f"{outcome.word()}  {step.name} ({outcome.seconds:.0f} s): {outcome.last[:120]}")
+        return outcome
+
     for group in groups_of(steps):
-        to_do = [it for it in group if it.name not in done or (it.builds and not complete)]
-        if time.monotonic() - began + max(it.least_seconds for it in group) >= most_seconds:
-            to_do = []
+        if time.monotonic() - began + max(it.seconds for it in group) >= most_seconds:
+            continue
         with ThreadPoolExecutor(len(group)) as pool:
-            ran = dict(zip([it.name for it in to_do], pool.map(lambda it: run_step(it, clone, logs / log_name(numbers[it.name], it), run), to_do), strict=True))
-        for it in group:
-            if it.name in ran or it.name in done:
-                yield ran.get(it.name) or done[it.name]
+            yield from pool.map(work, group)

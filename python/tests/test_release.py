@@ -2,6 +2,7 @@
 import hashlib
 import importlib.machinery
 import importlib.util
+import io
 import json
 import pathlib
 import re
@@ -14,7 +15,8 @@ import unittest.mock
 TOP = pathlib.Path(__file__).resolve().parent.parent.parent
 sys.path.insert(0, str(TOP / "ci"))
 steps = importlib.import_module("releasing.steps")
-progress = importlib.import_module("releasing.progress")
+reached = importlib.import_module("releasing.reached")
+shown = importlib.import_module("progress")
 record = importlib.import_module("releasing.record")
 components = importlib.import_module("releasing.components")
 promises = importlib.import_module("releasing.promises")
@@ -25,34 +27,41 @@ SOURCE = record.Source("1.2.3", "0123456789abcdef", "2026-01-02", "d" * 64, 7)
 loader = importlib.machinery.SourceFileLoader("release", str(TOP / "ci/release"))
 command = importlib.util.module_from_spec(importlib.util.spec_from_loader("release", loader))
 loader.exec_module(command)
-RUN = progress.Run("2026-01-02", ["2 processors", "8 GiB of memory"])
+RUN = reached.Run("2026-01-02", ["2 processors", "8 GiB of memory"])
 
 
 def outcome(name: str, status: int | None, last: str = "a last line") -> object:
     """The outcome of a step that took a second."""
-    return steps.Outcome(steps.Step(name, ["true"]), status, 1.0, last)
+    return steps.Outcome(steps.Step(name, ["true"], 1), status, 1.0, last)
 
 
 class Steps(unittest.TestCase):
     """The commands of a release."""
 
     def test_short_run_has_the_same_steps(self) -> None:
-        """A short run leaves out no step, and none of it takes hours."""
-        whole, short = steps.all_steps(False), steps.all_steps(True)
-        self.assertEqual([it.words[0] for it in whole], [it.words[0] for it in short])
-        self.assertFalse([it for it in short if str(steps.HOUR) in it.words])
+        """A short run leaves out no step, and none of it is served for long."""
+        for listed in (steps.all_steps, steps.long_steps):
+            whole, short = listed(False), listed(True)
+            self.assertEqual([it.words[0] for it in whole], [it.words[0] for it in short])
+            self.assertFalse([it for it in short if {str(steps.SERVED), str(steps.LONG_SERVED)} & set(it.words)])
 
-    def test_logs_have_different_names(self) -> None:
-        """Each step has a log of its own, and its name is that of a file."""
-        names = [steps.log_name(number, it) for number, it in enumerate(steps.all_steps(False), 1)]
-        self.assertEqual(len(names), len(set(names)))
-        for name in names:
-            self.assertRegex(name, r"^\d\d-[a-z0-9-]+\.txt$")
+    def test_names(self) -> None:
+        """Each step has a name of its own, and so has its log, which is that of a file."""
+        for short in (False, True):
+            names = [steps.log_name(it) for it in (*steps.all_steps(short), *steps.long_steps(short))]
+            self.assertEqual(len(names), len(set(names)))
+            for name in names:
+                self.assertRegex(name, r"^[a-z0-9-]+\.txt$")
+
+    def test_it_fits(self) -> None:
+        """By the times that the steps took last, a release is made in two hours, and half of the gate's time is left for a slower machine."""
+        seconds = {it.name: it.seconds for it in steps.all_steps(False)}
+        self.assertLess(sum(seconds.values()) + seconds["the prover's gate, from nothing"] / 2, 2 * 3600)
 
     def test_commands_exist(self) -> None:
         """Each command is a file of the repository, a program that it builds, or a target of the Makefile."""
         targets = (TOP / "Makefile").read_text(encoding="utf-8")
-        for it in steps.all_steps(False):
+        for it in (*steps.all_steps(False), *steps.long_steps(False)):
             with self.subTest(it.name):
                 if it.words[0] == "make":
                     self.assertIn(f"\n{it.words[1]}:", targets)
@@ -65,7 +74,7 @@ class Steps(unittest.TestCase):
             at, log = pathlib.Path(folder), pathlib.Path(folder) / "log.txt"
             for words, status, last in ((["sh", "-c", "echo first; echo last"], 0, "last"), (["sh", "-c", "echo why >&2; exit 3"], 3, "why"), (["./missing"], 127, "./missing: No such file or directory")):
                 with self.subTest(words):
-                    got = steps.run_step(steps.Step("a step", words), at, log)
+                    got = steps.run_step(steps.Step("a step", words, 1), at, log)
                     self.assertEqual((got.status, got.last), (status, last))
 
 
@@ -77,52 +86,64 @@ class Runs(unittest.TestCase):
         self.addCleanup(room.cleanup)
         self.folder = pathlib.Path(room.name)
         (self.folder / "logs").mkdir()
-        self.steps = [steps.Step(name, ["sh", "-c", f"echo {name} >>done; echo {name}"], builds=name == "builds") for name in ("first", "builds", "last")]
+        self.steps = [steps.Step(name, ["sh", "-c", f"echo {name}; test {name} != fails"], 1) for name in ("first", "fails", "last")]
 
-    def run_all(self, done: dict[str, object], seconds: float = 60) -> tuple[list[str], list[tuple[str, int]]]:
-        """Runs the steps as run 2: which were run, and the outcomes, each with the number of its run."""
-        (self.folder / "done").write_text("", encoding="ascii")
-        outcomes = list(steps.run_all(self.steps, self.folder, self.folder / "logs", done, 2, seconds))
-        return (self.folder / "done").read_text(encoding="ascii").split(), [(it.step.name, it.run) for it in outcomes]
+    def run_all(self, listed: list[object], seconds: float = 60) -> tuple[list[tuple[str, int, int]], str]:
+        """Runs the steps as run 2: the outcomes, and what was shown."""
+        out = io.StringIO()
+        progress = shown.Progress([(it.name, it.seconds) for it in listed], out)
+        return [(it.step.name, it.status, it.run) for it in steps.run_all(listed, self.folder, self.folder / "logs", progress, 2, seconds)], out.getvalue()
 
-    def done(self, *names: str) -> dict[str, object]:
-        """The outcomes of these steps in run 1."""
-        return {it.name: steps.Outcome(it, 0, 1.0, it.name) for it in self.steps if it.name in names}
-
-    def test_later_run(self) -> None:
-        """What passed is not done again, but what it built is built again as long as a step is to do."""
-        self.assertEqual(self.run_all({}), (["first", "builds", "last"], [("first", 2), ("builds", 2), ("last", 2)]))
-        self.assertEqual(self.run_all(self.done("first", "builds")), (["builds", "last"], [("first", 1), ("builds", 2), ("last", 2)]))
-        self.assertEqual(self.run_all(self.done("first", "builds", "last")), ([], [("first", 1), ("builds", 1), ("last", 1)]))
+    def test_each_is_run_and_shown(self) -> None:
+        """A step that fails ends nothing. Each has a line that says how many are left."""
+        outcomes, text = self.run_all(self.steps)
+        self.assertEqual(outcomes, [("first", 0, 2), ("fails", 1, 2), ("last", 0, 2)])
+        for line in ("passed  first (0 s): first; 2 steps left", "FAILED, status 1  fails (0 s): fails; 1 step left", "passed  last (0 s): last; no step left"):
+            self.assertIn(line, text)
 
     def test_time_is_over(self) -> None:
-        """No step begins after the time is over. One that is known to end after it does not begin either, but the shorter ones after it do."""
-        self.assertEqual(self.run_all(self.done("first"), 0), ([], [("first", 1)]))
-        self.steps[1] = self.steps[1]._replace(least_seconds=90)
-        self.assertEqual(self.run_all({}), (["first", "last"], [("first", 2), ("last", 2)]))
-        self.assertEqual(self.run_all({}, 120)[0], ["first", "builds", "last"])
+        """No step begins after the time is over, nor one that would end after it by the time that it took last. Shorter ones after it do."""
+        self.assertEqual(self.run_all(self.steps, 0)[0], [])
+        self.steps[1] = self.steps[1]._replace(seconds=90)
+        self.assertEqual([it[0] for it in self.run_all(self.steps)[0]], ["first", "last"])
+        self.assertEqual([it[0] for it in self.run_all(self.steps, 120)[0]], ["first", "fails", "last"])
 
     def test_side_by_side(self) -> None:
-        """Two steps run side by side: each waits for the other. One that passed is not done again."""
+        """Two steps run side by side: each waits for the other."""
         meets = "touch {0}; for it in $(seq 500); do [ -e {1} ] && exit; sleep 0.01; done; exit 1"
-        pair = [steps.Step(mine, ["sh", "-c", meets.format(mine, other)], side_by_side=mine == "right") for mine, other in (("left", "right"), ("right", "left"))]
-        for done, runs in (({}, [2, 2]), ({"left": steps.Outcome(pair[0], 0, 1.0, "")}, [1, 2])):
-            with self.subTest(list(done)):
-                outcomes = list(steps.run_all(pair, self.folder, self.folder / "logs", done, 2, 60))
-                self.assertEqual([(it.step, it.status, it.run) for it in outcomes], [(it, 0, run) for it, run in zip(pair, runs, strict=True)])
+        pair = [steps.Step(mine, ["sh", "-c", meets.format(mine, other)], 1, side_by_side=mine == "right") for mine, other in (("left", "right"), ("right", "left"))]
+        self.assertEqual(self.run_all(pair)[0], [("left", 0, 2), ("right", 0, 2)])
 
-    def test_progress(self) -> None:
-        """What is written is read again. Only steps that passed count as done. Any other text is refused."""
-        outcomes = {"first": steps.Outcome(self.steps[0], 0, 1.5, "well", 1), "last": steps.Outcome(self.steps[2], 3, 2.0, "why", 2)}
-        written = progress.Progress("c0ffee", False, [RUN, RUN], outcomes)
+    def test_reached(self) -> None:
+        """What is written is read again. Steps that failed, were left out or were not done are to do. Any other text is refused."""
+        outcomes = {"first": steps.Outcome(self.steps[0], 0, 1.5, "well", 1), "fails": steps.Outcome(self.steps[1], 3, 2.0, "why", 2)}
+        written = reached.Reached("c0ffee", False, [RUN, RUN], outcomes)
         written.write(self.folder)
-        read = progress.Progress.read(self.folder, self.steps)
+        read = reached.Reached.read(self.folder, self.steps)
         self.assertEqual((read.commit, read.short, len(read.runs), read.outcomes), ("c0ffee", False, 2, outcomes))
-        self.assertEqual(list(read.passed()), ["first"])
+        self.assertEqual(read.to_do(self.steps), self.steps[1:])
         for text in ("", "{}", '{"commit": "c0ffee", "short": false, "runs": [], "steps": [{"step": "unknown"}]}'):
             with self.subTest(text), self.assertRaises(ValueError):
-                (self.folder / progress.NAME).write_text(text, encoding="ascii")
-                progress.Progress.read(self.folder, self.steps)
+                (self.folder / reached.NAME).write_text(text, encoding="ascii")
+                reached.Reached.read(self.folder, self.steps)
+
+    def test_what_was_built_is_kept(self) -> None:
+        """A later run finds in its clone what an earlier one has built, but for the package's folder; the release has the programs and the package of it."""
+        first, second, folder = (self.folder / name for name in ("first", "second", "release"))
+        for path in (second, folder):
+            path.mkdir()
+        reached.keep_built(second, folder)
+        self.assertEqual((list(folder.iterdir()), command.copy_built(folder)), ([], []))
+        (first / "build" / "package").mkdir(parents=True)
+        for name in (*command.PROGRAMS, "dmr-trunk_1.2.3_amd64.deb", "SOURCES"):
+            (first / "build" / name).write_text(name, encoding="ascii")
+        reached.keep_built(first, folder)
+        reached.keep_built(first, folder)
+        reached.take_built(folder, second)
+        kept = {*command.PROGRAMS, "dmr-trunk_1.2.3_amd64.deb", "SOURCES"}
+        self.assertEqual({it.name for it in (second / "build").iterdir()}, kept)
+        self.assertEqual(command.copy_built(folder), [*command.PROGRAMS, "dmr-trunk_1.2.3_amd64.deb"])
+        self.assertEqual((folder / "dmr_trunk").read_text(encoding="ascii"), "dmr_trunk")
 
 
 class Begins(unittest.TestCase):
@@ -153,39 +174,36 @@ class Begins(unittest.TestCase):
             with self.subTest(other), self.assertRaises(ValueError):
                 command.begin(self.folder, False, True)
 
-    def test_programs(self) -> None:
-        """Programs that a later run builds have to be those of the first."""
-        clone = pathlib.Path(self.folder.parent / "clone")
-        for folder in (clone / "build", self.folder):
-            folder.mkdir(parents=True)
-        for text, others in (("a", False), ("a", False), ("b", True)):
-            for name in command.PROGRAMS:
-                (clone / "build" / name).write_text(text, encoding="ascii")
-            self.assertEqual(command.copy_built(clone, self.folder), (list(command.PROGRAMS), others))
-            self.assertEqual({(self.folder / name).read_text(encoding="ascii") for name in command.PROGRAMS}, {"a"})
-
 
 class Records(unittest.TestCase):
     """RECORD.md, and the digests."""
 
-    def text(self, outcomes: list[object], short: bool = False, twice: bool | None = True, more: tuple[object, ...] = ()) -> str:
-        """The record of these outcomes, and of more steps that are to do."""
-        made = record.Made(SOURCE, short, ["a toolchain", "compiler c0ffee"], [RUN], [*(it.step for it in outcomes), *more], outcomes, twice)
+    def text(self, outcomes: list[object], short: bool = False, more: tuple[object, ...] = (), longer: tuple[object, ...] = ()) -> str:
+        """The record of these outcomes, of more steps that are to do, and of longer ones that passed."""
+        done = {it.step.name: it for it in (*outcomes, *longer)}
+        made = record.Made(SOURCE, short, ["a toolchain", "compiler c0ffee"], [RUN], {"dmr_trunk": "e" * 64}, [*(it.step for it in outcomes), *more], [it.step for it in longer], done)
         return record.record_of(made, [promises.Promise("dmr_x::run", "Runs", "pub fn run()\n    ensures { x }")])
 
     def test_whole(self) -> None:
-        """A record of a release names sources, toolchain, steps and theorems."""
+        """A record of a release names sources, toolchain, digests, steps and theorems."""
         text = self.text([outcome("a step", 0), outcome("another", None, "it needs root")])
         self.assertNotIn("not a release", text)
-        for part in ("# dmr_trunk 1.2.3", SOURCE.commit, SOURCE.digest, "| toolchain | a toolchain |\n| toolchain | compiler c0ffee |\n", "1 passed, 0 failed, 1 left out, 0 to do", "| another | left out |", "| run 1, 2026-01-02 | 2 processors; 8 GiB of memory |", "### `dmr_x::run`\n\nRuns.", "    ensures { x }\n```"):
+        self.assertNotIn("longer", text)
+        for part in ("# dmr_trunk 1.2.3", SOURCE.commit, SOURCE.digest, "| toolchain | a toolchain |\n| toolchain | compiler c0ffee |\n", f"| `dmr_trunk` | SHA-256 `{'e' * 64}` |", "1 passed, 0 failed, 1 left out, 0 to do", "| another | left out |", "| run 1, 2026-01-02 | 2 processors; 8 GiB of memory |", "### `dmr_x::run`\n\nRuns.", "    ensures { x }\n```"):
             self.assertIn(part, text)
 
+    def test_longer(self) -> None:
+        """Longer steps have a table of their own, and no release waits for them."""
+        text = self.text([outcome("a step", 0)], longer=(outcome("an hour", 1),))
+        self.assertNotIn("not a release", text)
+        self.assertIn("| an hour | FAILED, status 1 |", text.partition("## What was run longer")[2])
+
     def test_what_is_not_a_release(self) -> None:
-        """A failed step, other programs from another folder, a short run, and a step that is to do: the record says so at its beginning."""
-        to_do = (steps.Step("another", ["true"]),)
-        for status, short, twice, more in ((2, False, True, ()), (0, False, False, ()), (0, True, True, ()), (0, False, None, to_do)):
-            with self.subTest(status=status, short=short, twice=twice):
-                text = self.text([outcome("a step", status)], short, twice, more)
+        """A failed step, a short run, and a step that is to do: the record says so at its beginning."""
+        to_do = (steps.Step("another", ["true"], 1),)
+        for status, short, more in ((2, False, ()), (0, True, ()), (0, False, to_do)):
+            with self.subTest(status=status, short=short):
+                text = self.text([outcome("a step", status)], short, more)
                 self.assertIn("not a release", text.partition("| commit |")[0])
         self.assertIn("| another | to do |", text)
 

@@ -1,12 +1,15 @@
-"""How far a release has come: the runs that worked on it, each on one machine, and the steps that were done. It is kept in the release's folder."""
+"""How far a release has come: the runs that worked on it, each on one machine, and the steps that were done. It is kept in the release's folder, with what was built."""
 import json
 import pathlib
-from collections.abc import Mapping, Sequence
+import shutil
+from collections.abc import Sequence
 from typing import NamedTuple, Self
 
 from releasing.steps import Outcome, Step
 
 NAME = "logs/progress.json"
+# The folder with what was built, for later runs. The package's own folder is made again.
+BUILT, NOT_KEPT = "build", shutil.ignore_patterns("package")
 
 
 class Run(NamedTuple):
@@ -15,7 +18,7 @@ class Run(NamedTuple):
     machine: Sequence[str]
 
 
-class Progress(NamedTuple):
+class Reached(NamedTuple):
     """The commit and the kind of a release, its runs so far, and the outcome of each step that was done, by its name."""
     commit: str
     short: bool
@@ -44,6 +47,18 @@ class Progress(NamedTuple):
         new.write_text(json.dumps(said, indent=1) + "\n", encoding="utf-8")
         new.replace(folder / NAME)
 
-    def passed(self) -> Mapping[str, Outcome]:
-        """The steps that passed. A step that failed or was left out is done again by the next run."""
-        return {name: it for name, it in self.outcomes.items() if it.passed()}
+    def to_do(self, steps: Sequence[Step]) -> list[Step]:
+        """Those of these steps that have not passed. One that failed or was left out is done again."""
+        return [it for it in steps if it.name not in self.outcomes or not self.outcomes[it.name].passed()]
+
+
+def keep_built(clone: pathlib.Path, folder: pathlib.Path) -> None:
+    """Keeps what was built in the clone, in the release's folder."""
+    if (clone / BUILT).is_dir():
+        shutil.copytree(clone / BUILT, folder / BUILT, ignore=NOT_KEPT, dirs_exist_ok=True)
+
+
+def take_built(folder: pathlib.Path, clone: pathlib.Path) -> None:
+    """Copies what an earlier run has built into a clone. `ci/check programs` fails if it was not made from the same sources with the same kit."""
+    if (folder / BUILT).is_dir():
+        shutil.copytree(folder / BUILT, clone / BUILT)

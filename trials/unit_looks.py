@@ -8,7 +8,19 @@ from unit_lab import Done, Failed, Machine, wait_until
 DOC = "/usr/share/doc/dmr_trunk"
 # Seconds in which a term ends and the hub has read it, also if carriers do not poll and the machine is busy; and for a unit to come up.
 TERM, UP = 60.0, 30.0
-GET = "import sys, urllib.request; print(urllib.request.urlopen(sys.argv[1], timeout=10).read().decode())"
+# Prints what is at a URL. A hub that has just started may not listen yet.
+GET = """import sys, time, urllib.error, urllib.request
+for left in reversed(range(50)):
+    try:
+        print(urllib.request.urlopen(sys.argv[1], timeout=10).read().decode())
+        break
+    except urllib.error.HTTPError:
+        raise
+    except urllib.error.URLError:
+        if not left:
+            raise
+        time.sleep(0.2)
+"""
 
 
 # ---- texts of the package

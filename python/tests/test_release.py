@@ -227,7 +227,7 @@ class Version(unittest.TestCase):
 
     def test_status(self) -> None:
         """The README's status has the newest release in the list of changes, with its date, or says that there is none. The program's version is that or the next."""
-        version = subprocess.run([TOP / "ci/version"], check=True, capture_output=True, text=True).stdout.strip()
+        version = subprocess.run([TOP / "ci/version"], check=True, capture_output=True, text=True).stdout.strip().removesuffix("~dev")
         released = re.findall(r"^## (\d+\.\d+\.\d+), (\d{4}-\d\d-\d\d)$", (TOP / "CHANGELOG.md").read_text(encoding="utf-8"), re.M)
         status = f"version {', '.join(released[0])}" if released else f"not released yet; the next version is {version}"
         self.assertIn(f"\nStatus: {status}", (TOP / "README.md").read_text(encoding="utf-8"))

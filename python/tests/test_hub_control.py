@@ -160,7 +160,7 @@ class Watched(unittest.TestCase):
     def test_missing_polls(self) -> None:
         """58.8 s have 980 polls of each carrier. A carrier that stops is missing in both of the last terms; one that is down is not; one that polls slowly, neither."""
         for terms, missing in ((((2940, 3), (2940, 3)), 0.0), (((2940, 3), (1960, 3), (1960, 3)), 1.0), (((2940, 3), (1960, 3)), 0.0), (((2940, 3), (1960, 2), (1960, 2)), 0.0),
-                               (((2000, 3), (2100, 3), (1950, 3)), 0.0), (((2940, 3), (0, 3), (0, 3)), 3.0)):
+                               (((2000, 3), (2100, 3), (1950, 3)), 0.0), (((2940, 3), (0, 3), (0, 3)), 3.0), (((0, 0), (0, 0)), 0.0), (((0, 0), (0, 0), (2940, 3)), 0.0)):
             found = self.missing(*terms)
             assert found is not None
             self.assertAlmostEqual(found, missing, 1, str(terms))

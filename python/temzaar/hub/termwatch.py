@@ -84,9 +84,10 @@ class TermWatch:
         # as many carriers would make these polls, each 60 ms
         made = term.counts["polls"] * POLL_MS / lasted
         least, most = min(it.least for it in known), max(it.greatest for it in known)
-        if most:
-            self.rates.append(min(1.0, made / most))
-        lack = least - made / max(LEAST_RATE, *self.rates)
+        if not most:
+            return 0.0
+        self.rates.append(min(1.0, made / most))
+        lack = least - made / self._rate()
         return lack if lack > LEAST_PART * least else 0.0
 
     def missing_polls(self) -> float | None:

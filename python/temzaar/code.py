@@ -107,3 +107,14 @@ def octets_of(burst: bytes) -> bytes | None:
     octets = information.to_bytes(12, "big")
     pdu = octets[:PDU_OCTETS]
     return pdu if word_of(octets) == word and check_of(pdu) == octets[PDU_OCTETS:] else None
+
+
+# Between the halves of a word on the air: the slot type of a CSBK with colour code 1, and the sync of a radio.
+SLOT_TYPE, SYNC = 0b0001001100_1010110010, 0xD5D7F77FD757
+
+
+def on_air(word: bytes) -> bytes:
+    """The 33 octets of a radio's burst with colour code 1 around the 25 octets of a word."""
+    first, last = divmod(int.from_bytes(word, "big") >> 4, 1 << 98)
+    before, after = divmod(SLOT_TYPE, 1 << 10)
+    return ((((first << 10 | before) << 48 | SYNC) << 10 | after) << 98 | last).to_bytes(33, "big")

@@ -1,4 +1,4 @@
-"""A controller that a tool starts: to serve a site, or to replay a script."""
+"""A controller that a tool starts, to serve a site or to replay a script; and other programs that it starts."""
 import ctypes
 import os
 import re
@@ -11,6 +11,7 @@ import time
 from collections.abc import Callable, Mapping, Sequence
 from typing import Any
 
+from temzaar.printable import printable
 from temzaar.script import SessionFault
 from temzaar.sitefile import Site
 
@@ -74,18 +75,19 @@ def ends_with_parent() -> Callable[[], None]:
 
 
 class Controller(Process):
-    """The controller, serving a site until it is stopped, or until this process ends. Ctrl-C in the terminal does not reach it by itself. `notes` has the lines of its standard error, as they come."""
+    """The controller, serving a site until it is stopped, or until this process ends. Ctrl-C in the terminal does not reach it by itself. `path` is its site file, and
+    `notes` has the lines of its standard error, as they come."""
 
     def __init__(self, program: str, site: Site, words: Sequence[str] = (), variables: Mapping[str, str] | None = None, **options: Any) -> None:
         """Starts it, with further words of its command line and further variables of its environment; `options` go to `subprocess.Popen`.
         SessionFault: it cannot be run."""
         self.folder = tempfile.TemporaryDirectory()
-        path = os.path.join(self.folder.name, "site.toml")
-        with open(path, "w", encoding="utf-8") as it:
+        self.path = os.path.join(self.folder.name, "site.toml")
+        with open(self.path, "w", encoding="utf-8") as it:
             it.write(site.text())
         self.notes: list[str] = []
         environment = {**os.environ, **UNIT_VARIABLES, **(variables or {})}
-        command = [program, "--site", path, "--serve", *words]
+        command = [program, "--site", self.path, "--serve", *words]
         more: dict[str, Any] = {"stdin": subprocess.DEVNULL, "process_group": 0, "preexec_fn": ends_with_parent(), **options}
         try:
             self.process = subprocess.Popen(command, stderr=subprocess.PIPE, text=True, errors="replace", env=environment, **more)
@@ -115,6 +117,10 @@ class Controller(Process):
             time.sleep(0.02)
         return False
 
+    def find_in_notes(self, pattern: str) -> list[str]:
+        """What the group of a pattern has in each note that has the pattern."""
+        return [found[1] for note in list(self.notes) if (found := re.search(pattern, note))]
+
     def wait_until_served(self) -> None:
         """Waits until the console listens, the last of the ports. SessionFault: it ends, or does not within half a minute."""
         if not self.wait_for("console: listening", 30):
@@ -139,6 +145,47 @@ class Controller(Process):
         self.folder.cleanup()
 
     def __enter__(self) -> "Controller":
+        return self
+
+    def __exit__(self, *_: object) -> None:
+        self.stop()
+
+
+class Command(Process):
+    """A program that runs until it ends or is stopped, or until this process ends, with all that it starts. What it prints is kept."""
+
+    def __init__(self, words: Sequence[str]) -> None:
+        """Starts it. SessionFault: it cannot be run."""
+        self.output = tempfile.TemporaryFile()
+        try:
+            self.process = subprocess.Popen(words, stdin=subprocess.DEVNULL, stdout=self.output, stderr=self.output, process_group=0, preexec_fn=ends_with_parent())
+        except (OSError, ValueError) as fault:
+            self.output.close()
+            raise SessionFault(f"cannot run {words[0]}: {fault.strerror if isinstance(fault, OSError) else fault}") from fault
+        super().__init__(self.process.pid)
+
+    def runs(self) -> bool:
+        """Whether it still runs."""
+        return self.process.poll() is None
+
+    def end_in_words(self) -> str:
+        """The status with which it has ended, and the last line that it printed."""
+        self.output.seek(0)
+        last = self.output.read().decode("utf-8", "replace").strip().rpartition("\n")[2]
+        return f"ended with status {self.process.returncode}" + (f" and said: {printable(last[-100:])}" if last else "")
+
+    def stop(self) -> None:
+        """Stops it, with all that it has started, and waits for its end."""
+        for number in (signal.SIGTERM, signal.SIGKILL):
+            try:
+                os.killpg(self.pid, number)
+                self.process.wait(5)
+            except (ProcessLookupError, subprocess.TimeoutExpired):
+                pass
+        self.process.wait()
+        self.output.close()
+
+    def __enter__(self) -> "Command":
         return self
 
     def __exit__(self, *_: object) -> None:

@@ -1,9 +1,14 @@
-"""The relay before a controller: it passes octets between carriers, operators and the controller, and records them as pieces in the site's order."""
+"""The relay before a controller: it passes octets between carriers, operators and the controller, and records them as pieces in the site's order.
+
+A manner says how answers reach a carrier: frame by frame, or as a network and a busy machine may deliver them.
+"""
+import itertools
 import os
 import selectors
 import socket
 import time
-from collections.abc import Callable, Iterable, Iterator
+from collections.abc import Callable, Iterator
+from dataclasses import dataclass, field
 
 from temzaar.console import SINGLE_REPLIES
 from temzaar.frames import FROM_CARRIER, Cutter, Frame, FrameType
@@ -18,6 +23,55 @@ HOLD, PATIENCE = 0.2, 10.0
 # The most octets of a line, or of an answer, that are kept before their end has come.
 MOST_HELD = 1 << 16
 ANSWERED = (FrameType.HELLO, FrameType.POLL, FrameType.BYE)
+# Seconds between octets that are sent alone.
+OCTET_PAUSE = 0.0005
+
+# It is given the frames of an answer as they come, and yields the pieces that are sent to the carrier. A connection has its own.
+Manner = Callable[[Iterator[bytes]], Iterator[bytes]]
+
+
+@dataclass
+class Connection:
+    """What came on a connection of a carrier: when it was opened, each frame with the time at which it was handed over, and the controller's first answer. Frames of
+    one time came together."""
+    opened: float
+    cutter: Cutter = field(default_factory=lambda: Cutter(FROM_CARRIER))
+    received: list[tuple[float, Frame]] = field(default_factory=list)
+    answer: bytes = b""
+    ended: bool = False
+
+    @property
+    def is_up(self) -> bool:
+        """Whether it was welcomed."""
+        return self.answer[:1] == bytes([FrameType.WELCOME])
+
+    def frames(self, *kinds: FrameType) -> list[Frame]:
+        """The frames of some types, or all."""
+        return [frame for _, frame in self.received if frame.kind in (kinds or FrameType)]
+
+    def polls(self) -> list[float]:
+        """When each POLL came."""
+        return [time for time, frame in self.received if frame.kind == FrameType.POLL]
+
+
+class Connections(Journal):
+    """The connections of one carrier, oldest first, in place of a file."""
+
+    def __init__(self, carrier: int) -> None:
+        super().__init__()
+        self.carrier, self.found = carrier, list[Connection]()
+
+    def add(self, piece: Piece) -> None:
+        if piece.to() == self.carrier:
+            if piece.input.kind == "open":
+                self.found.append(Connection(piece.time))
+            last = self.found[-1]
+            last.ended = piece.input.kind == "cut"
+            last.received += [(piece.time, frame) for frame in last.cutter.feed(piece.input.octets)]
+
+    def answer(self, piece: Piece) -> None:
+        if piece.to() == self.carrier:
+            self.found[-1].answer = self.found[-1].answer or piece.answer
 
 
 class ControllerLost(SessionFault):
@@ -26,6 +80,56 @@ class ControllerLost(SessionFault):
 
 class Ended(Exception):
     """The other side has ended a connection, or the controller does not answer any more."""
+
+
+def frame_by_frame() -> Manner:
+    """Each frame is sent as it comes."""
+    return lambda frames: frames
+
+
+def octet_by_octet(frames: Iterator[bytes]) -> Iterator[bytes]:
+    """Each octet is sent alone."""
+    for frame in frames:
+        for octet in frame:
+            yield bytes([octet])
+            time.sleep(OCTET_PAUSE)
+
+
+def in_one_piece(frames: Iterator[bytes]) -> Iterator[bytes]:
+    """The frames of an answer are sent together. Ended: after what came before the end."""
+    octets = b""
+    try:
+        for frame in frames:
+            octets += frame
+    except Ended:
+        yield octets
+        raise
+    yield octets
+
+
+def cut_and_joined() -> Manner:
+    """One answer is sent octet by octet, the next one in one piece, and so on."""
+    manners = itertools.cycle((octet_by_octet, in_one_piece))
+    return lambda frames: next(manners)(frames)
+
+
+def with_one_late(number: int, seconds: float) -> Manner:
+    """The answer of this number, from 0 on, is withheld for some seconds; no other is sent meanwhile."""
+    numbers = itertools.count()
+
+    def pass_back(frames: Iterator[bytes]) -> Iterator[bytes]:
+        """Waits before that answer."""
+        if next(numbers) == number:
+            time.sleep(seconds)
+        return frames
+
+    return pass_back
+
+
+def without_tx(number: int) -> Manner:
+    """The TX of this number, from 0 on, is not sent."""
+    numbers = itertools.count()
+    return lambda frames: (it for it in frames if it[0] != FrameType.TX or next(numbers) != number)
 
 
 class Upstream:
@@ -72,8 +176,8 @@ class Upstream:
 class Side:
     """A connection that is passed on: of a carrier, or of an operator."""
 
-    def __init__(self, journal: Journal, carrier: int, stream: socket.socket, port: int) -> None:
-        self.journal, self.carrier, self.stream = journal, carrier, stream
+    def __init__(self, journal: Journal, carrier: int, stream: socket.socket, port: int, manner: Manner) -> None:
+        self.journal, self.carrier, self.stream, self.manner = journal, carrier, stream, manner
         # a side that does not read ends its own connection, and delays the others no longer
         stream.settimeout(PATIENCE)
         self.upstream, self.held = Upstream("127.0.0.1", port), b""
@@ -91,13 +195,13 @@ class Side:
         self.held += piece
         self.since = self.since or time.monotonic()
 
-    def pass_on(self, given: Input, answers: Iterable[bytes]) -> None:
+    def pass_on(self, given: Input, answers: Iterator[bytes]) -> None:
         """Hands an input to the controller, and each part of its answer back; `answers` reads the parts."""
         piece = Piece(given, time.monotonic())
         self.journal.add(piece)
         try:
             self.upstream.stream.sendall(given.octets)
-            for part in answers:
+            for part in self.manner(answers):
                 piece.answer += part
                 self.stream.sendall(part)
         except OSError as fault:
@@ -112,12 +216,17 @@ class Side:
     def finish(self) -> None:
         """The connection has ended."""
 
+    def close(self) -> None:
+        """Closes both streams."""
+        self.stream.close()
+        self.upstream.stream.close()
+
 
 class CarrierSide(Side):
     """A carrier's connection."""
 
-    def __init__(self, journal: Journal, carrier: int, stream: socket.socket, port: int) -> None:
-        super().__init__(journal, carrier, stream, port)
+    def __init__(self, journal: Journal, carrier: int, stream: socket.socket, port: int, manner: Manner) -> None:
+        super().__init__(journal, carrier, stream, port, manner)
         self.cutter, self.up = Cutter(FROM_CARRIER), False
         # octets that were cut and not handed over yet, and their frames; None marks octets from which no frame can follow
         self.cut = b""
@@ -185,14 +294,17 @@ class OperatorSide(Side):
 class Relay:
     """The ports, and the connections that are passed on; the journal has the pieces. SessionFault: a port cannot be listened on."""
 
-    def __init__(self, site: Site, shift: int, journal: Journal) -> None:
-        self.shift, self.journal = shift, journal
+    def __init__(self, site: Site, inner: Site, journal: Journal, make_manner: Callable[[], Manner] = frame_by_frame) -> None:
+        """It listens on the ports of a site and passes on to those of the controller's, `inner`. `make_manner` makes the manner of a carrier's connection."""
+        self.inner, self.journal, self.make_manner = inner, journal, make_manner
         self.selector = selectors.DefaultSelector()
-        self.listeners: dict[int, tuple[socket.socket, int]] = {}
+        self.listeners: dict[int, socket.socket] = {}
         self.sides: dict[int, Side] = {}
-        for port, carrier in [(site.console_port, OPERATORS), *((row["port"], row["number"]) for row in site.rows)]:
+        # connections of which nothing is passed on any more, and that are open all the same
+        self.dead: list[Side] = []
+        for port, carrier in zip(site.ports(), [OPERATORS, *(row["number"] for row in site.rows)], strict=True):
             try:
-                self.listeners[carrier] = socket.create_server((site.address, port)), port
+                self.listeners[carrier] = socket.create_server((site.address, port))
             except OSError as fault:
                 self.close()
                 raise SessionFault(f"cannot listen on port {port}: {os.strerror(fault.errno) if fault.errno else fault}") from fault
@@ -200,36 +312,46 @@ class Relay:
 
     def await_connection(self, carrier: int) -> None:
         """Waits for a connection on a port. One at a time is served; another one waits until that has ended."""
-        self.selector.register(self.listeners[carrier][0], selectors.EVENT_READ, ("listen", carrier))
+        self.selector.register(self.listeners[carrier], selectors.EVENT_READ, ("listen", carrier))
 
     def accept(self, carrier: int) -> None:
         """Takes the connection that came on a port."""
-        listener, port = self.listeners[carrier]
+        listener = self.listeners[carrier]
+        port = self.inner.console_port if carrier == OPERATORS else self.inner.row(carrier)["port"]
         try:
             stream, _ = listener.accept()
         except OSError:
             # it was closed again before it was taken
             return
         stream.setsockopt(socket.IPPROTO_TCP, socket.TCP_NODELAY, 1)
-        kind = OperatorSide if carrier == OPERATORS else CarrierSide
+        kind, manner = (OperatorSide, frame_by_frame()) if carrier == OPERATORS else (CarrierSide, self.make_manner())
         try:
-            side = kind(self.journal, carrier, stream, port + self.shift)
+            side = kind(self.journal, carrier, stream, port, manner)
         except OSError as fault:
             stream.close()
-            raise ControllerLost(f"the controller takes no connection on port {port + self.shift}: {fault.strerror or fault}") from fault
+            raise ControllerLost(f"the controller takes no connection on port {port}: {fault.strerror or fault}") from fault
         self.selector.unregister(listener)
         self.sides[carrier] = side
         self.selector.register(stream, selectors.EVENT_READ, ("receive", carrier))
         self.selector.register(side.upstream.stream, selectors.EVENT_READ, ("read", carrier))
 
-    def end(self, carrier: int) -> None:
-        """Ends a connection, on both sides."""
+    def detach(self, carrier: int) -> Side:
+        """Looks no more at a connection, and waits for the next one of its carrier."""
         side = self.sides.pop(carrier)
-        side.finish()
         for stream in (side.stream, side.upstream.stream):
             self.selector.unregister(stream)
-            stream.close()
         self.await_connection(carrier)
+        return side
+
+    def end(self, carrier: int) -> None:
+        """Ends a connection, on both sides."""
+        side = self.detach(carrier)
+        side.finish()
+        side.close()
+
+    def let_die(self, carrier: int) -> None:
+        """From now on nothing of a connection is passed on, and neither side learns of it, as if the network between them were gone."""
+        self.dead.append(self.detach(carrier))
 
     def turn(self) -> None:
         """Does what there is to do now."""
@@ -258,5 +380,5 @@ class Relay:
                 self.end(carrier)
         finally:
             self.selector.close()
-            for listener, _ in self.listeners.values():
-                listener.close()
+            for it in (*self.listeners.values(), *self.dead):
+                it.close()

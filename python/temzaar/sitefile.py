@@ -173,6 +173,10 @@ class Site:
         """How long a tick lasts."""
         return self.plan["tick_ms"] / 1000
 
+    def ports(self) -> list[int]:
+        """The ports of the console and of the carriers."""
+        return [self.console_port, *(row["port"] for row in self.rows)]
+
     def by_lpcn(self) -> dict[int, int]:
         """The number of each carrier, by its logical physical channel number."""
         return {row["lpcn"]: row["number"] for row in self.rows}

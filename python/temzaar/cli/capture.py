@@ -106,7 +106,7 @@ def require_empty_site(port: int) -> None:
 def shifted_site(options: argparse.Namespace) -> Site:
     """The site of the controller, with its higher ports. SessionFault: a port would be none."""
     inner = Site(options.site)
-    highest = max(inner.console_port, *(row["port"] for row in inner.rows))
+    highest = max(inner.ports())
     if highest + options.shift > MOST_PORT:
         raise SessionFault(f"--shift {options.shift} is too much for port {highest}: ports end at {MOST_PORT}")
     inner.shift_ports(options.shift)
@@ -123,7 +123,7 @@ def record_live(options: argparse.Namespace, site: Site, out: OutputFile, stop: 
         if controller:
             controller.wait_until_served()
         require_empty_site(inner.console_port)
-        with closing(Relay(site, options.shift, journal)) as relay:
+        with closing(Relay(site, inner, journal)) as relay:
             print_note("capture", "listening")
             try:
                 pass_on(relay, controller, time.monotonic() + options.seconds, stop)

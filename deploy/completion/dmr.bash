@@ -10,6 +10,7 @@ _dmr_options() {
         dmr_callbook) echo --records --format --radio --group --carrier --cause --from --to --last --seconds --version --help ;;
         dmr_capture) echo --site --program --out --running --shift --seconds --pcap --unfinished --version --help ;;
         dmr_carriers) echo --site --program --pid --port --carriers --link-version --radios --seconds --polls --fast --seed --faults --troubles --version --help ;;
+        dmr_conform) echo --site --program --link-version --row --wait --json --version --help ;;
         dmr_check) echo --explain --strict --json --link-version --controller --no-controller --version --help ;;
         dmr_hub) echo --config --records --check --version --help ;;
         dmr_console) echo --socket --tcp --seconds --version --help ;;
@@ -47,8 +48,12 @@ _dmr() {
         --link-version) mapfile -t COMPREPLY < <(compgen -W "1 2" -- "$word") ;;
         --format) mapfile -t COMPREPLY < <(compgen -W "table csv json" -- "$word") ;;
         --cause) mapfile -t COMPREPLY < <(compgen -W "hang_time maximum radio_left dropped ended_by_operator carrier_lost" -- "$word") ;;
+        --row)
+            local rows="hello frames bits codewords reach transmits pace active pieces done next again numbers fallback return at-once died refused beside"
+            mapfile -t COMPREPLY < <(compgen -W "$rows" -- "$word")
+            ;;
         --calls) mapfile -t COMPREPLY < <(compgen -W "text csv json" -- "$word") ;;
-        --terms | --every | --seconds | --polls | --seed | --radios | --carriers | --port | --pid | --shift | --page | --troubles | --start | --from | --to | --tcp | --console | --radio | --group | --carrier | --last) COMPREPLY=() ;;
+        --terms | --wait | --every | --seconds | --polls | --seed | --radios | --carriers | --port | --pid | --shift | --page | --troubles | --start | --from | --to | --tcp | --console | --radio | --group | --carrier | --last) COMPREPLY=() ;;
         *)
             if [ "$command" = dmr_check ] && [ "${word#-}" = "$word" ]; then
                 _dmr_files toml "$word"
@@ -59,4 +64,4 @@ _dmr() {
     esac
 }
 
-complete -F _dmr dmr_trunk dmr_decode dmr_siteview dmr_timeline dmr_callbook dmr_capture dmr_carriers dmr_check dmr_hub dmr_console
+complete -F _dmr dmr_trunk dmr_decode dmr_siteview dmr_timeline dmr_callbook dmr_capture dmr_carriers dmr_conform dmr_check dmr_hub dmr_console

@@ -1,4 +1,5 @@
 """Tools for a site of the controller: they check its site file, watch it, record it, draw it, and play its carriers and radios.
+They also judge the clients of its base stations.
 
 The package reads and writes the formats of `docs/FORMATS.md`. It is written from the documents alone, apart from the controller's code, so a
 comparison of the two means something. One module per subject, lowest first:
@@ -20,8 +21,8 @@ comparison of the two means something. One module per subject, lowest first:
     script      scripts and printed replays
     console     an operator's console
     picture     a picture of a served site, made of several answers of its console
-    process     a controller that a tool starts, or replays a script with
-    relay       the relay between carriers, operators and a controller, which records
+    process     a controller that a tool starts, or replays a script with; other programs that it starts
+    relay       the relay between carriers, operators and a controller, which records, cuts, joins and withholds
     journal     the files of a recorded session, which grow piece by piece
     capturefile packet captures: pcap and pcapng files
     segments    the TCP segments in packets
@@ -40,7 +41,8 @@ comparison of the two means something. One module per subject, lowest first:
     ticks       where the ticks of a recorded session fell
     player      the play of a site's carriers and radios
     trouble     the same with connections that break, stall and misbehave
+    conformance the table of docs/LINK.md by which a base station's client is judged
     hub         a service that holds the console and serves many who ask
     hubconsole  a connection to the hub, and what its lines may be completed to
-    cli         the commands: siteview, timeline, callbook, capture, carriers, check, hub, console
+    cli         the commands: siteview, timeline, callbook, capture, carriers, conform, check, hub, console
 """

@@ -12,14 +12,14 @@ import unittest
 from collections.abc import Callable, Iterator, Sequence
 from typing import NamedTuple
 
-from temzaar.cli import callbook, capture, carriers, check, console, hub, siteview, timeline
+from temzaar.cli import callbook, capture, carriers, check, conform, console, hub, siteview, timeline
 from temzaar.ports import free_ports
 from temzaar.process import connect
 from temzaar.sitefile import FREE_PORTS, Site
 from tests.support import EXAMPLES, TOP, TWO_CARRIERS, call_tool, take_signals, tool_words
 
 MAINS: dict[str, Callable[[list[str]], int]] = {"siteview": siteview.main, "timeline": timeline.main, "callbook": callbook.main, "capture": capture.main, "carriers": carriers.main,
-                                                 "check": check.main, "hub": hub.main, "console": console.main}
+                                                 "conform": conform.main, "check": check.main, "hub": hub.main, "console": console.main}
 # The words for `--help` that would do harm, or fail, without it.
 HELP_WORDS = {"capture": "--site {none} --program {none} --out {out}", "check": "{none}", "hub": "--config {none}", "console": "--socket {none} status", "callbook": "--records {none}"}
 # Those that do something without words.
@@ -55,6 +55,8 @@ CASES = (
     Case("capture", "--site {site} --program {none} --out {out}", 1, "cannot run {none}: No such file or directory"),
     Case("capture", "--site {site} --program {folder} --out {out}", 1, "cannot run {folder}: Permission denied"),
     Case("capture", "--site {nobody} --running --shift 1 " + RECORD, 1, "cannot connect to the console"),
+    Case("conform", "--site {nobody} --program {none} -- {none}", 1, "cannot run {none}: No such file or directory"),
+    Case("conform", "--site {nobody} --program {program} -- {none}", 1, "cannot run {none}: No such file or directory"),
     Case("timeline", "--site {site} --script {script} --program {none}", 1, "cannot run {none}: No such file or directory"),
     Case("timeline", "--site {site} --script {script} --program {folder}", 1, "cannot run {folder}: Permission denied"),
     Case("check", "--controller {none} {site}", 2, "cannot run {none}: it is not a program"),
@@ -71,7 +73,7 @@ CASES = (
         ("none", "cannot read {none}: No such file or directory"), ("folder", "cannot read {folder}: Is a directory"), ("text", "not TOML"),
         ("octets", "cannot read {octets}: octet 0 is not UTF-8"), ("deep", "not TOML"), ("site", "system: unknown section"), ("zeros", "roles.full_users"))),
     *(Case(tool, f"--site {{{file}}} {more}", 1, f"site file {{{file}}}: {said}")
-      for tool, more in (("siteview", "--once"), ("carriers", "--seconds 1"), ("capture", RECORD), ("timeline", "--script {script} --printed {printed}"))
+      for tool, more in (("siteview", "--once"), ("carriers", "--seconds 1"), ("capture", RECORD), ("conform", "--program {program} -- {none}"), ("timeline", "--script {script} --printed {printed}"))
       for file, said in (("none", "No such file or directory"), ("folder", "Is a directory"), ("text", "not TOML"), ("octets", "octet 0 is not UTF-8"), ("wrong", "wrong type console_port"))),
     *(Case("timeline", words, 1, said) for words, said in (
         ("--site {site} --script {none} --printed {printed}", "{none}: No such file or directory"), ("--site {site} --script {folder} --printed {printed}", "{folder}: Is a directory"),
@@ -99,6 +101,7 @@ CASES = (
         ("--port 65530", "not a whole number from 1"), ("--polls x", "not a whole number from 0"), ("--link-version 3", "invalid choice"), ("--faults", "--faults needs --program"))),
     *(Case("timeline", f"{DRAW} {words}", 2, said) for words, said in (("--page x", "not a number above 0"), ("--calls x", "invalid choice"), ("--page 1", "--page needs --out"))),
     *(Case("capture", f"--site {{site}} {RECORD} {words}", 2, said) for words, said in (("--shift x", "not a whole number from 1"), ("--seconds 0", "not a number above 0"))),
+    *(Case("conform", f"--site {{site}} --program {{program}} {words}", 2, said) for words, said in (("--row x", "invalid choice"), ("--wait 0", "not a number above 0"))),
     *(Case("check", words, 2, said) for words, said in (("--link-version 3 {site}", "invalid choice"), ("{site} {site}", "unrecognized arguments"))),
     *(Case("callbook", words, 2, said) for words, said in (("--radio x", "not a whole number from 1"), ("--format xml", "invalid choice"), ("site.db", "unrecognized arguments"))),
     *(Case("hub", words, 2, said) for words, said in (("--config", "expected one argument"), ("status", "unrecognized arguments"))),

@@ -8,7 +8,7 @@ import unittest
 TOP = pathlib.Path(__file__).resolve().parent.parent.parent
 FILE = TOP / "deploy" / "completion" / "dmr.bash"
 MANUAL = TOP / "deploy" / "man"
-COMMANDS = ("dmr_trunk", "dmr_decode", "dmr_siteview", "dmr_timeline", "dmr_callbook", "dmr_capture", "dmr_carriers", "dmr_check", "dmr_hub", "dmr_console")
+COMMANDS = ("dmr_trunk", "dmr_decode", "dmr_siteview", "dmr_timeline", "dmr_callbook", "dmr_capture", "dmr_carriers", "dmr_conform", "dmr_check", "dmr_hub", "dmr_console")
 
 
 def completed(words: list[str], within: pathlib.Path = TOP) -> list[str]:
@@ -44,6 +44,7 @@ class Completion(unittest.TestCase):
             (["dmr_decode", "word", "w"], []),
             (["dmr_console", "s"], ["status", "slots", "stay"]),
             (["dmr_carriers", "--link-version", ""], ["1", "2"]),
+            (["dmr_conform", "--row", "d"], ["done", "died"]),
             (["dmr_timeline", "--calls", "c"], ["csv"]),
             (["dmr_callbook", "--format", "c"], ["csv"]),
             (["dmr_callbook", "--cause", "ma"], ["maximum"]),

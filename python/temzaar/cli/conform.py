@@ -27,7 +27,7 @@ def read_words(words: Sequence[str] | None) -> argparse.Namespace:
     parser.add_argument("--site", required=True, help="the site file; the client connects to its ports")
     parser.add_argument("--program", required=True, help="the controller, which is started on other ports")
     parser.add_argument("--link-version", type=int, choices=VERSIONS, default=2, help="the greatest version of the link that the site serves (2)")
-    parser.add_argument("--row", choices=ROWS, action="append", help="try this row; without it, all rows")
+    parser.add_argument("--row", metavar="ROW", choices=ROWS, action="append", help="try this row, and others that are named; without it, all")
     parser.add_argument("--wait", metavar="SECONDS", type=amount_above(0), default=60.0, help="how long a client that connects by itself is waited for (60)")
     parser.add_argument("--json", action="store_true", help="print the findings as JSON")
     parser.add_argument("command", nargs="*", metavar="WORD", help="the client's command")

@@ -139,17 +139,15 @@ class Stage:
         """What became of a client that did not do what was waited for."""
         if self.client and not self.client.runs():
             return f"its program {self.client.end_in_words()}"
-        if not self.connections:
-            return "no connection came"
-        causes = self.controller.find_in_notes(rf"carrier {self.carrier}: .* disconnected: (.*)")
-        return f"its last connection ended by {causes[-1] if causes else 'the end of the controller'}" if self.connections[-1].ended else "its connection is open"
+        causes = ["the end of the controller", *self.controller.find_in_notes(rf"carrier {self.carrier}: .* disconnected: (.*)")]
+        state = f"its last connection ended by {causes[-1]}" if any(it.ended for it in self.connections[-1:]) else "its connection is open"
+        return state if self.connections else "no connection came"
 
     def hello(self) -> Finding:
         """Whether each connection has one HELLO, the right one, as its first frame. The relay ends the first connection."""
         first = self.first()
         self.until(lambda: first.ended or len(first.polls()) >= MANY, MANY * PERIOD)
-        if not first.ended:
-            self.relay.end(self.carrier)
+        self.relay.end(self.carrier)
         self.until(lambda: any(it.polls() for it in self.connections[1:]), BACK)
         right = hello(self.carrier, self.own["lpcn"], first.cutter.version or 1)
         for number, frames in enumerate((it.frames() for it in self.connections if it.received), 1):
@@ -188,7 +186,8 @@ class Stage:
         first = self.first(2)
         require(first.cutter.version == 2, "it speaks version 1")
         self.until(lambda: first.ended, BACK)
-        return judged(first.ended and not first.frames(FrameType.BYE), f"TX 2 came after TX 0, and it {'ended the connection' if first.ended else 'went on'}")
+        what = "said BYE" if first.frames(FrameType.BYE) else "ended the connection" if first.ended else "went on"
+        return judged(what.startswith("ended"), f"TX 2 came after TX 0, and it {what}")
 
     def fallback(self) -> Finding:
         """Whether the client falls back to version 1, and keeps to it on its next connection."""
@@ -279,9 +278,10 @@ class Usual:
     def pace(self) -> Finding:
         """Whether there is a POLL in each frame."""
         times = max((it.polls()[-PACE_POLLS - 1:] for it in self.connections), key=len)
-        mean = (times[-1] - times[0]) / max(1, len(times) - 1)
         require(len(times) > PACE_POLLS or not self.options.leaves, self.options.leaves)
-        return judged(len(times) > PACE_POLLS and abs(mean - PERIOD) <= PACE_SHARE * PERIOD, f"a POLL each {mean * 1000:.1f} ms, the mean of {len(times) - 1}")
+        mean = (times[-1] - times[0]) / PACE_POLLS if len(times) > PACE_POLLS else 0.0
+        seen = f"a POLL each {mean * 1000:.1f} ms, the mean of {PACE_POLLS}" if mean else f"{len(times)} POLLs are too few"
+        return judged(abs(mean - PERIOD) <= PACE_SHARE * PERIOD, seen)
 
     def active(self) -> Finding:
         """Whether ACTIVE came for each frame of voice, and no other."""

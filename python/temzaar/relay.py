@@ -62,6 +62,7 @@ class Connections(Journal):
         self.carrier, self.found = carrier, list[Connection]()
 
     def add(self, piece: Piece) -> None:
+        """Adds what the carrier sent, or that it connected or ended its connection."""
         if piece.to() == self.carrier:
             if piece.input.kind == "open":
                 self.found.append(Connection(piece.time))
@@ -70,6 +71,7 @@ class Connections(Journal):
             last.received += [(piece.time, frame) for frame in last.cutter.feed(piece.input.octets)]
 
     def answer(self, piece: Piece) -> None:
+        """The answer to the piece that was added last is whole."""
         if piece.to() == self.carrier:
             self.found[-1].answer = self.found[-1].answer or piece.answer
 
@@ -344,14 +346,16 @@ class Relay:
         return side
 
     def end(self, carrier: int) -> None:
-        """Ends a connection, on both sides."""
-        side = self.detach(carrier)
-        side.finish()
-        side.close()
+        """Ends a connection, on both sides, if there is one."""
+        if carrier in self.sides:
+            side = self.detach(carrier)
+            side.finish()
+            side.close()
 
     def let_die(self, carrier: int) -> None:
         """From now on nothing of a connection is passed on, and neither side learns of it, as if the network between them were gone."""
-        self.dead.append(self.detach(carrier))
+        if carrier in self.sides:
+            self.dead.append(self.detach(carrier))
 
     def turn(self) -> None:
         """Does what there is to do now."""

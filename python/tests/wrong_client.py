@@ -14,11 +14,11 @@ import time
 
 sys.path.insert(0, str(pathlib.Path(__file__).resolve().parent.parent))
 from temzaar import code, pdus  # noqa: E402  (the path comes first)
-from temzaar.frames import POLL, TO_CARRIER, Cutter, Frame, FrameType, Link, active, hello, number_after  # noqa: E402
+from temzaar.frames import POLL, TO_CARRIER, Cutter, Frame, FrameType, Link, active, hello  # noqa: E402
 
 POINTS = {
     "hello": "says HELLO again after ten POLLs",
-    "frames": "sends a POLL with a body now and then",
+    "frames": "sends one POLL with a body",
     "bits": "sends the bits of a burst from the last to the first",
     "codewords": "leaves out what it cannot read",
     "reach": "reads bursts with at most three wrong bits",
@@ -30,8 +30,8 @@ POINTS = {
     "again": "retransmits with the next number",
     "numbers": "does not look at the numbers of TX",
     "fallback": "begins with version 2 on each connection",
-    "return": "comes back after eight seconds",
-    "at-once": "says HELLO five seconds after it has connected",
+    "return": "connects again after eight seconds, if the controller has gone",
+    "at-once": "says HELLO five seconds after it has connected for the first time",
     "died": "waits for an answer as long as it takes",
     "refused": "tries again a second after WrongCarrier",
     "beside": "ends the connection if an answer has no TX",
@@ -52,30 +52,37 @@ class Client:
         self.port, self.carrier, self.lpcn, self.version, self.wrong = port, carrier, lpcn, version, wrong
         self.lines = iter(pathlib.Path(bursts).read_text(encoding="utf-8").splitlines())
         self.period = 0.063 if wrong == "pace" else FRAME
-        self.more_voice, self.sent, self.polls = 0, 0, 0
+        self.more_voice, self.sent, self.polls, self.connections = 0, 0, 0, 0
 
     def run(self) -> None:
         """Serves connections without end."""
         while True:
-            self.link, self.cause, version = Link(self.version), 0, self.version
+            self.link, self.cause, self.waits = Link(self.version), 0, False
             try:
                 with socket.create_connection(("127.0.0.1", self.port)) as stream:
                     stream.setsockopt(socket.IPPROTO_TCP, socket.TCP_NODELAY, 1)
                     self.serve(stream)
             except OSError:
                 pass
-            falls_back = self.cause == 1 and self.version == 2
-            self.version = 1 if falls_back else version
-            if self.wrong == "fallback" and not falls_back:
+            if self.cause == 1:
+                self.version = 1
+            elif self.wrong == "fallback":
                 self.version = 2
-            time.sleep(8 if self.wrong == "return" else 10 if self.cause == 2 and self.wrong != "refused" else 1)
+            time.sleep(self.pause())
+
+    def pause(self) -> int:
+        """The seconds until the next connection."""
+        if self.cause == 2:
+            return 1 if self.wrong == "refused" else 10
+        return 8 if self.wrong == "return" and not self.cause and not self.waits else 1
 
     def serve(self, stream: socket.socket) -> None:
         """Serves a connection to its end."""
-        if self.wrong == "at-once":
+        self.connections += 1
+        if self.wrong == "at-once" and self.connections == 1:
             select.select([stream], [], [], 5)
         stream.sendall(hello(self.carrier, self.lpcn, self.version))
-        self.cutter, self.is_up, self.waits, self.tx = Cutter(TO_CARRIER), False, False, 0
+        self.cutter, self.is_up, self.tx = Cutter(TO_CARRIER), False, 0
         due = self.polled = time.monotonic()
         while True:
             if select.select([stream], [], [], max(0.0, due - time.monotonic()))[0]:
@@ -112,8 +119,7 @@ class Client:
 
     def heard(self) -> bytes:
         """The octets of what was received in a frame."""
-        octets = b""
-        voice = False
+        octets, voice = b"", False
         while line := next(self.lines, ""):
             slot, _, what = line.partition(" ")
             voice = voice or what == "voice"
@@ -144,10 +150,11 @@ class Client:
         """A POLL, if the last one was answered."""
         if self.waits and self.wrong != "done":
             return b""
-        self.waits, self.polled, self.polls = True, now, self.polls + 1
+        self.polled = self.polled if self.waits else now
+        self.waits, self.polls = True, self.polls + 1
         if self.wrong == "hello" and self.polls == 10:
             return hello(self.carrier, self.lpcn, self.version)
-        return b"\x03\x01\x00" if self.wrong == "frames" and self.polls % 20 == 0 else POLL
+        return b"\x03\x01\x00" if self.wrong == "frames" and self.polls == 20 else POLL
 
 
 if __name__ == "__main__":

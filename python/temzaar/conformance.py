@@ -123,16 +123,16 @@ class Stage:
         return bool(is_reached())
 
     def first(self, frames: int = 1) -> Connection:
-        """The client's first connection, once that many frames have come. NotTried: they do not come."""
+        """The first connection on which that many frames have come. NotTried: they do not come."""
         if not self.until(lambda: any(len(it.received) >= frames for it in self.connections), COMING if self.client else self.options.wait):
             self.options.absent = "" if self.connections else "no connection came"
             raise NotTried(f"the client does not come: {self.trouble()}")
-        return self.connections[0]
+        return next(it for it in self.connections if len(it.received) >= frames)
 
     def up_again(self, seconds: float) -> Finding:
         """Whether a client is up again in time, on another connection."""
-        began = time.monotonic()
-        back = self.until(lambda: len(self.connections) > 1 and self.connections[-1].is_up, seconds)
+        began, count = time.monotonic(), len(self.connections)
+        back = self.until(lambda: len(self.connections) > count and self.connections[-1].is_up, seconds)
         return judged(back, f"it was {'' if back else 'not '}up again after {time.monotonic() - began:.1f} s" + ("" if back else f": {self.trouble()}"))
 
     def trouble(self) -> str:
@@ -148,7 +148,7 @@ class Stage:
         first = self.first()
         self.until(lambda: first.ended or len(first.polls()) >= MANY, MANY * PERIOD)
         self.relay.end(self.carrier)
-        self.until(lambda: any(it.polls() for it in self.connections[1:]), BACK)
+        self.until(lambda: self.connections[-1] is not first and self.connections[-1].polls(), BACK)
         right = hello(self.carrier, self.own["lpcn"], first.cutter.version or 1)
         for number, frames in enumerate((it.frames() for it in self.connections if it.received), 1):
             hellos = [it.octets() for it in frames if it.kind == FrameType.HELLO]
@@ -194,7 +194,7 @@ class Stage:
         require(self.first().cutter.version == 2, "it speaks version 1")
         if self.up_again(BACK)[0] == PASSED:
             self.relay.end(self.carrier)
-            self.until(lambda: len(self.connections) > 2 and self.connections[-1].answer, BACK)
+            self.up_again(BACK)
         versions = [it.cutter.version for it in self.connections if it.received]
         kept = versions == [2, 1, 1] and self.connections[-1].is_up
         return judged(kept, "BadVersion, then version 1 on its next connections" if kept else f"its connections had the versions {versions}; {self.trouble()}")
@@ -216,8 +216,8 @@ class Stage:
 
     def refused(self) -> Finding:
         """Whether the client waits before it tries again after WrongCarrier."""
-        began = self.first().opened
-        again = self.until(lambda: len(self.connections) > 1, AGAIN + SLACK)
+        began, tries = self.first().opened, len(self.connections)
+        again = self.until(lambda: len(self.connections) > tries, AGAIN + SLACK)
         pause = self.connections[-1].opened - began
         return judged(again and pause > 0.9 * AGAIN, f"after WrongCarrier it tried again in {pause:.1f} s" if again else f"it did not try again: {self.trouble()}")
 

@@ -76,7 +76,7 @@ check-fast: ## tables, maps, definitions, edits, documents, prose and Python tes
 gate: ## the prover's gate alone: every proof, the must-fail edits, the tests and each program's stored run
 	@ci/gate
 
-check-programs: ## tools, documents, a soak and serving, over the programs that were built: three minutes
+check-programs: ## tools, documents, a soak and serving, over the programs that were built: five minutes
 	@ci/check programs
 
 wrong-bodies: ## every wrong body that must be refused, those outside the gate too: of CRATE=name, of the k-th of n parts with PART=k/n, or all

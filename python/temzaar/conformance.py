@@ -179,7 +179,7 @@ class Stage:
         polls = sum(late <= it <= late + LATE + 1 for it in first.polls())
         if first.ended or not late:
             return judged(False, f"it did not go on after an answer that was {LATE:.0f} s late: {self.trouble()}")
-        return judged(polls <= MOST_A_SECOND, f"{polls} POLLs in {LATE + 1:.0f} s, for the first {LATE:.0f} of which an answer was late")
+        return judged(polls <= MOST_A_SECOND, f"{polls} POLLs, from one whose answer was {LATE:.0f} s late to a second after that answer")
 
     def numbers(self) -> Finding:
         """Whether the client ends the connection if a TX is missing."""

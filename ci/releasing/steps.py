@@ -69,7 +69,7 @@ def all_steps(short: bool) -> list[Step]:
         Step("checks without a proof", ["ci/check", "fast"], 110),
         Step("the prover's gate, from nothing", ["ci/gate", *([] if short else ["--anew"])], 2750),
         Step("the programs that the gate built", ["make", "build", "build-tests"], 5),
-        Step("the same programs from another folder", ["ci/same-elsewhere"], 300),
+        Step("the same compiled in two folders", ["ci/same-elsewhere"], 200),
         Step("checks over the programs", ["ci/check", "programs"], 255),
         soak(SOAK_INPUTS // 100 if short else SOAK_INPUTS),
         served_in_trouble(60 if short else SERVED),

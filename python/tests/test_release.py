@@ -161,7 +161,6 @@ class Begins(unittest.TestCase):
         """The first run makes the folder, and a later one goes on with it."""
         first = command.begin(self.folder, False, False)
         self.assertEqual((len(first.runs), first.outcomes), (1, {}))
-        first.write(self.folder)
         self.assertEqual(len(command.begin(self.folder, False, True).runs), 2)
 
     def test_refused(self) -> None:

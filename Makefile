@@ -152,7 +152,7 @@ package: build/dmr_trunk build/dmr_decode ## a Debian package of the proved prog
 package-check: package ## installs the package in a clean root and serves a site there (as root; wants debootstrap and a network)
 	ci/check-package build/dmr-trunk_$(VERSION)_*.deb
 
-release: ## a release of what is committed, at release/: proved and checked in a fresh clone, with the record (docs/RELEASING.md; within two hours on four processors)
+release: ## a release of what is committed, at release/: proved and checked in a fresh clone, with the record (docs/RELEASING.md; some 90 minutes on four good processors)
 	@ci/release
 
 release-long: ## the long steps for the release at release/, for which it does not wait: wrong bodies outside the gate, hours of serving

@@ -1,6 +1,6 @@
 # `make` alone says what there is.
 .DEFAULT_GOAL := help
-.PHONY: help run demo build build-tests check fmt test gate check-fast check-programs tools-check wrong-bodies bench bench-instructions station soak serve-check serve-hostile hub-hostile network-recipes unit-recipes restart refuse-memory pictures package package-check release release-long maps trusted install
+.PHONY: help run demo build build-tests check fmt test gate check-fast check-programs tools-check wrong-bodies bench bench-instructions station soak wrong-rules serve-check serve-hostile hub-hostile network-recipes unit-recipes restart refuse-memory pictures package package-check release release-long maps trusted install
 
 PREFIX ?= /usr/local
 DESTDIR ?=
@@ -54,8 +54,8 @@ build: ## the proved programs that users run, build/dmr_trunk and build/dmr_deco
 	@ci/check-toolchain
 	@ci/build dmr_trunk dmr_decode
 
-build-tests: ## the proved programs that tests and trials need, build/dmr_refusals, dmr_filing and dmr_soak: ten minutes or more after make build
-	@ci/build dmr_refusals dmr_filing dmr_soak
+build-tests: ## the proved programs that tests and trials need, build/dmr_refusals and dmr_filing: some minutes after make build
+	@ci/build dmr_refusals dmr_filing
 
 check: ## proves one crate over what earlier runs kept: make check CRATE=dmr_pool; all crates without CRATE
 ifdef CRATE
@@ -92,9 +92,11 @@ bench-instructions: build/dmr_trunk ## instructions of a served poll, of an even
 	@cd crates/dmr_bench && rt run >/dev/null
 	@bench/instructions
 
-soak: ## a million random inputs through the engine, in both versions of the link, compared with a reference model, by the proved program
-	@ci/build dmr_soak
-	@build/dmr_soak --inputs 250000 --counts
+soak: build/dmr_trunk ## a million random inputs through the proved program, in both versions of the link, compared with the site in C of reference/
+	@reference/soak --counts
+
+wrong-rules: build/dmr_trunk ## wrong rules planted in the site in C of reference/: a soak and the worked cases have to find each (a minute or two)
+	@reference/wrong-rules
 
 station: ## the kit in C for base stations: builds build/example and build/hearing, tests the headers, and prints how many weak bursts they read (a minute or two)
 	@mkdir -p build

@@ -157,7 +157,7 @@ static void print_figure(const char *figure, const char *name, double seconds, i
 static void time_decoders(Kind kind, int all) {
     char figure[32];
     snprintf(figure, sizeof figure, "decode_%s", KIND_NAMES[kind]);
-    seed_words();
+    seed_words(WORDS_SEED);
     for (int i = 0; i < all; i++) draw_word(kind, &words[i]);
     for (size_t k = 0; k < COUNT_OF(DECODERS); k++) {
         uint64_t count = 0, sum = 0;
@@ -171,7 +171,7 @@ static void time_decoders(Kind kind, int all) {
 }
 
 static void time_encoders(int all) {
-    seed_words();
+    seed_words(WORDS_SEED);
     for (int i = 0; i < all; i++) draw_information(information[i]);
     for (size_t k = 0; k < COUNT_OF(ENCODERS); k++) {
         uint64_t sum = 0;
@@ -196,7 +196,7 @@ int main(int argc, char **argv) {
     long count = argc > 2 ? atol(argv[2]) : MOST;
     make_coder_tables();
     if (!strcmp(what, "--check")) {
-        seed_words();
+        seed_words(WORDS_SEED);
         compare_with_reference(count);
         return 0;
     }

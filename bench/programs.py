@@ -10,6 +10,7 @@ from typing import NamedTuple
 
 BENCH = pathlib.Path(__file__).resolve().parent
 TOP = BENCH.parent
+REFERENCE = TOP / "reference"
 # The processor that rt builds for. Programs in C are built for it too, and one for the processor at hand.
 RT_PROCESSOR, THIS_PROCESSOR = "x86-64-v2", "native"
 # The compilers of the C; the best of their programs counts. `rt` compiles with a clang of its own.
@@ -48,14 +49,14 @@ def proved(name: str) -> str:
     raise Missing(f"there is no program {name}: run 'make build', and 'rt run' in crates/dmr_bench")
 
 
-def build(source: str, processor: str, folder: str) -> list[str]:
+def build(source: str, processor: str, folder: str, sources: pathlib.Path = BENCH) -> list[str]:
     """Builds a program in C with each compiler that is there. The paths. Missing: there is no compiler."""
     compilers = [it for it in COMPILERS if shutil.which(it)]
     if not compilers:
         raise Missing("there is no compiler of C: neither cc nor clang")
     paths = [f"{folder}/{pathlib.Path(source).stem}-{processor}-{it}" for it in compilers]
     for compiler, path in zip(compilers, paths):
-        subprocess.run([compiler, *FLAGS, f"-march={processor}", "-o", path, str(BENCH / source)], check=True)
+        subprocess.run([compiler, *FLAGS, f"-march={processor}", "-o", path, str(sources / source)], check=True)
     return paths
 
 

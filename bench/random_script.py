@@ -10,7 +10,9 @@ import random
 import sys
 from collections.abc import Iterator
 
-sys.path.insert(0, str(pathlib.Path(__file__).resolve().parent.parent / "python"))
+TOP = pathlib.Path(__file__).resolve().parent.parent
+sys.path[:0] = [str(TOP / "python"), str(TOP / "reference")]
+from plans import plan_of  # noqa: E402  (the path comes first)
 from temzaar import code, frames, pdus  # noqa: E402  (the path comes first)
 
 RADIOS, GROUPS, REGI = 60, 16, 0xFFFEC6
@@ -45,6 +47,11 @@ def site_text(carriers: int, link_version: int) -> str:
     """The site file of a site with this number of carriers, which serves versions of the link up to `link_version`."""
     rows = (f"[[carrier]]\nnumber = {it}\nlpcn = {lpcn_of(it)}\nport = {7101 + it}\n" for it in range(carriers))
     return f"{SITE}link_version = {link_version}\n{''.join(rows)}"
+
+
+def plan_text(carriers: int, link_version: int) -> str:
+    """The same for the reference."""
+    return plan_of(site_text(carriers, link_version))
 
 
 class Draws:

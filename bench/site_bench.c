@@ -1,22 +1,18 @@
 /*
- * Plays loads to the site of site.h, and replays scripts on it. `make bench` compares it with `dmr_bench --load` and
- * `dmr_trunk --script`.
+ * Plays loads to the site of reference/site.h. `make bench` compares it with `dmr_bench --load`.
  *
  *     site_bench --load LOAD CARRIERS RADIOS FRAMES   plays frames of a load, and prints "rate octets sum events": events a
  *                                                     second, how many octets went out, their sum, and how many events came
- *     site_bench --replay SCRIPT CARRIERS VERSION     prints what `dmr_trunk --script` prints, of a script with `open`, `cut`,
- *                                                     `bytes` and `tick`, on the site of the loads, which serves versions up
- *                                                     to VERSION of the link; it checks nothing of the script
  *
  * LOAD: polls, registrations, joins, calls, busy. The loads, and what an event is, are those of crates/dmr_bench.
  * It is a bench, not a controller; site.h says what the site lacks.
  */
 #define _POSIX_C_SOURCE 200809L
-#include "site_link.h"
+#include "../reference/site_link.h"
 #include "words.h"
 #include <stdio.h>
 
-enum { BURSTS = 4096, KEPT_FRAMES = 256, OUTPUT_ROOM = 1 << 21, LINE_ROOM = 1 << 20, GROUPS = 16, REGI = 0xFFFEC6 };
+enum { BURSTS = 4096, KEPT_FRAMES = 256, OUTPUT_ROOM = 1 << 21, GROUPS = 16, REGI = 0xFFFEC6 };
 enum { JOINING = 0x020E, LEAVING = 0x000E, STRIDE = 7919 };
 
 typedef enum { POLLS, REGISTRATIONS, JOINS, CALLS, BUSY_HOUR, LOADS } Load;
@@ -33,7 +29,7 @@ static uint8_t output[CARRIERS][OUTPUT_ROOM];
 static uint8_t bursts[BURSTS][28];
 
 /* The site of crates/dmr_bench. */
-static Plan bench_plan(int carriers, int link_version) {
+static Plan bench_plan(int carriers) {
     Plan plan = {.system = 0x0A51,
                  .regi = REGI,
                  .tsi = 0xFFFECA,
@@ -46,7 +42,7 @@ static Plan bench_plan(int carriers, int link_version) {
                  .backoff_low = 2,
                  .backoff_high = 12,
                  .leave_bit = 0,
-                 .link_version = link_version,
+                 .link_version = 1,
                  .radios = {{1, 5000}},
                  .radio_ranges = 1,
                  .group_count = GROUPS};
@@ -58,8 +54,8 @@ static Plan bench_plan(int carriers, int link_version) {
     return plan;
 }
 
-static void begin_scene(Scene *scene, int carriers, int link_version) {
-    Plan plan = bench_plan(carriers, link_version);
+static void begin_scene(Scene *scene, int carriers) {
+    Plan plan = bench_plan(carriers);
     memset(scene, 0, sizeof *scene);
     scene->site = new_site(&plan);
     if (!scene->site) {
@@ -164,7 +160,7 @@ __attribute__((noinline)) static void play(Scene *scene, Load load, int frames) 
 
 /* Connects all carriers, and registers the radios. */
 static void set_up(Scene *scene, int carriers, uint32_t radios) {
-    begin_scene(scene, carriers, 1);
+    begin_scene(scene, carriers);
     for (int carrier = 0; carrier < carriers; carrier++) {
         uint8_t hello[6] = {HELLO, 4, 1, carrier, 0, carrier + 1};
         open_link(scene->site, carrier);
@@ -197,59 +193,10 @@ static int run_load(const char *name, int carriers, uint32_t radios, int frames)
     return 0;
 }
 
-/* ---- scripts */
-
-static int digit(char c) { return c <= '9' ? c - '0' : (c | 32) - 'a' + 10; }
-
-/* Reads hexadecimal octets up to the end of the line. How many there are. */
-static int read_hex(const char *text, uint8_t *octets) {
-    int count = 0;
-    for (; text[0] > ' ' && text[1] > ' '; text += 2) octets[count++] = digit(text[0]) << 4 | digit(text[1]);
-    return count;
-}
-
-/* Takes a line of a script. Each line begins with another letter. */
-static void take_line(Scene *scene, const char *line) {
-    static uint8_t octets[LINE_ROOM / 2];
-    const char *argument = strchr(line, ' ');
-    char *rest = 0;
-    long number = argument ? strtol(argument, &rest, 10) : 1;
-    if (line[0] == 't') {
-        while (number-- > 0) tick(scene->site);
-        return;
-    }
-    if (number < 0 || number >= scene->carriers) return;
-    if (line[0] == 'o') open_link(scene->site, number);
-    if (line[0] == 'c') cut_link(scene->site, number);
-    if (line[0] == 'b' && rest && *rest == ' ') take(scene, number, octets, read_hex(rest + 1, octets));
-}
-
-static int replay(const char *path, int carriers, int link_version) {
-    static Scene scene;
-    static char line[LINE_ROOM];
-    FILE *script = fopen(path, "r");
-    if (!script || carriers < 1 || carriers > CARRIERS) return 2;
-    begin_scene(&scene, carriers, link_version);
-    while (fgets(line, sizeof line, script)) take_line(&scene, line);
-    fclose(script);
-    for (int carrier = 0; carrier < carriers; carrier++) {
-        printf("carrier %d ", carrier);
-        if (scene.end[carrier] == output[carrier]) putchar('-');
-        for (const uint8_t *octet = output[carrier]; octet < scene.end[carrier]; octet++) {
-            putchar("0123456789ABCDEF"[*octet >> 4]);
-            putchar("0123456789ABCDEF"[*octet & 15]);
-        }
-        putchar('\n');
-    }
-    free(scene.site);
-    return 0;
-}
-
 int main(int argc, char **argv) {
     int status = 2;
     make_coder_tables();
     if (argc == 6 && !strcmp(argv[1], "--load")) status = run_load(argv[2], atoi(argv[3]), atoi(argv[4]), atoi(argv[5]));
-    if (argc == 5 && !strcmp(argv[1], "--replay")) status = replay(argv[2], atoi(argv[3]), atoi(argv[4]));
-    if (status == 2) fputs("site_bench: --load LOAD CARRIERS RADIOS FRAMES, or --replay SCRIPT CARRIERS VERSION\n", stderr);
+    if (status == 2) fputs("site_bench: --load LOAD CARRIERS RADIOS FRAMES\n", stderr);
     return status;
 }

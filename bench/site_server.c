@@ -1,5 +1,5 @@
 /*
- * The site of site.h over TCP ports: one thread, one epoll, a timer for the ticks. It is measured with
+ * The site of reference/site.h over TCP ports: one thread, one epoll, a timer for the ticks. It is measured with
  * bench/load_generator.c, as `dmr_trunk --serve` is.
  *
  *     site_server [-p BASE_PORT] [-n CARRIERS] [-c CONTROL] [-l FIRST_LPCN] [-L LPCN_STEP] [-t MILLISECONDS] [-j]
@@ -12,7 +12,7 @@
  */
 #define _GNU_SOURCE
 #include "listener.h"
-#include "site_link.h"
+#include "../reference/site_link.h"
 #include <errno.h>
 #include <netinet/in.h>
 #include <netinet/tcp.h>

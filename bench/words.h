@@ -5,28 +5,15 @@
 #ifndef WORDS_H
 #define WORDS_H
 
-#include "coder.h"
+#include "../reference/coder.h"
+#include "../reference/draws.h"
 #include <time.h>
+
+enum { WORDS_SEED = 42 }; /* that of crates/dmr_bench */
 
 typedef enum { CLEAN, FLIPS, RANDOM, KINDS } Kind;
 
 static const char *const KIND_NAMES[KINDS] = {"clean", "flips", "random"};
-
-static uint64_t generator_state, generator_increment;
-
-static inline uint32_t next_word(void) {
-    uint64_t old = generator_state;
-    uint32_t mixed = (uint32_t)((old >> 18 ^ old) >> 27);
-    int turn = old >> 59;
-    generator_state = old * 6364136223846793005ull + generator_increment;
-    return mixed >> turn | mixed << (-turn & 31);
-}
-
-static inline void seed_words(void) {
-    generator_increment = 54 << 1 | 1;
-    generator_state = 42 + generator_increment;
-    generator_state = generator_state * 6364136223846793005ull + generator_increment;
-}
 
 static inline void draw_information(uint8_t octets[12]) {
     for (int i = 0; i < 12; i++) octets[i] = next_word() & 0xFF;

@@ -9,9 +9,7 @@ from typing import NamedTuple
 
 from progress import Progress
 
-# a soak plays as many inputs for each of two sites, in both versions of the link
 SOAK_INPUTS, LONG_SOAK_INPUTS = 1_000_000, 10_000_000
-SOAKS = 4
 SITE = "sites/sixteen_carriers.toml"
 # for how many seconds a site is served in trouble, and in a long run
 SERVED, LONG_SERVED = 600, 3600
@@ -55,7 +53,7 @@ def carriers(*words: str) -> list[str]:
 
 def soak(inputs: int) -> Step:
     """The step that plays random inputs."""
-    return Step(f"a soak of {inputs:,} inputs", ["build/dmr_soak", "--inputs", str(inputs // SOAKS), "--counts"], inputs / 600_000)
+    return Step(f"a soak of {inputs:,} inputs", ["reference/soak", "--inputs", str(inputs), "--counts"], 3 + inputs / 500_000)
 
 
 def served_in_trouble(seconds: int, side_by_side: bool = False) -> Step:
@@ -71,7 +69,8 @@ def all_steps(short: bool) -> list[Step]:
         Step("the programs that the gate built", ["make", "build", "build-tests"], 5),
         Step("the same compiled in two folders", ["ci/same-elsewhere"], 200),
         Step("checks over the programs", ["ci/check", "programs"], 255),
-        soak(SOAK_INPUTS // 100 if short else SOAK_INPUTS),
+        soak(SOAK_INPUTS // 10 if short else SOAK_INPUTS),
+        Step("wrong rules found", ["reference/wrong-rules", *(["late"] if short else [])], 120),
         served_in_trouble(60 if short else SERVED),
         Step("each allocation refused", ["trials/refuse-memory"], 102),
         Step("served to peers that behave badly", ["trials/serve-hostile", "build/dmr_trunk"], 161),

@@ -1,17 +1,19 @@
 /*
- * A site in plain C: its plan, and all that it keeps between two events. site_machine.h has its rules, site_link.h the link.
+ * A site in plain C: its plan, and all that it keeps between two events. site_machine.h has its rules, site_link.h the link,
+ * site_console.h the operators' lines.
  *
- * It is: the whole site machine of crates/dmr_core but for operators, with late entries and both versions of the link, for
- * one thread. It writes the same octets as the engine of crates/dmr_link, and our engine should be measured against it.
+ * It is: the whole site machine of docs/SITE_MACHINE.md with both versions of the link and the console of docs/FORMATS.md, for
+ * one thread. It writes the same octets as the engine of crates/dmr_link. A soak compares them, and a bench measures them.
  *
- * It is not a controller, and nothing in it is proved. It takes no site file: a plan is written by the program that uses
- * it, and no rule of the site file is checked. All room is reserved once, in one block; the caller passes a buffer for what
- * goes out, and nothing checks that it is large enough. There is no console, and no journal that could be audited.
+ * It is not a controller, and nothing in it is proved. It takes no site file: plan.h reads and writes plans, and no rule of the
+ * site file is checked. All room is reserved once, in one block; the caller passes a buffer for what
+ * goes out, and nothing checks that it is large enough. There is no journal that could be audited.
  */
 #ifndef SITE_H
 #define SITE_H
 
 #include "coder.h"
+#include "rows.h"
 #include <stdlib.h>
 
 enum {
@@ -21,6 +23,8 @@ enum {
     REQUEST_LIMIT = 56,  /* with more PDUs than this on the control slot, requests are ignored */
     LIST_ROOM = 32,      /* calls, asks and lines */
     MOST_RADIOS = 4096,
+    MOST_RANGES = 16,
+    MOST_GROUPS = 64,
     HASH_PLACES = 16384,
     NOISE_POLLS = 32, /* the window of the backoff */
     MOST_NOISES = 15, /* of one poll */
@@ -36,7 +40,8 @@ enum {
     C_ACKU = 0xA1,
     P_CLEAR = 0xAE,
     PV_GRANT = 0xB0,
-    TV_GRANT = 0xB1
+    TV_GRANT = 0xB1,
+    C_MOVE = 0xB9
 };
 
 /* The reasons of an acknowledgement. */
@@ -68,16 +73,17 @@ typedef struct {
 
 /* The values of a site file. Times are in ticks. */
 typedef struct {
-    uint32_t system, regi, tsi;
-    uint32_t hang, maximum, ahoy_wait, ahoy_tries, grant_copies, clear_copies, backoff_low, backoff_high;
+    int system, regi, tsi;
     int leave_bit; /* -1: radios do not leave */
+    int aloha_sync, aloha_version, aloha_offset, aloha_active, nrand_wait; /* of C_ALOHA */
+    int hang, maximum, ahoy_wait, ahoy_tries, grant_copies, clear_copies, backoff_low, backoff_high;
     int link_version;
     int control;     /* the carrier of the control channel */
     uint16_t listed; /* the carriers of the site, as bits */
     uint16_t lpcn[CARRIERS];
-    Range radios[16];
+    Range radios[MOST_RANGES];
     int radio_ranges;
-    uint32_t groups[64];
+    uint32_t groups[MOST_GROUPS];
     int group_count;
 } Plan;
 
@@ -117,6 +123,14 @@ typedef struct {
     uint8_t next_number;
 } Link;
 
+enum { LINE_OCTETS = 80 };
+
+/* The part of an operator's line that has come. */
+typedef struct {
+    char line[LINE_OCTETS + 1];
+    int received; /* LINE_OCTETS + 1: more than a line may have */
+} Console;
+
 typedef struct {
     Plan plan;
     uint32_t now;           /* ticks */
@@ -132,13 +146,14 @@ typedef struct {
     int line_count;
     Queue queues[SLOTS];
     uint8_t noises[NOISE_POLLS];
-    int noise_place;
-    uint32_t noise_sum;
+    int noise_place, noise_sum;
     int fills;     /* of the control slot, modulo LATE_EVERY */
     int late_slot; /* of the last late entry; -1: none */
+    int moved_to;  /* the channel to which the control channel is to be moved; 0: none */
     uint32_t hash[HASH_PLACES];
     int radio_count;
     Link links[CARRIERS];
+    Console console;
 } Site;
 
 /* A site on which nothing has happened, or a null pointer. */

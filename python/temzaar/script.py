@@ -117,31 +117,37 @@ class Event:
     text: str = ""
 
 
-class Replay:
-    """A script together with what its replay printed: the events of both, in their order.
+class Session:
+    """The inputs of a site, one after another, together with what went to its carriers: the events of both, in their order.
 
     The events are `up`, `lost`, `heard` (an RX; without octets if it is not a codeword), `active`, `polled`, `sent` (a TX) and `said` (an
-    operator's octets). SessionFault: what was printed does not answer this script.
+    operator's octets).
     """
 
-    def __init__(self, inputs: Iterable[Input], carriers: dict[int, bytes]) -> None:
+    def __init__(self, carriers: dict[int, bytes]) -> None:
+        """`carriers` has all octets that go to each carrier. SessionFault: they are not whole frames."""
         self.frames = {number: deque(frames_to_carrier(octets)) for number, octets in carriers.items()}
         # the link of each carrier that is up, and the number of its last RX
         self.up: dict[int, Link] = {}
         self.newest: dict[int, int | None] = {}
         self.cutters: dict[int, Cutter] = {}
         self.events: list[Event] = []
-        self.index = self.tick = 0
-        for self.index, it in enumerate(inputs):
-            self._take(it)
-        left = {number: len(frames) for number, frames in self.frames.items() if frames}
-        if left:
-            raise SessionFault(f"frames that answer no input of the script, by carrier: {left}")
+        self.index, self.tick = -1, 0
+
+    def is_open(self, carrier: int) -> bool:
+        """Whether a carrier's connection is open."""
+        return carrier in self.cutters
+
+    def octets_left(self, carrier: int) -> int:
+        """How many of a carrier's octets answer none of the inputs so far."""
+        return sum(len(it.octets()) for it in self.frames[carrier])
 
     def _note(self, what: str, carrier: int = -1, slot: int = -1, octets: bytes = b"", text: str = "") -> None:
         self.events.append(Event(self.index, self.tick, what, carrier, slot, octets, text))
 
-    def _take(self, it: Input) -> None:
+    def take(self, it: Input) -> None:
+        """Takes the next input. SessionFault: what went to the carriers does not answer it."""
+        self.index += 1
         if it.kind == "tick":
             self.tick += it.count
         elif it.kind == "text":
@@ -218,3 +224,15 @@ class Replay:
             self._note("sent", carrier=carrier, slot=burst.slot, octets=octets)
         if frame.kind != FrameType.DONE:
             raise SessionFault(f"frame {frame.kind:02X} in the answer to a poll of carrier {carrier}, at tick {self.tick}")
+
+
+class Replay(Session):
+    """A script together with what its replay printed. SessionFault: what was printed does not answer this script."""
+
+    def __init__(self, inputs: Iterable[Input], carriers: dict[int, bytes]) -> None:
+        super().__init__(carriers)
+        for it in inputs:
+            self.take(it)
+        left = {number: len(frames) for number, frames in self.frames.items() if frames}
+        if left:
+            raise SessionFault(f"frames that answer no input of the script, by carrier: {left}")

@@ -128,7 +128,7 @@ class Kept(unittest.TestCase):
             self.assertEqual("records: not kept" in done.stderr, wanted == 0)
 
     def test_more_radios_than_a_site_has(self) -> None:
-        """The first 4,096 are registered again, and a note says that there are more."""
+        """The first 4,096 by their places are registered again, and a note says that there are more."""
         with self.serve(words=["--terms", "1"]) as controller:
             self.assertEqual(controller.process.wait(60), 0, controller.notes)
         self.site.plan["radios"] = [[1000, 9999]]
@@ -138,6 +138,8 @@ class Kept(unittest.TestCase):
                 conn.executemany("INSERT INTO registrations VALUES (?, ?)", ((place, 9000 - place) for place in range(1, count + 1)))
             with self.serve() as controller:
                 self.assertEqual(self.radios(), wanted)
+                with Console(self.site.address, self.site.console_port) as console:
+                    self.assertEqual(console.ask("radios 0")[0], f"radio {9000 - wanted}")
                 found = [it.partition("] ")[2] for it in controller.notes if "registered again" in it]
                 self.assertEqual(found, ["records: 4096 radios registered again" + ", the file has more" * (count > 4096)])
                 controller.process.kill()

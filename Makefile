@@ -54,8 +54,8 @@ build: ## the proved programs that users run, build/dmr_trunk and build/dmr_deco
 	@ci/check-toolchain
 	@ci/build dmr_trunk dmr_decode
 
-build-tests: ## the proved programs that tests and trials need, build/dmr_refusals and dmr_filing: some minutes after make build
-	@ci/build dmr_refusals dmr_filing
+build-tests: ## the proved program that trials need, build/dmr_refusals: some minutes after make build
+	@ci/build dmr_refusals
 
 check: ## proves one crate over what earlier runs kept: make check CRATE=dmr_pool; all crates without CRATE
 ifdef CRATE

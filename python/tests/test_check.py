@@ -114,7 +114,7 @@ class Parts(unittest.TestCase):
     def test_no_programs(self) -> None:
         status, lines = self.run_parts([sh("toolchain", "true")])
         self.assertEqual((status, lines[-1]), (1, "4 passed, 1 failed"))
-        self.assertIn("dmr_trunk, dmr_decode, dmr_filing", lines[-2])
+        self.assertIn("dmr_trunk, dmr_decode", lines[-2])
 
     def test_command_that_is_not_there(self) -> None:
         _, lines = self.run_parts([check.Check("toolchain", ["ci/no-such-command"], 1)])

@@ -96,7 +96,7 @@ def long_steps(short: bool) -> list[Step]:
     return [
         Step(f"served for {seconds} s", carriers("--seconds", str(seconds)), seconds + 2),
         served_in_trouble(seconds, side_by_side=True),
-        soak(LONG_SOAK_INPUTS // 100 if short else LONG_SOAK_INPUTS),
+        soak(LONG_SOAK_INPUTS // 50 if short else LONG_SOAK_INPUTS),
         *(wrong_bodies(part, short) for part in range(1, WRONG_BODY_PARTS + 1)),
     ]
 

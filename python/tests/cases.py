@@ -5,6 +5,8 @@ import tomllib
 from collections.abc import Iterator
 from dataclasses import dataclass, field
 
+from temzaar import code, pdus
+from temzaar.frames import DONE, POLL, FrameType, burst_frame, hello, rx, welcome
 from temzaar.sitefile import Site
 from tests.support import SITES, TOP
 
@@ -42,6 +44,11 @@ def plain(text: str) -> str:
     return "\n".join(lines)
 
 
+def repeated(text: str) -> str:
+    """A text in which the lines between `%repeat N` and `%end` are there N times."""
+    return re.sub(r"^%repeat (\d+)\n(.*?)^%end\n", lambda it: it[2] * int(it[1]), text, flags=re.M | re.S)
+
+
 def unescape(text: str) -> bytes:
     """The octets of a text in which `\\HH` is an octet in two hexadecimal digits."""
     first, *others = text.split("\\")
@@ -68,7 +75,8 @@ class Case:
     """A case: its file and name, the site file and the script as lines, and what the replay prints.
 
     `site` is called `site_name`. `site` or `script` is None if that file cannot be read. `fault` is what goes to standard error. With `is_cut` the script is
-    replayed in every cutting.
+    replayed in every cutting. The carriers in `up` connect first, and then the radios in `registered` register; `add_beginning` adds that to the script and to what is
+    printed.
     """
     file: str
     name: str
@@ -79,6 +87,8 @@ class Case:
     fault: str = ""
     status: int = 0
     is_cut: bool = False
+    up: list[int] = field(default_factory=list)
+    registered: list[int] = field(default_factory=list)
 
     @property
     def full_name(self) -> str:
@@ -88,6 +98,28 @@ class Case:
     def answer(self) -> str:
         """The standard output of the replay; if it is refused, standard error and the status as lines after that."""
         return self.printed + (f"{self.fault}status {self.status}\n" if self.status else "")
+
+
+def beginning_of(case: Case) -> tuple[list[str], dict[int, str]]:
+    """The lines with which the script of a case begins, and the octets that answer them, by carrier."""
+    plan = tomllib.loads(octets_of(case.site or "").decode())
+    lpcns = {it["number"]: it["lpcn"] for it in plan["carrier"]}
+    lines = [line for it in case.up for line in (f"open {it}", f"bytes {it} {hello(it, lpcns[it]).hex()}")]
+    answers, control = dict.fromkeys(case.up, welcome(1)), plan["control"]
+    for radio in case.registered:
+        request = pdus.random_access(pdus.REGISTRATION, plan["regi"], radio, options=1 << plan.get("leave_bit", 0))
+        answer = pdus.write("C_ACKD", reason=pdus.REG_ACCEPTED, target=radio, additional=plan["regi"])
+        lines += [f"bytes {control} {rx(0, code.burst_of(request)).hex()}", f"bytes {control} {POLL.hex()}"]
+        answers[control] += burst_frame(FrameType.TX, 0, code.burst_of(answer)) + DONE
+    return lines, {number: octets.hex().upper() for number, octets in answers.items()}
+
+
+def add_beginning(case: Case) -> None:
+    """Adds what the carriers and radios of a case do first to its script, and its answers to what is printed."""
+    lines, answers = beginning_of(case)
+    case.script = "".join(f"{it}\n" for it in lines) + (case.script or "")
+    for number, octets in answers.items():
+        case.printed = re.sub(rf"^carrier {number} (-$)?", f"carrier {number} {octets}", case.printed, count=1, flags=re.M)
 
 
 @dataclass
@@ -111,6 +143,12 @@ class Changes:
         return site.text()
 
 
+def numbers_of(words: list[str]) -> list[int]:
+    """The numbers that words have: each a number, or the first and the last of a row with `..` between."""
+    ends = [[int(it) for it in word.split("..")] for word in words]
+    return [number for first, *last in ends for number in range(first, (last or [first])[0] + 1)]
+
+
 def read_head(file: str, lines: list[str]) -> Case:
     """A case from its lines before the first section. CaseFault: a line is not one that a case has."""
     name, *others = lines
@@ -120,6 +158,10 @@ def read_head(file: str, lines: list[str]) -> Case:
             changes.name = line.removeprefix("site ")
         elif line.startswith(("with ", "without ")):
             changes.lines.append(line)
+        elif line.startswith("up "):
+            case.up = [int(it) for it in line.split()[1:]]
+        elif line.startswith("registered "):
+            case.registered = numbers_of(line.split()[1:])
         elif line == "in every cutting":
             case.is_cut = True
         elif line == "no site file":
@@ -139,7 +181,7 @@ def read_section(case: Case, heading: str, text: str) -> None:
     elif word == "script":
         case.script = plain(text)
     elif word == "printed":
-        case.printed = plain(text)
+        case.printed = plain(repeated(text))
     elif word == "fault":
         case.fault = text
     elif word == "status":
@@ -155,6 +197,8 @@ def read_case(file: str, text: str) -> Case:
     for section in sections:
         heading, _, lines = section.partition("\n")
         read_section(case, heading, lines)
+    if case.up:
+        add_beginning(case)
     return case
 
 

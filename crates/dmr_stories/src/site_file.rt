@@ -57,40 +57,6 @@ pub const SMALL: &str = "";
 /// The common site, but each grant and each P_CLEAR is sent four times.
 pub const LOUD: &str = "grant_copies = 1 / grant_copies = 4 & clear_copies = 1 / clear_copies = 4";
 
-/// The common site with 36 talkgroups.
-pub const WIDE: &str = "\
-groups = [91, 92, 93, 94] / groups = [\
-91, 92, 93, 94, 95, 96, 97, 98, 99, 100, 101, 102, \
-103, 104, 105, 106, 107, 108, 109, 110, 111, 112, 113, 114, \
-115, 116, 117, 118, 119, 120, 121, 122, 123, 124, 125, 126]";
-
-/// A site of sixteen carriers and 32 talkgroups.
-pub const LARGE: &str = "\
-groups = [91, 92, 93, 94] / groups = [\
-91, 92, 93, 94, 95, 96, 97, 98, 99, 100, 101, 102, 103, 104, 105, 106, \
-107, 108, 109, 110, 111, 112, 113, 114, 115, 116, 117, 118, 119, 120, 121, 122] & \
-CARRIERS / carrier = [
-{ number = 0, lpcn = 1, port = 7101 },
-{ number = 1, lpcn = 2, port = 7102 },
-{ number = 2, lpcn = 3, port = 7103 },
-{ number = 3, lpcn = 4, port = 7104 },
-{ number = 4, lpcn = 5, port = 7105 },
-{ number = 5, lpcn = 6, port = 7106 },
-{ number = 6, lpcn = 7, port = 7107 },
-{ number = 7, lpcn = 8, port = 7108 },
-{ number = 8, lpcn = 9, port = 7109 },
-{ number = 9, lpcn = 10, port = 7110 },
-{ number = 10, lpcn = 11, port = 7111 },
-{ number = 11, lpcn = 12, port = 7112 },
-{ number = 12, lpcn = 13, port = 7113 },
-{ number = 13, lpcn = 14, port = 7114 },
-{ number = 14, lpcn = 15, port = 7115 },
-{ number = 15, lpcn = 16, port = 7116 },
-]|";
-
-/// The common site, but with 5,000 listed radios.
-pub const MANY: &str = "radios = [[1000, 1999]] / radios = [[1, 5000]]";
-
 /// Returns the text of the site file with changes.
 fn text_of(alloc: Global, changes: &str) -> Result<String, OutOfMemory> {
     let mut text = String::from_str(alloc, SITE)?;

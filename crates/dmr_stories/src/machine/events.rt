@@ -1,10 +1,10 @@
 //! Inputs of sites.
 //!
 //! Events are `up C`, `lost C`, `poll C`, `tick`, `active C.S`, `noise C.S` and `heard C.S PDU`, and `say` with an
-//! operator's command: `status`, `radios N`, `calls C`, `lines N`, `slots`, `drop R`, `end C.S`, `move L` or `stay`.
+//! operator's command: `status`, `drop R`, `end C.S`, `move L` or `stay`.
 
 use crate::language::words::{address_of, carrier_of, cut, pdu_of, slot_of};
-use dmr_core::{Command, Event, LineNo};
+use dmr_core::{Command, Event};
 use dmr_pdu::Lpcn;
 
 /// Returns the event that these words mean.
@@ -31,10 +31,6 @@ fn command_of(words: &str) -> Option<Command> {
     let (word, rest) = cut(words);
     match word {
         "status" => Some(Command::Status),
-        "radios" => Some(Command::Radios(address_of(rest)?)),
-        "calls" => Some(Command::Calls(carrier_of(rest)?)),
-        "lines" => Some(Command::Lines(line_number_of(rest)?)),
-        "slots" => Some(Command::Slots),
         "drop" => Some(Command::Drop(address_of(rest)?)),
         "end" => {
             let slot = slot_of(rest)?;
@@ -43,15 +39,5 @@ fn command_of(words: &str) -> Option<Command> {
         "move" => Some(Command::Move(Lpcn::try_new(rest.parse::<u32>().ok()?)?)),
         "stay" => Some(Command::Stay),
         _ => None,
-    }
-}
-
-/// Returns the place of a line, 1 to 32.
-fn line_number_of(digits: &str) -> Option<LineNo> {
-    let number = digits.parse::<u8>().ok()?;
-    if 1 <= number && number <= 32 {
-        Some(LineNo::new(number))
-    } else {
-        None
     }
 }

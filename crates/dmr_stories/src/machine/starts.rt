@@ -17,13 +17,6 @@ heard 0.0 9F00000100005E0003EC => lined 1004 g94; queue 0.0 A00001400003EC00005E
 poll 0 => send 0.0 A00001400003EC00005E
 ";
 
-/// After the three calls: the requests of radios 1004 to 1035 for talkgroups 94 to 125 wait, which is the limit.
-pub const FULL_LINES: &str = "\
-rounds 4 to 35
-heard 0.0 9F000001.90+.1000+ => lined 1000+ g90+; queue 0.0 A0000140.1000+.90+
-poll 0 => send 0.0 A0000140.1000+.90+
-";
-
 /// Radio 1001 calls radio 1002, which is asked. The acknowledgement to 1001 (wait) and the C_AHOY have been sent.
 pub const ONE_ASK: &str = "\
 heard 0.0 9F0000000003EA0003E9 => asked 1001 1002 0 1; queue 0.0 A00001C00003E90003EA; queue 0.0 9C0000000003EA0003E9

@@ -13,12 +13,12 @@ use std::fmt;
 pub enum ServeFault {
     /// The program cannot listen at this port. Nothing was served.
     CannotListen(u16),
-    /// There was no poll for a port, the clock or the notes. Nothing was served.
-    NoPoll,
     /// A term did not begin, a thread could not be started, or the term's audit found a fault.
     Term(TermFault),
     /// Memory ran out. Nothing was served.
     OutOfMemory,
+    /// There was no poll for a port, the clock or the notes. Nothing was served.
+    NoPoll,
 }
 
 impl ServeFault {
@@ -42,9 +42,9 @@ impl fmt::Display for ServeFault {
     fn fmt<W: fmt::Write>(&self, f: &mut fmt::Formatter<W>) -> fmt::Result {
         match self {
             ServeFault::CannotListen(port) => write!(f, "cannot listen on port {port}"),
-            ServeFault::NoPoll => write!(f, "no poll"),
             ServeFault::Term(fault) => write_term_fault(*fault, f),
             ServeFault::OutOfMemory => write!(f, "out of memory"),
+            ServeFault::NoPoll => write!(f, "no poll"),
         }
     }
 }

@@ -1,11 +1,13 @@
 """The cases in cases/, over the reader of their texts, over the package's reader of sessions, and over the controller."""
 import pathlib
+import re
 import resource
 import subprocess
 import tempfile
 import unittest
 
 from temzaar import code, pdus
+from temzaar.entries import read_entries
 from temzaar.frames import DONE, POLL, FrameType, burst_frame, hello, rx, welcome
 from temzaar.script import Input, Replay, read_printed, read_script
 from tests.cases import SCRIPT_FILE, SITE_FILE, Case, CaseFault, Changes, octets_of, plain, read_case, read_cases
@@ -61,6 +63,30 @@ class Sessions(unittest.TestCase):
         carriers, _ = read_printed(case.printed)
         sent = [pdus.read(it.octets) for it in Replay(read_script(case.script or ""), carriers).events if it.what == "sent"]
         self.assertEqual([(it.name, it["reason"]) for it in sent if it.name == "C_ACKD"], [("C_ACKD", pdus.REG_ACCEPTED)])
+
+
+class OverLinks(unittest.TestCase):
+    """The links that carriers are served by, on a wire in memory, come to the same. `dmr_decode` has them, and prints the journal of their events."""
+
+    BURST = re.compile(r"carrier (\d+) slot (\d): (.*)")
+
+    def setUp(self) -> None:
+        self.decoder = program("dmr_decode")
+
+    def bursts(self, case: Case) -> list[tuple[str, ...]]:
+        """Carrier, slot and PDU of each burst that is sent, in the order of the journal."""
+        with tempfile.NamedTemporaryFile(suffix=".toml") as site:
+            site.write(octets_of(case.site or ""))
+            site.flush()
+            printed = subprocess.run([self.decoder, "journal", "--site", site.name], input=octets_of(case.script or ""), capture_output=True, check=True).stdout.decode()
+        return [found.groups() for entry in read_entries(printed.splitlines()) for it in entry.bursts() if (found := self.BURST.fullmatch(it))]
+
+    def test_each_sends_the_same(self) -> None:
+        for case in (it for it in CASES if it.status == 0):
+            with self.subTest(case.full_name):
+                events = Replay(read_script(octets_of(case.script or "").decode()), read_printed(case.printed)[0]).events
+                wanted = [(str(it.carrier), str(it.slot), pdus.read(it.octets).in_words(it.octets)) for it in events if it.what == "sent"]
+                self.assertEqual(self.bursts(case), wanted)
 
 
 class Controlled(unittest.TestCase):
